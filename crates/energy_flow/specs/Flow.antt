@@ -1,0 +1,36 @@
+use Rattle.std.specs.Prelude.{ℕ, ℤ, pos, ◌+◌, ◌-◌, ◌-ℤ◌, ◌<◌, ◌≤◌, ◌^◌}
+
+-- Energy that a register rose by and fell by, in milliwatt-hours, each added up for itself.
+pub record Energy : Type 0 where
+  pub up : ℕ
+  pub down : ℕ
+
+-- No energy.
+abbrev pub no_energy : Energy
+no_energy = record { up = 0; down = 0 }
+
+-- What lies between two levels of one register: a rise counts up and a fall counts down.
+abbrev pub difference_of : ℕ → ℕ → Energy
+difference_of earlier later = record { up = later - earlier; down = earlier - later }
+
+-- Both added up, field by field.
+abbrev pub plus : Energy → Energy → Energy
+plus a b = record { up = a.up + b.up; down = a.down + b.down }
+
+-- The first without the second, field by field.
+abbrev pub minus : Energy → Energy → Energy
+minus a b = record { up = a.up - b.up; down = a.down - b.down }
+
+-- Up less down.
+abbrev pub net : Energy → ℤ
+net a = pos a.up -ℤ pos a.down
+
+-- Neither sum leaves 64 bits.
+pub record CanPlus (a b : Energy) : Type 0 where
+  pub up : a.up + b.up < 2 ^ 64
+  pub down : a.down + b.down < 2 ^ 64
+
+-- Neither field falls below nothing.
+pub record CanMinus (a b : Energy) : Type 0 where
+  pub up : b.up ≤ a.up
+  pub down : b.down ≤ a.down

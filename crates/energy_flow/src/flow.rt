@@ -1,0 +1,156 @@
+ghost use Rattle.std.specs.Prelude.{◌≡◌, ◌↔◌, IsTrue};
+ghost use Rattle.energy_flow.specs.Flow.{no_energy, plus, minus, net, difference_of, CanPlus, CanMinus};
+ghost use Rattle.energy_flow.specs.Work.{counted};
+
+use crate::Work;
+use std::fmt;
+use std::marker::Model;
+
+/// Energy that a register rose by and fell by, in milliwatt-hours, each below 2^64.
+#[derive(Clone, Copy, Debug, PartialEq, Eq)]
+pub struct Flow {
+    up: u64,
+    down: u64,
+}
+
+impl Model for Flow {
+    ghost use Rattle.energy_flow.specs.Flow.{Energy};
+
+    ghost Value = { Energy };
+
+    ghost view = { λ f. record { up = f.up; down = f.down } };
+
+    ghost inverse = { λ e. record { up = e.up; down = e.down } };
+}
+
+impl Flow {
+    /// No energy.
+    pub fn zero() -> Self
+        ensures { result ≡ no_energy }
+    {
+        Flow { up: 0, down: 0 }
+    }
+
+    /// The rises, in milliwatt-hours.
+    pub fn up(self) -> u64
+        ensures { result ≡ self.up }
+    {
+        self.up
+    }
+
+    /// The falls, in milliwatt-hours.
+    pub fn down(self) -> u64
+        ensures { result ≡ self.down }
+    {
+        self.down
+    }
+
+    /// Up less down, in milliwatt-hours.
+    pub fn net(self) -> i128
+        ensures { result ≡ net self }
+    {
+        self.up as i128 - self.down as i128
+    }
+
+    /// Tells whether `plus` stays within 64 bits.
+    pub fn can_plus(self, other: Flow) -> bool
+        ensures { IsTrue result ↔ CanPlus self other }
+    {
+        other.up <= u64::MAX - self.up && other.down <= u64::MAX - self.down
+    }
+
+    /// Both added up, field by field; the test for the condition is `can_plus`.
+    pub fn plus(self, other: Flow) -> Self
+        requires { CanPlus self other }
+        ensures { result ≡ plus self other }
+    {
+        Flow {
+            up: self.up + other.up,
+            down: self.down + other.down,
+        }
+    }
+
+    /// Tells whether `other` can be taken back from this flow.
+    pub fn can_minus(self, other: Flow) -> bool
+        ensures { IsTrue result ↔ CanMinus self other }
+    {
+        other.up <= self.up && other.down <= self.down
+    }
+
+    /// This flow without the other, field by field; the test for the condition is `can_minus`.
+    pub fn minus(self, other: Flow) -> Self
+        requires { CanMinus self other }
+        ensures { result ≡ minus self other }
+    {
+        Flow {
+            up: self.up - other.up,
+            down: self.down - other.down,
+        }
+    }
+}
+
+/// What an energy register showed, in milliwatt-hours. It can be compared for equality, and nothing
+/// but [`difference`] looks into it.
+#[derive(Clone, Copy, PartialEq, Eq)]
+pub struct Level {
+    mwh: u64,
+}
+
+impl Model for Level {
+    ghost use Rattle.std.specs.Prelude.{ℕ};
+
+    ghost Value = { ℕ };
+
+    ghost view = { λ l. l.mwh };
+
+    ghost inverse = { λ n. record { mwh = n } };
+}
+
+impl Level {
+    /// The level of so many milliwatt-hours.
+    pub fn new(mwh: u64) -> Self
+        ensures { result ≡ mwh }
+    {
+        Level { mwh }
+    }
+}
+
+// Prints a fixed word, since printing the number would be another look into it.
+impl fmt::Debug for Level {
+    fn fmt<W: fmt::Write>(&self, f: &mut fmt::Formatter<W>) -> fmt::Result {
+        f.write_str("Level")
+    }
+}
+
+/// What lies between two levels of one register, counted as one comparison in `work`.
+pub fn difference(earlier: Level, later: Level, work: &mut Work) -> Flow
+    ensures flow { result ≡ difference_of earlier later }
+    ensures work { work.new ≡ counted work.old 1 }
+{
+    work.add_one();
+    Flow {
+        up: later.mwh.saturating_sub(earlier.mwh),
+        down: earlier.mwh.saturating_sub(later.mwh),
+    }
+}
+
+#[cfg(test)]
+mod tests {
+    use super::*;
+
+    #[test]
+    fn rises_and_falls_are_kept_apart(rt: HostRuntime) {
+        let mut work = Work::open(&rt);
+        let rise = difference(Level::new(1_000_000), Level::new(1_600_000), &mut work);
+        let fall = difference(Level::new(1_600_000), Level::new(100_000), &mut work);
+        assert_eq!(rt; (rise.up(), rise.down(), rise.net()), (600_000, 0, 600_000));
+        assert_eq!(rt;
+            (fall.up(), fall.down(), fall.net()),
+            (0, 1_500_000, -1_500_000)
+        );
+        assert_eq!(rt; work.count(), 2);
+        assert!(rt; rise.can_plus(fall) && !rise.can_minus(fall));
+        assert_eq!(rt; rise.plus(fall).minus(fall), rise);
+        assert_eq!(rt; Flow::zero().net(), 0);
+    }
+}

@@ -1,0 +1,43 @@
+ghost use Rattle.std.specs.Prelude.{◌≡◌};
+ghost use Rattle.energy_flow.specs.Work.{counted};
+
+use std::marker::Model;
+use std::thread::Threads;
+
+/// How many differences were evaluated. Each holder lends it to what compares readings; it cannot be
+/// copied, and it is opened only where a runtime is at hand.
+#[derive(Drop)]
+pub struct Work {
+    count: u64,
+}
+
+impl Model for Work {
+    ghost use Rattle.std.specs.Prelude.{ℕ};
+
+    ghost Value = { ℕ };
+
+    ghost view = { λ w. w.count };
+}
+
+impl Work {
+    /// A count of nothing yet. The runtime is not used: no other type meets the bound.
+    pub fn open<R: Threads>(_rt: &R) -> Self
+        ensures { result ≡ 0 }
+    {
+        Work { count: 0 }
+    }
+
+    /// The differences evaluated so far; 2^64 - 1 stands for that many or more.
+    pub fn count(&self) -> u64
+        ensures { result ≡ self.now }
+    {
+        self.count
+    }
+
+    /// Counts one difference more.
+    pub(crate) fn add_one(&mut self)
+        ensures { self.new ≡ counted self.old 1 }
+    {
+        self.count = self.count.saturating_add(1);
+    }
+}
