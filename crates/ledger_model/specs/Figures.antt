@@ -1,0 +1,16 @@
+use Rattle.std.specs.Prelude.{ℕ, ◌+◌, ◌*◌, ◌≤◌, ◌^◌}
+use Rattle.ledger_model.specs.declared.figures.Figures.{Figures}
+use Rattle.ledger_model.specs.Limits.{Bounds}
+
+-- The figures of a station without events.
+abbrev pub no_figures : Figures
+no_figures = record { events = 0; voided = 0; transactions = 0; complete = 0; missing = 0; up = 0; down = 0 }
+
+-- Figures that a station of these limits can have.
+pub record AreWithin (limits : Bounds) (f : Figures) : Type 0 where
+  pub events : f.events + f.voided ≤ limits.events
+  pub transactions : f.transactions ≤ limits.transactions
+  pub complete : f.complete ≤ limits.transactions
+  pub missing : f.missing ≤ 2 ^ 31 * limits.transactions
+  pub up : f.up ≤ 10_000_000_000_000 * limits.readings
+  pub down : f.down ≤ 10_000_000_000_000 * limits.readings

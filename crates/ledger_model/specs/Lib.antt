@@ -1,0 +1,9 @@
+pub mod Moment
+pub mod Quarter
+pub mod TxId
+pub mod Name
+pub mod Key
+pub mod Event
+pub mod Limits
+pub mod Figures
+pub mod Refusal

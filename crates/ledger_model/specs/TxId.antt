@@ -1,0 +1,18 @@
+use Rattle.std.specs.Prelude.{ℕ, Bool, List, length, map, ◌+◌, ◌&&◌, nat_lt, nat_le, if◌then◌else◌}
+use Rattle.std.specs.List.{list_all}
+
+-- A printing ASCII character other than the blank.
+abbrev pub is_visible : ℕ → Bool
+is_visible c = nat_le 33 c && nat_le c 126
+
+-- A to Z turned into a to z, all else as it is.
+abbrev pub folded_byte : ℕ → ℕ
+folded_byte c = if nat_le 65 c && nat_le c 90 then c + 32 else c
+
+-- A text with each A to Z turned into a to z.
+abbrev pub folded : List ℕ → List ℕ
+folded text = map folded_byte text
+
+-- A transaction id has 1 to 36 visible ASCII characters.
+abbrev pub is_tx_id : List ℕ → Bool
+is_tx_id text = nat_lt 0 (length text) && nat_le (length text) 36 && list_all is_visible text

@@ -1,0 +1,101 @@
+ghost use Rattle.std.specs.Prelude.{◌≡◌, ◌≤◌, ◌≢◌, ◌↔◌, length, Some, IsTrue, IsOk, IfOk, IfErr};
+ghost use Rattle.ledger_model.specs.Event.{IsEvent};
+
+use crate::{EvseId, Kind, Listed, Moment, Reading};
+use std::marker::Model;
+
+/// A transaction event: its kind, its moment, the EVSE that it names, and its counted readings in the
+/// order in which they were sent (TransactionEventRequest, OCPP 2.0.1 Part 2, block E).
+#[derive(Debug, Drop)]
+pub struct Event {
+    kind: Kind,
+    moment: Moment,
+    evse: Option<EvseId>,
+    readings: Listed<Reading>,
+}
+
+impl Model for Event {
+    ghost use Rattle.ledger_model.specs.Event.{Happening, IsEvent};
+
+    ghost Value = { Happening };
+
+    ghost view = { λ e. record { kind = e.kind; moment = e.moment; evse = e.evse; readings = e.readings } };
+
+    ghost invariant = { λ e. IsEvent e.evse e.readings };
+}
+
+// Tells whether both lists have the same readings in the same order.
+fn are_same(readings: &[Reading], others: &[Reading]) -> bool
+    ensures { IsTrue result ↔ (readings.now ≡ others.now) }
+{
+    readings == others
+}
+
+impl Event {
+    /// The event of these parts. The readings come back where they are more than 1,024, or where EVSE
+    /// 0 is named.
+    pub fn new(
+        kind: Kind,
+        moment: Moment,
+        evse: Option<EvseId>,
+        readings: Vec<Reading>,
+    ) -> Result<Self, Vec<Reading>>
+        ensures valid { IsOk result ↔ IsEvent evse readings.items }
+        ensures kind { IfOk result (λ e. e.kind ≡ kind) }
+        ensures moment { IfOk result (λ e. e.moment ≡ moment) }
+        ensures evse { IfOk result (λ e. e.evse ≡ evse) }
+        ensures readings { IfOk result (λ e. e.readings ≡ readings.items) }
+        ensures given_back { IfErr result (λ back. back.items ≡ readings.items) }
+    {
+        let names_none = matches!(&evse, Some(evse) if evse.number() == 0);
+        if names_none || readings.len() > 1_024 {
+            return Err(readings);
+        }
+        Ok(Event {
+            kind,
+            moment,
+            evse,
+            readings: Listed::of(readings),
+        })
+    }
+
+    /// What the event tells of its transaction.
+    pub fn kind(&self) -> Kind
+        ensures { result ≡ self.now.kind }
+    {
+        self.kind
+    }
+
+    /// The moment of the event, as its station tells it.
+    pub fn moment(&self) -> Moment
+        ensures { result ≡ self.now.moment }
+    {
+        self.moment
+    }
+
+    /// The EVSE that the event names, 1 to 64.
+    pub fn evse(&self) -> Option<EvseId>
+        ensures value { result ≡ self.now.evse }
+        ensures named { result ≢ Some 0 }
+    {
+        self.evse
+    }
+
+    /// The counted readings, at most 1,024, in the order in which they were sent.
+    pub fn readings(&self) -> &[Reading]
+        ensures value { result.now ≡ self.now.readings }
+        ensures few { length result.now ≤ 1_024 }
+    {
+        self.readings.as_slice()
+    }
+
+    /// Tells whether both events have the same content.
+    pub fn is_same(&self, other: &Event) -> bool
+        ensures { IsTrue result ↔ (self.now ≡ other.now) }
+    {
+        self.kind == other.kind
+            && self.moment == other.moment
+            && self.evse == other.evse
+            && are_same(self.readings.as_slice(), other.readings.as_slice())
+    }
+}

@@ -1,0 +1,87 @@
+ghost use Rattle.std.specs.Prelude.{◌≡◌, ◌≤◌, ◌^◌, ◌↔◌, IsSome, IfSome};
+ghost use Rattle.ledger_model.specs.Limits.{AreBounds};
+
+use std::marker::Model;
+
+/// What one station's ledger may keep: transactions, events and readings stored at once, and changes
+/// accepted in all.
+#[derive(Clone, Copy, Debug, PartialEq, Eq)]
+pub struct Limits {
+    transactions: u32,
+    events: u32,
+    readings: u32,
+    changes: u64,
+}
+
+impl Model for Limits {
+    ghost use Rattle.ledger_model.specs.Limits.{Bounds, AreBounds};
+
+    ghost Value = { Bounds };
+
+    ghost view = { λ l. record { transactions = l.transactions; events = l.events; readings = l.readings; changes = l.changes } };
+
+    ghost invariant = { λ l. AreBounds l.transactions l.events l.readings l.changes };
+
+    ghost inverse = { λ b. record { transactions = b.transactions; events = b.events; readings = b.readings; changes = b.changes } };
+}
+
+impl Limits {
+    /// These limits; `None` where one is out of range: transactions 1 to 4,096, events and readings
+    /// 1 to 65,536, changes 1 to 2^63.
+    pub fn new(transactions: u64, events: u64, readings: u64, changes: u64) -> Option<Self>
+        ensures valid { IsSome result ↔ AreBounds transactions events readings changes }
+        ensures transactions { IfSome result (λ l. l.transactions ≡ transactions) }
+        ensures events { IfSome result (λ l. l.events ≡ events) }
+        ensures readings { IfSome result (λ l. l.readings ≡ readings) }
+        ensures changes { IfSome result (λ l. l.changes ≡ changes) }
+    {
+        let are_few = transactions <= 4_096 && events <= 65_536 && readings <= 65_536;
+        let are_some = transactions >= 1 && events >= 1 && readings >= 1;
+        if are_few && are_some && changes >= 1 && changes <= 1 << 63 {
+            Some(Limits {
+                transactions: transactions as u32,
+                events: events as u32,
+                readings: readings as u32,
+                changes,
+            })
+        } else {
+            None
+        }
+    }
+
+    /// How many transactions may be stored at once, 1 to 4,096.
+    pub fn transactions(&self) -> u32
+        ensures value { result ≡ self.now.transactions }
+        ensures least { 1 ≤ result }
+        ensures most { result ≤ 4_096 }
+    {
+        self.transactions
+    }
+
+    /// How many events may be stored at once, voided ones among them, 1 to 65,536.
+    pub fn events(&self) -> u32
+        ensures value { result ≡ self.now.events }
+        ensures least { 1 ≤ result }
+        ensures most { result ≤ 65_536 }
+    {
+        self.events
+    }
+
+    /// How many readings may be stored at once, those of voided events among them, 1 to 65,536.
+    pub fn readings(&self) -> u32
+        ensures value { result ≡ self.now.readings }
+        ensures least { 1 ≤ result }
+        ensures most { result ≤ 65_536 }
+    {
+        self.readings
+    }
+
+    /// How many changes may be accepted in all, 1 to 2^63.
+    pub fn changes(&self) -> u64
+        ensures value { result ≡ self.now.changes }
+        ensures least { 1 ≤ result }
+        ensures most { result ≤ 2 ^ 63 }
+    {
+        self.changes
+    }
+}

@@ -1,0 +1,89 @@
+ghost use Rattle.std.specs.Prelude.{◌≡◌, ◌↔◌, IsSome, IfSome};
+ghost use Rattle.ledger_model.specs.Moment.{IsMoment};
+ghost use Rattle.ledger_model.specs.Quarter.{IsQuarter};
+
+use std::marker::Model;
+
+/// An instant of the years 2000 to 2099, in nanoseconds from 1970-01-01T00:00:00Z.
+#[derive(Clone, Copy, Debug, PartialEq, Eq, PartialOrd, Ord)]
+pub struct Moment {
+    nanos: u64,
+}
+
+impl Model for Moment {
+    ghost use Rattle.std.specs.Prelude.{ℕ};
+    ghost use Rattle.ledger_model.specs.Moment.{IsMoment};
+
+    ghost Value = { ℕ };
+
+    ghost view = { λ m. m.nanos };
+
+    ghost invariant = { λ m. IsMoment m.nanos };
+
+    ghost inverse = { λ n. record { nanos = n } };
+}
+
+impl Moment {
+    /// The moment of these nanoseconds from 1970; `None` outside 2000-01-01T00:00:00Z up to, not
+    /// including, 2100-01-01T00:00:00Z.
+    pub fn new(nanos: u64) -> Option<Self>
+        ensures valid { IsSome result ↔ IsMoment nanos }
+        ensures value { IfSome result (λ m. m ≡ nanos) }
+    {
+        if (946_684_800_000_000_000..4_102_444_800_000_000_000).contains(&nanos) {
+            Some(Moment { nanos })
+        } else {
+            None
+        }
+    }
+
+    /// The nanoseconds from 1970-01-01T00:00:00Z.
+    pub fn nanos(self) -> u64
+        ensures value { result ≡ self }
+        ensures range { IsMoment result }
+    {
+        self.nanos
+    }
+}
+
+/// A settlement period of 900 seconds, by its number from 1970-01-01T00:00:00Z.
+#[derive(Clone, Copy, Debug, PartialEq, Eq, PartialOrd, Ord)]
+pub struct Quarter {
+    number: u32,
+}
+
+impl Model for Quarter {
+    ghost use Rattle.std.specs.Prelude.{ℕ};
+    ghost use Rattle.ledger_model.specs.Quarter.{IsQuarter};
+
+    ghost Value = { ℕ };
+
+    ghost view = { λ q. q.number };
+
+    ghost invariant = { λ q. IsQuarter q.number };
+
+    ghost inverse = { λ n. record { number = n } };
+}
+
+impl Quarter {
+    /// The quarter of this number; `None` outside 1,051,872 to 4,558,271, the quarters that moments
+    /// fall into.
+    pub fn new(number: u32) -> Option<Self>
+        ensures valid { IsSome result ↔ IsQuarter number }
+        ensures value { IfSome result (λ q. q ≡ number) }
+    {
+        if (1_051_872..=4_558_271).contains(&number) {
+            Some(Quarter { number })
+        } else {
+            None
+        }
+    }
+
+    /// The number of whole quarters from 1970-01-01T00:00:00Z to its beginning.
+    pub fn number(self) -> u32
+        ensures value { result ≡ self }
+        ensures range { IsQuarter result }
+    {
+        self.number
+    }
+}
