@@ -1,5 +1,5 @@
 -- The tests on events decide equality.
-use Rattle.std.proofs.Common.{◌≡◌, ℕ, Bool, true, false, ◌&&◌, refl, ap, eqb}
+use Rattle.std.proofs.Common.{◌≡◌, ap, eqb}
 use Rattle.std.specs.Bool.{Decides}
 use Rattle.std.proofs.lemmas.Bool.{eqb-true, eq-eqb, and_parts, and_from}
 use Rattle.ledger_model.specs.Event.{Metered, same_reading}

@@ -7,3 +7,12 @@ pub mod Event
 pub mod Limits
 pub mod Figures
 pub mod Refusal
+pub mod Content
+pub mod Step
+pub mod Energy
+pub mod Evse
+pub mod Gaps
+pub mod Complete
+pub mod Board
+pub mod World
+pub mod Posts

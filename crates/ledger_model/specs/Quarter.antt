@@ -1,4 +1,4 @@
-use Rattle.std.specs.Prelude.{ℕ, ◌/◌, ◌*◌, ◌≤◌}
+use Rattle.std.specs.Prelude.{ℕ, ◌/◌, ◌≤◌}
 
 -- A quarter is one of those that the moments fall into.
 abbrev pub IsQuarter : ℕ → Type 0

@@ -1,0 +1,112 @@
+use Rattle.std.specs.Prelude.{ℕ, Bool, List, [], ◌∷◌, ◌+◌, map, count_by, sum_by, length, ◌==◌, if◌then◌else◌}
+use Rattle.std.specs.List.{flat_map}
+use Rattle.energy_flow.specs.Flow.{Energy, no_energy, plus}
+use Rattle.ledger_model.specs.declared.figures.Figures.{Figures}
+use Rattle.ledger_model.specs.Figures.{no_figures}
+use Rattle.ledger_model.specs.Content.{Entry, live, live_of, transactions_of}
+use Rattle.ledger_model.specs.Energy.{energy, energy_of, energy_in, quarters, rising}
+use Rattle.ledger_model.specs.Evse.{evse_of, evses, energy_at, first_or_none}
+use Rattle.ledger_model.specs.Gaps.{Gap, numbers_of, gaps, missing}
+use Rattle.ledger_model.specs.Complete.{is_complete}
+
+-- The figures of a station: live and voided events; transactions with a live event, how many of these are complete, what they miss, and their energy.
+abbrev pub figures : List Entry → Figures
+figures es = record {
+  events = length (live es);
+  voided = count_by (λ e. e.1.voided) es;
+  transactions = length (transactions_of (live es));
+  complete = count_by (λ tx. is_complete tx es) (transactions_of (live es));
+  missing = sum_by (λ tx. missing (numbers_of tx es)) (transactions_of (live es));
+  up = (energy es).up;
+  down = (energy es).down;
+}
+
+-- Both figures added up, number by number.
+abbrev pub plus_figures : Figures → Figures → Figures
+plus_figures a b = record {
+  events = a.events + b.events;
+  voided = a.voided + b.voided;
+  transactions = a.transactions + b.transactions;
+  complete = a.complete + b.complete;
+  missing = a.missing + b.missing;
+  up = a.up + b.up;
+  down = a.down + b.down;
+}
+
+-- The figures of a site: the sums over its stations.
+abbrev pub sum_of_figures : List Figures → Figures
+sum_of_figures [] = no_figures
+sum_of_figures (f ∷ fs) = plus_figures f (sum_of_figures fs)
+
+-- An EVSE, or a quarter, with its energy.
+abbrev pub Flowed : Type 0
+Flowed = ℕ × Energy
+
+-- What a board shows of a transaction.
+pub record Shown : Type 0 where
+  pub tx : List ℕ
+  pub evse : ℕ
+  pub events : ℕ
+  pub first : ℕ
+  pub last : ℕ
+  pub complete : Bool
+  pub missing : ℕ
+  pub flow : Energy
+  pub gaps : List Gap
+
+-- The last of a list, or 0 where there is none.
+abbrev pub last_or_none : List ℕ → ℕ
+last_or_none [] = 0
+last_or_none (n ∷ []) = n
+last_or_none (n ∷ m ∷ ns) = last_or_none (m ∷ ns)
+
+-- A transaction as a board shows it.
+abbrev pub shown : List Entry → List ℕ → Shown
+shown es tx = record {
+  tx = tx;
+  evse = evse_of tx es;
+  events = length (live_of tx es);
+  first = first_or_none (numbers_of tx es);
+  last = last_or_none (numbers_of tx es);
+  complete = is_complete tx es;
+  missing = missing (numbers_of tx es);
+  flow = energy_of tx es;
+  gaps = gaps (numbers_of tx es);
+}
+
+-- The board of a station: its figures, its EVSEs and its quarters with their energy, and its transactions with a live event.
+pub record Board : Type 0 where
+  pub figures : Figures
+  pub evses : List Flowed
+  pub quarters : List Flowed
+  pub transactions : List Shown
+
+-- The board of a station, by settlement periods of so many seconds.
+abbrev pub board : ℕ → List Entry → Board
+board period es = record {
+  figures = figures es;
+  evses = map (λ evse. (evse, energy_at evse es)) (evses es);
+  quarters = map (λ quarter. (quarter, energy_in period quarter es)) (quarters period es);
+  transactions = map (shown es) (transactions_of (live es));
+}
+
+-- The energy of a quarter over lines of several stations.
+abbrev pub energy_under : ℕ → List Flowed → Energy
+energy_under quarter [] = no_energy
+energy_under quarter (line ∷ lines) = if line.0 == quarter then plus line.1 (energy_under quarter lines) else energy_under quarter lines
+
+-- The board of a site: the sums of its stations' figures and of their quarters, and its stations' boards by name in the order of declaration.
+pub record SiteBoard : Type 0 where
+  pub figures : Figures
+  pub quarters : List Flowed
+  pub stations : List (List ℕ × Board)
+
+-- The board of a site over these stations' boards.
+abbrev pub site_board : List (List ℕ × Board) → SiteBoard
+site_board stations =
+    let lines = flat_map (λ (s : List ℕ × Board). s.1.quarters) stations in
+    record {
+      figures = sum_of_figures (map (λ s. s.1.figures) stations);
+      quarters = map (λ quarter. (quarter, energy_under quarter lines)) (rising (map (λ line. line.0) lines));
+      stations = stations;
+    }
