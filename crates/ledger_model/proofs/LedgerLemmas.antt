@@ -1,0 +1,118 @@
+-- What single steps of the ledger do.
+use Rattle.std.proofs.Common.{◌≡◌, ℕ, ◌+◌, Bool, true, false, cond, List, [], ◌∷◌, Option, Some, None, refl, ap, sym, subst, ◌∙◌, nat_le, is_eq, Ordering, Less, Equal, Greater}
+use Rattle.std.specs.Ordering.{eq_by_cmp}
+use Rattle.std.specs.FinMap as finite
+use Rattle.std.specs.FinMap.{FinMap}
+use Rattle.std.proofs.lemmas.Cmp.{tied_itself}
+use Rattle.ledger_model.specs.declared.command.Command.{Command}
+use Rattle.ledger_model.specs.declared.command.Command.TheVariants.{Deliver, Void, Restore, Erase}
+use Rattle.ledger_model.specs.declared.answer.Answer.{Answer}
+use Rattle.ledger_model.specs.declared.answer.Answer.TheVariants.{Accepted, Repeat, Refused}
+use Rattle.ledger_model.specs.declared.answer.Refusal.{Refusal}
+use Rattle.ledger_model.specs.declared.answer.Refusal.TheVariants.{AlreadyVoided, NotVoided, ChangesExhausted}
+use Rattle.ledger_model.specs.Key.{KeyName, key_cmp}
+use Rattle.ledger_model.specs.Limits.{Bounds}
+use Rattle.ledger_model.specs.Content.{Content, Stored}
+use Rattle.ledger_model.specs.Step.{step, answer, answer_to_void, answer_to_voided, if_changes_left, content_after, events_after, marked, marked_at}
+use Rattle.ledger_model.specs.Laws.{IsAccepted, AreAccepted, left_by}
+use Rattle.ledger_model.proofs.Keys.{key_total, exact_keys}
+
+-- an answer that is either a refusal or another, and is accepted, is the other
+pub not_refused : (b : Bool) (why : Refusal) (other : Answer) → IsAccepted (cond b (Refused why) other) → (b ≡ false) × IsAccepted other
+not_refused true why other h = absurd h
+not_refused false why other h = (refl, h)
+
+-- of two answers, one a refusal, the other is accepted
+pub not_refused_else : (b : Bool) (why : Refusal) (other : Answer) → IsAccepted (cond b other (Refused why)) → (b ≡ true) × IsAccepted other
+not_refused_else true why other h = (refl, h)
+not_refused_else false why other h = absurd h
+
+-- an accepted change is counted
+pub counted : (limits : Bounds) (c : Content) → IsAccepted (if_changes_left limits c) → if_changes_left limits c ≡ Accepted (c.changes + 1)
+counted limits c h = ap (λ b. cond b (Refused ChangesExhausted) (Accepted (c.changes + 1))) (not_refused (nat_le limits.changes c.changes) ChangesExhausted (Accepted (c.changes + 1)) h).0
+
+-- what an accepted void found: an event that was not voided
+pub record FoundLive (limits : Bounds) (c : Content) (o : Option Stored) : Type 0 where
+  pub stored : Stored
+  pub found : o ≡ Some stored
+  pub live : stored.voided ≡ false
+  pub told : answer_to_void limits c o ≡ Accepted (c.changes + 1)
+
+pub found_live : (limits : Bounds) (c : Content) (o : Option Stored) → IsAccepted (answer_to_void limits c o) → FoundLive limits c o
+found_live limits c None h = absurd h
+found_live limits c (Some s) h =
+    let parts = not_refused s.voided AlreadyVoided (if_changes_left limits c) h in
+    record { stored = s; found = refl; live = parts.0; told = ap (λ b. cond b (Refused AlreadyVoided) (if_changes_left limits c)) parts.0 ∙ counted limits c parts.1 }
+
+-- what an accepted restoration or erasure found: an event that was voided
+pub record FoundVoided (limits : Bounds) (c : Content) (o : Option Stored) : Type 0 where
+  pub stored : Stored
+  pub found : o ≡ Some stored
+  pub voided : stored.voided ≡ true
+  pub told : answer_to_voided limits c o ≡ Accepted (c.changes + 1)
+
+pub found_voided : (limits : Bounds) (c : Content) (o : Option Stored) → IsAccepted (answer_to_voided limits c o) → FoundVoided limits c o
+found_voided limits c None h = absurd h
+found_voided limits c (Some s) h =
+    let parts = not_refused_else s.voided NotVoided (if_changes_left limits c) h in
+    record { stored = s; found = refl; voided = parts.0; told = ap (λ b. cond b (if_changes_left limits c) (Refused NotVoided)) parts.0 ∙ counted limits c parts.1 }
+
+shadowed : {A : Type 0} (b : Bool) (x y z : A) → cond b x (cond b y z) ≡ cond b x z
+shadowed true x y z = refl
+shadowed false x y z = refl
+
+-- what is inserted last at a key stands there
+pub inserted_twice : (m : FinMap key_cmp Stored) (key : KeyName) (s t : Stored) → finite.insert (finite.insert m key s) key t ≡ finite.insert m key t
+inserted_twice m key s t = finite.same_map key_total exact_keys _ _ (λ q.
+    finite.get-insert key_total (finite.insert m key s) key t q
+    ∙ ap (cond (eq_by_cmp key_cmp q key) (Some t)) (finite.get-insert key_total m key s q)
+    ∙ shadowed (eq_by_cmp key_cmp q key) (Some t) (Some s) (finite.get m q)
+    ∙ sym (finite.get-insert key_total m key t q))
+
+equal : (o : Ordering) → is_eq o ≡ true → o ≡ Equal
+equal Less e = cc
+equal Equal e = refl
+equal Greater e = cc
+
+-- what is inserted stands there
+pub inserted_there : (m : FinMap key_cmp Stored) (key : KeyName) (s : Stored) → finite.get (finite.insert m key s) key ≡ Some s
+inserted_there m key s = finite.get-insert key_total m key s key ∙ ap (λ o. cond (is_eq o) (Some s) (finite.get m key)) (tied_itself key_total key)
+
+-- a value at a tied key is the value at the key
+at_tied : (m : FinMap key_cmp Stored) (key q : KeyName) (s : Stored) (b : Bool) → finite.get m key ≡ Some s → eq_by_cmp key_cmp q key ≡ b → cond b (Some s) (finite.get m q) ≡ finite.get m q
+at_tied m key q s true h e = sym h ∙ ap (finite.get m) (sym (exact_keys q key (equal (key_cmp q key) e)))
+at_tied m key q s false h e = refl
+
+-- what stands at a key may be inserted there
+pub inserted_same : (m : FinMap key_cmp Stored) (key : KeyName) (s : Stored) → finite.get m key ≡ Some s → finite.insert m key s ≡ m
+inserted_same m key s h = finite.same_map key_total exact_keys _ _ (λ q.
+    finite.get-insert key_total m key s q ∙ at_tied m key q s (eq_by_cmp key_cmp q key) h refl)
+
+-- the content after an accepted void
+pub after_void : (limits : Bounds) (c : Content) (key : KeyName) (f : FoundLive limits c (finite.get c.events key)) → (step limits c (Void key)).0 ≡ record { events = finite.insert c.events key (record { event = f.stored.event; voided = true }); changes = c.changes + 1 }
+after_void limits c key f = ap (content_after c (Void key)) f.told ∙ ap (λ o. record { events = marked_at c.events key true o; changes = c.changes + 1 }) f.found
+
+-- the content after an accepted restoration
+pub after_restore : (limits : Bounds) (c : Content) (key : KeyName) (f : FoundVoided limits c (finite.get c.events key)) → (step limits c (Restore key)).0 ≡ record { events = finite.insert c.events key (record { event = f.stored.event; voided = false }); changes = c.changes + 1 }
+after_restore limits c key f = ap (content_after c (Restore key)) f.told ∙ ap (λ o. record { events = marked_at c.events key false o; changes = c.changes + 1 }) f.found
+
+module _ (limits : Bounds) (c : Content) (key : KeyName) where
+  voided : Content
+  voided = (step limits c (Void key)).0
+
+  -- an accepted void, then an accepted restoration, gives the events back
+  pub inverse : AreAccepted limits c (Void key ∷ Restore key ∷ []) → (left_by limits c (Void key ∷ Restore key ∷ [])).events ≡ c.events
+  unfolding voided
+  inverse h =
+      let f = found_live limits c (finite.get c.events key) h.0 in
+      let g = found_voided limits voided (finite.get voided.events key) h.1.0 in
+      let s : Stored = record { event = f.stored.event; voided = true } in
+      let t : Stored = record { event = f.stored.event; voided = false } in
+      let once : voided.events ≡ finite.insert c.events key s = ap (λ (d : Content). d.events) (after_void limits c key f) in
+      let found : Some g.stored ≡ Some s = sym g.found ∙ ap (λ m. finite.get m key) once ∙ inserted_there c.events key s in
+      let stored : g.stored ≡ s = cc in
+      let same : f.stored ≡ t = λ i. record { event = f.stored.event; voided = f.live i } in
+      ap (λ (d : Content). d.events) (after_restore limits voided key g)
+      ∙ (λ i. finite.insert (once i) key (record { event = (stored i).event; voided = false }))
+      ∙ inserted_twice c.events key s t
+      ∙ inserted_same c.events key t (f.found ∙ ap Some same)
