@@ -1,3 +1,4 @@
 pub mod Events
 pub mod Keys
 pub mod LedgerLemmas
+pub mod OrderOfReadings

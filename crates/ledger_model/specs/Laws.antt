@@ -1,9 +1,12 @@
-use Rattle.std.specs.Prelude.{ℕ, List, [], ◌∷◌, ⊤}
+use Rattle.std.specs.Prelude.{ℕ, zero, suc, List, [], ◌∷◌, ◌++◌, Option, None, Some, ⊤, if◌then◌else◌}
+use Rattle.std.specs.List.{flat_map}
+use Rattle.std.specs.FinMap as finite
 use Rattle.ledger_model.specs.declared.command.Command.{Command}
 use Rattle.ledger_model.specs.declared.answer.Answer.{Answer}
 use Rattle.ledger_model.specs.declared.answer.Answer.TheVariants.{Accepted, Repeat, Refused}
 use Rattle.ledger_model.specs.Limits.{Bounds}
-use Rattle.ledger_model.specs.Content.{Content}
+use Rattle.ledger_model.specs.Event.{Metered}
+use Rattle.ledger_model.specs.Content.{Content, Stored}
 use Rattle.ledger_model.specs.Step.{step}
 
 -- What a list of commands, one after the other, leaves of a content.
@@ -26,3 +29,17 @@ IsAccepted (Refused why) = ⊥
 abbrev pub AreAccepted : Bounds → Content → List Command → Type 0
 AreAccepted limits c [] = ⊤
 AreAccepted limits c (command ∷ commands) = IsAccepted (step limits c command).1 × AreAccepted limits (step limits c command).0 commands
+
+-- The numbers below a number, from 0 on.
+abbrev pub upto : ℕ → List ℕ
+upto zero = []
+upto (suc n) = upto n ++ n ∷ []
+
+-- The readings of what stands under a key: those of its event, where there is one and it is live.
+abbrev pub readings_at : Option Stored → List Metered
+readings_at None = []
+readings_at (Some stored) = if stored.voided then [] else stored.event.readings
+
+-- The readings of a transaction that are met by looking at its numbers below a number, one by one from 0 on.
+abbrev pub by_number : List ℕ → Content → ℕ → List Metered
+by_number tx c n = flat_map (λ seq. readings_at (finite.get c.events (record { tx = tx; seq = seq }))) (upto n)
