@@ -1,5 +1,5 @@
 -- Keys are in a total order, and only equal keys tie.
-use Rattle.std.proofs.Common.{◌≡◌, ℕ, List, ap}
+use Rattle.std.proofs.Common.{ℕ, List, ap}
 use Rattle.std.specs.Ordering.{nat_cmp}
 use Rattle.std.specs.Cmp.{IsTotalOrder}
 use Rattle.std.specs.Cmp.Lexicographic.{slice_cmp}

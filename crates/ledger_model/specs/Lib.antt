@@ -17,3 +17,4 @@ pub mod Board
 pub mod World
 pub mod Posts
 pub mod Laws
+pub mod Examples

@@ -3,14 +3,16 @@
 ghost use Rattle.std.specs.Prelude.{◌≡◌, ℕ, ◌+◌, ◌<◌, List, [], ◌∷◌, All};
 ghost use Rattle.ledger_model.specs.declared.command.Command.{Command};
 ghost use Rattle.ledger_model.specs.declared.command.Command.TheVariants.{Void, Restore};
-ghost use Rattle.ledger_model.specs.declared.answer.Answer.TheVariants.{Repeat, Refused};
+ghost use Rattle.ledger_model.specs.declared.answer.Answer.TheVariants.{Accepted, Repeat, Refused};
 ghost use Rattle.ledger_model.specs.declared.answer.Refusal.{Refusal};
+ghost use Rattle.ledger_model.specs.declared.answer.Refusal.TheVariants.{ConflictingEvent, EventsFull, NoSuchEvent, AlreadyVoided, NotVoided};
 ghost use Rattle.ledger_model.specs.Key.{KeyName};
 ghost use Rattle.ledger_model.specs.Limits.{Bounds};
-ghost use Rattle.ledger_model.specs.Content.{Content, entries};
+ghost use Rattle.ledger_model.specs.Content.{Content, empty_content, entries};
 ghost use Rattle.ledger_model.specs.Step.{step};
-ghost use Rattle.ledger_model.specs.Energy.{readings_of};
-ghost use Rattle.ledger_model.specs.Laws.{AreAccepted, left_by, by_number};
+ghost use Rattle.ledger_model.specs.Energy.{readings_of, energy};
+ghost use Rattle.ledger_model.specs.Laws.{AreAccepted, left_by, answers, by_number};
+ghost use Rattle.ledger_model.specs.Examples.{default_limits, narrow_limits, first_run, late_event, falling_register, conflict, void_and_restore, full_until_erased};
 
 /// An accepted void, then an accepted restoration of the same key, gives back the events and which of
 /// them are voided; both are counted.
@@ -31,5 +33,16 @@ pub fn unchanged()
 /// up to any that is above each number that is stored.
 pub fn readings_in_order()
     ensures { (tx : List ℕ) (c : Content) (n : ℕ) → All (λ e. e.0.seq < n) (entries c) → by_number tx c n ≡ readings_of tx (entries c) }
+{
+}
+
+/// Worked examples: the energies that three runs leave, and the answers to three.
+pub fn examples()
+    ensures first_run { energy (entries (left_by default_limits empty_content first_run)) ≡ record { up = 600_000; down = 0 } }
+    ensures late_event { energy (entries (left_by default_limits empty_content late_event)) ≡ record { up = 600_000; down = 0 } }
+    ensures falling_register { energy (entries (left_by default_limits empty_content falling_register)) ≡ record { up = 50_000; down = 1_500_000 } }
+    ensures conflict { answers default_limits empty_content conflict ≡ Accepted 1 ∷ Accepted 2 ∷ Accepted 3 ∷ Repeat ∷ Refused ConflictingEvent ∷ [] }
+    ensures void_and_restore { answers default_limits empty_content void_and_restore ≡ Accepted 1 ∷ Accepted 2 ∷ Accepted 3 ∷ Repeat ∷ Refused ConflictingEvent ∷ Accepted 4 ∷ Repeat ∷ Refused AlreadyVoided ∷ Refused NoSuchEvent ∷ Refused NotVoided ∷ Accepted 5 ∷ Refused NotVoided ∷ [] }
+    ensures full_until_erased { answers narrow_limits empty_content full_until_erased ≡ Accepted 1 ∷ Accepted 2 ∷ Refused EventsFull ∷ Accepted 3 ∷ Refused EventsFull ∷ Accepted 4 ∷ Accepted 5 ∷ [] }
 {
 }
