@@ -1,19 +1,18 @@
 -- What single steps of the ledger do.
-use Rattle.std.proofs.Common.{◌≡◌, ℕ, ◌+◌, Bool, true, false, cond, List, [], ◌∷◌, Option, Some, None, refl, ap, sym, subst, ◌∙◌, nat_le, is_eq, Ordering, Less, Equal, Greater}
+use Rattle.std.proofs.Common.{◌≡◌, ◌+◌, Bool, true, false, cond, [], ◌∷◌, Option, Some, None, refl, ap, sym, ◌∙◌, nat_le, is_eq, Ordering, Less, Equal, Greater}
 use Rattle.std.specs.Ordering.{eq_by_cmp}
 use Rattle.std.specs.FinMap as finite
 use Rattle.std.specs.FinMap.{FinMap}
 use Rattle.std.proofs.lemmas.Cmp.{tied_itself}
-use Rattle.ledger_model.specs.declared.command.Command.{Command}
-use Rattle.ledger_model.specs.declared.command.Command.TheVariants.{Deliver, Void, Restore, Erase}
+use Rattle.ledger_model.specs.declared.command.Command.TheVariants.{Void, Restore}
 use Rattle.ledger_model.specs.declared.answer.Answer.{Answer}
-use Rattle.ledger_model.specs.declared.answer.Answer.TheVariants.{Accepted, Repeat, Refused}
+use Rattle.ledger_model.specs.declared.answer.Answer.TheVariants.{Accepted, Refused}
 use Rattle.ledger_model.specs.declared.answer.Refusal.{Refusal}
 use Rattle.ledger_model.specs.declared.answer.Refusal.TheVariants.{AlreadyVoided, NotVoided, ChangesExhausted}
 use Rattle.ledger_model.specs.Key.{KeyName, key_cmp}
 use Rattle.ledger_model.specs.Limits.{Bounds}
 use Rattle.ledger_model.specs.Content.{Content, Stored}
-use Rattle.ledger_model.specs.Step.{step, answer, answer_to_void, answer_to_voided, if_changes_left, content_after, events_after, marked, marked_at}
+use Rattle.ledger_model.specs.Step.{step, answer_to_void, answer_to_voided, if_changes_left, content_after, marked_at}
 use Rattle.ledger_model.specs.Laws.{IsAccepted, AreAccepted, left_by}
 use Rattle.ledger_model.proofs.Keys.{key_total, exact_keys}
 

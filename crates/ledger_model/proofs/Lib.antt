@@ -4,3 +4,6 @@ pub mod LedgerLemmas
 pub mod OrderOfReadings
 pub mod ListedRuns
 pub mod Examples
+pub mod Exchanges
+pub mod Transactions
+pub mod Deliveries

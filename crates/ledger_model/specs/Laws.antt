@@ -1,11 +1,13 @@
-use Rattle.std.specs.Prelude.{ℕ, zero, suc, List, [], ◌∷◌, ◌++◌, Option, None, Some, ⊤, if◌then◌else◌}
+use Rattle.std.specs.Prelude.{ℕ, zero, suc, List, [], ◌∷◌, ◌++◌, Option, None, Some, ⊤, map, if◌then◌else◌}
 use Rattle.std.specs.List.{flat_map}
 use Rattle.std.specs.FinMap as finite
 use Rattle.ledger_model.specs.declared.command.Command.{Command}
+use Rattle.ledger_model.specs.declared.command.Command.TheVariants.{Deliver}
 use Rattle.ledger_model.specs.declared.answer.Answer.{Answer}
 use Rattle.ledger_model.specs.declared.answer.Answer.TheVariants.{Accepted, Repeat, Refused}
 use Rattle.ledger_model.specs.Limits.{Bounds}
-use Rattle.ledger_model.specs.Event.{Metered}
+use Rattle.ledger_model.specs.Key.{KeyName}
+use Rattle.ledger_model.specs.Event.{Metered, Happening}
 use Rattle.ledger_model.specs.Content.{Content, Stored}
 use Rattle.ledger_model.specs.Step.{step}
 
@@ -43,3 +45,11 @@ readings_at (Some stored) = if stored.voided then [] else stored.event.readings
 -- The readings of a transaction that are met by looking at its numbers below a number, one by one from 0 on.
 abbrev pub by_number : List ℕ → Content → ℕ → List Metered
 by_number tx c n = flat_map (λ seq. readings_at (finite.get c.events (record { tx = tx; seq = seq }))) (upto n)
+
+-- An event with its key, as a station sends it.
+abbrev pub Sent : Type 0
+Sent = KeyName × Happening
+
+-- The deliveries of what a station sent.
+abbrev pub deliveries : List Sent → List Command
+deliveries sent = map (λ (d : Sent). Deliver d.0 d.1) sent

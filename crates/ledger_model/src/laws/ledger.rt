@@ -1,6 +1,6 @@
 //! Laws of the step, of the order of readings, and worked examples of both.
 
-ghost use Rattle.std.specs.Prelude.{◌≡◌, ℕ, ◌+◌, ◌<◌, List, [], ◌∷◌, All};
+ghost use Rattle.std.specs.Prelude.{◌≡◌, ℕ, ◌+◌, ◌<◌, List, [], ◌∷◌, All, IsPermutation};
 ghost use Rattle.ledger_model.specs.declared.command.Command.{Command};
 ghost use Rattle.ledger_model.specs.declared.command.Command.TheVariants.{Void, Restore};
 ghost use Rattle.ledger_model.specs.declared.answer.Answer.TheVariants.{Accepted, Repeat, Refused};
@@ -11,7 +11,7 @@ ghost use Rattle.ledger_model.specs.Limits.{Bounds};
 ghost use Rattle.ledger_model.specs.Content.{Content, empty_content, entries};
 ghost use Rattle.ledger_model.specs.Step.{step};
 ghost use Rattle.ledger_model.specs.Energy.{readings_of, energy};
-ghost use Rattle.ledger_model.specs.Laws.{AreAccepted, left_by, answers, by_number};
+ghost use Rattle.ledger_model.specs.Laws.{AreAccepted, left_by, answers, by_number, Sent, deliveries};
 ghost use Rattle.ledger_model.specs.Examples.{default_limits, narrow_limits, first_run, late_event, falling_register, conflict, void_and_restore, full_until_erased};
 
 /// An accepted void, then an accepted restoration of the same key, gives back the events and which of
@@ -26,6 +26,14 @@ pub fn inverses()
 pub fn unchanged()
     ensures repeated { (limits : Bounds) (c : Content) (command : Command) → (step limits c command).1 ≡ Repeat → (step limits c command).0 ≡ c }
     ensures refused { (limits : Bounds) (c : Content) (command : Command) (why : Refusal) → (step limits c command).1 ≡ Refused why → (step limits c command).0 ≡ c }
+{
+}
+
+/// Deliveries that are all accepted in one order are, from the same content, all accepted in every
+/// order, and they leave the same content.
+pub fn orders()
+    ensures accepted { (limits : Bounds) (c : Content) (one other : List Sent) → IsPermutation one other → AreAccepted limits c (deliveries one) → AreAccepted limits c (deliveries other) }
+    ensures content { (limits : Bounds) (c : Content) (one other : List Sent) → IsPermutation one other → AreAccepted limits c (deliveries one) → left_by limits c (deliveries other) ≡ left_by limits c (deliveries one) }
 {
 }
 
