@@ -68,8 +68,8 @@ module _ (limits : Bounds) (c : Content) (d : Sent) where
   pub told : Room limits c d → ◌≡◌ {A = Content × Answer} (step limits c (Deliver d.0 d.1)) (delivered c d, Accepted (c.changes + 1))
   told r =
       let is : answer limits c (Deliver d.0 d.1) ≡ Accepted (c.changes + 1) =
-          ap (answer_to_deliver limits c d.0 d.1) r.new
-          ∙ (λ i. cond (r.transactions i) (Refused TooManyTransactions) (cond (r.events i) (Refused EventsFull) (cond (r.readings i) (Refused ReadingsFull) (cond (r.changes i) (Refused ChangesExhausted) (Accepted (c.changes + 1)))))) in
+      ap (answer_to_deliver limits c d.0 d.1) r.new
+      ∙ (λ i. cond (r.transactions i) (Refused TooManyTransactions) (cond (r.events i) (Refused EventsFull) (cond (r.readings i) (Refused ReadingsFull) (cond (r.changes i) (Refused ChangesExhausted) (Accepted (c.changes + 1)))))) in
       ap (λ a. (content_after c (Deliver d.0 d.1) a, a)) is
 
   pub accepted_with : Room limits c d → (commands : List Command) → AreAccepted limits (delivered c d) commands → AreAccepted limits c (Deliver d.0 d.1 ∷ commands)
@@ -176,11 +176,11 @@ exchanged limits c x y rx ry =
     let gx = grown c x rx.new in
     let gy = grown c y n.1 in
     let t = transactions_exchanged limits.transactions (length (transactions_of es)) (bytes_eq y.0.tx x.0.tx) (has_transaction x.0.tx es) (has_transaction y.0.tx es)
-        (λ e. ap (λ tx. has_transaction tx es) (sym ((bytes_eq-Decides y.0.tx x.0.tx).0 e)))
-        rx.transactions
-        (sym (λ i. not (gx.has y.0.tx i) && nat_le limits.transactions (gx.transactions i)) ∙ ry.transactions) in
+    (λ e. ap (λ tx. has_transaction tx es) (sym ((bytes_eq-Decides y.0.tx x.0.tx).0 e)))
+    rx.transactions
+    (sym (λ i. not (gx.has y.0.tx i) && nat_le limits.transactions (gx.transactions i)) ∙ ry.transactions) in
     let r = readings_exchanged limits.readings (readings_stored es) (length x.1.readings) (length y.1.readings)
-        (ap (λ n. nat_lt limits.readings (n + length y.1.readings)) (sym gx.readings) ∙ ry.readings) in
+    (ap (λ n. nat_lt limits.readings (n + length y.1.readings)) (sym gx.readings) ∙ ry.readings) in
     record {
       second = record { new = n.1; transactions = t.0; events = rx.events; readings = r.0; changes = rx.changes };
       first = record {
@@ -195,14 +195,14 @@ exchanged limits c x y rx ry =
         changes = ry.changes;
       };
       same =
-        let q_same = λ (q : KeyName).
-            finite.get-insert key_total (finite.insert c.events x.0 (fresh x)) y.0 (fresh y) q
-            ∙ ap (cond (eq_by_cmp key_cmp q y.0) (Some (fresh y))) (finite.get-insert key_total c.events x.0 (fresh x) q)
-            ∙ turned (eq_by_cmp key_cmp q y.0) (eq_by_cmp key_cmp q x.0) (Some (fresh y)) (Some (fresh x)) (finite.get c.events q)
-                (λ e. (eq_by_cmp_equiv key_total).congr q y.0 x.0 e ∙ n.0)
-            ∙ ap (cond (eq_by_cmp key_cmp q x.0) (Some (fresh x))) (sym (finite.get-insert key_total c.events y.0 (fresh y) q))
-            ∙ sym (finite.get-insert key_total (finite.insert c.events y.0 (fresh y)) x.0 (fresh x) q) in
-        ap (λ (m : FinMap key_cmp Stored). record { events = m; changes = c.changes + 1 + 1 }) (finite.same_map key_total exact_keys _ _ q_same);
+          let q_same = λ (q : KeyName).
+          finite.get-insert key_total (finite.insert c.events x.0 (fresh x)) y.0 (fresh y) q
+          ∙ ap (cond (eq_by_cmp key_cmp q y.0) (Some (fresh y))) (finite.get-insert key_total c.events x.0 (fresh x) q)
+          ∙ turned (eq_by_cmp key_cmp q y.0) (eq_by_cmp key_cmp q x.0) (Some (fresh y)) (Some (fresh x)) (finite.get c.events q)
+          (λ e. (eq_by_cmp_equiv key_total).congr q y.0 x.0 e ∙ n.0)
+          ∙ ap (cond (eq_by_cmp key_cmp q x.0) (Some (fresh x))) (sym (finite.get-insert key_total c.events y.0 (fresh y) q))
+          ∙ sym (finite.get-insert key_total (finite.insert c.events y.0 (fresh y)) x.0 (fresh x) q) in
+          ap (λ (m : FinMap key_cmp Stored). record { events = m; changes = c.changes + 1 + 1 }) (finite.same_map key_total exact_keys _ _ q_same);
     }
 
 module _ (limits : Bounds) where
@@ -216,11 +216,12 @@ module _ (limits : Bounds) where
       let hx = accepted_then limits c x rx (deliveries (y ∷ ds)) h in
       let ry = room limits (delivered c x) y hx.0 in
       let hy = accepted_then limits (delivered c x) y ry rest hx in
-      let e = exchanged limits c x y rx ry in
-      (accepted_with limits c y e.second (deliveries (x ∷ ds)) (accepted_with limits (delivered c y) x e.first rest (subst (λ (d : Content). AreAccepted limits d rest) e.same hy)),
-       left_with limits c y e.second (deliveries (x ∷ ds)) ∙ left_with limits (delivered c y) x e.first rest
-       ∙ ap (λ (d : Content). left_by limits d rest) (sym e.same)
-       ∙ sym (left_with limits c x rx (deliveries (y ∷ ds)) ∙ left_with limits (delivered c x) y ry rest))
+      let e = exchanged limits c x y rx ry in (
+        accepted_with limits c y e.second (deliveries (x ∷ ds)) (accepted_with limits (delivered c y) x e.first rest (subst (λ (d : Content). AreAccepted limits d rest) e.same hy)),
+        left_with limits c y e.second (deliveries (x ∷ ds)) ∙ left_with limits (delivered c y) x e.first rest
+            ∙ ap (λ (d : Content). left_by limits d rest) (sym e.same)
+            ∙ sym (left_with limits c x rx (deliveries (y ∷ ds)) ∙ left_with limits (delivered c x) y ry rest),
+      )
 
   reordered : IsKeptByExchanges Reordered
   reordered = record {

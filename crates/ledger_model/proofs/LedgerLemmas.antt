@@ -35,26 +35,28 @@ pub record FoundLive (limits : Bounds) (c : Content) (o : Option Stored) : Type 
   pub stored : Stored
   pub found : o ≡ Some stored
   pub live : stored.voided ≡ false
+  pub left : IsAccepted (if_changes_left limits c)
   pub told : answer_to_void limits c o ≡ Accepted (c.changes + 1)
 
 pub found_live : (limits : Bounds) (c : Content) (o : Option Stored) → IsAccepted (answer_to_void limits c o) → FoundLive limits c o
 found_live limits c None h = absurd h
 found_live limits c (Some s) h =
     let parts = not_refused s.voided AlreadyVoided (if_changes_left limits c) h in
-    record { stored = s; found = refl; live = parts.0; told = ap (λ b. cond b (Refused AlreadyVoided) (if_changes_left limits c)) parts.0 ∙ counted limits c parts.1 }
+    record { stored = s; found = refl; live = parts.0; left = parts.1; told = ap (λ b. cond b (Refused AlreadyVoided) (if_changes_left limits c)) parts.0 ∙ counted limits c parts.1 }
 
 -- what an accepted restoration or erasure found: an event that was voided
 pub record FoundVoided (limits : Bounds) (c : Content) (o : Option Stored) : Type 0 where
   pub stored : Stored
   pub found : o ≡ Some stored
   pub voided : stored.voided ≡ true
+  pub left : IsAccepted (if_changes_left limits c)
   pub told : answer_to_voided limits c o ≡ Accepted (c.changes + 1)
 
 pub found_voided : (limits : Bounds) (c : Content) (o : Option Stored) → IsAccepted (answer_to_voided limits c o) → FoundVoided limits c o
 found_voided limits c None h = absurd h
 found_voided limits c (Some s) h =
     let parts = not_refused_else s.voided NotVoided (if_changes_left limits c) h in
-    record { stored = s; found = refl; voided = parts.0; told = ap (λ b. cond b (if_changes_left limits c) (Refused NotVoided)) parts.0 ∙ counted limits c parts.1 }
+    record { stored = s; found = refl; voided = parts.0; left = parts.1; told = ap (λ b. cond b (if_changes_left limits c) (Refused NotVoided)) parts.0 ∙ counted limits c parts.1 }
 
 shadowed : {A : Type 0} (b : Bool) (x y z : A) → cond b x (cond b y z) ≡ cond b x z
 shadowed true x y z = refl

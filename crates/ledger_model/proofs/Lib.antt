@@ -7,3 +7,4 @@ pub mod Examples
 pub mod Exchanges
 pub mod Transactions
 pub mod Deliveries
+pub mod ReachedContents

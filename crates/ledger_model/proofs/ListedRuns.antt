@@ -92,12 +92,12 @@ pub entries_removed : (m : FinMap key_cmp Stored) (key : KeyName) → finite.ent
 entries_removed m key =
     let p = λ (x : KeyName). not (eq_by_cmp key_cmp key x) in
     same_entries key_cmp key_total exact_keys _ _ (finite.entries_sorted (finite.remove m key)) (is_sorted-where_key key_cmp p (finite.entries m) (finite.entries_sorted m)) (λ q.
-        sym (finite.get-entries (finite.remove m key) q)
-        ∙ finite.get-remove key_total m key q
-        ∙ ap (cond (eq_by_cmp key_cmp q key) None) (finite.get-entries m q)
-        ∙ ap (λ b. cond b None (find key_cmp q (finite.entries m))) ((eq_by_cmp_equiv key_total).symm q key)
-        ∙ sym (turned (eq_by_cmp key_cmp key q) (find key_cmp q (finite.entries m)) None)
-        ∙ sym (find-where_key key_cmp p q (λ x t. ap (λ (k : KeyName). not (eq_by_cmp key_cmp key k)) (sym (exact_keys q x t))) (finite.entries m)))
+    sym (finite.get-entries (finite.remove m key) q)
+    ∙ finite.get-remove key_total m key q
+    ∙ ap (cond (eq_by_cmp key_cmp q key) None) (finite.get-entries m q)
+    ∙ ap (λ b. cond b None (find key_cmp q (finite.entries m))) ((eq_by_cmp_equiv key_total).symm q key)
+    ∙ sym (turned (eq_by_cmp key_cmp key q) (find key_cmp q (finite.entries m)) None)
+    ∙ sym (find-where_key key_cmp p q (λ x t. ap (λ (k : KeyName). not (eq_by_cmp key_cmp key k)) (sym (exact_keys q x t))) (finite.entries m)))
 
 remarked_is : (m : FinMap key_cmp Stored) (key : KeyName) (voided : Bool) (o : Option Stored) → finite.entries (marked_at m key voided o) ≡ remarked (finite.entries m) key voided o
 remarked_is m key voided None = refl

@@ -1,19 +1,19 @@
 -- A transaction's readings, by the order of the entries and by the numbers one after the other.
-use Rattle.std.proofs.Common.{◌≡◌, ℕ, zero, suc, ◌<◌, ◌+◌, Bool, true, false, cond, not, ◌&&◌, ◌⊎◌, inl, inr, T, List, [], ◌∷◌, ◌++◌, Option, Some, None, All, refl, ap, sym, subst, ◌∙◌, nat_lt, is_eq, is_lt, Ordering, Less, Equal, Greater, filter, flat_map, bytes_eq, append_assoc, append-nil, arith}
-use Rattle.std.specs.Ordering.{nat_cmp, ordering_then, ordering_reverse}
+use Rattle.std.proofs.Common.{◌≡◌, ℕ, zero, suc, ◌<◌, ◌+◌, Bool, true, false, cond, not, ◌&&◌, ◌⊎◌, inl, inr, T, List, [], ◌∷◌, ◌++◌, Some, None, All, refl, ap, sym, subst, ◌∙◌, nat_lt, is_eq, is_lt, Ordering, Less, Equal, Greater, filter, flat_map, bytes_eq, append_assoc, append-nil, arith}
+use Rattle.std.specs.Ordering.{nat_cmp, ordering_then}
 use Rattle.std.specs.List.{AllByRecursion}
 use Rattle.std.specs.FinMap as finite
 use Rattle.std.specs.FinMap.Entries.{find, is_sorted, below_all}
 use Rattle.std.specs.Cmp.Lexicographic.{slice_cmp}
 use Rattle.std.specs.Ordering.{MatchOrdering}
 use Rattle.std.proofs.lemmas.Cmp.{ranked, nat_list_eq_equiv}
-use Rattle.std.proofs.lemmas.Bool.{ltb-true, ltb-false, lt-ltb, le-ltb}
+use Rattle.std.proofs.lemmas.Bool.{lt-ltb, le-ltb}
 use Rattle.std.proofs.lemmas.List.Concat.{flat_map-append}
 use Rattle.std.proofs.lemmas.List.Elements.{recursion_from_All}
 use Rattle.std.proofs.lemmas.Map.Text.{is_eq-slice_cmp}
 use Rattle.ledger_model.specs.Event.{Metered}
 use Rattle.ledger_model.specs.Key.{KeyName, key_cmp}
-use Rattle.ledger_model.specs.Content.{Content, Stored, Entry, entries, live_of, live}
+use Rattle.ledger_model.specs.Content.{Content, Entry, entries, live_of, live}
 use Rattle.ledger_model.specs.Energy.{readings_of}
 use Rattle.ledger_model.specs.Laws.{upto, readings_at, by_number}
 use Rattle.ledger_model.proofs.Keys.{key_total, exact_keys}
@@ -109,11 +109,12 @@ module _ (tx : List ℕ) where
 
   -- the entry of a number has its readings below the next number, and none below its own
   at_number : (n : ℕ) (e : Entry) → e.0 ≡ named n → (here_below (suc n) e ≡ readings_at (Some e.1)) × (here_below n e ≡ [])
-  at_number n e same =
-      (ap (λ (k : KeyName). here_below (suc n) (k, e.1)) same
-       ∙ ap (λ b. cond b (here (named n, e.1)) []) (lt-ltb n (suc n) (omega arith))
-       ∙ ap (λ b. cond e.1.voided [] (cond b e.1.event.readings [])) (nat_list_eq_equiv.refl tx),
-       ap (λ (k : KeyName). here_below n (k, e.1)) same ∙ ap (λ b. cond b (here (named n, e.1)) []) (le-ltb n n (omega arith)))
+  at_number n e same = (
+    ap (λ (k : KeyName). here_below (suc n) (k, e.1)) same
+        ∙ ap (λ b. cond b (here (named n, e.1)) []) (lt-ltb n (suc n) (omega arith))
+        ∙ ap (λ b. cond e.1.voided [] (cond b e.1.event.readings [])) (nat_list_eq_equiv.refl tx),
+    ap (λ (k : KeyName). here_below n (k, e.1)) same ∙ ap (λ b. cond b (here (named n, e.1)) []) (le-ltb n n (omega arith)),
+  )
 
   none_after_all : (n m : ℕ) (es : List Entry) → m < n + 2 → T (below_all key_cmp (named n) es) → flat_map (here_below m) es ≡ []
   none_after_all n m [] h b = refl

@@ -106,9 +106,9 @@ transactions_added es fs e =
     let xs = map (λ (e : Entry). e.0.tx) es in
     let ys = map (λ (e : Entry). e.0.tx) fs in
     let more : length (distinct (xs ++ e.0.tx ∷ ys)) ≡ cond (list_any (bytes_eq e.0.tx) (xs ++ ys)) (length (distinct (xs ++ ys))) (length (distinct (xs ++ ys)) + 1) =
-        counted (xs ++ e.0.tx ∷ ys) ∙ added e.0.tx (λ _. true) xs ys
-        ∙ ap (λ n. cond (not (list_any (bytes_eq e.0.tx) (xs ++ ys))) 1 0 + n) (sym (counted (xs ++ ys)))
-        ∙ one_or_none (list_any (bytes_eq e.0.tx) (xs ++ ys)) (length (distinct (xs ++ ys))) in
+    counted (xs ++ e.0.tx ∷ ys) ∙ added e.0.tx (λ _. true) xs ys
+    ∙ ap (λ n. cond (not (list_any (bytes_eq e.0.tx) (xs ++ ys))) 1 0 + n) (sym (counted (xs ++ ys)))
+    ∙ one_or_none (list_any (bytes_eq e.0.tx) (xs ++ ys)) (length (distinct (xs ++ ys))) in
     ap (λ ns. length (distinct ns)) (names-append es (e ∷ fs))
     ∙ more
     ∙ (λ i. let ns = sym (names-append es fs) i in cond (list_any (bytes_eq e.0.tx) ns) (length (distinct ns)) (length (distinct ns) + 1))

@@ -1,4 +1,4 @@
-use Rattle.std.specs.Prelude.{ℕ, zero, suc, List, [], ◌∷◌, ◌++◌, Option, None, Some, ⊤, map, if◌then◌else◌}
+use Rattle.std.specs.Prelude.{ℕ, zero, suc, List, [], ◌∷◌, ◌++◌, Option, None, Some, ⊤, ◌≡◌, map, length, if◌then◌else◌}
 use Rattle.std.specs.List.{flat_map}
 use Rattle.std.specs.FinMap as finite
 use Rattle.ledger_model.specs.declared.command.Command.{Command}
@@ -8,7 +8,7 @@ use Rattle.ledger_model.specs.declared.answer.Answer.TheVariants.{Accepted, Repe
 use Rattle.ledger_model.specs.Limits.{Bounds}
 use Rattle.ledger_model.specs.Key.{KeyName}
 use Rattle.ledger_model.specs.Event.{Metered, Happening}
-use Rattle.ledger_model.specs.Content.{Content, Stored}
+use Rattle.ledger_model.specs.Content.{Content, Stored, empty_content}
 use Rattle.ledger_model.specs.Step.{step}
 
 -- What a list of commands, one after the other, leaves of a content.
@@ -53,3 +53,8 @@ Sent = KeyName × Happening
 -- The deliveries of what a station sent.
 abbrev pub deliveries : List Sent → List Command
 deliveries sent = map (λ (d : Sent). Deliver d.0 d.1) sent
+
+-- A list of so many commands, each accepted under these limits, leaves this content of the empty one.
+abbrev pub IsLeftByRun : Bounds → ℕ → Content → List Command → Type 0
+IsLeftByRun limits n c commands =
+    (length commands ≡ n) × AreAccepted limits empty_content commands × (left_by limits empty_content commands ≡ c)

@@ -1,6 +1,6 @@
 //! Laws of the step, of the order of readings, and worked examples of both.
 
-ghost use Rattle.std.specs.Prelude.{◌≡◌, ℕ, ◌+◌, ◌<◌, List, [], ◌∷◌, All, IsPermutation};
+ghost use Rattle.std.specs.Prelude.{◌≡◌, ℕ, ◌+◌, ◌<◌, ◌≤◌, List, [], ◌∷◌, All, IsPermutation};
 ghost use Rattle.ledger_model.specs.declared.command.Command.{Command};
 ghost use Rattle.ledger_model.specs.declared.command.Command.TheVariants.{Void, Restore};
 ghost use Rattle.ledger_model.specs.declared.answer.Answer.TheVariants.{Accepted, Repeat, Refused};
@@ -9,9 +9,9 @@ ghost use Rattle.ledger_model.specs.declared.answer.Refusal.TheVariants.{Conflic
 ghost use Rattle.ledger_model.specs.Key.{KeyName};
 ghost use Rattle.ledger_model.specs.Limits.{Bounds};
 ghost use Rattle.ledger_model.specs.Content.{Content, empty_content, entries};
-ghost use Rattle.ledger_model.specs.Step.{step};
+ghost use Rattle.ledger_model.specs.Step.{step, Reached};
 ghost use Rattle.ledger_model.specs.Energy.{readings_of, energy};
-ghost use Rattle.ledger_model.specs.Laws.{AreAccepted, left_by, answers, by_number, Sent, deliveries};
+ghost use Rattle.ledger_model.specs.Laws.{AreAccepted, left_by, answers, by_number, Sent, deliveries, IsLeftByRun};
 ghost use Rattle.ledger_model.specs.Examples.{default_limits, narrow_limits, first_run, late_event, falling_register, conflict, void_and_restore, full_until_erased};
 
 /// An accepted void, then an accepted restoration of the same key, gives back the events and which of
@@ -19,30 +19,35 @@ ghost use Rattle.ledger_model.specs.Examples.{default_limits, narrow_limits, fir
 pub fn inverses()
     ensures events { (limits : Bounds) (c : Content) (key : KeyName) → AreAccepted limits c (Void key ∷ Restore key ∷ []) → (left_by limits c (Void key ∷ Restore key ∷ [])).events ≡ c.events }
     ensures counted { (limits : Bounds) (c : Content) (key : KeyName) → AreAccepted limits c (Void key ∷ Restore key ∷ []) → (left_by limits c (Void key ∷ Restore key ∷ [])).changes ≡ c.changes + 2 }
-{
-}
+{}
 
 /// A repeated or refused command leaves the content, its count included.
 pub fn unchanged()
     ensures repeated { (limits : Bounds) (c : Content) (command : Command) → (step limits c command).1 ≡ Repeat → (step limits c command).0 ≡ c }
     ensures refused { (limits : Bounds) (c : Content) (command : Command) (why : Refusal) → (step limits c command).1 ≡ Refused why → (step limits c command).0 ≡ c }
-{
-}
+{}
 
 /// Deliveries that are all accepted in one order are, from the same content, all accepted in every
 /// order, and they leave the same content.
 pub fn orders()
     ensures accepted { (limits : Bounds) (c : Content) (one other : List Sent) → IsPermutation one other → AreAccepted limits c (deliveries one) → AreAccepted limits c (deliveries other) }
     ensures content { (limits : Bounds) (c : Content) (one other : List Sent) → IsPermutation one other → AreAccepted limits c (deliveries one) → left_by limits c (deliveries other) ≡ left_by limits c (deliveries one) }
-{
-}
+{}
+
+/// A content is reached by so many changes exactly where some list of so many commands, each accepted,
+/// leaves it of the empty content; it has counted them, and they are no more than its limit of changes.
+pub fn reached()
+    ensures run { (limits : Bounds) (n : ℕ) (c : Content) → Reached limits n c → (commands : List Command) × IsLeftByRun limits n c commands }
+    ensures each_run { (limits : Bounds) (n : ℕ) (c : Content) (commands : List Command) → IsLeftByRun limits n c commands → Reached limits n c }
+    ensures counted { (limits : Bounds) (n : ℕ) (c : Content) → Reached limits n c → c.changes ≡ n }
+    ensures few { (limits : Bounds) (n : ℕ) (c : Content) → Reached limits n c → n ≤ limits.changes }
+{}
 
 /// The readings of a transaction in order are those met by looking at the numbers 0, 1, .. one by one,
 /// up to any that is above each number that is stored.
 pub fn readings_in_order()
     ensures { (tx : List ℕ) (c : Content) (n : ℕ) → All (λ e. e.0.seq < n) (entries c) → by_number tx c n ≡ readings_of tx (entries c) }
-{
-}
+{}
 
 /// Worked examples: the energies that three runs leave, and the answers to three.
 pub fn examples()
@@ -52,5 +57,4 @@ pub fn examples()
     ensures conflict { answers default_limits empty_content conflict ≡ Accepted 1 ∷ Accepted 2 ∷ Accepted 3 ∷ Repeat ∷ Refused ConflictingEvent ∷ [] }
     ensures void_and_restore { answers default_limits empty_content void_and_restore ≡ Accepted 1 ∷ Accepted 2 ∷ Accepted 3 ∷ Repeat ∷ Refused ConflictingEvent ∷ Accepted 4 ∷ Repeat ∷ Refused AlreadyVoided ∷ Refused NoSuchEvent ∷ Refused NotVoided ∷ Accepted 5 ∷ Refused NotVoided ∷ [] }
     ensures full_until_erased { answers narrow_limits empty_content full_until_erased ≡ Accepted 1 ∷ Accepted 2 ∷ Refused EventsFull ∷ Accepted 3 ∷ Refused EventsFull ∷ Accepted 4 ∷ Accepted 5 ∷ [] }
-{
-}
+{}
