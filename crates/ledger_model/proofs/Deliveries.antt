@@ -48,9 +48,6 @@ unaccepted true h = h
 unaccepted false h = h
 
 module _ (limits : Bounds) (c : Content) (d : Sent) where
-  if_changes : Answer
-  if_changes = cond (nat_le limits.changes c.changes) (Refused ChangesExhausted) (Accepted (c.changes + 1))
-
   room_by : (o : Option Stored) → finite.get c.events d.0 ≡ o → IsAccepted (answer_to_deliver limits c d.0 d.1 o) → Room limits c d
   room_by (Some s) e h = absurd (unaccepted (same_event s.event d.1) h)
   room_by None e h =

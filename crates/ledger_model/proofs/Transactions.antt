@@ -89,9 +89,6 @@ one_or_none : (h : Bool) (n : ℕ) → cond (not h) 1 0 + n ≡ cond h n (n + 1)
 one_or_none true n = omega arith
 one_or_none false n = omega arith
 
-names : List Entry → List (List ℕ)
-names es = map (λ (e : Entry). e.0.tx) es
-
 names-append : (es fs : List Entry) → map (λ (e : Entry). e.0.tx) (es ++ fs) ≡ map (λ (e : Entry). e.0.tx) es ++ map (λ (e : Entry). e.0.tx) fs
 names-append [] fs = refl
 names-append (e ∷ es) fs = ap (λ ns. e.0.tx ∷ ns) (names-append es fs)
