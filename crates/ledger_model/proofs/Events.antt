@@ -6,9 +6,10 @@ use Rattle.ledger_model.specs.Event.{Metered, same_reading}
 
 -- equal in both parts
 pub same_reading-Decides : (a b : Metered) → Decides (same_reading a b) (a ≡ b)
-same_reading-Decides a b =
-    (λ h. let parts = and_parts (eqb a.moment b.moment) (eqb a.mwh b.mwh) h in
-          let moments = eqb-true a.moment b.moment parts.0 in
-          let values = eqb-true a.mwh b.mwh parts.1 in
-          λ i. record { moment = moments i; mwh = values i },
-     λ e. and_from (eqb a.moment b.moment) (eqb a.mwh b.mwh) (eq-eqb _ _ (ap (λ (r : Metered). r.moment) e)) (eq-eqb _ _ (ap (λ (r : Metered). r.mwh) e)))
+same_reading-Decides a b = (
+  λ h. let parts = and_parts (eqb a.moment b.moment) (eqb a.mwh b.mwh) h in
+      let moments = eqb-true a.moment b.moment parts.0 in
+      let values = eqb-true a.mwh b.mwh parts.1 in
+      λ i. record { moment = moments i; mwh = values i },
+  λ e. and_from (eqb a.moment b.moment) (eqb a.mwh b.mwh) (eq-eqb _ _ (ap (λ (r : Metered). r.moment) e)) (eq-eqb _ _ (ap (λ (r : Metered). r.mwh) e)),
+)

@@ -1,4 +1,20 @@
-//! The types of the transaction ledger.
+//! The types of the transaction ledger, and what a reader has to believe about it.
+//!
+//! A station sends transaction events ([`Event`]), each named by a [`Key`]: the id of its transaction
+//! and a sequence number (TransactionEventRequest, OCPP 2.0.1 Part 2, block E). An event carries
+//! counted [`Reading`]s of the imported energy register (MeterValueType, block J). A [`Command`] on a
+//! station's ledger gets one [`Answer`]; what the ledger may keep is bounded by its [`Limits`], and
+//! [`Figures`] sum it up.
+//!
+//! The crate's one contract: a constructor answers `None` or `Err` exactly outside the limits, and
+//! what is read of a value is what was handed in, transaction ids folded to lower case. The
+//! definitions of content, step, energy, gaps, figures, boards, worlds and posts stand in `specs/`;
+//! the crates above compute what these say.
+//!
+//! ```text
+//! let key = Key::new(TxId::new("T1")?, 7)?;     // key.tx().text() is "t1", key.seq() is 7
+//! Reading::new(moment, 10_000_000_000_001)      // None: more than 10^13 mWh
+//! ```
 #![tactic(auto)]
 
 mod answer;
@@ -29,3 +45,6 @@ pub use moment::{Moment, Quarter};
 pub use name::Name;
 pub use reading::Reading;
 pub use tx_id::TxId;
+
+#[cfg(test)]
+mod tests;
