@@ -1,1 +1,3 @@
 pub mod Events
+pub mod GapLemmas
+pub mod NumberLemmas

@@ -16,3 +16,4 @@ pub mod Complete
 pub mod Board
 pub mod World
 pub mod Posts
+pub mod BoardLaws

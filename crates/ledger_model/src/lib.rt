@@ -24,6 +24,7 @@ mod evse;
 mod figures;
 mod key;
 mod kind;
+pub mod laws;
 mod limits;
 mod listed;
 mod moment;
