@@ -8,7 +8,7 @@ use Rattle.ledger_model.specs.declared.figures.Figures.{Figures}
 use Rattle.ledger_model.specs.Figures.{no_figures}
 use Rattle.ledger_model.specs.Board.{plus_figures, sum_of_figures}
 use Rattle.ledger_model.specs.Posts.{Post, has_post, row_after, totals_after}
-use Rattle.ledger_model.proofs.SumLemmas.{sum_by-same, sum_by-none, sum_by-plus, sum_by-map, sum_by-times, times, times-here, times-other}
+use Rattle.ledger_model.proofs.SumLemmas.{sum_by-same, sum_by-none, sum_by-plus, sum_by-map, sum_by-times, AreOnce, times, times-here, times-other}
 use Rattle.ledger_model.proofs.FigureLemmas.{figure_of_sum, same_figures}
 
 -- the test of has_post at a list with one post in front
@@ -65,6 +65,13 @@ totals-later p ps h = rw h
 totals-here : (p : Post) (ps : List Post) → has_post p.0 ps ≡ false → totals_after (p ∷ ps) ≡ plus_figures p.1 (totals_after ps)
 totals-here p ps h = rw h
 
+-- a post that isn't its row's last changes no row
+row-known : (p : Post) (ps : List Post) → has_post p.0 ps ≡ true → (row : ℕ) → row_after row (p ∷ ps) ≡ row_after row ps
+row-known p ps h row = ⊎_elim
+    (λ (e : p.0 ≡ row). row-later row p ps (subst (λ r. has_post r ps ≡ true) e h))
+    (λ (apart : p.0 ≢ row). row-other row p ps apart)
+    (cases_eq p.0 row)
+
 -- one figure of what one post more leaves
 module _ (figure : Figures → ℕ) (none : figure no_figures ≡ 0) (both : (a b : Figures) → figure (plus_figures a b) ≡ figure a + figure b) where
   figure-here : (p : Post) (ps : List Post) → has_post p.0 ps ≡ false → figure (totals_after (p ∷ ps)) ≡ figure p.1 + figure (totals_after ps)
@@ -117,9 +124,62 @@ module _ (figure : Figures → ℕ) (none : figure no_figures ≡ 0) (both : (a 
         (λ (apart : p.0 ≢ row). totals-push_other row f p ps apart rest)
         (cases_eq p.0 row)
 
-  -- a figure of the totals is the sum of that figure over rows that hold each posted row once
-  figure-rows : (rows : List ℕ) (ps : List Post) → ((p : Post) → All (λ q. times q.0 rows ≡ 1) ps) → ℕ
-  figure-rows rows ps h = 0
+  -- what a post adds to a row: its figures, where it is the row's last
+  figure-row : (p : Post) (ps : List Post) → has_post p.0 ps ≡ false → (row : ℕ) → figure (row_after row (p ∷ ps)) ≡ cond (eqb p.0 row) (figure p.1) 0 + figure (row_after row ps)
+  figure-row p ps h row = ⊎_elim
+      (λ (e : p.0 ≡ row).
+        let free : has_post row ps ≡ false = subst (λ r. has_post r ps ≡ false) e h in
+        let here : figure (row_after row (p ∷ ps)) ≡ figure p.1 = ap figure (row-here row p ps free e) in
+        let nothing : figure (row_after row ps) ≡ 0 = ap figure (row-none row ps free) ∙ none in
+        let one : cond (eqb p.0 row) (figure p.1) 0 ≡ figure p.1 = ap (λ b. cond b (figure p.1) 0) (eq-eqb p.0 row e) in
+        omega (arith, here, nothing, one))
+      (λ (apart : p.0 ≢ row).
+        let same : figure (row_after row (p ∷ ps)) ≡ figure (row_after row ps) = ap figure (row-other row p ps apart) in
+        let one : cond (eqb p.0 row) (figure p.1) 0 ≡ 0 = ap (λ b. cond b (figure p.1) 0) (ne_eqb p.0 row apart) in
+        omega (arith, same, one))
+      (cases_eq p.0 row)
+
+  -- a figure of the totals is the sum of that figure over rows in which each posted row stands once
+  figure-rows : (rows : List ℕ) (ps : List Post) → AreOnce (λ p. p.0) rows ps → figure (totals_after ps) ≡ sum_by (λ row. figure (row_after row ps)) rows
+  figure-rows rows [] once = none ∙ sym (sum_by-same (λ row. figure no_figures) (λ row. 0) (λ row. none) rows ∙ sum_by-none rows)
+  figure-rows rows (p ∷ ps) once =
+      let rest : figure (totals_after ps) ≡ sum_by (λ row. figure (row_after row ps)) rows = figure-rows rows ps once.1 in
+      ⊎_elim
+        (λ (h : has_post p.0 ps ≡ true). ap figure (totals-later p ps h) ∙ rest
+          ∙ sym (sum_by-same (λ row. figure (row_after row (p ∷ ps))) (λ row. figure (row_after row ps)) (λ row. ap figure (row-known p ps h row)) rows))
+        (λ (h : has_post p.0 ps ≡ false).
+          let whole : figure (totals_after (p ∷ ps)) ≡ figure p.1 + figure (totals_after ps) = figure-here p ps h in
+          let parted : sum_by (λ row. figure (row_after row (p ∷ ps))) rows ≡ sum_by (λ row. cond (eqb p.0 row) (figure p.1) 0) rows + sum_by (λ row. figure (row_after row ps)) rows
+              = sum_by-same _ _ (figure-row p ps h) rows ∙ sum_by-plus (λ row. cond (eqb p.0 row) (figure p.1) 0) (λ row. figure (row_after row ps)) rows in
+          let one : sum_by (λ row. cond (eqb p.0 row) (figure p.1) 0) rows ≡ 1 * figure p.1 = sum_by-times p.0 (figure p.1) rows ∙ ap (λ n. n * figure p.1) once.0 in
+          omega (arith, whole, parted, one, rest))
+        (cases_Bool (has_post p.0 ps))
+
+-- the numbers of a range stand once in it
+times-before : (q a n : ℕ) → q < a → times q (range_with_len a n) ≡ 0
+times-before q a zero less = refl
+times-before q a (suc n) less = times-other q a (range_with_len (a + 1) n) (λ e. absurd (omega arith)) ∙ times-before q (a + 1) n (omega arith)
+
+times-range : (q a n : ℕ) → a ≤ q → q < a + n → times q (range_with_len a n) ≡ 1
+times-range q a zero low high = absurd (omega arith)
+times-range q a (suc n) low high = ⊎_elim
+    (λ (e : q ≡ a). times-here q a (range_with_len (a + 1) n) e ∙ ap (λ k. 1 + k) (times-before q (a + 1) n (omega arith)))
+    (λ (apart : q ≢ a). times-other q a (range_with_len (a + 1) n) apart ∙ times-range q (a + 1) n (let less : a < q = above a q low (λ e. apart (sym e)) in omega arith) (omega arith))
+    (cases_eq q a)
+  where
+    above : (a q : ℕ) → a ≤ q → (a ≡ q → ⊥) → a < q
+    above a q low apart = omega arith
+
+once_below : (n : ℕ) (ps : List Post) → All (λ p. p.0 < n) ps → AreOnce (λ p. p.0) (range_with_len 0 n) ps
+once_below n [] below = tt
+once_below n (p ∷ ps) below =
+    (times-range p.0 0 n (omega arith) (let less : p.0 < n = All-head (λ (q : Post). q.0 < n) p ps below in omega arith),
+     once_below n ps (All-tail (λ (q : Post). q.0 < n) p ps below))
+
+pub totals-rows : (n : ℕ) (ps : List Post) → All (λ p. p.0 < n) ps → totals_after ps ≡ sum_of_figures (map (λ row. row_after row ps) (range_with_len 0 n))
+totals-rows n ps below = same_figures _ _ (λ figure none both.
+    figure-rows figure none both (range_with_len 0 n) ps (once_below n ps below)
+    ∙ sym (figure_of_sum figure none both (map (λ row. row_after row ps) (range_with_len 0 n)) ∙ sum_by-map figure (λ row. row_after row ps) (range_with_len 0 n)))
 
 pub totals-push : (row : ℕ) (f : Figures) (ps : List Post) → plus_figures (totals_after (ps ++ (row, f) ∷ [])) (row_after row ps) ≡ plus_figures (totals_after ps) f
 totals-push row f ps = same_figures _ _ (λ figure none both. both (totals_after (ps ++ (row, f) ∷ [])) (row_after row ps) ∙ figure-push figure none both row f ps ∙ sym (both (totals_after ps) f))
