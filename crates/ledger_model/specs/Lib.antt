@@ -17,3 +17,4 @@ pub mod Board
 pub mod World
 pub mod Posts
 pub mod BoardLaws
+pub mod BoardExamples

@@ -3,6 +3,6 @@
 mod board;
 
 pub use board::{
-    complete_is_four_conditions, energy_by_evse, energy_by_quarter, energy_by_transaction,
+    board_examples, complete_is_four_conditions, energy_by_evse, energy_by_quarter, energy_by_transaction,
     gaps_are_missing_numbers, site_figures_are_sums, totals_after_a_post,
 };

@@ -1,7 +1,8 @@
-ghost use Rattle.std.specs.Prelude.{◌≡◌, ◌≢◌, ◌↔◌, ℕ, ◌+◌, ◌<◌, true, List, [], ◌∷◌, ◌++◌, All, length, map};
+ghost use Rattle.std.specs.Prelude.{◌≡◌, ◌≢◌, ◌↔◌, ℕ, ◌+◌, ◌<◌, true, List, [], ◌∷◌, ◌++◌, All, codes, length, map};
 ghost use Rattle.std.specs.List.{range_with_len};
+ghost use Rattle.ledger_model.specs.BoardExamples.{first_run, first_run_board, first_run_site, late_event, late_event_board, event_voided, event_voided_board, quarter_boundary, readings_again_at_end, evse_named, evse_voided, start_voided, widest_gap, rise, ten};
 ghost use Rattle.ledger_model.specs.BoardLaws.{AreRising, AreGaps, AreComplete, AreSums, sum_of_energies};
-ghost use Rattle.ledger_model.specs.Board.{Board, last_or_none, plus_figures, site_board, sum_of_figures};
+ghost use Rattle.ledger_model.specs.Board.{Board, board, figures, last_or_none, plus_figures, site_board, sum_of_figures};
 ghost use Rattle.ledger_model.specs.Complete.{is_complete, kinds_of};
 ghost use Rattle.ledger_model.specs.Content.{Content, Entry, entries, live, transactions_of};
 ghost use Rattle.ledger_model.specs.Energy.{energy, energy_in, energy_of, quarters};
@@ -60,5 +61,26 @@ pub fn totals_after_a_post()
     ensures posted { (row : ℕ) (f : Figures) (ps : List Post) → row_after row (ps ++ (row, f) ∷ []) ≡ f }
     ensures others { (row other : ℕ) (f : Figures) (ps : List Post) → row ≢ other → row_after other (ps ++ (row, f) ∷ []) ≡ row_after other ps }
     ensures rows { (n : ℕ) (ps : List Post) → All (λ p. p.0 < n) ps → totals_after ps ≡ sum_of_figures (map (λ row. row_after row ps) (range_with_len 0 n)) }
+{
+}
+
+/// Boards, figures and quarters of a few short transactions, by settlement periods of 900 seconds.
+pub fn board_examples()
+    ensures first_run { board 900 first_run ≡ first_run_board }
+    ensures first_run_site { site_board ((codes "A", board 900 first_run) ∷ []) ≡ first_run_site }
+    ensures late_event { board 900 late_event ≡ late_event_board }
+    ensures event_voided { board 900 event_voided ≡ event_voided_board }
+    ensures quarter_boundary { (board 900 quarter_boundary).quarters ≡ (ten + 1, rise 100_000) ∷ [] }
+    ensures readings_again_at_end { (board 900 readings_again_at_end).quarters ≡ (ten, record { up = 400_000; down = 600_000 }) ∷ (ten + 2, rise 800_000) ∷ (ten + 3, rise 100_000) ∷ [] }
+    ensures readings_again_figures { figures readings_again_at_end ≡ record { events = 4; voided = 0; transactions = 1; complete = 1; missing = 0; up = 1_300_000; down = 600_000 } }
+    ensures evse_named { (board 900 evse_named).evses ≡ (2, rise 250_000) ∷ [] }
+    ensures evse_named_figures { figures evse_named ≡ record { events = 3; voided = 0; transactions = 1; complete = 1; missing = 0; up = 250_000; down = 0 } }
+    ensures evse_voided { (board 900 evse_voided).evses ≡ (0, rise 250_000) ∷ [] }
+    ensures evse_voided_figures { figures evse_voided ≡ record { events = 2; voided = 1; transactions = 1; complete = 0; missing = 1; up = 250_000; down = 0 } }
+    ensures evse_voided_gaps { gaps (numbers_of (codes "t1") evse_voided) ≡ (1, 1) ∷ [] }
+    ensures start_voided { (board 900 start_voided).evses ≡ (2, rise 150_000) ∷ [] }
+    ensures start_voided_figures { figures start_voided ≡ record { events = 2; voided = 1; transactions = 1; complete = 0; missing = 0; up = 150_000; down = 0 } }
+    ensures widest_gap { gaps (numbers_of (codes "t1") widest_gap) ≡ (1, 2_147_483_646) ∷ [] }
+    ensures widest_gap_figures { figures widest_gap ≡ record { events = 2; voided = 0; transactions = 1; complete = 0; missing = 2_147_483_646; up = 0; down = 10_000_000_000_000 } }
 {
 }
