@@ -1,7 +1,7 @@
 -- Sums over lists, and over the distinct keys of their elements.
-use Rattle.std.proofs.Common.{◌≡◌, ℕ, zero, suc, ◌<◌, ◌≤◌, ◌+◌, ◌*◌, ◌⊎◌, Bool, true, false, cond, List, [], ◌∷◌, ◌++◌, refl, ap, sym, ◌∙◌, subst, ⊎_elim, inl, inr, arith, map, eqb, ltb}
+use Rattle.std.proofs.Common.{◌≡◌, ℕ, ◌<◌, ◌+◌, ◌*◌, ◌⊎◌, ◌↔◌, Bool, true, false, cond, List, [], ◌∷◌, refl, ap, sym, ◌∙◌, subst, ⊎_elim, inl, inr, arith, map, eqb}
 use Rattle.std.specs.Prelude.{filter, sum_by, count_by}
-use Rattle.std.specs.List.{flat_map, range_with_len}
+use Rattle.std.specs.List.{flat_map}
 use Rattle.std.proofs.Math.Path.{fun_ext}
 use Rattle.std.proofs.lemmas.Bool.{eq-eqb, ne_eqb, lt-ltb, le-ltb, cases_order, cases_eq}
 use Rattle.std.proofs.lemmas.List.Sums.{sum_by-cons, sum_by-append}
@@ -169,3 +169,49 @@ once_each key ks (x ∷ xs) h = (h (key x) (inl refl), once_each key ks xs (λ n
 -- the same over the rising keys of a list
 pub sum_by_rising : {X : Type 0} (f key : X → ℕ) (xs : List X) → sum_by (λ k. sum_by f (filter (λ x. eqb (key x) k) xs)) (rising (map key xs)) ≡ sum_by f xs
 sum_by_rising f key xs = sum_by_keys f key (rising (map key xs)) xs (once_each key (rising (map key xs)) xs (λ n there. times-rising n (map key xs) there))
+
+-- put_in adds one number
+put_in-IsIn : (n k : ℕ) (ms : List ℕ) → IsIn n (put_in k ms) ↔ ((n ≡ k) ⊎ IsIn n ms)
+put_in-IsIn n k [] = ((λ h. h), (λ h. h))
+put_in-IsIn n k (m ∷ ms) = ⊎_elim
+    (λ (e : k ≡ m). subst (λ ks. IsIn n ks ↔ ((n ≡ k) ⊎ IsIn n (m ∷ ms))) (sym (put_in-same k m ms e))
+      ((λ h. inr h), (λ h. ⊎_elim (λ (is : n ≡ k). inl (is ∙ e)) (λ (there : IsIn n (m ∷ ms)). there) h)))
+    (λ (o : (k < m) ⊎ (m < k)). ⊎_elim
+      (λ (below : k < m). subst (λ ks. IsIn n ks ↔ ((n ≡ k) ⊎ IsIn n (m ∷ ms))) (sym (put_in-below k m ms below)) ((λ h. h), (λ h. h)))
+      (λ (above : m < k). subst (λ ks. IsIn n ks ↔ ((n ≡ k) ⊎ IsIn n (m ∷ ms))) (sym (put_in-above k m ms above))
+        ((λ h. ⊎_elim {C = (n ≡ k) ⊎ IsIn n (m ∷ ms)} (λ (is : n ≡ m). inr (inl is))
+            (λ (there : IsIn n (put_in k ms)). ⊎_elim {C = (n ≡ k) ⊎ IsIn n (m ∷ ms)} (λ (is : n ≡ k). inl is) (λ (rest : IsIn n ms). inr (inr rest)) ((put_in-IsIn n k ms).0 there)) h),
+         (λ h. ⊎_elim {C = IsIn n (m ∷ put_in k ms)} (λ (is : n ≡ k). inr ((put_in-IsIn n k ms).1 (inl is)))
+            (λ (rest : IsIn n (m ∷ ms)). ⊎_elim {C = IsIn n (m ∷ put_in k ms)} (λ (is : n ≡ m). inl is) (λ (there : IsIn n ms). inr ((put_in-IsIn n k ms).1 (inr there))) rest) h)))
+      o)
+    (cases_order k m)
+
+-- the rising numbers of a list are its numbers
+pub rising-IsIn : (n : ℕ) (ns : List ℕ) → IsIn n (rising ns) ↔ IsIn n ns
+rising-IsIn n [] = ((λ h. h), (λ h. h))
+rising-IsIn n (m ∷ ns) =
+    ((λ h. ⊎_elim {C = IsIn n (m ∷ ns)} (λ (e : n ≡ m). inl e) (λ (there : IsIn n (rising ns)). inr ((rising-IsIn n ns).0 there)) ((put_in-IsIn n m (rising ns)).0 h)),
+     (λ h. (put_in-IsIn n m (rising ns)).1 (⊎_elim {C = (n ≡ m) ⊎ IsIn n (rising ns)} (λ (e : n ≡ m). inl e) (λ (there : IsIn n ns). inr ((rising-IsIn n ns).1 there)) h)))
+
+-- elements of a key, or none and no sum
+key_or_none : {X : Type 0} (f key : X → ℕ) (k : ℕ) (xs : List X) → IsIn k (map key xs) ⊎ (sum_by f (filter (λ x. eqb (key x) k) xs) ≡ 0)
+key_or_none f key k [] = inr refl
+key_or_none f key k (x ∷ xs) = ⊎_elim {C = IsIn k (map key (x ∷ xs)) ⊎ (sum_by f (filter (λ y. eqb (key y) k) (x ∷ xs)) ≡ 0)}
+    (λ (e : k ≡ key x). inl (inl e))
+    (λ (apart : k ≡ key x → ⊥). ⊎_elim {C = IsIn k (map key (x ∷ xs)) ⊎ (sum_by f (filter (λ y. eqb (key y) k) (x ∷ xs)) ≡ 0)}
+      (λ (there : IsIn k (map key xs)). inl (inr there))
+      (λ (none : sum_by f (filter (λ y. eqb (key y) k) xs) ≡ 0). inr (sum_by-filter_cons f (λ y. eqb (key y) k) x xs ∙ ap (λ b. cond b (f x) 0 + sum_by f (filter (λ y. eqb (key y) k) xs)) (ne_eqb (key x) k (λ e. apart (sym e))) ∙ ap (λ n. 0 + n) none))
+      (key_or_none f key k xs))
+    (cases_eq k (key x))
+
+-- the sum of a key stands once among the sums by rising keys, or is nothing
+pub times-rising_sum : {X : Type 0} (f key : X → ℕ) (k : ℕ) (xs : List X) → times k (rising (map key xs)) * sum_by f (filter (λ x. eqb (key x) k) xs) ≡ sum_by f (filter (λ x. eqb (key x) k) xs)
+times-rising_sum f key k xs = ⊎_elim
+    (λ (there : IsIn k (map key xs)). ap (λ n. n * sum_by f (filter (λ x. eqb (key x) k) xs)) (times-rising k (map key xs) there) ∙ one_times (sum_by f (filter (λ x. eqb (key x) k) xs)))
+    (λ (none : sum_by f (filter (λ x. eqb (key x) k) xs) ≡ 0). ap (λ n. times k (rising (map key xs)) * n) none ∙ times_none (times k (rising (map key xs))) ∙ sym none)
+    (key_or_none f key k xs)
+  where
+    one_times : (n : ℕ) → 1 * n ≡ n
+    one_times n = omega arith
+    times_none : (n : ℕ) → n * 0 ≡ 0
+    times_none n = omega arith

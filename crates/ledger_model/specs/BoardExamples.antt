@@ -1,6 +1,5 @@
-use Rattle.std.specs.Prelude.{ℕ, List, [], ◌∷◌, ◌+◌, ◌*◌, Option, None, Some, Bool, true, false, codes}
+use Rattle.std.specs.Prelude.{ℕ, List, [], ◌∷◌, ◌+◌, ◌*◌, Option, None, Some, true, false, codes}
 use Rattle.energy_flow.specs.Flow.{Energy}
-use Rattle.ledger_model.specs.declared.figures.Figures.{Figures}
 use Rattle.ledger_model.specs.declared.kind.Kind.{Kind}
 use Rattle.ledger_model.specs.declared.kind.Kind.TheVariants.{Started, Updated, Ended}
 use Rattle.ledger_model.specs.Event.{Metered}
@@ -63,12 +62,12 @@ late_event_board = record {
   transactions = record { tx = codes "t1"; evse = 0; events = 3; first = 0; last = 2; complete = false; missing = 0; flow = rise 600_000; gaps = [] } ∷ [];
 }
 
--- Then that one voided: the board is the one before it, but for the voided event.
-abbrev pub event_voided : List Entry
-event_voided = metered Started 0 0 1_000 ∷ voided (metered Updated 1 14 1_200) ∷ metered Updated 2 31 1_600 ∷ []
+-- Then that one voided: the board is that of the first run, but for the voided event. Restored, the events are those before.
+abbrev pub void_and_restore : List Entry
+void_and_restore = metered Started 0 0 1_000 ∷ voided (metered Updated 1 14 1_200) ∷ metered Updated 2 31 1_600 ∷ []
 
-abbrev pub event_voided_board : Board
-event_voided_board = record first_run_board { figures = record { events = 2; voided = 1; transactions = 1; complete = 0; missing = 1; up = 600_000; down = 0 } }
+abbrev pub void_and_restore_board : Board
+void_and_restore_board = record first_run_board { figures = record { events = 2; voided = 1; transactions = 1; complete = 0; missing = 1; up = 600_000; down = 0 } }
 
 -- A later reading at the very beginning of a quarter.
 abbrev pub quarter_boundary : List Entry
@@ -80,16 +79,18 @@ readings_again_at_end =
     metered Started 0 0 1_000 ∷ metered Updated 1 14 1_200 ∷ metered Updated 2 31 1_600
     ∷ told Ended 3 45 None (reading 0 1_000 ∷ reading 14 1_200 ∷ reading 31 1_600 ∷ reading 45 1_700 ∷ []) ∷ []
 
--- The EVSE is named by the second event alone; that one voided; and the first one voided besides nothing else.
-abbrev pub evse_named : List Entry
-evse_named = metered Started 0 0 1_000 ∷ told Updated 1 5 (Some 2) (reading 5 1_100 ∷ []) ∷ metered Ended 2 10 1_250 ∷ []
+-- The second of three events alone names an EVSE.
+abbrev pub evse_moves : List Entry
+evse_moves = metered Started 0 0 1_000 ∷ told Updated 1 5 (Some 2) (reading 5 1_100 ∷ []) ∷ metered Ended 2 10 1_250 ∷ []
 
+-- That event voided. Restored, the events are those before.
 abbrev pub evse_voided : List Entry
 evse_voided = metered Started 0 0 1_000 ∷ voided (told Updated 1 5 (Some 2) (reading 5 1_100 ∷ [])) ∷ metered Ended 2 10 1_250 ∷ []
 
+-- Then the first event voided.
 abbrev pub start_voided : List Entry
 start_voided = voided (metered Started 0 0 1_000) ∷ told Updated 1 5 (Some 2) (reading 5 1_100 ∷ []) ∷ metered Ended 2 10 1_250 ∷ []
 
--- The lowest and the highest number that there can be.
+-- The lowest and the highest number that there can be, and the greatest fall.
 abbrev pub widest_gap : List Entry
 widest_gap = metered Started 0 0 10_000_000_000 ∷ metered Ended 2_147_483_647 5 0 ∷ []

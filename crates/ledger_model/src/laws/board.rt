@@ -1,12 +1,12 @@
 ghost use Rattle.std.specs.Prelude.{◌≡◌, ◌≢◌, ◌↔◌, ℕ, ◌+◌, ◌<◌, true, List, [], ◌∷◌, ◌++◌, All, codes, length, map};
-ghost use Rattle.std.specs.List.{range_with_len};
-ghost use Rattle.ledger_model.specs.BoardExamples.{first_run, first_run_board, first_run_site, late_event, late_event_board, event_voided, event_voided_board, quarter_boundary, readings_again_at_end, evse_named, evse_voided, start_voided, widest_gap, rise, ten};
-ghost use Rattle.ledger_model.specs.BoardLaws.{AreRising, AreGaps, AreComplete, AreSums, sum_of_energies};
-ghost use Rattle.ledger_model.specs.Board.{Board, board, figures, last_or_none, plus_figures, site_board, sum_of_figures};
+ghost use Rattle.std.specs.List.{flat_map, range_with_len};
+ghost use Rattle.ledger_model.specs.BoardExamples.{first_run, first_run_board, first_run_site, late_event, late_event_board, void_and_restore, void_and_restore_board, quarter_boundary, readings_again_at_end, evse_moves, evse_voided, start_voided, widest_gap, rise, ten};
+ghost use Rattle.ledger_model.specs.BoardLaws.{AreRising, AreGaps, AreComplete, AreSums, IsIn, sum_of_energies};
+ghost use Rattle.ledger_model.specs.Board.{Board, board, energy_under, figures, last_or_none, plus_figures, site_board, sum_of_figures};
 ghost use Rattle.ledger_model.specs.Complete.{is_complete, kinds_of};
 ghost use Rattle.ledger_model.specs.Content.{Content, Entry, entries, live, transactions_of};
-ghost use Rattle.ledger_model.specs.Energy.{energy, energy_in, energy_of, quarters};
-ghost use Rattle.ledger_model.specs.Evse.{energy_at, evses, first_or_none};
+ghost use Rattle.ledger_model.specs.Energy.{energy, energy_in, energy_of, pairs, quarter_of, quarters};
+ghost use Rattle.ledger_model.specs.Evse.{energy_at, evse_of, evses, first_or_none};
 ghost use Rattle.ledger_model.specs.Gaps.{gaps, missing, numbers_of};
 ghost use Rattle.ledger_model.specs.Posts.{Post, row_after, totals_after};
 ghost use Rattle.ledger_model.specs.declared.figures.Figures.{Figures};
@@ -46,6 +46,22 @@ pub fn energy_by_transaction()
 {
 }
 
+/// A station shows each quarter that has a pair of readings, and each EVSE that has a transaction
+/// with a live event, once and rising.
+pub fn shown_once_and_rising()
+    ensures quarters { (period : ℕ) (es : List Entry) (quarter : ℕ) → IsIn quarter (quarters period es) ↔ IsIn quarter (map (quarter_of period) (pairs es)) }
+    ensures quarters_rise { (period : ℕ) (es : List Entry) → AreRising (quarters period es) }
+    ensures evses { (es : List Entry) (evse : ℕ) → IsIn evse (evses es) ↔ IsIn evse (map (λ tx. evse_of tx es) (transactions_of (live es))) }
+    ensures evses_rise { (es : List Entry) → AreRising (evses es) }
+{
+}
+
+/// The energy of a site's quarter is the sum over its stations, shown there or not.
+pub fn site_quarters_are_sums()
+    ensures { (period quarter : ℕ) (stations : List (List Entry)) → energy_under quarter (flat_map (λ es. (board period es).quarters) stations) ≡ sum_of_energies (map (energy_in period quarter) stations) }
+{
+}
+
 /// Each figure of a site is the sum of that figure over its stations.
 pub fn site_figures_are_sums()
     ensures sums { (fs : List Figures) → AreSums (sum_of_figures fs) fs }
@@ -69,15 +85,14 @@ pub fn board_examples()
     ensures first_run { board 900 first_run ≡ first_run_board }
     ensures first_run_site { site_board ((codes "A", board 900 first_run) ∷ []) ≡ first_run_site }
     ensures late_event { board 900 late_event ≡ late_event_board }
-    ensures event_voided { board 900 event_voided ≡ event_voided_board }
+    ensures void_and_restore { board 900 void_and_restore ≡ void_and_restore_board }
     ensures quarter_boundary { (board 900 quarter_boundary).quarters ≡ (ten + 1, rise 100_000) ∷ [] }
     ensures readings_again_at_end { (board 900 readings_again_at_end).quarters ≡ (ten, record { up = 400_000; down = 600_000 }) ∷ (ten + 2, rise 800_000) ∷ (ten + 3, rise 100_000) ∷ [] }
     ensures readings_again_figures { figures readings_again_at_end ≡ record { events = 4; voided = 0; transactions = 1; complete = 1; missing = 0; up = 1_300_000; down = 600_000 } }
-    ensures evse_named { (board 900 evse_named).evses ≡ (2, rise 250_000) ∷ [] }
-    ensures evse_named_figures { figures evse_named ≡ record { events = 3; voided = 0; transactions = 1; complete = 1; missing = 0; up = 250_000; down = 0 } }
+    ensures evse_moves { (board 900 evse_moves).evses ≡ (2, rise 250_000) ∷ [] }
+    ensures evse_moves_figures { figures evse_moves ≡ record { events = 3; voided = 0; transactions = 1; complete = 1; missing = 0; up = 250_000; down = 0 } }
     ensures evse_voided { (board 900 evse_voided).evses ≡ (0, rise 250_000) ∷ [] }
     ensures evse_voided_figures { figures evse_voided ≡ record { events = 2; voided = 1; transactions = 1; complete = 0; missing = 1; up = 250_000; down = 0 } }
-    ensures evse_voided_gaps { gaps (numbers_of (codes "t1") evse_voided) ≡ (1, 1) ∷ [] }
     ensures start_voided { (board 900 start_voided).evses ≡ (2, rise 150_000) ∷ [] }
     ensures start_voided_figures { figures start_voided ≡ record { events = 2; voided = 1; transactions = 1; complete = 0; missing = 0; up = 150_000; down = 0 } }
     ensures widest_gap { gaps (numbers_of (codes "t1") widest_gap) ≡ (1, 2_147_483_646) ∷ [] }
