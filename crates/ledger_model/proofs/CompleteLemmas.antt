@@ -56,12 +56,12 @@ conditions-from (Updated ∷ kinds) count h none = absurd (false≢true h)
 conditions-from (Ended ∷ kinds) count h none = absurd (false≢true h)
 conditions-from (Started ∷ []) count h none = absurd (false≢true h)
 conditions-from (Started ∷ k ∷ kinds) count h none = record {
-      lowest = refl;
-      highest = subst (λ n. slice_get (Started ∷ k ∷ kinds) n ≡ Some Ended) (sym (last_index (length kinds))) (goes_on-ends k kinds h);
-      no_start_between = between_not (Started ∷ k ∷ kinds) k kinds Started (λ e. absurd (cc)) refl h;
-      no_end_between = between_not (Started ∷ k ∷ kinds) k kinds Ended (λ e. absurd (cc)) refl h;
-      none_missing = none;
-    }
+  lowest = refl;
+  highest = subst (λ n. slice_get (Started ∷ k ∷ kinds) n ≡ Some Ended) (sym (last_index (length kinds))) (goes_on-ends k kinds h);
+  no_start_between = between_not (Started ∷ k ∷ kinds) k kinds Started (λ e. absurd (cc)) refl h;
+  no_end_between = between_not (Started ∷ k ∷ kinds) k kinds Ended (λ e. absurd (cc)) refl h;
+  none_missing = none;
+}
 
 starts-from : (kinds : List Kind) (count : ℕ) → AreComplete kinds count → starts_and_ends kinds ≡ true
 starts-from [] count c = let e : None ≡ Some Started = c.lowest in absurd (cc)
@@ -70,11 +70,12 @@ starts-from (Ended ∷ kinds) count c = let e : Some Ended ≡ Some Started = c.
 starts-from (Started ∷ []) count c = let e : Some Started ≡ Some Ended = c.highest in absurd (cc)
 starts-from (Started ∷ k ∷ kinds) count c =
     goes_on-from k kinds (subst (λ n. slice_get (Started ∷ k ∷ kinds) n ≡ Some Ended) (last_index (length kinds)) c.highest)
-      (λ i less. c.no_start_between (suc i) (omega arith) (omega arith))
-      (λ i less. c.no_end_between (suc i) (omega arith) (omega arith))
+    (λ i less. c.no_start_between (suc i) (omega arith) (omega arith))
+    (λ i less. c.no_end_between (suc i) (omega arith) (omega arith))
 
 pub complete-conditions : (tx : List ℕ) (es : List Entry) → (is_complete tx es ≡ true) ↔ AreComplete (kinds_of tx es) (missing (numbers_of tx es))
-complete-conditions tx es =
-    (λ h. let parts = and_parts (starts_and_ends (kinds_of tx es)) (eqb (missing (numbers_of tx es)) 0) h in
-        conditions-from (kinds_of tx es) (missing (numbers_of tx es)) parts.0 (eqb-true (missing (numbers_of tx es)) 0 parts.1),
-     λ c. and_from (starts_and_ends (kinds_of tx es)) (eqb (missing (numbers_of tx es)) 0) (starts-from (kinds_of tx es) (missing (numbers_of tx es)) c) (eq-eqb _ _ c.none_missing))
+complete-conditions tx es = (
+  λ h. let parts = and_parts (starts_and_ends (kinds_of tx es)) (eqb (missing (numbers_of tx es)) 0) h in
+      conditions-from (kinds_of tx es) (missing (numbers_of tx es)) parts.0 (eqb-true (missing (numbers_of tx es)) 0 parts.1),
+  λ c. and_from (starts_and_ends (kinds_of tx es)) (eqb (missing (numbers_of tx es)) 0) (starts-from (kinds_of tx es) (missing (numbers_of tx es)) c) (eq-eqb _ _ c.none_missing),
+)

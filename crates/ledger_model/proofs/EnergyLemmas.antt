@@ -91,11 +91,11 @@ station_down period q es =
 pub site_quarter : (period quarter : ℕ) (stations : List (List Entry)) → energy_under quarter (flat_map (λ es. (board period es).quarters) stations) ≡ sum_of_energies (map (energy_in period quarter) stations)
 site_quarter period quarter stations = same_energy _ _
     (under-up quarter (flat_map (λ es. (board period es).quarters) stations)
-      ∙ sum_by-flat_map (λ (line : Flowed). cond (eqb line.0 quarter) line.1.up 0) (λ es. (board period es).quarters) stations
-      ∙ sum_by-same _ _ (station_up period quarter) stations ∙ sym (sum_of-up (energy_in period quarter) stations))
+    ∙ sum_by-flat_map (λ (line : Flowed). cond (eqb line.0 quarter) line.1.up 0) (λ es. (board period es).quarters) stations
+    ∙ sum_by-same _ _ (station_up period quarter) stations ∙ sym (sum_of-up (energy_in period quarter) stations))
     (under-down quarter (flat_map (λ es. (board period es).quarters) stations)
-      ∙ sum_by-flat_map (λ (line : Flowed). cond (eqb line.0 quarter) line.1.down 0) (λ es. (board period es).quarters) stations
-      ∙ sum_by-same _ _ (station_down period quarter) stations ∙ sym (sum_of-down (energy_in period quarter) stations))
+    ∙ sum_by-flat_map (λ (line : Flowed). cond (eqb line.0 quarter) line.1.down 0) (λ es. (board period es).quarters) stations
+    ∙ sum_by-same _ _ (station_down period quarter) stations ∙ sym (sum_of-down (energy_in period quarter) stations))
 
 pub quarters_shown : (period : ℕ) (es : List Entry) (quarter : ℕ) → IsIn quarter (quarters period es) ↔ IsIn quarter (map (quarter_of period) (pairs es))
 quarters_shown period es quarter = rising-IsIn quarter (map (quarter_of period) (pairs es))

@@ -14,14 +14,14 @@ figure_of_sum figure none both (f ∷ fs) = both f (sum_of_figures fs) ∙ ap (�
 
 pub figures-AreSums : (fs : List Figures) → AreSums (sum_of_figures fs) fs
 figures-AreSums fs = record {
-      events = figure_of_sum (λ f. f.events) refl (λ a b. refl) fs;
-      voided = figure_of_sum (λ f. f.voided) refl (λ a b. refl) fs;
-      transactions = figure_of_sum (λ f. f.transactions) refl (λ a b. refl) fs;
-      complete = figure_of_sum (λ f. f.complete) refl (λ a b. refl) fs;
-      missing = figure_of_sum (λ f. f.missing) refl (λ a b. refl) fs;
-      up = figure_of_sum (λ f. f.up) refl (λ a b. refl) fs;
-      down = figure_of_sum (λ f. f.down) refl (λ a b. refl) fs;
-    }
+  events = figure_of_sum (λ f. f.events) refl (λ a b. refl) fs;
+  voided = figure_of_sum (λ f. f.voided) refl (λ a b. refl) fs;
+  transactions = figure_of_sum (λ f. f.transactions) refl (λ a b. refl) fs;
+  complete = figure_of_sum (λ f. f.complete) refl (λ a b. refl) fs;
+  missing = figure_of_sum (λ f. f.missing) refl (λ a b. refl) fs;
+  up = figure_of_sum (λ f. f.up) refl (λ a b. refl) fs;
+  down = figure_of_sum (λ f. f.down) refl (λ a b. refl) fs;
+}
 
 pub site-AreSums : (stations : List (List ℕ × Board)) → AreSums (site_board stations).figures (map (λ s. s.1.figures) stations)
 site-AreSums stations = figures-AreSums (map (λ s. s.1.figures) stations)

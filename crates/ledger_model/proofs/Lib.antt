@@ -6,3 +6,4 @@ pub mod SumLemmas
 pub mod EnergyLemmas
 pub mod FigureLemmas
 pub mod PostLemmas
+pub mod TransactionLemmas

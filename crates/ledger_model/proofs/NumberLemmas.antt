@@ -24,11 +24,11 @@ AreRising-cons : (n : ℕ) (ns : List ℕ) → IsBelowAll n ns → AreRising ns 
 AreRising-cons n [] below up = tt
 AreRising-cons n (m ∷ ns) below up = (below.0, up)
 
-and_first : (a b : Bool) → T (a && b) → T a
+pub and_first : (a b : Bool) → T (a && b) → T a
 and_first true b h = tt
 and_first false b h = h
 
-and_second : (a b : Bool) → T (a && b) → T b
+pub and_second : (a b : Bool) → T (a && b) → T b
 and_second true b h = h
 and_second false b h = absurd h
 
@@ -72,8 +72,8 @@ rising_from_sorted tx [] h = tt
 rising_from_sorted tx (e ∷ es) h =
     let rest : AreRising (numbers_of tx es) = rising_from_sorted tx es (and_second (below_all key_cmp e.0 es) (is_sorted key_cmp es) h) in
     numbers_cases AreRising tx e es
-      (λ is. AreRising-cons e.0.seq (numbers_of tx es) (subst (λ t. IsBelowAll e.0.seq (numbers_of t es)) (sym (same_text tx e.0.tx is)) (below_numbers e.0 es (and_first (below_all key_cmp e.0 es) (is_sorted key_cmp es) h))) rest)
-      rest
+    (λ is. AreRising-cons e.0.seq (numbers_of tx es) (subst (λ t. IsBelowAll e.0.seq (numbers_of t es)) (sym (same_text tx e.0.tx is)) (below_numbers e.0 es (and_first (below_all key_cmp e.0 es) (is_sorted key_cmp es) h))) rest)
+    rest
 
 pub numbers-AreRising : (tx : List ℕ) (c : Content) → AreRising (numbers_of tx (entries c))
 numbers-AreRising tx c = rising_from_sorted tx (entries c) (entries_sorted c.events)

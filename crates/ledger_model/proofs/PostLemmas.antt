@@ -103,40 +103,40 @@ module _ (figure : Figures → ℕ) (none : figure no_figures ≡ 0) (both : (a 
   totals-push_other row f p ps apart rest =
       let has : has_post p.0 (ps ++ (row, f) ∷ []) ≡ has_post p.0 ps = has-push_other row p.0 f ps (λ e. apart (sym e)) in
       ⊎_elim
-        (λ (h : has_post p.0 ps ≡ true). totals-push_later row f p ps h (has ∙ h) (row-other row p ps apart) rest)
-        (λ (h : has_post p.0 ps ≡ false).
-          let after : figure (totals_after (p ∷ ps ++ (row, f) ∷ [])) ≡ figure p.1 + figure (totals_after (ps ++ (row, f) ∷ [])) = figure-here p (ps ++ (row, f) ∷ []) (has ∙ h) in
-          let before : figure (totals_after (p ∷ ps)) ≡ figure p.1 + figure (totals_after ps) = figure-here p ps h in
-          let old : figure (row_after row (p ∷ ps)) ≡ figure (row_after row ps) = ap figure (row-other row p ps apart) in
-          omega (arith, after, before, old, rest))
-        (cases_Bool (has_post p.0 ps))
+      (λ (h : has_post p.0 ps ≡ true). totals-push_later row f p ps h (has ∙ h) (row-other row p ps apart) rest)
+      (λ (h : has_post p.0 ps ≡ false).
+      let after : figure (totals_after (p ∷ ps ++ (row, f) ∷ [])) ≡ figure p.1 + figure (totals_after (ps ++ (row, f) ∷ [])) = figure-here p (ps ++ (row, f) ∷ []) (has ∙ h) in
+      let before : figure (totals_after (p ∷ ps)) ≡ figure p.1 + figure (totals_after ps) = figure-here p ps h in
+      let old : figure (row_after row (p ∷ ps)) ≡ figure (row_after row ps) = ap figure (row-other row p ps apart) in
+      omega (arith, after, before, old, rest))
+      (cases_Bool (has_post p.0 ps))
 
   figure-push : (row : ℕ) (f : Figures) (ps : List Post) → figure (totals_after (ps ++ (row, f) ∷ [])) + figure (row_after row ps) ≡ figure (totals_after ps) + figure f
   figure-push row f [] = let only : figure (totals_after ((row, f) ∷ [])) ≡ figure f + figure no_figures = figure-here (row, f) [] refl in omega (arith, only)
   figure-push row f (p ∷ ps) =
       let rest : figure (totals_after (ps ++ (row, f) ∷ [])) + figure (row_after row ps) ≡ figure (totals_after ps) + figure f = figure-push row f ps in
       ⊎_elim
-        (λ (e : p.0 ≡ row). ⊎_elim
-          (λ (h : has_post row ps ≡ true). totals-push_later row f p ps (subst (λ r. has_post r ps ≡ true) (sym e) h)
-              (subst (λ r. has_post r (ps ++ (row, f) ∷ []) ≡ true) (sym e) (has-push_same row f ps)) (row-later row p ps h) rest)
-          (λ (h : has_post row ps ≡ false). totals-push_same row f p ps e h rest)
-          (cases_Bool (has_post row ps)))
-        (λ (apart : p.0 ≢ row). totals-push_other row f p ps apart rest)
-        (cases_eq p.0 row)
+      (λ (e : p.0 ≡ row). ⊎_elim
+      (λ (h : has_post row ps ≡ true). totals-push_later row f p ps (subst (λ r. has_post r ps ≡ true) (sym e) h)
+      (subst (λ r. has_post r (ps ++ (row, f) ∷ []) ≡ true) (sym e) (has-push_same row f ps)) (row-later row p ps h) rest)
+      (λ (h : has_post row ps ≡ false). totals-push_same row f p ps e h rest)
+      (cases_Bool (has_post row ps)))
+      (λ (apart : p.0 ≢ row). totals-push_other row f p ps apart rest)
+      (cases_eq p.0 row)
 
   -- what a post adds to a row: its figures, where it is the row's last
   figure-row : (p : Post) (ps : List Post) → has_post p.0 ps ≡ false → (row : ℕ) → figure (row_after row (p ∷ ps)) ≡ cond (eqb p.0 row) (figure p.1) 0 + figure (row_after row ps)
   figure-row p ps h row = ⊎_elim
       (λ (e : p.0 ≡ row).
-        let free : has_post row ps ≡ false = subst (λ r. has_post r ps ≡ false) e h in
-        let here : figure (row_after row (p ∷ ps)) ≡ figure p.1 = ap figure (row-here row p ps free e) in
-        let nothing : figure (row_after row ps) ≡ 0 = ap figure (row-none row ps free) ∙ none in
-        let one : cond (eqb p.0 row) (figure p.1) 0 ≡ figure p.1 = ap (λ b. cond b (figure p.1) 0) (eq-eqb p.0 row e) in
-        omega (arith, here, nothing, one))
+      let free : has_post row ps ≡ false = subst (λ r. has_post r ps ≡ false) e h in
+      let here : figure (row_after row (p ∷ ps)) ≡ figure p.1 = ap figure (row-here row p ps free e) in
+      let nothing : figure (row_after row ps) ≡ 0 = ap figure (row-none row ps free) ∙ none in
+      let one : cond (eqb p.0 row) (figure p.1) 0 ≡ figure p.1 = ap (λ b. cond b (figure p.1) 0) (eq-eqb p.0 row e) in
+      omega (arith, here, nothing, one))
       (λ (apart : p.0 ≢ row).
-        let same : figure (row_after row (p ∷ ps)) ≡ figure (row_after row ps) = ap figure (row-other row p ps apart) in
-        let one : cond (eqb p.0 row) (figure p.1) 0 ≡ 0 = ap (λ b. cond b (figure p.1) 0) (ne_eqb p.0 row apart) in
-        omega (arith, same, one))
+      let same : figure (row_after row (p ∷ ps)) ≡ figure (row_after row ps) = ap figure (row-other row p ps apart) in
+      let one : cond (eqb p.0 row) (figure p.1) 0 ≡ 0 = ap (λ b. cond b (figure p.1) 0) (ne_eqb p.0 row apart) in
+      omega (arith, same, one))
       (cases_eq p.0 row)
 
   -- a figure of the totals is the sum of that figure over rows in which each posted row stands once
@@ -145,15 +145,15 @@ module _ (figure : Figures → ℕ) (none : figure no_figures ≡ 0) (both : (a 
   figure-rows rows (p ∷ ps) once =
       let rest : figure (totals_after ps) ≡ sum_by (λ row. figure (row_after row ps)) rows = figure-rows rows ps once.1 in
       ⊎_elim
-        (λ (h : has_post p.0 ps ≡ true). ap figure (totals-later p ps h) ∙ rest
-          ∙ sym (sum_by-same (λ row. figure (row_after row (p ∷ ps))) (λ row. figure (row_after row ps)) (λ row. ap figure (row-known p ps h row)) rows))
-        (λ (h : has_post p.0 ps ≡ false).
-          let whole : figure (totals_after (p ∷ ps)) ≡ figure p.1 + figure (totals_after ps) = figure-here p ps h in
-          let parted : sum_by (λ row. figure (row_after row (p ∷ ps))) rows ≡ sum_by (λ row. cond (eqb p.0 row) (figure p.1) 0) rows + sum_by (λ row. figure (row_after row ps)) rows
-              = sum_by-same _ _ (figure-row p ps h) rows ∙ sum_by-plus (λ row. cond (eqb p.0 row) (figure p.1) 0) (λ row. figure (row_after row ps)) rows in
-          let one : sum_by (λ row. cond (eqb p.0 row) (figure p.1) 0) rows ≡ 1 * figure p.1 = sum_by-times p.0 (figure p.1) rows ∙ ap (λ n. n * figure p.1) once.0 in
-          omega (arith, whole, parted, one, rest))
-        (cases_Bool (has_post p.0 ps))
+      (λ (h : has_post p.0 ps ≡ true). ap figure (totals-later p ps h) ∙ rest
+      ∙ sym (sum_by-same (λ row. figure (row_after row (p ∷ ps))) (λ row. figure (row_after row ps)) (λ row. ap figure (row-known p ps h row)) rows))
+      (λ (h : has_post p.0 ps ≡ false).
+      let whole : figure (totals_after (p ∷ ps)) ≡ figure p.1 + figure (totals_after ps) = figure-here p ps h in
+      let parted : sum_by (λ row. figure (row_after row (p ∷ ps))) rows ≡ sum_by (λ row. cond (eqb p.0 row) (figure p.1) 0) rows + sum_by (λ row. figure (row_after row ps)) rows
+      = sum_by-same _ _ (figure-row p ps h) rows ∙ sum_by-plus (λ row. cond (eqb p.0 row) (figure p.1) 0) (λ row. figure (row_after row ps)) rows in
+      let one : sum_by (λ row. cond (eqb p.0 row) (figure p.1) 0) rows ≡ 1 * figure p.1 = sum_by-times p.0 (figure p.1) rows ∙ ap (λ n. n * figure p.1) once.0 in
+      omega (arith, whole, parted, one, rest))
+      (cases_Bool (has_post p.0 ps))
 
 -- the numbers of a range stand once in it
 times-before : (q a n : ℕ) → q < a → times q (range_with_len a n) ≡ 0
@@ -172,9 +172,10 @@ times-range q a (suc n) low high = ⊎_elim
 
 once_below : (n : ℕ) (ps : List Post) → All (λ p. p.0 < n) ps → AreOnce (λ p. p.0) (range_with_len 0 n) ps
 once_below n [] below = tt
-once_below n (p ∷ ps) below =
-    (times-range p.0 0 n (omega arith) (let less : p.0 < n = All-head (λ (q : Post). q.0 < n) p ps below in omega arith),
-     once_below n ps (All-tail (λ (q : Post). q.0 < n) p ps below))
+once_below n (p ∷ ps) below = (
+  times-range p.0 0 n (omega arith) (let less : p.0 < n = All-head (λ (q : Post). q.0 < n) p ps below in omega arith),
+  once_below n ps (All-tail (λ (q : Post). q.0 < n) p ps below),
+)
 
 pub totals-rows : (n : ℕ) (ps : List Post) → All (λ p. p.0 < n) ps → totals_after ps ≡ sum_of_figures (map (λ row. row_after row ps) (range_with_len 0 n))
 totals-rows n ps below = same_figures _ _ (λ figure none both.

@@ -77,7 +77,7 @@ sum_by_keys f key ks [] once = sum_by-none ks
 sum_by_keys f key ks (x ∷ xs) once =
     let rest : sum_by (λ k. sum_by f (filter (λ x. eqb (key x) k) xs)) ks ≡ sum_by f xs = sum_by_keys f key ks xs once.1 in
     let each : sum_by (λ k. sum_by f (filter (λ x. eqb (key x) k) (x ∷ xs))) ks ≡ sum_by (λ k. cond (eqb (key x) k) (f x) 0 + sum_by f (filter (λ x. eqb (key x) k) xs)) ks
-        = sum_by-same _ _ (λ k. sum_by-filter_cons f (λ x. eqb (key x) k) x xs) ks in
+    = sum_by-same _ _ (λ k. sum_by-filter_cons f (λ x. eqb (key x) k) x xs) ks in
     let parted = sum_by-plus (λ k. cond (eqb (key x) k) (f x) 0) (λ k. sum_by f (filter (λ x. eqb (key x) k) xs)) ks in
     let here : sum_by (λ k. cond (eqb (key x) k) (f x) 0) ks ≡ f x = sum_by-times (key x) (f x) ks ∙ ap (λ n. n * f x) once.0 ∙ one_times (f x) in
     each ∙ parted ∙ ap (λ n. n + sum_by (λ k. sum_by f (filter (λ x. eqb (key x) k) xs)) ks) here ∙ ap (λ n. f x + n) rest ∙ sym (sum_by-cons f x xs)
@@ -101,9 +101,9 @@ rising_behind low n [] less up = (less, tt)
 rising_behind low n (m ∷ ms) less up = ⊎_elim
     (λ (e : n ≡ m). subst (λ ks. AreRising (low ∷ ks)) (sym (put_in-same n m ms e)) up)
     (λ (o : (n < m) ⊎ (m < n)). ⊎_elim
-      (λ (below : n < m). subst (λ ks. AreRising (low ∷ ks)) (sym (put_in-below n m ms below)) (less, (below, up.1)))
-      (λ (above : m < n). subst (λ ks. AreRising (low ∷ ks)) (sym (put_in-above n m ms above)) (up.0, rising_behind m n ms above up.1))
-      o)
+    (λ (below : n < m). subst (λ ks. AreRising (low ∷ ks)) (sym (put_in-below n m ms below)) (less, (below, up.1)))
+    (λ (above : m < n). subst (λ ks. AreRising (low ∷ ks)) (sym (put_in-above n m ms above)) (up.0, rising_behind m n ms above up.1))
+    o)
     (cases_order n m)
 
 put_in-AreRising : (n : ℕ) (ms : List ℕ) → AreRising ms → AreRising (put_in n ms)
@@ -111,9 +111,9 @@ put_in-AreRising n [] up = tt
 put_in-AreRising n (m ∷ ms) up = ⊎_elim
     (λ (e : n ≡ m). subst AreRising (sym (put_in-same n m ms e)) up)
     (λ (o : (n < m) ⊎ (m < n)). ⊎_elim
-      (λ (below : n < m). subst AreRising (sym (put_in-below n m ms below)) (below, up))
-      (λ (above : m < n). subst AreRising (sym (put_in-above n m ms above)) (rising_behind m n ms above up))
-      o)
+    (λ (below : n < m). subst AreRising (sym (put_in-below n m ms below)) (below, up))
+    (λ (above : m < n). subst AreRising (sym (put_in-above n m ms above)) (rising_behind m n ms above up))
+    o)
     (cases_order n m)
 
 pub rising-AreRising : (ns : List ℕ) → AreRising (rising ns)
@@ -134,9 +134,9 @@ times-put_in n [] up = times-here n n [] refl
 times-put_in n (m ∷ ms) up = ⊎_elim
     (λ (e : n ≡ m). ap (times n) (put_in-same n m ms e) ∙ times-here n m ms e ∙ ap (λ k. 1 + k) (times-behind n ms (subst (λ k. AreRising (k ∷ ms)) (sym e) up)))
     (λ (o : (n < m) ⊎ (m < n)). ⊎_elim
-      (λ (below : n < m). ap (times n) (put_in-below n m ms below) ∙ times-here n n (m ∷ ms) refl ∙ ap (λ k. 1 + k) (times-below n m ms below up))
-      (λ (above : m < n). ap (times n) (put_in-above n m ms above) ∙ times-other n m (put_in n ms) (λ e. absurd (omega arith)) ∙ times-put_in n ms (tail m ms up))
-      o)
+    (λ (below : n < m). ap (times n) (put_in-below n m ms below) ∙ times-here n n (m ∷ ms) refl ∙ ap (λ k. 1 + k) (times-below n m ms below up))
+    (λ (above : m < n). ap (times n) (put_in-above n m ms above) ∙ times-other n m (put_in n ms) (λ e. absurd (omega arith)) ∙ times-put_in n ms (tail m ms up))
+    o)
     (cases_order n m)
   where
     tail : (m : ℕ) (ms : List ℕ) → AreRising (m ∷ ms) → AreRising ms
@@ -148,10 +148,10 @@ times-put_other n k [] apart = times-other n k [] apart
 times-put_other n k (m ∷ ms) apart = ⊎_elim
     (λ (e : k ≡ m). ap (times n) (put_in-same k m ms e))
     (λ (o : (k < m) ⊎ (m < k)). ⊎_elim
-      (λ (below : k < m). ap (times n) (put_in-below k m ms below) ∙ times-other n k (m ∷ ms) apart)
-      (λ (above : m < k). ap (times n) (put_in-above k m ms above) ∙ sum_by-cons (λ j. cond (eqb n j) 1 0) m (put_in k ms)
-          ∙ ap (λ j. cond (eqb n m) 1 0 + j) (times-put_other n k ms apart) ∙ sym (sum_by-cons (λ j. cond (eqb n j) 1 0) m ms))
-      o)
+    (λ (below : k < m). ap (times n) (put_in-below k m ms below) ∙ times-other n k (m ∷ ms) apart)
+    (λ (above : m < k). ap (times n) (put_in-above k m ms above) ∙ sum_by-cons (λ j. cond (eqb n j) 1 0) m (put_in k ms)
+    ∙ ap (λ j. cond (eqb n m) 1 0 + j) (times-put_other n k ms apart) ∙ sym (sum_by-cons (λ j. cond (eqb n j) 1 0) m ms))
+    o)
     (cases_order k m)
 
 -- each number of a list stands once among its rising numbers
@@ -175,23 +175,25 @@ put_in-IsIn : (n k : ℕ) (ms : List ℕ) → IsIn n (put_in k ms) ↔ ((n ≡ k
 put_in-IsIn n k [] = ((λ h. h), (λ h. h))
 put_in-IsIn n k (m ∷ ms) = ⊎_elim
     (λ (e : k ≡ m). subst (λ ks. IsIn n ks ↔ ((n ≡ k) ⊎ IsIn n (m ∷ ms))) (sym (put_in-same k m ms e))
-      ((λ h. inr h), (λ h. ⊎_elim (λ (is : n ≡ k). inl (is ∙ e)) (λ (there : IsIn n (m ∷ ms)). there) h)))
+    ((λ h. inr h), (λ h. ⊎_elim (λ (is : n ≡ k). inl (is ∙ e)) (λ (there : IsIn n (m ∷ ms)). there) h)))
     (λ (o : (k < m) ⊎ (m < k)). ⊎_elim
-      (λ (below : k < m). subst (λ ks. IsIn n ks ↔ ((n ≡ k) ⊎ IsIn n (m ∷ ms))) (sym (put_in-below k m ms below)) ((λ h. h), (λ h. h)))
-      (λ (above : m < k). subst (λ ks. IsIn n ks ↔ ((n ≡ k) ⊎ IsIn n (m ∷ ms))) (sym (put_in-above k m ms above))
-        ((λ h. ⊎_elim {C = (n ≡ k) ⊎ IsIn n (m ∷ ms)} (λ (is : n ≡ m). inr (inl is))
-            (λ (there : IsIn n (put_in k ms)). ⊎_elim {C = (n ≡ k) ⊎ IsIn n (m ∷ ms)} (λ (is : n ≡ k). inl is) (λ (rest : IsIn n ms). inr (inr rest)) ((put_in-IsIn n k ms).0 there)) h),
-         (λ h. ⊎_elim {C = IsIn n (m ∷ put_in k ms)} (λ (is : n ≡ k). inr ((put_in-IsIn n k ms).1 (inl is)))
-            (λ (rest : IsIn n (m ∷ ms)). ⊎_elim {C = IsIn n (m ∷ put_in k ms)} (λ (is : n ≡ m). inl is) (λ (there : IsIn n ms). inr ((put_in-IsIn n k ms).1 (inr there))) rest) h)))
-      o)
+    (λ (below : k < m). subst (λ ks. IsIn n ks ↔ ((n ≡ k) ⊎ IsIn n (m ∷ ms))) (sym (put_in-below k m ms below)) ((λ h. h), (λ h. h)))
+    (λ (above : m < k). subst (λ ks. IsIn n ks ↔ ((n ≡ k) ⊎ IsIn n (m ∷ ms))) (sym (put_in-above k m ms above)) (
+      (λ h. ⊎_elim {C = (n ≡ k) ⊎ IsIn n (m ∷ ms)} (λ (is : n ≡ m). inr (inl is))
+          (λ (there : IsIn n (put_in k ms)). ⊎_elim {C = (n ≡ k) ⊎ IsIn n (m ∷ ms)} (λ (is : n ≡ k). inl is) (λ (rest : IsIn n ms). inr (inr rest)) ((put_in-IsIn n k ms).0 there)) h),
+      (λ h. ⊎_elim {C = IsIn n (m ∷ put_in k ms)} (λ (is : n ≡ k). inr ((put_in-IsIn n k ms).1 (inl is)))
+          (λ (rest : IsIn n (m ∷ ms)). ⊎_elim {C = IsIn n (m ∷ put_in k ms)} (λ (is : n ≡ m). inl is) (λ (there : IsIn n ms). inr ((put_in-IsIn n k ms).1 (inr there))) rest) h),
+    ))
+    o)
     (cases_order k m)
 
 -- the rising numbers of a list are its numbers
 pub rising-IsIn : (n : ℕ) (ns : List ℕ) → IsIn n (rising ns) ↔ IsIn n ns
 rising-IsIn n [] = ((λ h. h), (λ h. h))
-rising-IsIn n (m ∷ ns) =
-    ((λ h. ⊎_elim {C = IsIn n (m ∷ ns)} (λ (e : n ≡ m). inl e) (λ (there : IsIn n (rising ns)). inr ((rising-IsIn n ns).0 there)) ((put_in-IsIn n m (rising ns)).0 h)),
-     (λ h. (put_in-IsIn n m (rising ns)).1 (⊎_elim {C = (n ≡ m) ⊎ IsIn n (rising ns)} (λ (e : n ≡ m). inl e) (λ (there : IsIn n ns). inr ((rising-IsIn n ns).1 there)) h)))
+rising-IsIn n (m ∷ ns) = (
+  (λ h. ⊎_elim {C = IsIn n (m ∷ ns)} (λ (e : n ≡ m). inl e) (λ (there : IsIn n (rising ns)). inr ((rising-IsIn n ns).0 there)) ((put_in-IsIn n m (rising ns)).0 h)),
+  (λ h. (put_in-IsIn n m (rising ns)).1 (⊎_elim {C = (n ≡ m) ⊎ IsIn n (rising ns)} (λ (e : n ≡ m). inl e) (λ (there : IsIn n ns). inr ((rising-IsIn n ns).1 there)) h)),
+)
 
 -- elements of a key, or none and no sum
 key_or_none : {X : Type 0} (f key : X → ℕ) (k : ℕ) (xs : List X) → IsIn k (map key xs) ⊎ (sum_by f (filter (λ x. eqb (key x) k) xs) ≡ 0)
@@ -199,9 +201,9 @@ key_or_none f key k [] = inr refl
 key_or_none f key k (x ∷ xs) = ⊎_elim {C = IsIn k (map key (x ∷ xs)) ⊎ (sum_by f (filter (λ y. eqb (key y) k) (x ∷ xs)) ≡ 0)}
     (λ (e : k ≡ key x). inl (inl e))
     (λ (apart : k ≡ key x → ⊥). ⊎_elim {C = IsIn k (map key (x ∷ xs)) ⊎ (sum_by f (filter (λ y. eqb (key y) k) (x ∷ xs)) ≡ 0)}
-      (λ (there : IsIn k (map key xs)). inl (inr there))
-      (λ (none : sum_by f (filter (λ y. eqb (key y) k) xs) ≡ 0). inr (sum_by-filter_cons f (λ y. eqb (key y) k) x xs ∙ ap (λ b. cond b (f x) 0 + sum_by f (filter (λ y. eqb (key y) k) xs)) (ne_eqb (key x) k (λ e. apart (sym e))) ∙ ap (λ n. 0 + n) none))
-      (key_or_none f key k xs))
+    (λ (there : IsIn k (map key xs)). inl (inr there))
+    (λ (none : sum_by f (filter (λ y. eqb (key y) k) xs) ≡ 0). inr (sum_by-filter_cons f (λ y. eqb (key y) k) x xs ∙ ap (λ b. cond b (f x) 0 + sum_by f (filter (λ y. eqb (key y) k) xs)) (ne_eqb (key x) k (λ e. apart (sym e))) ∙ ap (λ n. 0 + n) none))
+    (key_or_none f key k xs))
     (cases_eq k (key x))
 
 -- the sum of a key stands once among the sums by rising keys, or is nothing
@@ -213,5 +215,6 @@ times-rising_sum f key k xs = ⊎_elim
   where
     one_times : (n : ℕ) → 1 * n ≡ n
     one_times n = omega arith
+
     times_none : (n : ℕ) → n * 0 ≡ 0
     times_none n = omega arith
