@@ -8,3 +8,11 @@ pub mod Exchanges
 pub mod Transactions
 pub mod Deliveries
 pub mod ReachedContents
+pub mod GapLemmas
+pub mod NumberLemmas
+pub mod CompleteLemmas
+pub mod SumLemmas
+pub mod EnergyLemmas
+pub mod FigureLemmas
+pub mod PostLemmas
+pub mod TransactionLemmas

@@ -18,3 +18,5 @@ pub mod World
 pub mod Posts
 pub mod Laws
 pub mod Examples
+pub mod BoardLaws
+pub mod BoardExamples

@@ -1,4 +1,13 @@
-//! Laws of the ledger, in its own words. Each is the contract of a function with no parameters and
-//! nothing to do: what it ensures holds of every content, every limits and every command.
+//! Laws of the definitions, in the subject's own words. Each is the contract of a function with no
+//! parameters and nothing to do: what it ensures holds of every content, every limits and every
+//! command.
 
-pub mod ledger;
+mod board;
+mod ledger;
+
+pub use board::{
+    board_examples, complete_is_four_conditions, energy_by_evse, energy_by_quarter,
+    energy_by_transaction, gaps_are_missing_numbers, shown_once_and_rising, site_figures_are_sums,
+    site_quarters_are_sums, totals_after_a_post,
+};
+pub use ledger::{examples, inverses, orders, reached, readings_in_order, unchanged};

@@ -1,0 +1,96 @@
+use Rattle.std.specs.Prelude.{ℕ, List, [], ◌∷◌, ◌+◌, ◌*◌, Option, None, Some, true, false, codes}
+use Rattle.energy_flow.specs.Flow.{Energy}
+use Rattle.ledger_model.specs.declared.kind.Kind.{Kind}
+use Rattle.ledger_model.specs.declared.kind.Kind.TheVariants.{Started, Updated, Ended}
+use Rattle.ledger_model.specs.Event.{Metered}
+use Rattle.ledger_model.specs.Content.{Entry}
+use Rattle.ledger_model.specs.Board.{Board, SiteBoard}
+
+-- So many minutes after 2026-03-01T10:00:00Z, in nanoseconds from 1970.
+abbrev pub minute : ℕ → ℕ
+minute n = (1_772_359_200 + 60 * n) * 1_000_000_000
+
+-- A reading of so many watt-hours at a minute.
+abbrev pub reading : ℕ → ℕ → Metered
+reading n wh = record { moment = minute n; mwh = 1_000 * wh }
+
+-- An event of transaction t1: its kind, number and minute, the EVSE that it names, and its readings.
+abbrev pub told : Kind → ℕ → ℕ → Option ℕ → List Metered → Entry
+told kind seq n evse readings = (record { tx = codes "t1"; seq = seq }, record { event = record { kind = kind; moment = minute n; evse = evse; readings = readings }; voided = false })
+
+-- An event with one reading, at its own minute, and no EVSE.
+abbrev pub metered : Kind → ℕ → ℕ → ℕ → Entry
+metered kind seq n wh = told kind seq n None (reading n wh ∷ [])
+
+-- The same event, voided.
+abbrev pub voided : Entry → Entry
+voided e = (e.0, record { event = e.1.event; voided = true })
+
+-- Rises alone.
+abbrev pub rise : ℕ → Energy
+rise mwh = record { up = mwh; down = 0 }
+
+-- The quarter that begins at 10:00 on that day; the next ones follow it.
+abbrev pub ten : ℕ
+ten = 1_969_288
+
+-- Two events of a transaction, the one between them not yet told.
+abbrev pub first_run : List Entry
+first_run = metered Started 0 0 1_000 ∷ metered Updated 2 31 1_600 ∷ []
+
+abbrev pub first_run_board : Board
+first_run_board = record {
+  figures = record { events = 2; voided = 0; transactions = 1; complete = 0; missing = 1; up = 600_000; down = 0 };
+  evses = (0, rise 600_000) ∷ [];
+  quarters = (ten + 2, rise 600_000) ∷ [];
+  transactions = record { tx = codes "t1"; evse = 0; events = 2; first = 0; last = 2; complete = false; missing = 1; flow = rise 600_000; gaps = (1, 1) ∷ [] } ∷ [];
+}
+
+-- The board of a site that has this station alone.
+abbrev pub first_run_site : SiteBoard
+first_run_site = record { figures = first_run_board.figures; quarters = first_run_board.quarters; stations = (codes "A", first_run_board) ∷ [] }
+
+-- Then the one between them.
+abbrev pub late_event : List Entry
+late_event = metered Started 0 0 1_000 ∷ metered Updated 1 14 1_200 ∷ metered Updated 2 31 1_600 ∷ []
+
+abbrev pub late_event_board : Board
+late_event_board = record {
+  figures = record { events = 3; voided = 0; transactions = 1; complete = 0; missing = 0; up = 600_000; down = 0 };
+  evses = (0, rise 600_000) ∷ [];
+  quarters = (ten, rise 200_000) ∷ (ten + 2, rise 400_000) ∷ [];
+  transactions = record { tx = codes "t1"; evse = 0; events = 3; first = 0; last = 2; complete = false; missing = 0; flow = rise 600_000; gaps = [] } ∷ [];
+}
+
+-- Then that one voided: the board is that of the first run, but for the voided event. Restored, the events are those before.
+abbrev pub void_and_restore : List Entry
+void_and_restore = metered Started 0 0 1_000 ∷ voided (metered Updated 1 14 1_200) ∷ metered Updated 2 31 1_600 ∷ []
+
+abbrev pub void_and_restore_board : Board
+void_and_restore_board = record first_run_board { figures = record { events = 2; voided = 1; transactions = 1; complete = 0; missing = 1; up = 600_000; down = 0 } }
+
+-- A later reading at the very beginning of a quarter.
+abbrev pub quarter_boundary : List Entry
+quarter_boundary = metered Started 0 0 1_000 ∷ metered Updated 1 15 1_100 ∷ []
+
+-- An end that tells all readings again.
+abbrev pub readings_again_at_end : List Entry
+readings_again_at_end =
+    metered Started 0 0 1_000 ∷ metered Updated 1 14 1_200 ∷ metered Updated 2 31 1_600
+    ∷ told Ended 3 45 None (reading 0 1_000 ∷ reading 14 1_200 ∷ reading 31 1_600 ∷ reading 45 1_700 ∷ []) ∷ []
+
+-- The second of three events alone names an EVSE.
+abbrev pub evse_moves : List Entry
+evse_moves = metered Started 0 0 1_000 ∷ told Updated 1 5 (Some 2) (reading 5 1_100 ∷ []) ∷ metered Ended 2 10 1_250 ∷ []
+
+-- That event voided. Restored, the events are those before.
+abbrev pub evse_voided : List Entry
+evse_voided = metered Started 0 0 1_000 ∷ voided (told Updated 1 5 (Some 2) (reading 5 1_100 ∷ [])) ∷ metered Ended 2 10 1_250 ∷ []
+
+-- Then the first event voided.
+abbrev pub start_voided : List Entry
+start_voided = voided (metered Started 0 0 1_000) ∷ told Updated 1 5 (Some 2) (reading 5 1_100 ∷ []) ∷ metered Ended 2 10 1_250 ∷ []
+
+-- The lowest and the highest number that there can be, and the greatest fall.
+abbrev pub widest_gap : List Entry
+widest_gap = metered Started 0 0 10_000_000_000 ∷ metered Ended 2_147_483_647 5 0 ∷ []

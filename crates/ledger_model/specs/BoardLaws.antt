@@ -1,0 +1,64 @@
+use Rattle.std.specs.Prelude.{ℕ, List, [], ◌∷◌, ◌≡◌, ◌≢◌, ◌<◌, ◌≤◌, ◌+◌, ◌-◌, ◌⊎◌, Some, length, sum_by}
+use Rattle.std.specs.List.{slice_get}
+use Rattle.energy_flow.specs.Flow.{Energy, no_energy, plus}
+use Rattle.ledger_model.specs.declared.figures.Figures.{Figures}
+use Rattle.ledger_model.specs.declared.kind.Kind.{Kind}
+use Rattle.ledger_model.specs.declared.kind.Kind.TheVariants.{Started, Ended}
+use Rattle.ledger_model.specs.Gaps.{Gap}
+
+-- Rising numbers: each is below the next.
+abbrev pub AreRising : List ℕ → Type 0
+AreRising [] = Unit {0}
+AreRising (n ∷ []) = Unit {0}
+AreRising (n ∷ m ∷ ns) = (n < m) × AreRising (m ∷ ns)
+
+-- A number stands in a list.
+abbrev pub IsIn : ℕ → List ℕ → Type 0
+IsIn n [] = ⊥
+IsIn n (m ∷ ms) = (n ≡ m) ⊎ IsIn n ms
+
+-- A number is missing: it lies strictly between two live numbers, and is not live.
+pub record IsMissing (live : List ℕ) (n : ℕ) : Type 0 where
+  pub absent : IsIn n live → ⊥
+  pub lower : (low : ℕ) × (IsIn low live × (low < n))
+  pub higher : (high : ℕ) × (IsIn high live × (n < high))
+
+-- A number lies in one of these gaps.
+abbrev pub IsInSome : ℕ → List Gap → Type 0
+IsInSome n [] = ⊥
+IsInSome n (g ∷ gs) = ((g.0 ≤ n) × (n ≤ g.1)) ⊎ IsInSome n gs
+
+-- Gaps rise and lie apart: each ends no lower than it begins, and a number that is in neither stands before the next.
+abbrev pub AreApart : List Gap → Type 0
+AreApart [] = Unit {0}
+AreApart (g ∷ []) = g.0 ≤ g.1
+AreApart (g ∷ h ∷ gs) = (g.0 ≤ g.1) × ((g.1 + 1 < h.0) × AreApart (h ∷ gs))
+
+-- These are the maximal ranges of the missing numbers, rising.
+pub record AreGaps (live : List ℕ) (gs : List Gap) : Type 0 where
+  pub covers : (n : ℕ) → IsMissing live n → IsInSome n gs
+  pub within : (n : ℕ) → IsInSome n gs → IsMissing live n
+  pub apart : AreApart gs
+
+-- The kinds of live events, and how many numbers are missing, of a transaction that is complete.
+pub record AreComplete (kinds : List Kind) (missing : ℕ) : Type 0 where
+  pub lowest : slice_get kinds 0 ≡ Some Started
+  pub highest : slice_get kinds (length kinds - 1) ≡ Some Ended
+  pub no_start_between : (k : ℕ) → 0 < k → k + 1 < length kinds → slice_get kinds k ≢ Some Started
+  pub no_end_between : (k : ℕ) → 0 < k → k + 1 < length kinds → slice_get kinds k ≢ Some Ended
+  pub none_missing : missing ≡ 0
+
+-- The sum of energies: of their rises, and of their falls.
+abbrev pub sum_of_energies : List Energy → Energy
+sum_of_energies [] = no_energy
+sum_of_energies (e ∷ es) = plus e (sum_of_energies es)
+
+-- Each figure is the sum of that figure over these.
+pub record AreSums (total : Figures) (fs : List Figures) : Type 0 where
+  pub events : total.events ≡ sum_by (λ f. f.events) fs
+  pub voided : total.voided ≡ sum_by (λ f. f.voided) fs
+  pub transactions : total.transactions ≡ sum_by (λ f. f.transactions) fs
+  pub complete : total.complete ≡ sum_by (λ f. f.complete) fs
+  pub missing : total.missing ≡ sum_by (λ f. f.missing) fs
+  pub up : total.up ≡ sum_by (λ f. f.up) fs
+  pub down : total.down ≡ sum_by (λ f. f.down) fs

@@ -1,0 +1,99 @@
+ghost use Rattle.std.specs.Prelude.{◌≡◌, ◌≢◌, ◌↔◌, ℕ, ◌+◌, ◌<◌, true, List, [], ◌∷◌, ◌++◌, All, codes, length, map};
+ghost use Rattle.std.specs.List.{flat_map, list_any, range_with_len};
+ghost use Rattle.std.specs.List.Sorted.{IsStrictlySortedBy};
+ghost use Rattle.std.specs.Str.{bytes_eq};
+ghost use Rattle.std.specs.Ordering.{nat_cmp};
+ghost use Rattle.std.specs.Cmp.Lexicographic.{slice_cmp};
+ghost use Rattle.ledger_model.specs.BoardExamples.{first_run, first_run_board, first_run_site, late_event, late_event_board, void_and_restore, void_and_restore_board, quarter_boundary, readings_again_at_end, evse_moves, evse_voided, start_voided, widest_gap, rise, ten};
+ghost use Rattle.ledger_model.specs.BoardLaws.{AreRising, AreGaps, AreComplete, AreSums, IsIn, sum_of_energies};
+ghost use Rattle.ledger_model.specs.Board.{Board, board, energy_under, figures, last_or_none, plus_figures, site_board, sum_of_figures};
+ghost use Rattle.ledger_model.specs.Complete.{is_complete, kinds_of};
+ghost use Rattle.ledger_model.specs.Content.{Content, Entry, entries, has_transaction, live, transactions_of};
+ghost use Rattle.ledger_model.specs.Energy.{energy, energy_in, energy_of, pairs, quarter_of, quarters};
+ghost use Rattle.ledger_model.specs.Evse.{energy_at, evse_of, evses, first_or_none};
+ghost use Rattle.ledger_model.specs.Gaps.{Gap, gaps, missing, numbers_of};
+ghost use Rattle.ledger_model.specs.Posts.{Post, row_after, totals_after};
+ghost use Rattle.ledger_model.specs.declared.figures.Figures.{Figures};
+
+/// The gaps of rising numbers are the maximal ranges of what is missing between them, rising, and no
+/// other list is; with the numbers themselves they make up the range from the lowest to the highest.
+/// The live numbers of a transaction rise.
+pub fn gaps_are_missing_numbers()
+    ensures gaps { (numbers : List ℕ) → AreRising numbers → AreGaps numbers (gaps numbers) }
+    ensures only { (numbers : List ℕ) (gs : List Gap) → AreRising numbers → AreGaps numbers gs → gs ≡ gaps numbers }
+    ensures missing { (numbers : List ℕ) → AreRising numbers → 0 < length numbers → first_or_none numbers + length numbers + missing numbers ≡ last_or_none numbers + 1 }
+    ensures rising { (tx : List ℕ) (c : Content) → AreRising (numbers_of tx (entries c)) }
+{}
+
+/// A transaction is complete exactly where its lowest live event is Started, its highest is Ended,
+/// none between is either, and no number is missing.
+pub fn complete_is_four_conditions()
+    ensures { (tx : List ℕ) (es : List Entry) → (is_complete tx es ≡ true) ↔ AreComplete (kinds_of tx es) (missing (numbers_of tx es)) }
+{}
+
+/// The energy of a station is the sum over its quarters, whatever the settlement period.
+pub fn energy_by_quarter()
+    ensures { (period : ℕ) (es : List Entry) → energy es ≡ sum_of_energies (map (λ quarter. energy_in period quarter es) (quarters period es)) }
+{}
+
+/// The energy of a station is the sum over its EVSEs, of which 0 stands for none named.
+pub fn energy_by_evse()
+    ensures { (es : List Entry) → energy es ≡ sum_of_energies (map (λ evse. energy_at evse es) (evses es)) }
+{}
+
+/// The energy of a station is the sum over its transactions with a live event.
+pub fn energy_by_transaction()
+    ensures { (es : List Entry) → energy es ≡ sum_of_energies (map (λ tx. energy_of tx es) (transactions_of (live es))) }
+{}
+
+/// A station shows each quarter that has a pair of readings, each EVSE that has a transaction with a
+/// live event, and each such transaction: once, the numbers rising and the transactions in the order
+/// of their ids' bytes.
+pub fn shown_once_and_rising()
+    ensures quarters { (period : ℕ) (es : List Entry) (quarter : ℕ) → IsIn quarter (quarters period es) ↔ IsIn quarter (map (quarter_of period) (pairs es)) }
+    ensures quarters_rise { (period : ℕ) (es : List Entry) → AreRising (quarters period es) }
+    ensures evses { (es : List Entry) (evse : ℕ) → IsIn evse (evses es) ↔ IsIn evse (map (λ tx. evse_of tx es) (transactions_of (live es))) }
+    ensures evses_rise { (es : List Entry) → AreRising (evses es) }
+    ensures transactions { (tx : List ℕ) (es : List Entry) → list_any (bytes_eq tx) (transactions_of (live es)) ≡ has_transaction tx (live es) }
+    ensures transactions_rise { (c : Content) → IsStrictlySortedBy (slice_cmp nat_cmp) (transactions_of (live (entries c))) }
+{}
+
+/// The energy of a site's quarter is the sum over its stations, shown there or not.
+pub fn site_quarters_are_sums()
+    ensures { (period quarter : ℕ) (stations : List (List Entry)) → energy_under quarter (flat_map (λ es. (board period es).quarters) stations) ≡ sum_of_energies (map (energy_in period quarter) stations) }
+{}
+
+/// Each figure of a site is the sum of that figure over its stations.
+pub fn site_figures_are_sums()
+    ensures sums { (fs : List Figures) → AreSums (sum_of_figures fs) fs }
+    ensures site { (stations : List (List ℕ × Board)) → AreSums (site_board stations).figures (map (λ s. s.1.figures) stations) }
+{}
+
+/// One post more gives its row the posted figures and leaves every other row; with the row's old
+/// figures, the totals are those before with the posted ones. Over posts for n rows the totals are
+/// the sums over these rows.
+pub fn totals_after_a_post()
+    ensures totals { (row : ℕ) (f : Figures) (ps : List Post) → plus_figures (totals_after (ps ++ (row, f) ∷ [])) (row_after row ps) ≡ plus_figures (totals_after ps) f }
+    ensures posted { (row : ℕ) (f : Figures) (ps : List Post) → row_after row (ps ++ (row, f) ∷ []) ≡ f }
+    ensures others { (row other : ℕ) (f : Figures) (ps : List Post) → row ≢ other → row_after other (ps ++ (row, f) ∷ []) ≡ row_after other ps }
+    ensures rows { (n : ℕ) (ps : List Post) → All (λ p. p.0 < n) ps → totals_after ps ≡ sum_of_figures (map (λ row. row_after row ps) (range_with_len 0 n)) }
+{}
+
+/// Boards, figures and quarters of a few short transactions, by settlement periods of 900 seconds.
+pub fn board_examples()
+    ensures first_run { board 900 first_run ≡ first_run_board }
+    ensures first_run_site { site_board ((codes "A", board 900 first_run) ∷ []) ≡ first_run_site }
+    ensures late_event { board 900 late_event ≡ late_event_board }
+    ensures void_and_restore { board 900 void_and_restore ≡ void_and_restore_board }
+    ensures quarter_boundary { (board 900 quarter_boundary).quarters ≡ (ten + 1, rise 100_000) ∷ [] }
+    ensures readings_again_at_end { (board 900 readings_again_at_end).quarters ≡ (ten, record { up = 400_000; down = 600_000 }) ∷ (ten + 2, rise 800_000) ∷ (ten + 3, rise 100_000) ∷ [] }
+    ensures readings_again_figures { figures readings_again_at_end ≡ record { events = 4; voided = 0; transactions = 1; complete = 1; missing = 0; up = 1_300_000; down = 600_000 } }
+    ensures evse_moves { (board 900 evse_moves).evses ≡ (2, rise 250_000) ∷ [] }
+    ensures evse_moves_figures { figures evse_moves ≡ record { events = 3; voided = 0; transactions = 1; complete = 1; missing = 0; up = 250_000; down = 0 } }
+    ensures evse_voided { (board 900 evse_voided).evses ≡ (0, rise 250_000) ∷ [] }
+    ensures evse_voided_figures { figures evse_voided ≡ record { events = 2; voided = 1; transactions = 1; complete = 0; missing = 1; up = 250_000; down = 0 } }
+    ensures start_voided { (board 900 start_voided).evses ≡ (2, rise 150_000) ∷ [] }
+    ensures start_voided_figures { figures start_voided ≡ record { events = 2; voided = 1; transactions = 1; complete = 0; missing = 0; up = 150_000; down = 0 } }
+    ensures widest_gap { gaps (numbers_of (codes "t1") widest_gap) ≡ (1, 2_147_483_646) ∷ [] }
+    ensures widest_gap_figures { figures widest_gap ≡ record { events = 2; voided = 0; transactions = 1; complete = 0; missing = 2_147_483_646; up = 0; down = 10_000_000_000_000 } }
+{}
