@@ -1,4 +1,4 @@
-ghost use Rattle.std.specs.Prelude.{◌≡◌, ◌↔◌, IsTrue};
+ghost use Rattle.std.specs.Prelude.{◌≡◌, ◌≤◌, ◌↔◌, IsTrue};
 ghost use Rattle.energy_flow.specs.Flow.{no_energy, plus, minus, net, difference_of, CanPlus, CanMinus};
 ghost use Rattle.energy_flow.specs.Work.{counted};
 
@@ -126,6 +126,7 @@ impl fmt::Debug for Level {
 pub fn difference(earlier: Level, later: Level, work: &mut Work) -> Flow
     ensures flow { result ≡ difference_of earlier later }
     ensures work { work.new ≡ counted work.old 1 }
+    ensures grows { work.old ≤ work.new }
 {
     work.add_one();
     Flow {

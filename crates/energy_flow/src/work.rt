@@ -1,4 +1,4 @@
-ghost use Rattle.std.specs.Prelude.{◌≡◌};
+ghost use Rattle.std.specs.Prelude.{◌≡◌, ◌≤◌};
 ghost use Rattle.energy_flow.specs.Work.{counted};
 
 use std::marker::Model;
@@ -36,7 +36,8 @@ impl Work {
 
     /// Counts one difference more.
     pub(crate) fn add_one(&mut self)
-        ensures { self.new ≡ counted self.old 1 }
+        ensures count { self.new ≡ counted self.old 1 }
+        ensures grows { self.old ≤ self.new }
     {
         self.count = self.count.saturating_add(1);
     }

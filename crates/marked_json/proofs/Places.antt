@@ -1,0 +1,18 @@
+-- What a place in a tree shows.
+use Rattle.std.proofs.Common.{◌≡◌, ◌≢◌, ℕ, List, [], ◌∷◌, Option, Some, None, option_map, refl, ap, arith, MatchOption, Bor}
+use Rattle.std.proofs.lemmas.Bool.Decides.{nat_tests}
+use Rattle.serde_json.specs.Data.{Data}
+use Rattle.serde_json.specs.View.{items_of}
+use Rattle.marked_json.specs.Reading.{behind_mark, list_of}
+
+-- what `strip_prefix` gives at a mark
+pub behind_mark-strip : (mark : ℕ) (bs : List ℕ) (r : Option (Bor (List ℕ))) → MatchOption r ((rest : List ℕ) → bs ≢ mark ∷ rest) (λ x. bs ≡ mark ∷ x.now) → option_map (λ s. s.now) r ≡ behind_mark mark bs
+behind_mark-strip mark [] None h = refl
+behind_mark-strip mark (c ∷ cs) None h = let e : (c ≡ mark → (⊥)) = λ e. h cs (ap (λ x. x ∷ cs) e) in grind (arith, nat_tests)
+behind_mark-strip mark [] (Some x) h = absurd (cc h)
+behind_mark-strip mark (c ∷ cs) (Some x) h = grind (arith, nat_tests)
+
+-- the items of a view, as a list
+pub list_of-items_of : (ds : List Data) → list_of (items_of ds) ≡ ds
+list_of-items_of [] = refl
+list_of-items_of (d ∷ ds) = ap (λ rest. d ∷ rest) (list_of-items_of ds)

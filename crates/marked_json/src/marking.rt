@@ -1,0 +1,168 @@
+//! The marking of a text, which is what `serde_json` reads in its place.
+ghost use Rattle.std.specs.Prelude.{◌≡◌, ◌≢◌, not, ◌<◌, ℕ, length, slice_index, string_bytes, ◌≤◌, true, false, Ok, Err, IfOk, IfErr};
+ghost use Rattle.std.specs.List.{prefix_len, find};
+ghost use Rattle.marked_json.specs.Marking as spec;
+ghost use Rattle.marked_json.specs.Steps as steps;
+ghost use Rattle.marked_json.specs.declared.fault.JsonFault.TheVariants.{OutOfMemory};
+
+use crate::fault::JsonFault;
+use crate::number::is_number;
+use std::alloc::Global;
+
+/// The marked text of `text`, in one buffer that is reserved once.
+pub(crate) fn marked_text(alloc: Global, text: &str) -> Result<String, JsonFault>
+    ensures ok { IfOk result (λ out. spec.marked spec.outside text.now ≡ Ok (string_bytes out)) }
+    ensures err { IfErr result (λ fault. fault ≢ OutOfMemory → spec.marked spec.outside text.now ≡ Err fault) }
+{
+    let mut out = String::with_capacity(alloc, longest_marked(text.len()))?;
+    let mut rest = text;
+    while !rest.is_empty() {
+        match mark_next(&mut out, rest) {
+            Ok(left) => rest = left,
+            Err(fault) => return Err(fault),
+        }
+    }
+    Ok(out)
+}
+
+/// The most bytes that a marked text can have: a string, of two bytes or more, gets one byte, and a number, which
+/// stands at least one byte before the next, gets three.
+fn longest_marked(text_len: usize) -> usize {
+    text_len.saturating_add(3).saturating_mul(5) / 2
+}
+
+fn mark_next<'a>(out: &mut String, rest: &'a str) -> Result<&'a str, JsonFault>
+    requires { 0 < length rest.now }
+    ensures ok { IfOk result (λ left. steps.completed (string_bytes out.new) left.now ≡ steps.completed (string_bytes out.old) rest.now) }
+    ensures shorter { IfOk result (λ left. length left.now < length rest.now) }
+    ensures err { IfErr result (λ fault. fault ≢ OutOfMemory → steps.completed (string_bytes out.old) rest.now ≡ Err fault) }
+{
+    let first = rest.as_bytes()[0];
+    if first == b'"' {
+        mark_string(out, rest)
+    } else if begins_number(first) {
+        mark_number(out, rest)
+    } else {
+        copy_plain(out, rest)
+    }
+}
+
+fn mark_string<'a>(out: &mut String, rest: &'a str) -> Result<&'a str, JsonFault>
+    requires some { 0 < length rest.now }
+    requires quote { slice_index rest.now 0 ≡ 34 }
+    ensures ok { IfOk result (λ left. steps.completed (string_bytes out.new) left.now ≡ steps.completed (string_bytes out.old) rest.now) }
+    ensures shorter { IfOk result (λ left. length left.now < length rest.now) }
+    ensures err { IfErr result (λ fault. fault ≡ OutOfMemory) }
+{
+    let inside = &rest[1..];
+    let (content, left) = inside.split_at(string_len(inside.as_bytes()));
+    out.push_str("\"$")?;
+    out.push_str(content)?;
+    Ok(left)
+}
+
+fn mark_number<'a>(out: &mut String, rest: &'a str) -> Result<&'a str, JsonFault>
+    requires some { 0 < length rest.now }
+    requires begins { spec.begins_number (slice_index rest.now 0) ≡ true }
+    ensures ok { IfOk result (λ left. steps.completed (string_bytes out.new) left.now ≡ steps.completed (string_bytes out.old) rest.now) }
+    ensures shorter { IfOk result (λ left. length left.now < length rest.now) }
+    ensures err { IfErr result (λ fault. fault ≢ OutOfMemory → steps.completed (string_bytes out.old) rest.now ≡ Err fault) }
+{
+    let (token, left) = rest.split_at(token_len(rest.as_bytes()));
+    if !is_number(token.as_bytes()) {
+        return Err(JsonFault::BadNumber);
+    }
+    if is_before_colon(left.as_bytes()) {
+        return Err(JsonFault::NumberAsKey);
+    }
+    out.push_str("\"#")?;
+    out.push_str(token)?;
+    out.push_str("\"")?;
+    Ok(left)
+}
+
+fn copy_plain<'a>(out: &mut String, rest: &'a str) -> Result<&'a str, JsonFault>
+    requires some { 0 < length rest.now }
+    requires plain { steps.is_plain (slice_index rest.now 0) ≡ true }
+    ensures ok { IfOk result (λ left. steps.completed (string_bytes out.new) left.now ≡ steps.completed (string_bytes out.old) rest.now) }
+    ensures shorter { IfOk result (λ left. length left.now < length rest.now) }
+    ensures err { IfErr result (λ fault. fault ≡ OutOfMemory) }
+{
+    let (plain, left) = rest.split_at(plain_len(rest.as_bytes()));
+    out.push_str(plain)?;
+    Ok(left)
+}
+
+fn begins_number(byte: u8) -> bool
+    ensures { result ≡ spec.begins_number byte }
+{
+    byte == b'-' || byte.is_ascii_digit()
+}
+
+fn goes_on_number(byte: u8) -> bool
+    ensures { result ≡ spec.goes_on_number byte }
+{
+    begins_number(byte) || byte == b'+' || byte == b'.' || byte == b'e' || byte == b'E'
+}
+
+fn is_plain(byte: u8) -> bool
+    ensures { result ≡ steps.is_plain byte }
+{
+    byte != b'"' && !begins_number(byte)
+}
+
+fn is_blank(byte: u8) -> bool
+    ensures { result ≡ spec.is_blank byte }
+{
+    byte == b' ' || byte == b'\t' || byte == b'\n' || byte == b'\r'
+}
+
+fn token_len(bytes: &[u8]) -> usize
+    ensures value { result ≡ prefix_len spec.goes_on_number bytes.now }
+    ensures within { result ≤ length bytes.now }
+{
+    bytes
+        .iter()
+        .take_while(|byte| goes_on_number(**byte))
+        .count()
+}
+
+fn plain_len(bytes: &[u8]) -> usize
+    ensures value { result ≡ prefix_len steps.is_plain bytes.now }
+    ensures within { result ≤ length bytes.now }
+{
+    bytes.iter().take_while(|byte| is_plain(**byte)).count()
+}
+
+fn is_before_colon(bytes: &[u8]) -> bool
+    ensures { result ≡ spec.is_before_colon bytes.now }
+{
+    match first_but_blanks(bytes) {
+        Some(byte) => byte == b':',
+        None => false,
+    }
+}
+
+fn first_but_blanks(bytes: &[u8]) -> Option<u8>
+    ensures { result ≡ find (λ c. not (spec.is_blank c)) bytes.now }
+{
+    bytes.iter().copied().find(|byte| !is_blank(*byte))
+}
+
+/// The length of what is left of a string, with its closing quote; of all, where none closes it.
+fn string_len(bytes: &[u8]) -> usize
+    ensures value { result ≡ steps.string_len false bytes.now }
+    ensures within { result ≤ length bytes.now }
+{
+    let mut escaped = false;
+    for (at, byte) in bytes.iter().enumerate() {
+        if escaped {
+            escaped = false;
+        } else if *byte == b'\\' {
+            escaped = true;
+        } else if *byte == b'"' {
+            return at + 1;
+        }
+    }
+    bytes.len()
+}

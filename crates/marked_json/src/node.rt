@@ -1,0 +1,80 @@
+//! Places in a marked text, with the marks taken off.
+ghost use Rattle.std.specs.Prelude.{◌≡◌, ◌≤◌, length, option_map};
+ghost use Rattle.std.specs.Iterator.{YieldsFirstBy, item_count};
+ghost use Rattle.marked_json.specs.Reading as spec;
+
+use arrayvec::ArrayString;
+use serde_json::Value;
+
+/// One value of a text that was read.
+#[derive(Clone, Copy)]
+pub struct Node<'a> {
+    pub(crate) value: &'a Value,
+}
+
+impl<'a> Node<'a> {
+    /// The content of a string, its escapes resolved.
+    pub fn text(self) -> Option<&'a str>
+        ensures { option_map (λ s. s.now) result ≡ spec.text_of (spec.node self.entry) }
+    {
+        self.value.as_str()?.strip_prefix('$')
+    }
+
+    /// The token of a number, as it was written.
+    pub fn number(self) -> Option<&'a str>
+        ensures { option_map (λ s. s.now) result ≡ spec.number_of (spec.node self.entry) }
+    {
+        self.value.as_str()?.strip_prefix('#')
+    }
+
+    /// The items of an array, in order.
+    pub fn items(self) -> Option<Items<'a>>
+        ensures { option_map spec.left_of result ≡ spec.items_of (spec.node self.entry) }
+    {
+        let items = self.value.as_array()?;
+        Some(Items {
+            rest: items.as_slice(),
+        })
+    }
+
+    /// Whether it is an object.
+    pub fn is_object(self) -> bool
+        ensures { result ≡ spec.is_object (spec.node self.entry) }
+    {
+        self.value.is_object()
+    }
+
+    /// The member of an object by its name; one that is null counts as absent.
+    pub fn field(self, name: &str) -> Option<Node<'a>>
+        requires { length name.now ≤ 63 }
+        ensures { option_map spec.node result ≡ spec.field_of name.now (spec.node self.entry) }
+    {
+        let mut key = ArrayString::<64>::new();
+        key.push('$');
+        key.push_str(name);
+        match self.value.get(key.as_str()) {
+            Some(value) if !value.is_null() => Some(Node { value }),
+            _ => None,
+        }
+    }
+}
+
+/// The items of an array that are still to come.
+#[derive(Drop)]
+pub struct Items<'a> {
+    pub(crate) rest: &'a [Value],
+}
+
+impl<'a> Iterator for Items<'a> {
+    type Item = Node<'a>;
+
+    ghost next_gives = { YieldsFirstBy spec.node spec.left_of };
+
+    ghost remaining = { item_count spec.left_of };
+
+    fn next(&mut self) -> Option<Node<'a>> {
+        let (value, rest) = self.rest.split_first()?;
+        self.rest = rest;
+        Some(Node { value })
+    }
+}

@@ -1,0 +1,42 @@
+-- The numbers of RFC 8259, part by part as its grammar writes them.
+use Rattle.std.specs.Prelude.{◌≡◌, ℕ, List, [], ◌∷◌, ◌++◌, length, slice_index}
+use Rattle.std.specs.Str.Parse.{IsNumeral}
+
+-- `minus`, which may be left out
+pub data Minus : List ℕ → Type 0 where
+  no_minus : Minus []
+  minus : Minus (45 ∷ [])
+
+-- `int`: digits, and 0 stands first only where it stands alone
+pub record IsInt (text : List ℕ) : Type 0 where
+  pub digits : IsNumeral 10 text
+  pub zero_alone : slice_index text 0 ≡ 48 → length text ≡ 1
+
+-- `frac`, a point with digits, which may be left out
+pub data Frac : List ℕ → Type 0 where
+  no_frac : Frac []
+  frac : (digits : List ℕ) → IsNumeral 10 digits → Frac (46 ∷ digits)
+
+-- the sign of an exponent, which may be left out
+pub data Sign : List ℕ → Type 0 where
+  no_sign : Sign []
+  plus : Sign (43 ∷ [])
+  negative : Sign (45 ∷ [])
+
+-- `exp`, an `e` or `E` with a sign and digits, which may be left out
+pub data Exp : List ℕ → Type 0 where
+  no_exp : Exp []
+  lower : (sign digits : List ℕ) → Sign sign → IsNumeral 10 digits → Exp (101 ∷ (sign ++ digits))
+  upper : (sign digits : List ℕ) → Sign sign → IsNumeral 10 digits → Exp (69 ∷ (sign ++ digits))
+
+-- the whole text is the four parts, one behind the other
+pub record IsNumber (text : List ℕ) : Type 0 where
+  pub minus_part : List ℕ
+  pub int_part : List ℕ
+  pub frac_part : List ℕ
+  pub exp_part : List ℕ
+  pub is_minus : Minus minus_part
+  pub is_int : IsInt int_part
+  pub is_frac : Frac frac_part
+  pub is_exp : Exp exp_part
+  pub is_text : text ≡ minus_part ++ (int_part ++ (frac_part ++ exp_part))

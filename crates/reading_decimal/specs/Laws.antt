@@ -1,0 +1,27 @@
+-- The laws that tie the definitions of this crate to one another.
+use Rattle.std.specs.Prelude.{◌≡◌, ◌↔◌, ℕ, ℤ, List, IsTrue, Ok}
+use Rattle.std.specs.Float.Numeral.{Parts}
+use Rattle.reading_decimal.specs.declared.decimal.Unit.{Unit as EnergyUnit}
+use Rattle.ledger_model.specs.Moment.{IsMoment}
+use Rattle.ledger_model.specs.Quarter.{IsQuarter}
+use Rattle.reading_decimal.specs.Decimal.{IsMwh, is_decimal, mwh}
+use Rattle.reading_decimal.specs.Grammar.{IsNumber}
+use Rattle.reading_decimal.specs.Moment.{moment_reading}
+use Rattle.reading_decimal.specs.MomentText.{text_of, whole_second}
+use Rattle.reading_decimal.specs.Quarter.{IsStart, quarter_start}
+
+-- for each decimal, multiplier and unit
+abbrev pub RoundsDown : Type 0
+RoundsDown = (p : Parts) (multiplier : ℤ) (unit : EnergyUnit) → IsMwh p multiplier unit (mwh p multiplier unit)
+
+-- for each settlement period of 900 seconds that moments fall into
+abbrev pub StartsQuarters : Type 0
+StartsQuarters = (number : ℕ) → IsQuarter number → IsStart 900 number (quarter_start 900 number)
+
+-- for each moment
+abbrev pub ReadsBack : Type 0
+ReadsBack = (moment : ℕ) → IsMoment moment → moment_reading (text_of moment) ≡ Ok (whole_second moment)
+
+-- for each token
+abbrev pub ReadsNumbers : Type 0
+ReadsNumbers = (token : List ℕ) → IsTrue (is_decimal token) ↔ IsNumber token

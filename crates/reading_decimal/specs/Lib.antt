@@ -1,0 +1,7 @@
+pub mod Decimal
+pub mod Grammar
+pub mod Laws
+pub mod Moment
+pub mod MomentText
+pub mod Numeral
+pub mod Quarter

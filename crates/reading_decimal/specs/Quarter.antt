@@ -1,0 +1,14 @@
+-- Where a settlement period begins.
+use Rattle.std.specs.Prelude.{◌≡◌, ℕ, ◌*◌, ◌≤◌}
+use Rattle.ledger_model.specs.Moment.{IsMoment}
+use Rattle.ledger_model.specs.Quarter.{quarter_at}
+
+-- the first nanosecond from 1970 of a period of so many seconds, by its number
+abbrev pub quarter_start : ℕ → ℕ → ℕ
+quarter_start period number = number * period * 1_000_000_000
+
+-- `start` is a moment, and the first of all nanoseconds that fall into the period of this number
+pub record IsStart (period number start : ℕ) : Type 0 where
+  pub is_moment : IsMoment start
+  pub within : quarter_at period start ≡ number
+  pub first : (nanos : ℕ) → quarter_at period nanos ≡ number → start ≤ nanos

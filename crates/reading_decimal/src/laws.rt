@@ -1,0 +1,23 @@
+// What the definitions of this crate mean together, each as the contract of a call without a body.
+ghost use Rattle.reading_decimal.specs.Laws.{ReadsBack, ReadsNumbers, RoundsDown, StartsQuarters};
+
+/// The milliwatt-hours of a decimal are the greatest whole number that is not above its value, with
+/// both sides times the power of ten that makes them whole.
+pub fn rounds_down()
+    ensures { RoundsDown }
+{}
+
+/// The start of each settlement period is a moment, falls into that period, and is the first to do so.
+pub fn starts_quarters()
+    ensures { StartsQuarters }
+{}
+
+/// The text of a moment reads back as the moment's whole second.
+pub fn reads_back()
+    ensures { ReadsBack }
+{}
+
+/// A token is a decimal exactly where it is a number by the grammar of RFC 8259.
+pub fn reads_numbers()
+    ensures { ReadsNumbers }
+{}

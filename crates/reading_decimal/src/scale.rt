@@ -1,0 +1,49 @@
+// Whole numbers scaled by powers of ten.
+ghost use Rattle.std.specs.Prelude.{◌≡◌, ◌*◌, ◌/◌, ◌^◌, ◌<◌};
+ghost use Rattle.std.specs.Option.{SomeIff};
+ghost use Rattle.reading_decimal.specs.Decimal.{within_register};
+
+/// The greatest reading of a register, in milliwatt-hours: 10^13.
+pub const MAX_MWH: u64 = 10_000_000_000_000;
+
+// `n * 10^up / 10^down`, rounded down, where a register can show it.
+pub fn scaled(n: u128, up: u32, down: u32) -> Option<u64>
+    ensures { result ≡ within_register (n * 10 ^ up / 10 ^ down) }
+{
+    if down <= up {
+        match multiplied(n, up - down) {
+            Some(product) => within_register(product),
+            None => None,
+        }
+    } else {
+        within_register(divided(n, down - up))
+    }
+}
+
+fn multiplied(n: u128, tens: u32) -> Option<u128>
+    ensures { SomeIff result (n * 10 ^ tens < 2 ^ 128) (n * 10 ^ tens) }
+{
+    if n == 0 {
+        return Some(0);
+    }
+    n.checked_mul(10u128.checked_pow(tens)?)
+}
+
+fn divided(n: u128, tens: u32) -> u128
+    ensures { result ≡ n / 10 ^ tens }
+{
+    match 10u128.checked_pow(tens) {
+        Some(divisor) => n / divisor,
+        None => 0,
+    }
+}
+
+fn within_register(n: u128) -> Option<u64>
+    ensures { result ≡ within_register n }
+{
+    if n <= MAX_MWH as u128 {
+        Some(n as u64)
+    } else {
+        None
+    }
+}
