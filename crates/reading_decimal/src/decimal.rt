@@ -29,11 +29,11 @@ pub enum DecimalFault {
     TooLarge,
 }
 
-/// The most characters of a decimal.
-pub const MAX_CHARACTERS: usize = 36;
+// The most characters of a decimal.
+const MAX_CHARACTERS: usize = 36;
 
-/// The greatest exponent that a decimal may write, whatever its sign.
-pub const MAX_EXPONENT: u128 = 99;
+// The greatest exponent that a decimal may write, whatever its sign.
+const MAX_EXPONENT: u128 = 99;
 
 /// Whether a multiplier, the power of ten that a unit of measure names, is from -12 to 12.
 pub fn multiplier_ok(multiplier: i8) -> bool
@@ -42,8 +42,9 @@ pub fn multiplier_ok(multiplier: i8) -> bool
     -12 <= multiplier && multiplier <= 12
 }
 
-/// The whole milliwatt-hours that a decimal of RFC 8259, in a unit and times a power of ten, stands
-/// for, rounded down. Minus zero is 0.
+/// The whole milliwatt-hours that a decimal of RFC 8259, in a unit and times the power of ten that
+/// the multiplier names, stands for, rounded down: 0 to 10^13. Minus zero is 0. The multiplier is from
+/// -12 to 12 (test: `multiplier_ok`).
 pub fn mwh_of(token: &str, multiplier: i8, unit: Unit) -> Result<u64, DecimalFault>
     requires low { negsuc 11 ≤ℤ multiplier }
     requires high { multiplier ≤ℤ pos 12 }

@@ -31,9 +31,8 @@ mod scale;
 mod tests;
 mod text;
 
-pub use decimal::{DecimalFault, MAX_CHARACTERS, MAX_EXPONENT, Unit, multiplier_ok, mwh_of};
+pub use decimal::{DecimalFault, Unit, multiplier_ok, mwh_of};
 pub use laws::{reads_back, reads_numbers, rounds_down, starts_quarters};
 pub use moment::{MomentFault, moment_of};
 pub use period::{QUARTER_SECONDS, quarter, quarter_start};
-pub use scale::MAX_MWH;
 pub use text::moment_text;

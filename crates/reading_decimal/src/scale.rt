@@ -3,8 +3,8 @@ ghost use Rattle.std.specs.Prelude.{◌≡◌, ◌*◌, ◌/◌, ◌^◌, ◌<�
 ghost use Rattle.std.specs.Option.{SomeIff};
 ghost use Rattle.reading_decimal.specs.Decimal.{within_register};
 
-/// The greatest reading of a register, in milliwatt-hours: 10^13.
-pub const MAX_MWH: u64 = 10_000_000_000_000;
+// The greatest reading of a register, in milliwatt-hours: 10^13.
+const MAX_MWH: u64 = 10_000_000_000_000;
 
 // `n * 10^up / 10^down`, rounded down, where a register can show it.
 pub fn scaled(n: u128, up: u32, down: u32) -> Option<u64>

@@ -1,0 +1,13 @@
+use Rattle.std.proofs.Common.{◌∙◌, ◌≤◌, ◌++◌, codes, ap, subst, sym, lit≤}
+use Rattle.std.specs.Str.{chars}
+use Rattle.ocppj_frame.specs.Reply.{character_count}
+use Rattle.ocppj_frame.proofs.message_id.MessageId.unknown.Goals as goal
+
+-- `-1` is two characters
+unknown-short : character_count (codes "-1") ≤ 36
+unfolding chars
+unknown-short = lit≤ tt
+
+pub invariant_of-result : goal.invariant_of-result
+invariant_of-result c =
+    subst (λ text. character_count text ≤ 36) (sym (c.push_str.ensures.bytes ∙ ap (λ front. front ++ codes "-1") c.new-text.ensures)) unknown-short

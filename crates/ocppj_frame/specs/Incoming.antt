@@ -1,0 +1,26 @@
+-- What an answer of the reader says of the text.
+use Rattle.std.specs.Prelude.{◌≡◌, ◌↔◌, IsTrue, true, false, ⊤}
+use Rattle.ocppj_frame.specs.declared.incoming.Incoming.{Incoming}
+use Rattle.ocppj_frame.specs.declared.incoming.Incoming.TheVariants as incoming
+use Rattle.ocppj_frame.specs.Reply.{memory_bytes}
+use Rattle.ocppj_frame.specs.Frame.{Frame, Called, Silence, Ready}
+use Rattle.ocppj_frame.specs.Call.{id_of, action_of, payload_of}
+
+-- The answer is what the text asks for, or it tells of want of memory.
+abbrev pub Reads : Frame → Incoming → Type 0
+Reads frame (incoming.Call call) = frame ≡ Called (id_of call) (action_of call) (payload_of call)
+Reads frame incoming.Silent = frame ≡ Silence
+Reads frame (incoming.Reply text false) = frame ≡ Ready text.bytes
+Reads frame (incoming.Reply text true) = text.bytes ≡ memory_bytes
+
+-- `memory` is true exactly where the reply is the one that tells of want of memory.
+abbrev pub TellsMemory : Incoming → Type 0
+TellsMemory (incoming.Call call) = ⊤
+TellsMemory incoming.Silent = ⊤
+TellsMemory (incoming.Reply text memory) = IsTrue memory ↔ (text.bytes ≡ memory_bytes)
+
+-- The answer tells of want of memory.
+abbrev pub IsOutOfMemory : Incoming → Type 0
+IsOutOfMemory (incoming.Call call) = ⊥
+IsOutOfMemory incoming.Silent = ⊥
+IsOutOfMemory (incoming.Reply text memory) = IsTrue memory

@@ -1,0 +1,10 @@
+pub mod ErrorCode
+pub mod Reply
+pub mod Action
+pub mod Id
+pub mod FrameFault
+pub mod Frame
+pub mod Call
+pub mod Incoming
+pub mod Verdict
+pub mod Message

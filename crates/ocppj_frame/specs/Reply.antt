@@ -1,0 +1,49 @@
+-- The texts of replies (OCPP 2.0.1 Part 4), without blanks.
+use Rattle.std.specs.Prelude.{ℕ, ◌/◌, ◌%◌, ◌==◌, ◌||◌, ◌&&◌, Bool, nat_lt, nat_le, List, [], ◌∷◌, ◌++◌, length, if◌then◌else◌, codes, encode_utf8}
+use Rattle.std.specs.List.{flat_map}
+use Rattle.std.specs.Char.{digit_char}
+use Rattle.std.specs.Str.{chars}
+use Rattle.ocppj_frame.specs.declared.body.Body.{Body}
+use Rattle.ocppj_frame.specs.declared.body.Body.TheVariants.{Empty, TokenAccepted, Now, Boot}
+use Rattle.ocppj_frame.specs.declared.error_code.ErrorCode.{ErrorCode}
+use Rattle.ocppj_frame.specs.declared.error_code.ErrorCode.TheVariants.{InternalError}
+use Rattle.ocppj_frame.specs.ErrorCode.{code_name}
+
+-- How many characters a text has: Unicode scalar values, not bytes.
+abbrev pub character_count : List ℕ → ℕ
+character_count text = length (chars text)
+
+-- A character in a JSON string: `"` and `\` behind a `\`, one below 0x20 by its code, all others as they are.
+abbrev pub escaped : ℕ → List ℕ
+escaped c =
+    if c == 34 || c == 92 then 92 ∷ c ∷ []
+    else (if nat_lt c 32 then codes "\\u00" ++ (digit_char (c / 16) ∷ digit_char (c % 16) ∷ [])
+    else encode_utf8 c)
+
+-- A text as a JSON string (RFC 8259), in quotes.
+abbrev pub json_string : List ℕ → List ℕ
+json_string text = codes "\"" ++ (flat_map escaped (chars text) ++ codes "\"")
+
+-- The payload of a CALLRESULT.
+abbrev pub body_bytes : Body → List ℕ
+body_bytes Empty = codes "{}"
+body_bytes TokenAccepted = codes "{\"idTokenInfo\":{\"status\":\"Accepted\"}}"
+body_bytes (Now now) = codes "{\"currentTime\":\"" ++ (now.bytes ++ codes "\"}")
+body_bytes (Boot now) = codes "{\"currentTime\":\"" ++ (now.bytes ++ codes "\",\"interval\":300,\"status\":\"Accepted\"}")
+
+-- A CALLRESULT: `[3,<id>,<payload>]`.
+abbrev pub result_bytes : List ℕ → Body → List ℕ
+result_bytes id body = codes "[3," ++ (json_string id ++ (codes "," ++ (body_bytes body ++ codes "]")))
+
+-- A CALLERROR: `[4,<id>,"<code>","<description>",{}]`.
+abbrev pub error_bytes : List ℕ → ErrorCode → List ℕ → List ℕ
+error_bytes id code description =
+    codes "[4," ++ (json_string id ++ (codes ",\"" ++ (code_name code ++ (codes "\",\"" ++ (description ++ codes "\",{}]")))))
+
+-- The CALLERROR that tells of want of memory while a text is read.
+abbrev pub memory_bytes : List ℕ
+memory_bytes = error_bytes (codes "-1") InternalError (codes "OutOfMemory")
+
+-- A letter from A to Z or a to z.
+abbrev pub is_letter : ℕ → Bool
+is_letter c = (nat_le 65 c && nat_le c 90) || (nat_le 97 c && nat_le c 122)

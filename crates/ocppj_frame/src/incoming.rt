@@ -1,0 +1,93 @@
+ghost use Rattle.std.specs.Prelude.{◌≡◌, ◌≤◌, length};
+ghost use Rattle.marked_json.specs.Reading.{tree};
+ghost use Rattle.ocppj_frame.specs.Frame.{frame, frame_of, refused, elements_of};
+ghost use Rattle.ocppj_frame.specs.Incoming.{Reads, TellsMemory, IsOutOfMemory};
+ghost use Rattle.ocppj_frame.specs.Reply.{memory_bytes};
+
+use crate::call::Call;
+use crate::error_code::ErrorCode;
+use crate::frame_fault::FrameFault;
+use crate::message_id::MessageId;
+use crate::reply::error_text;
+use crate::verdict::{Verdict, verdict_on};
+use arrayvec::ArrayString;
+use marked_json::{JsonFault, Marked, read_marked};
+use std::alloc::Global;
+
+// How many bytes a text has at most.
+const MAX_BYTES: usize = 262_144;
+
+/// What a text asks for.
+#[derive(Drop)]
+pub enum Incoming {
+    /// A call, which is to be answered.
+    Call(Call),
+    /// An answer, which gets none.
+    Silent,
+    /// A ready reply.
+    Reply {
+        /// The reply.
+        text: ArrayString<512>,
+        /// Whether it tells of want of memory.
+        memory: bool,
+    },
+}
+
+/// Reads a text as an OCPP-J frame (OCPP 2.0.1 Part 4). The first check that fails answers: a text above
+/// 262,144 bytes, no JSON, no call, an answer (silence), another type, another action, a payload that is
+/// no object. Want of memory while reading is a ready reply too, the one with `memory` set.
+pub fn read_frame(alloc: Global, text: &str) -> Incoming
+    ensures meaning { Reads (frame text.now) result }
+    ensures memory { TellsMemory result }
+    ensures while_reading { IsOutOfMemory result → length text.now ≤ 262_144 }
+{
+    if text.len() > MAX_BYTES {
+        return refusal(None, FrameFault::TextTooLong);
+    }
+    match read_marked(alloc, text) {
+        Ok(marked) => read_tree(marked),
+        Err(JsonFault::OutOfMemory) => Incoming::Reply {
+            text: memory_text(),
+            memory: true,
+        },
+        Err(_) => refusal(None, FrameFault::NotJson),
+    }
+}
+
+// What a text asks for that was read.
+fn read_tree(marked: Marked) -> Incoming
+    ensures meaning { Reads (frame_of (elements_of (tree marked))) result }
+    ensures memory { TellsMemory result }
+    ensures read { ¬ IsOutOfMemory result }
+{
+    match verdict_on(marked.root()) {
+        Verdict::Call { id, action } => Incoming::Call(Call {
+            id,
+            action,
+            frame: marked,
+        }),
+        Verdict::Silent => Incoming::Silent,
+        Verdict::Refused { id, fault } => refusal(id, fault),
+    }
+}
+
+// The reply that tells of a fault.
+fn refusal(id: Option<MessageId>, fault: FrameFault) -> Incoming
+    ensures meaning { Reads (refused id fault) result }
+    ensures memory { TellsMemory result }
+    ensures ready { ¬ IsOutOfMemory result }
+{
+    let id = id.unwrap_or(MessageId::unknown());
+    Incoming::Reply {
+        text: error_text(id.as_str(), fault.code(), fault.name()),
+        memory: false,
+    }
+}
+
+// The reply that tells of want of memory.
+fn memory_text() -> ArrayString<512>
+    ensures { result.bytes ≡ memory_bytes }
+{
+    let id = MessageId::unknown();
+    error_text(id.as_str(), ErrorCode::InternalError, "OutOfMemory")
+}

@@ -1,0 +1,49 @@
+ghost use Rattle.std.specs.Prelude.{◌≡◌, ◌≤◌, ◌+◌, ◌<◌, ◌++◌};
+ghost use Rattle.std.specs.Char.{digit_char};
+ghost use Rattle.arrayvec.specs.ArrayString.{array_string_len};
+ghost use Rattle.ocppj_frame.specs.Reply.{json_string as json_string_of, escaped, character_count};
+
+use arrayvec::ArrayString;
+
+// A hexadecimal digit, in lower case.
+fn hex_digit(value: u32) -> char
+    requires { value < 16 }
+    ensures value { result ≡ digit_char value }
+    ensures ascii { result < 128 }
+{
+    char::from_digit(value, 16).unwrap()
+}
+
+// Puts a character behind the text, as it stands in a JSON string.
+fn push_escaped(text: &mut ArrayString<218>, character: char)
+    requires { array_string_len text.old + 6 ≤ 218 }
+    ensures { text.new.bytes ≡ text.old.bytes ++ escaped character }
+{
+    match character {
+        '"' | '\\' => {
+            text.push('\\');
+            text.push(character);
+        }
+        '\0'..='\u{1f}' => {
+            let code = u32::from(character);
+            text.push_str("\\u00");
+            text.push(hex_digit(code / 16));
+            text.push(hex_digit(code % 16));
+        }
+        _ => text.push(character),
+    }
+}
+
+// A text of at most 36 characters, as a JSON string.
+pub(crate) fn json_string(text: &str) -> ArrayString<218>
+    requires { character_count text.now ≤ 36 }
+    ensures { result.bytes ≡ json_string_of text.now }
+{
+    let mut string = ArrayString::new();
+    string.push('"');
+    for character in text.chars() {
+        push_escaped(&mut string, character);
+    }
+    string.push('"');
+    string
+}

@@ -1,0 +1,40 @@
+//! Frames of OCPP-J (OCPP 2.0.1 Part 4): texts of a station read into calls, and the texts of replies.
+//!
+//! A CALL is `[2,<id>,<action>,<payload>]`. [`read_frame`] takes a text and gives the [`Call`], silence for an
+//! answer (CALLRESULT `[3,..]` or CALLERROR `[4,..]`), or the ready reply that tells of the first check that
+//! failed. [`result_text`] and [`error_text`] write the replies to a call, without blanks.
+//!
+//! The crate's one contract: what a text asks for is the function `frame` of `specs/Frame.antt`, which names the
+//! checks in their order on the tree that the text is read into; `read_frame` gives that and nothing else, but
+//! for want of memory, which is a reply of its own. A reply is, byte for byte, what `specs/Reply.antt` says, and
+//! always fits 512 bytes.
+//!
+//! ```text
+//! read_frame(alloc, r#"[2,"a","Heartbeat",{}]"#)   // Call: id "a", Heartbeat, an object
+//! read_frame(alloc, r#"[3,"a",{}]"#)               // Silent
+//! read_frame(alloc, r#"[2,"a","Nope",{}]"#)        // Reply: [4,"a","NotImplemented","UnknownAction",{}]
+//! result_text("a", Body::Empty)                    // [3,"a",{}]
+//! ```
+#![tactic(auto)]
+
+mod action;
+mod body;
+mod call;
+mod error_code;
+mod frame_fault;
+mod incoming;
+mod json_string;
+pub mod laws;
+mod message_id;
+mod reply;
+#[cfg(test)]
+mod tests;
+mod verdict;
+
+pub use action::Action;
+pub use body::Body;
+pub use call::Call;
+pub use error_code::ErrorCode;
+pub use incoming::{Incoming, read_frame};
+pub use message_id::is_message_id;
+pub use reply::{error_text, result_text};

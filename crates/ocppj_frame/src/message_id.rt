@@ -1,0 +1,73 @@
+ghost use Rattle.std.specs.Prelude.{◌≡◌, ◌≤◌, ◌*◌, ◌↔◌, IsTrue, codes, length};
+ghost use Rattle.ocppj_frame.specs.Reply.{character_count as count_of};
+ghost use Rattle.ocppj_frame.specs.Id.{message_id};
+
+use arrayvec::ArrayString;
+use std::marker::Model;
+
+// How many characters the id of a message has at most.
+const MAX_CHARACTERS: usize = 36;
+
+/// Whether a text can be the id of a message: it has at most 36 characters, which are Unicode scalar values
+/// (OCPP 2.0.1 Part 4).
+pub fn is_message_id(text: &str) -> bool
+    ensures { IsTrue result ↔ (count_of text.now ≤ 36) }
+{
+    character_count(text) <= MAX_CHARACTERS
+}
+
+// How many characters a text has.
+fn character_count(text: &str) -> usize
+    ensures count { result ≡ count_of text.now }
+    ensures bytes { length text.now ≤ 4 * result }
+{
+    text.chars().count()
+}
+
+// The id of a message: a text of at most 36 characters, each of at most four bytes.
+#[derive(Drop)]
+pub(crate) struct MessageId {
+    text: ArrayString<144>,
+}
+
+impl Model for MessageId {
+    ghost use Rattle.std.specs.Prelude.{List, ℕ, ◌≤◌};
+    ghost use Rattle.ocppj_frame.specs.Reply.{character_count};
+
+    ghost Value = { List ℕ };
+
+    ghost view = { λ id. id.text.bytes };
+
+    ghost invariant = { λ id. character_count id.text.bytes ≤ 36 };
+}
+
+impl MessageId {
+    // The id of this text; `None` where it has more than 36 characters.
+    pub(crate) fn new(text: &str) -> Option<Self>
+        ensures { result ≡ message_id text.now }
+    {
+        if character_count(text) > MAX_CHARACTERS {
+            return None;
+        }
+        let mut kept = ArrayString::new();
+        kept.push_str(text);
+        Some(MessageId { text: kept })
+    }
+
+    // The id of a reply to a text that names none.
+    pub(crate) fn unknown() -> Self
+        ensures { result ≡ codes "-1" }
+    {
+        let mut text = ArrayString::new();
+        text.push_str("-1");
+        MessageId { text }
+    }
+
+    // The text.
+    pub(crate) fn as_str(&self) -> &str
+        ensures value { result.now ≡ self.now }
+        ensures short { count_of result.now ≤ 36 }
+    {
+        self.text.as_str()
+    }
+}

@@ -1,0 +1,42 @@
+ghost use Rattle.std.specs.Prelude.{◌≡◌, ◌≤◌, true, length};
+ghost use Rattle.std.specs.List.{list_all};
+ghost use Rattle.ocppj_frame.specs.Reply.{result_bytes, error_bytes, character_count, is_letter};
+
+use crate::body::{Body, body_text};
+use crate::error_code::ErrorCode;
+use crate::json_string::json_string;
+use arrayvec::ArrayString;
+
+/// A CALLRESULT without blanks (OCPP 2.0.1 Part 4). The id has at most 36 characters, which are
+/// Unicode scalar values.
+pub fn result_text(id: &str, body: Body) -> ArrayString<512>
+    requires { character_count id.now ≤ 36 }
+    ensures { result.bytes ≡ result_bytes id.now body }
+{
+    let mut text = ArrayString::new();
+    text.push_str("[3,");
+    text.push_str(json_string(id).as_str());
+    text.push_str(",");
+    text.push_str(body_text(body).as_str());
+    text.push_str("]");
+    text
+}
+
+/// A CALLERROR without blanks and details (OCPP 2.0.1 Part 4). The id has at most 36 characters, which
+/// are Unicode scalar values, and the description at most 32, each a letter from A to Z or a to z.
+pub fn error_text(id: &str, code: ErrorCode, description: &str) -> ArrayString<512>
+    requires id { character_count id.now ≤ 36 }
+    requires short { length description.now ≤ 32 }
+    requires letters { list_all is_letter description.now ≡ true }
+    ensures { result.bytes ≡ error_bytes id.now code description.now }
+{
+    let mut text = ArrayString::new();
+    text.push_str("[4,");
+    text.push_str(json_string(id).as_str());
+    text.push_str(",\"");
+    text.push_str(code.name());
+    text.push_str("\",\"");
+    text.push_str(description);
+    text.push_str("\",{}]");
+    text
+}

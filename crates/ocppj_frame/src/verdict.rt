@@ -1,0 +1,121 @@
+ghost use Rattle.std.specs.Prelude.{◌≡◌, Some};
+ghost use Rattle.marked_json.specs.Reading.{node, left_of};
+ghost use Rattle.ocppj_frame.specs.Frame.{frame_of, with_type, with_id, with_name, elements_of, id_of};
+ghost use Rattle.ocppj_frame.specs.Verdict.{Says};
+
+use crate::action::Action;
+use crate::frame_fault::FrameFault;
+use crate::message_id::MessageId;
+use marked_json::{Items, Node};
+
+// What the elements of a frame ask for.
+#[derive(Drop)]
+pub(crate) enum Verdict {
+    // An action is asked for by a call of this id.
+    Call {
+        id: MessageId,
+        action: Action,
+    },
+    // An answer gets none.
+    Silent,
+    // The first check that failed, and the id, where there is one.
+    Refused {
+        id: Option<MessageId>,
+        fault: FrameFault,
+    },
+}
+
+// What a tree asks for.
+pub(crate) fn verdict_on(root: Node<'_>) -> Verdict
+    ensures { Says (frame_of (elements_of (node root.entry))) result }
+{
+    let Some(mut elements) = root.items() else {
+        return not_a_call(None);
+    };
+    let Some(kind) = elements.next() else {
+        return not_a_call(None);
+    };
+    let id = match elements.next() {
+        Some(element) => message_id(element),
+        None => None,
+    };
+    match kind.number() {
+        Some(token) => by_type(token, id, elements),
+        None => not_a_call(id),
+    }
+}
+
+// The verdict on a text that is no call.
+fn not_a_call(id: Option<MessageId>) -> Verdict
+    ensures { result ≡ Verdict.Refused id FrameFault.NotACall }
+{
+    Verdict::Refused {
+        id,
+        fault: FrameFault::NotACall,
+    }
+}
+
+// An element as an id.
+fn message_id(element: Node<'_>) -> Option<MessageId>
+    ensures { result ≡ id_of (node element.entry) }
+{
+    match element.text() {
+        Some(text) => MessageId::new(text),
+        None => None,
+    }
+}
+
+// The verdict by the type of a frame; 3 and 4 are answers, 2 is a call.
+fn by_type(token: &str, id: Option<MessageId>, rest: Items<'_>) -> Verdict
+    ensures { Says (with_type (Some token.now) id (left_of rest.entry)) result }
+{
+    match token {
+        "3" | "4" => Verdict::Silent,
+        "2" => by_rest(id, rest),
+        _ => Verdict::Refused {
+            id,
+            fault: FrameFault::MessageType,
+        },
+    }
+}
+
+// The verdict on a call, by its id and the elements behind it.
+fn by_rest(id: Option<MessageId>, mut rest: Items<'_>) -> Verdict
+    ensures { Says (with_id id (left_of rest.entry)) result }
+{
+    let Some(id) = id else {
+        return not_a_call(None);
+    };
+    let Some(action) = rest.next() else {
+        return not_a_call(Some(id));
+    };
+    let Some(payload) = rest.next() else {
+        return not_a_call(Some(id));
+    };
+    if rest.next().is_some() {
+        return not_a_call(Some(id));
+    }
+    match action.text() {
+        Some(name) => by_action(id, name, payload),
+        None => not_a_call(Some(id)),
+    }
+}
+
+// The verdict on a call, by its action and its payload.
+fn by_action(id: MessageId, name: &str, payload: Node<'_>) -> Verdict
+    ensures { Says (with_name id (Some name.now) (node payload.entry)) result }
+{
+    let Some(action) = Action::of(name) else {
+        return Verdict::Refused {
+            id: Some(id),
+            fault: FrameFault::UnknownAction,
+        };
+    };
+    if !payload.is_object() {
+        return Verdict::Refused {
+            id: Some(id),
+            fault: FrameFault::Format,
+        };
+    }
+    Verdict::Call { id, action }
+}

@@ -1,0 +1,10 @@
+pub mod Keys
+pub mod Places
+pub mod Edits
+pub mod Views
+pub mod Walk
+pub mod Transactions
+pub mod Pairs
+pub mod Judged
+pub mod Sums
+pub mod Accepted

@@ -1,0 +1,12 @@
+use Rattle.std.proofs.Common.{arith}
+use Rattle.station_ledger.proofs.Views.{IsKept-empty, content_empty}
+use Rattle.station_ledger.proofs.ledger.StationLedger.open.Goals as goal
+
+pub invariant_of-result : goal.invariant_of-result
+invariant_of-result c = (
+  rw (c.in_ok-rows.ensures.items, c.in_ok-flows.ensures.items) (IsKept-empty c.args.limits (omega arith) (omega arith)),
+  record { for_events = omega (arith, c.in_ok-rows.ensures.capacity); for_flows = omega (arith, c.in_ok-flows.ensures.capacity) },
+)
+
+pub returns-clause-empty : goal.returns-clause-empty
+returns-clause-empty c = rw c.in_ok-rows.ensures.items content_empty

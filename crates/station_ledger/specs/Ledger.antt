@@ -1,0 +1,38 @@
+use Rattle.std.specs.Prelude.{ℕ, Bool, List, refl}
+use Rattle.std.specs.Coded.{Coded, code_by, coded×, coded_bool, coded_ℕ}
+use Rattle.std.specs.FinMap as finite
+use Rattle.std.specs.FinMap.{FinMap}
+use Rattle.ledger_model.specs.contracts.event.Event.{the_row}
+use Rattle.ledger_model.specs.Event.{Happening}
+use Rattle.ledger_model.specs.Key.{key_cmp, key_code}
+use Rattle.ledger_model.specs.Limits.{Bounds}
+use Rattle.ledger_model.specs.Content.{Content, Stored, Entry}
+
+-- A station's ledger: its limits, and what it holds.
+pub record Ledger : Type 0 where
+  pub limits : Bounds
+  pub content : Content
+
+-- A stored event is kept as the pair of its parts.
+abbrev pub stored_code : Coded Stored
+stored_code = code_by (Happening × Bool) (coded× the_row.coded coded_bool) (λ s. (s.event, s.voided)) (λ p. record { event = p.0; voided = p.1 }) (λ _. refl)
+
+-- An entry is kept as the pair of its parts.
+abbrev pub entry_code : Coded Entry
+entry_code = coded× key_code stored_code
+
+-- A content is kept as the pair of its parts.
+abbrev pub content_code : Coded Content
+content_code = code_by (FinMap key_cmp Stored × ℕ) (coded× (finite.code key_code stored_code) coded_ℕ) (λ c. (c.events, c.changes)) (λ p. record { events = p.0; changes = p.1 }) (λ _. refl)
+
+-- Limits are kept as the tuple of their parts.
+abbrev pub bounds_code : Coded Bounds
+bounds_code = code_by (ℕ × (ℕ × (ℕ × ℕ))) (coded× coded_ℕ (coded× coded_ℕ (coded× coded_ℕ coded_ℕ))) (λ b. (b.transactions, (b.events, (b.readings, b.changes)))) (λ p. record { transactions = p.0; events = p.1.0; readings = p.1.1.0; changes = p.1.1.1 }) (λ _. refl)
+
+-- A ledger is kept as the pair of its parts.
+abbrev pub ledger_code : Coded Ledger
+ledger_code = code_by (Bounds × Content) (coded× bounds_code content_code) (λ l. (l.limits, l.content)) (λ p. record { limits = p.0; content = p.1 }) (λ _. refl)
+
+-- The content of entries in the order of their keys, after so many changes.
+abbrev pub content_of : List Entry → ℕ → Content
+content_of es changes = record { events = finite.from_sorted es; changes = changes }

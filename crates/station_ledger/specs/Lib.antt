@@ -1,0 +1,7 @@
+pub mod Ledger
+pub mod Places
+pub mod Edits
+pub mod Flows
+pub mod Kept
+pub mod Spent
+pub mod New

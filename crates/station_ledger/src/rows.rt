@@ -1,0 +1,102 @@
+ghost use Rattle.std.specs.Prelude.{◌≡◌, ◌≢◌, ◌<◌, ◌≤◌, length, None, IfOk, IfErr, vec_len, vec_capacity};
+ghost use Rattle.std.specs.FinMap.{find, put};
+ghost use Rattle.ledger_model.specs.Key.{key_cmp};
+ghost use Rattle.ledger_model.specs.Content.{transactions_of, has_transaction};
+ghost use Rattle.ledger_model.specs.Step.{readings_stored};
+ghost use Rattle.station_ledger.specs.Places.{IsRising, IsAt, IsGap};
+ghost use Rattle.station_ledger.specs.Edits.{marked, without, entries_after, IsReady};
+
+use crate::row::Row;
+use ledger_model::{Command, Key, TxId};
+
+// Where the key stands among rows in the order of their keys, or else where it belongs.
+pub(crate) fn place(rows: &[Row], key: &Key) -> Result<usize, usize>
+    requires { IsRising rows.now }
+    ensures at { IfOk result (λ i. IsAt key.now rows.now i) }
+    ensures gap { IfErr result (λ i. IsGap key.now rows.now i) }
+{
+    rows.binary_search_by(|row| row.cmp_key(key))
+}
+
+// Tells whether a row of this transaction stands here.
+pub(crate) fn has_transaction(rows: &[Row], tx: &TxId) -> bool
+    ensures { result ≡ has_transaction tx.now rows.now }
+{
+    rows.iter().any(|row| row.is_of(tx))
+}
+
+// How many transactions these rows are of.
+pub(crate) fn transactions(rows: &[Row]) -> usize
+    requires { IsRising rows.now }
+    ensures { result ≡ length (transactions_of rows.now) }
+{
+    let mut count = 0;
+    let mut before: Option<&Row> = None;
+    for row in rows {
+        if !row.goes_on(before) {
+            count += 1;
+        }
+        before = Some(row);
+    }
+    count
+}
+
+// How many readings the events of these rows have.
+pub(crate) fn readings_stored(rows: &[Row]) -> usize
+    requires { readings_stored rows.now ≤ 65_536 }
+    ensures { result ≡ readings_stored rows.now }
+{
+    rows.iter().map(|row| row.event().readings().len()).sum()
+}
+
+// Puts a row whose key is new in its place.
+fn insert(rows: &mut Vec<Row>, row: Row)
+    requires rising { IsRising rows.old.items }
+    requires absent { find key_cmp row.0 rows.old.items ≡ None }
+    requires room { vec_len rows.old < vec_capacity rows.old }
+    ensures items { rows.new.items ≡ put key_cmp row.0 row.1 rows.old.items }
+    ensures capacity { vec_capacity rows.new ≡ vec_capacity rows.old }
+{
+    if let Err(at) = place(rows, row.key()) {
+        // There is room, so this takes no memory and succeeds.
+        let _ = rows.insert(at, row);
+    }
+}
+
+// Marks the row of this key, if there is one, as voided or not.
+fn mark(rows: &mut Vec<Row>, key: &Key, voided: bool)
+    requires { IsRising rows.old.items }
+    ensures items { rows.new.items ≡ marked rows.old.items key.now voided }
+    ensures capacity { vec_capacity rows.new ≡ vec_capacity rows.old }
+{
+    if let Ok(at) = place(rows, key) {
+        rows[at].set_voided(voided);
+    }
+}
+
+// Removes the row of this key.
+fn remove(rows: &mut Vec<Row>, key: &Key)
+    requires rising { IsRising rows.old.items }
+    requires present { find key_cmp key.now rows.old.items ≢ None }
+    ensures items { rows.new.items ≡ without key.now rows.old.items }
+    ensures capacity { vec_capacity rows.new ≡ vec_capacity rows.old }
+{
+    if let Ok(at) = place(rows, key) {
+        rows.remove(at);
+    }
+}
+
+// Changes the rows as an accepted command asks.
+pub(crate) fn carry_out(rows: &mut Vec<Row>, command: Command)
+    requires rising { IsRising rows.old.items }
+    requires ready { IsReady rows.old.items (vec_capacity rows.old) command }
+    ensures items { rows.new.items ≡ entries_after rows.old.items command }
+    ensures capacity { vec_capacity rows.new ≡ vec_capacity rows.old }
+{
+    match command {
+        Command::Deliver(key, event) => insert(rows, Row::new(key, event)),
+        Command::Void(key) => mark(rows, &key, true),
+        Command::Restore(key) => mark(rows, &key, false),
+        Command::Erase(key) => remove(rows, &key),
+    }
+}

@@ -1,0 +1,4 @@
+pub mod Ids
+pub mod Integers
+pub mod Replies
+pub mod Deliveries

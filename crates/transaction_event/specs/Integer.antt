@@ -1,0 +1,53 @@
+-- Integers: numbers of RFC 8259 without a point and without an exponent.
+use Rattle.std.specs.Prelude.{ℕ, Bool, ◌&&◌, ◌==◌, not, List, length, drop, slice_index, nat_lt, if◌then◌else◌, ℤ, Option, Some, None, option_and_then, Ok, Err}
+use Rattle.std.specs.Int.Signed.{le_z}
+use Rattle.std.specs.Option.{ok_or}
+use Rattle.std.specs.Char.{is_ascii_digit}
+use Rattle.std.specs.List.{list_all}
+use Rattle.std.specs.Str.Parse.{signed_digits_value}
+use Rattle.serde_json.specs.Data.{Data}
+use Rattle.marked_json.specs.Reading.{number_of}
+use Rattle.transaction_event.specs.declared.fault.PayloadFault.TheVariants.{Range, WrongType}
+use Rattle.transaction_event.specs.Steps.{Checked, checked_map, ◌>>=◌}
+use Rattle.transaction_event.specs.Member.{required, optional}
+
+-- The token without a leading `-`.
+abbrev pub without_minus : List ℕ → List ℕ
+without_minus token = drop (if slice_index token 0 == 45 then 1 else 0) token
+
+-- Digits alone, but for a leading `-`.
+abbrev pub is_integer : List ℕ → Bool
+is_integer token = nat_lt 0 (length (without_minus token)) && list_all is_ascii_digit (without_minus token)
+
+-- The integer that a token writes, however large; minus zero is 0.
+abbrev pub integer_of_token : List ℕ → Option ℤ
+integer_of_token token = if is_integer token then Some (signed_digits_value 10 token) else None
+
+-- An integer.
+abbrev pub integer_of : Data → Option ℤ
+integer_of tree = option_and_then integer_of_token (number_of tree)
+
+-- An integer from low to high, else it is out of range.
+abbrev pub within : ℤ → ℤ → ℤ → Checked ℤ
+within low high n = if le_z low n && le_z n high then Ok n else Err Range
+
+-- An integer of the tree, from low to high.
+abbrev pub integer_in : ℤ → ℤ → Data → Checked ℤ
+integer_in low high tree = ok_or (integer_of tree) WrongType >>= within low high
+
+-- The integer of a token, from low to high.
+abbrev pub integer_within : ℤ → ℤ → List ℕ → Checked ℤ
+integer_within low high token = ok_or (integer_of_token token) WrongType >>= within low high
+
+-- A member that has to be there, an integer from low to high.
+abbrev pub required_integer : ℤ → ℤ → List ℕ → Data → Checked ℤ
+required_integer low high name tree = required integer_of name tree >>= within low high
+
+-- An integer that is there lies between low and high.
+abbrev pub if_within : ℤ → ℤ → Option ℤ → Checked (Option ℤ)
+if_within low high None = Ok None
+if_within low high (Some n) = checked_map Some (within low high n)
+
+-- A member that may be absent, an integer from low to high.
+abbrev pub optional_integer : ℤ → ℤ → List ℕ → Data → Checked (Option ℤ)
+optional_integer low high name tree = optional integer_of name tree >>= if_within low high

@@ -1,0 +1,14 @@
+pub mod Fault
+pub mod Steps
+pub mod Member
+pub mod Integer
+pub mod Timestamp
+pub mod Scale
+pub mod Readings
+pub mod Sampled
+pub mod MeterValues
+pub mod Request
+pub mod Reply
+pub mod Message
+pub mod Means
+pub mod Laws

@@ -1,0 +1,24 @@
+-- The members of an object: absent where there is none of the name, or it is null.
+use Rattle.std.specs.Prelude.{ℕ, List, Option, Some, None, Ok, if◌then◌else◌}
+use Rattle.std.specs.Option.{ok_or}
+use Rattle.serde_json.specs.Data.{Data}
+use Rattle.marked_json.specs.Reading.{field_of, is_object}
+use Rattle.transaction_event.specs.declared.fault.PayloadFault.TheVariants.{Missing, WrongType}
+use Rattle.transaction_event.specs.Steps.{Checked, checked_map, ◌>>=◌}
+
+-- An object.
+abbrev pub object_of : Data → Option Data
+object_of tree = if is_object tree then Some tree else None
+
+-- A member that has to be there, of a kind.
+abbrev pub required : {A : Type 0} → (Data → Option A) → List ℕ → Data → Checked A
+required kind name tree = ok_or (field_of name tree) Missing >>= (λ member. ok_or (kind member) WrongType)
+
+-- What a member that is there has to be.
+abbrev pub if_there : {A : Type 0} → (Data → Option A) → Option Data → Checked (Option A)
+if_there kind None = Ok None
+if_there kind (Some member) = checked_map Some (ok_or (kind member) WrongType)
+
+-- A member that may be absent, of a kind.
+abbrev pub optional : {A : Type 0} → (Data → Option A) → List ℕ → Data → Checked (Option A)
+optional kind name tree = if_there kind (field_of name tree)

@@ -1,0 +1,54 @@
+-- What a station's text means at a moment (OCPP 2.0.1 Part 4). Want of memory is no part of it.
+use Rattle.std.specs.Prelude.{ℕ, List, ◌++◌, Ok, Err, codes}
+use Rattle.serde_json.specs.Data.{Data}
+use Rattle.ocppj_frame.specs.declared.action.Action.{Action}
+use Rattle.ocppj_frame.specs.declared.action.Action.TheVariants.{BootNotification, Heartbeat, StatusNotification, MeterValues, TransactionEvent}
+use Rattle.ocppj_frame.specs.declared.body.Body.TheVariants.{Empty}
+use Rattle.ocppj_frame.specs.Reply.{json_string, result_bytes}
+use Rattle.ocppj_frame.specs.Frame.{Frame, frame}
+use Rattle.ocppj_frame.specs.Frame as framed
+use Rattle.reading_decimal.specs.MomentText.{text_of}
+use Rattle.transaction_event.specs.Steps.{Checked}
+use Rattle.transaction_event.specs.Request.{Request, event_reading}
+use Rattle.transaction_event.specs.Reply.{fault_reply}
+
+-- An event to deliver, with the id of its call; or a reply that is ready; or nothing to say.
+pub data Meaning : Type 0 where
+  Event : List ℕ → Request → Meaning
+  Ready : List ℕ → Meaning
+  Silence : Meaning
+
+-- A CALLRESULT with a payload: `[3,<id>,<payload>]`.
+abbrev pub call_result : List ℕ → List ℕ → List ℕ
+call_result id payload = codes "[3," ++ (json_string id ++ (codes "," ++ (payload ++ codes "]")))
+
+-- A HeartbeatResponse at a moment's text.
+abbrev pub heartbeat : List ℕ → List ℕ
+heartbeat now = codes "{\"currentTime\":\"" ++ (now ++ codes "\"}")
+
+-- A BootNotificationResponse at a moment's text: accepted, with a heartbeat every 300 seconds.
+abbrev pub boot : List ℕ → List ℕ
+boot now = codes "{\"currentTime\":\"" ++ (now ++ codes "\",\"interval\":300,\"status\":\"Accepted\"}")
+
+-- What a TransactionEventRequest means: the event, or the reply that tells of its first fault.
+abbrev pub event_or_fault : List ℕ → Checked Request → Meaning
+event_or_fault id (Ok request) = Event id request
+event_or_fault id (Err fault) = Ready (fault_reply id fault)
+
+-- What a call of an action means.
+abbrev pub called : ℕ → List ℕ → Action → Data → Meaning
+called now id BootNotification payload = Ready (call_result id (boot (text_of now)))
+called now id Heartbeat payload = Ready (call_result id (heartbeat (text_of now)))
+called now id StatusNotification payload = Ready (result_bytes id Empty)
+called now id MeterValues payload = Ready (result_bytes id Empty)
+called now id TransactionEvent payload = event_or_fault id (event_reading payload)
+
+-- What a frame means.
+abbrev pub meaning_of : ℕ → Frame → Meaning
+meaning_of now (framed.Called id action payload) = called now id action payload
+meaning_of now framed.Silence = Silence
+meaning_of now (framed.Ready reply) = Ready reply
+
+-- What a text means at a moment.
+abbrev pub message : List ℕ → ℕ → Meaning
+message text now = meaning_of now (frame text)

@@ -1,0 +1,58 @@
+-- Sampled values of energy registers (SampledValueType of OCPP 2.0.1 Part 2, J02); which of them count is this product's profile.
+use Rattle.std.specs.Prelude.{ℕ, Bool, true, ◌&&◌, List, is_none, if◌then◌else◌, Option, Some, None, Result, Ok, Err, codes}
+use Rattle.std.specs.Option.{ok_or}
+use Rattle.std.specs.Str.{bytes_eq}
+use Rattle.serde_json.specs.Data.{Data}
+use Rattle.marked_json.specs.Reading.{text_of, number_of}
+use Rattle.reading_decimal.specs.declared.decimal.DecimalFault.{DecimalFault}
+use Rattle.reading_decimal.specs.Decimal.{mwh_reading}
+use Rattle.ledger_model.specs.Event.{Metered}
+use Rattle.transaction_event.specs.declared.fault.PayloadFault.TheVariants.{WrongType, Decimal}
+use Rattle.transaction_event.specs.Steps.{Checked, ◌>>=◌}
+use Rattle.transaction_event.specs.Member.{object_of, required, optional}
+use Rattle.transaction_event.specs.Scale.{scale_of}
+use Rattle.transaction_event.specs.Readings.{one_more}
+
+-- A text is absent, or is this one.
+abbrev pub absent_or : List ℕ → Option (List ℕ) → Bool
+absent_or text None = true
+absent_or text (Some given) = bytes_eq given text
+
+-- A value counts that is of the imported energy register, of no single phase, and taken at the outlet.
+abbrev pub is_counted : Option (List ℕ) → Option (List ℕ) → Option (List ℕ) → Bool
+is_counted measurand phase location =
+    absent_or (codes "Energy.Active.Import.Register") measurand && (is_none phase && absent_or (codes "Outlet") location)
+
+-- Whether a sampled value counts; its three texts are all checked first.
+unfoldable pub counts : Data → Checked Bool
+counts sampled = do
+  measurand ← optional text_of (codes "measurand") sampled
+  phase ← optional text_of (codes "phase") sampled
+  location ← optional text_of (codes "location") sampled
+  Ok (is_counted measurand phase location)
+
+-- What is no reading of a register is refused.
+abbrev pub decimal : Result ℕ DecimalFault → Checked ℕ
+decimal (Ok mwh) = Ok mwh
+decimal (Err fault) = Err Decimal
+
+-- The whole milliwatt-hours of a sampled value.
+unfoldable pub sampled_mwh : Data → Checked ℕ
+sampled_mwh sampled = do
+  measure ← optional object_of (codes "unitOfMeasure") sampled
+  scale ← scale_of measure
+  token ← required number_of (codes "value") sampled
+  decimal (mwh_reading token scale.multiplier scale.unit)
+
+-- A sampled value that counts is one more reading at that moment.
+abbrev pub if_counted : ℕ → List Metered → Data → Bool → Checked (List Metered)
+if_counted moment so_far sampled counted =
+    if counted then (sampled_mwh sampled >>= (λ mwh. one_more so_far (record { moment = moment; mwh = mwh })))
+    else Ok so_far
+
+-- The readings so far, and that of a sampled value where it counts.
+unfoldable pub sample : ℕ → List Metered → Data → Checked (List Metered)
+sample moment so_far value = do
+  sampled ← ok_or (object_of value) WrongType
+  counted ← counts sampled
+  if_counted moment so_far sampled counted

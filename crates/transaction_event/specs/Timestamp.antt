@@ -1,0 +1,22 @@
+-- The timestamp of an object.
+use Rattle.std.specs.Prelude.{ℕ, List, Result, Ok, Err, codes}
+use Rattle.serde_json.specs.Data.{Data}
+use Rattle.marked_json.specs.Reading.{text_of}
+use Rattle.reading_decimal.specs.Moment.{moment_reading}
+use Rattle.reading_decimal.specs.declared.moment.MomentFault.{MomentFault}
+use Rattle.transaction_event.specs.declared.fault.PayloadFault.TheVariants.{Moment}
+use Rattle.transaction_event.specs.Steps.{Checked, ◌>>=◌}
+use Rattle.transaction_event.specs.Member.{required}
+
+-- What is no moment is refused.
+abbrev pub moment : Result ℕ MomentFault → Checked ℕ
+moment (Ok nanos) = Ok nanos
+moment (Err fault) = Err Moment
+
+-- The moment of a text.
+unfoldable pub moment_named : List ℕ → Checked ℕ
+moment_named text = moment (moment_reading text)
+
+-- The moment that an object's timestamp names.
+unfoldable pub timestamp : Data → Checked ℕ
+timestamp tree = required text_of (codes "timestamp") tree >>= moment_named

@@ -1,0 +1,94 @@
+//! Integers of a payload, by range.
+ghost use Rattle.std.specs.Prelude.{◌≡◌, ◌≤◌, ◌≤ℤ◌, length, IfOk};
+ghost use Rattle.marked_json.specs.Reading.{node};
+ghost use Rattle.std.specs.Char.{is_ascii_digit};
+ghost use Rattle.std.specs.List.{list_all};
+ghost use Rattle.transaction_event.specs.Integer as spec;
+
+use crate::PayloadFault;
+use marked_json::Node;
+
+fn without_minus(token: &str) -> &[u8]
+    ensures { result.now ≡ spec.without_minus token.now }
+{
+    let bytes = token.as_bytes();
+    match bytes.first() {
+        Some(b'-') => &bytes[1..],
+        _ => bytes,
+    }
+}
+
+fn are_digits(bytes: &[u8]) -> bool
+    ensures { result ≡ list_all is_ascii_digit bytes.now }
+{
+    bytes.iter().all(|byte| byte.is_ascii_digit())
+}
+
+fn is_integer(token: &str) -> bool
+    ensures { result ≡ spec.is_integer token.now }
+{
+    let digits = without_minus(token);
+    !digits.is_empty() && are_digits(digits)
+}
+
+fn in_range(number: i64, low: i64, high: i64) -> Result<i64, PayloadFault>
+    ensures value { result ≡ spec.within low high number }
+    ensures range { IfOk result (λ n. (low ≤ℤ n) × (n ≤ℤ high)) }
+{
+    if low <= number && number <= high {
+        Ok(number)
+    } else {
+        Err(PayloadFault::Range)
+    }
+}
+
+fn integer_within(token: &str, low: i64, high: i64) -> Result<i64, PayloadFault>
+    ensures value { result ≡ spec.integer_within low high token.now }
+    ensures range { IfOk result (λ n. (low ≤ℤ n) × (n ≤ℤ high)) }
+{
+    if !is_integer(token) {
+        return Err(PayloadFault::WrongType);
+    }
+    match token.parse::<i64>() {
+        Ok(number) => in_range(number, low, high),
+        Err(_) => Err(PayloadFault::Range),
+    }
+}
+
+fn integer_in(member: Node, low: i64, high: i64) -> Result<i64, PayloadFault>
+    ensures value { result ≡ spec.integer_in low high (node member.entry) }
+    ensures range { IfOk result (λ n. (low ≤ℤ n) × (n ≤ℤ high)) }
+{
+    match member.number() {
+        Some(token) => integer_within(token, low, high),
+        None => Err(PayloadFault::WrongType),
+    }
+}
+
+/// An integer from `low` to `high` that has to be there: `Missing`, `WrongType` or `Range`.
+pub fn required_integer(object: Node, name: &str, low: i64, high: i64) -> Result<i64, PayloadFault>
+    requires { length name.now ≤ 63 }
+    ensures value { result ≡ spec.required_integer low high name.now (node object.entry) }
+    ensures range { IfOk result (λ n. (low ≤ℤ n) × (n ≤ℤ high)) }
+{
+    match object.field(name) {
+        Some(member) => integer_in(member, low, high),
+        None => Err(PayloadFault::Missing),
+    }
+}
+
+/// An integer from `low` to `high`, or none where the member is absent: `WrongType` or `Range`.
+pub fn optional_integer(
+    object: Node,
+    name: &str,
+    low: i64,
+    high: i64,
+) -> Result<Option<i64>, PayloadFault>
+    requires { length name.now ≤ 63 }
+    ensures { result ≡ spec.optional_integer low high name.now (node object.entry) }
+{
+    match object.field(name) {
+        Some(member) => Ok(Some(integer_in(member, low, high)?)),
+        None => Ok(None),
+    }
+}

@@ -1,0 +1,42 @@
+//! OCPP 2.0.1 messages of a charging station, as events of the ledger and as replies.
+//!
+//! [`message_of`] takes a text that a station sent, and the moment, and gives what it asks for: an event
+//! to deliver with its [`Key`](ledger_model::Key) (a TransactionEventRequest, OCPP 2.0.1 Part 2, block E),
+//! a reply that is ready (BootNotification, Heartbeat, StatusNotification, MeterValues, and every fault),
+//! or silence for an answer. [`event_reply`] writes the reply to an event by the ledger's answer.
+//! [`event_of`] reads a payload alone, and borrows from its tree; only the list of readings takes memory.
+//!
+//! The crate's one contract: what a text means at a moment is the function `message` of
+//! `specs/Message.antt`, on the frame that the text is. A payload means what `event_reading` of
+//! `specs/Request.antt` says, member by member in the order of the checks; the first fault answers. Both
+//! give that and nothing else, in both directions, but for want of memory, which is a reply of its own.
+//!
+//! ```text
+//! message_of(alloc, r#"[2,"a","Heartbeat",{}]"#, now)
+//!     // Reply: [3,"a",{"currentTime":"2026-03-01T10:00:00Z"}]
+//! message_of(alloc, r#"[2,"a","TransactionEvent",{"eventType":"Started", ..}]"#, now)
+//!     // Event { id: "a", key, event, token: false }
+//! event_reply("a", false, &Answer::Accepted(1))      // [3,"a",{}]
+//! ```
+#![tactic(auto)]
+
+mod fault;
+mod integer;
+mod laws;
+mod member;
+mod message;
+mod meter;
+mod readings;
+mod reply;
+mod request;
+mod sampled;
+mod scale;
+#[cfg(test)]
+mod tests;
+mod timestamp;
+
+pub use fault::PayloadFault;
+pub use laws::deliveries_are_answered;
+pub use message::{Message, message_of};
+pub use reply::event_reply;
+pub use request::event_of;

@@ -1,0 +1,96 @@
+//! The members of an object, each of the JSON kind that is wanted.
+ghost use Rattle.std.specs.Prelude.{◌≡◌, ◌≤◌, length, option_map};
+ghost use Rattle.marked_json.specs.Reading.{node, left_of, text_of, items_of, number_of};
+ghost use Rattle.transaction_event.specs.Steps.{checked_map};
+ghost use Rattle.transaction_event.specs.Member.{required, optional, object_of};
+
+use crate::PayloadFault;
+use marked_json::{Items, Node};
+
+/// A text that has to be there: `Missing`, or `WrongType`.
+pub fn required_text<'a>(object: Node<'a>, name: &str) -> Result<&'a str, PayloadFault>
+    requires { length name.now ≤ 63 }
+    ensures { checked_map (λ s. s.now) result ≡ required text_of name.now (node object.entry) }
+{
+    match object.field(name) {
+        Some(member) => member.text().ok_or(PayloadFault::WrongType),
+        None => Err(PayloadFault::Missing),
+    }
+}
+
+/// A text, or none where the member is absent: `WrongType`.
+pub fn optional_text<'a>(object: Node<'a>, name: &str) -> Result<Option<&'a str>, PayloadFault>
+    requires { length name.now ≤ 63 }
+    ensures { checked_map (option_map (λ s. s.now)) result
+        ≡ optional text_of name.now (node object.entry) }
+{
+    match object.field(name) {
+        Some(member) => match member.text() {
+            Some(text) => Ok(Some(text)),
+            None => Err(PayloadFault::WrongType),
+        },
+        None => Ok(None),
+    }
+}
+
+/// An object that has to be there: `Missing`, or `WrongType`.
+pub fn required_object<'a>(object: Node<'a>, name: &str) -> Result<Node<'a>, PayloadFault>
+    requires { length name.now ≤ 63 }
+    ensures { checked_map node result ≡ required object_of name.now (node object.entry) }
+{
+    match object.field(name) {
+        Some(member) if member.is_object() => Ok(member),
+        Some(_) => Err(PayloadFault::WrongType),
+        None => Err(PayloadFault::Missing),
+    }
+}
+
+/// An object, or none where the member is absent: `WrongType`.
+pub fn optional_object<'a>(object: Node<'a>, name: &str) -> Result<Option<Node<'a>>, PayloadFault>
+    requires { length name.now ≤ 63 }
+    ensures { checked_map (option_map node) result
+        ≡ optional object_of name.now (node object.entry) }
+{
+    match object.field(name) {
+        Some(member) if member.is_object() => Ok(Some(member)),
+        Some(_) => Err(PayloadFault::WrongType),
+        None => Ok(None),
+    }
+}
+
+/// The items of an array that has to be there: `Missing`, or `WrongType`.
+pub fn required_items<'a>(object: Node<'a>, name: &str) -> Result<Items<'a>, PayloadFault>
+    requires { length name.now ≤ 63 }
+    ensures { checked_map left_of result ≡ required items_of name.now (node object.entry) }
+{
+    match object.field(name) {
+        Some(member) => member.items().ok_or(PayloadFault::WrongType),
+        None => Err(PayloadFault::Missing),
+    }
+}
+
+/// The items of an array, or none where the member is absent: `WrongType`.
+pub fn optional_items<'a>(object: Node<'a>, name: &str) -> Result<Option<Items<'a>>, PayloadFault>
+    requires { length name.now ≤ 63 }
+    ensures { checked_map (option_map left_of) result
+        ≡ optional items_of name.now (node object.entry) }
+{
+    match object.field(name) {
+        Some(member) => match member.items() {
+            Some(items) => Ok(Some(items)),
+            None => Err(PayloadFault::WrongType),
+        },
+        None => Ok(None),
+    }
+}
+
+/// The token of a number that has to be there: `Missing`, or `WrongType`.
+pub fn required_number<'a>(object: Node<'a>, name: &str) -> Result<&'a str, PayloadFault>
+    requires { length name.now ≤ 63 }
+    ensures { checked_map (λ s. s.now) result ≡ required number_of name.now (node object.entry) }
+{
+    match object.field(name) {
+        Some(member) => member.number().ok_or(PayloadFault::WrongType),
+        None => Err(PayloadFault::Missing),
+    }
+}

@@ -1,0 +1,69 @@
+//! The meter values of a request.
+ghost use Rattle.std.specs.Prelude.{◌≡◌, ◌≢◌, Ok, Err, OnOk, IfOk, IfErr};
+ghost use Rattle.marked_json.specs.Reading.{node, left_of};
+ghost use Rattle.transaction_event.specs.Steps.{for_each};
+ghost use Rattle.transaction_event.specs.Sampled.{sample};
+ghost use Rattle.transaction_event.specs.MeterValues as spec;
+ghost use Rattle.transaction_event.specs.declared.fault.PayloadFault.TheVariants.{OutOfMemory};
+
+use crate::PayloadFault;
+use crate::member::{optional_items, required_items};
+use crate::readings::Readings;
+use crate::sampled::sample;
+use crate::timestamp::timestamp;
+use ledger_model::Moment;
+use marked_json::{Items, Node};
+use std::alloc::Global;
+
+#[tactic(auto, unfolding(crate::specs::Steps::for_each))]
+fn samples(moment: Moment, values: Items, readings: &mut Readings) -> Result<(), PayloadFault>
+    ensures ok { OnOk result
+        (for_each (sample moment) readings.old (left_of values.entry) ≡ Ok readings.new) }
+    ensures err { IfErr result
+        (λ f. f ≢ OutOfMemory → for_each (sample moment) readings.old (left_of values.entry) ≡ Err f) }
+{
+    for value in values {
+        sample(moment, value, readings)?;
+    }
+    Ok(())
+}
+
+#[tactic(auto, unfolding(crate::specs::MeterValues::meter_value))]
+fn meter_value(element: Node, readings: &mut Readings) -> Result<(), PayloadFault>
+    ensures ok { OnOk result (spec.meter_value readings.old (node element.entry) ≡ Ok readings.new) }
+    ensures err { IfErr result
+        (λ f. f ≢ OutOfMemory → spec.meter_value readings.old (node element.entry) ≡ Err f) }
+{
+    if !element.is_object() {
+        return Err(PayloadFault::WrongType);
+    }
+    let moment = timestamp(element)?;
+    samples(moment, required_items(element, "sampledValue")?, readings)
+}
+
+#[tactic(auto, unfolding(crate::specs::Steps::for_each))]
+fn elements_in_turn(elements: Items, readings: &mut Readings) -> Result<(), PayloadFault>
+    ensures ok { OnOk result
+        (for_each spec.meter_value readings.old (left_of elements.entry) ≡ Ok readings.new) }
+    ensures err { IfErr result
+        (λ f. f ≢ OutOfMemory → for_each spec.meter_value readings.old (left_of elements.entry) ≡ Err f) }
+{
+    for element in elements {
+        meter_value(element, readings)?;
+    }
+    Ok(())
+}
+
+/// The counted readings of a request, in the order in which they were sent.
+#[tactic(auto, unfolding(crate::specs::MeterValues::meter_values, crate::specs::Steps::for_each))]
+pub fn meter_values(alloc: Global, request: Node) -> Result<Readings, PayloadFault>
+    ensures ok { IfOk result (λ readings. spec.meter_values (node request.entry) ≡ Ok readings) }
+    ensures err { IfErr result
+        (λ f. f ≢ OutOfMemory → spec.meter_values (node request.entry) ≡ Err f) }
+{
+    let mut readings = Readings::new(alloc);
+    if let Some(elements) = optional_items(request, "meterValue")? {
+        elements_in_turn(elements, &mut readings)?;
+    }
+    Ok(readings)
+}

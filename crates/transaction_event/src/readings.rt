@@ -1,0 +1,59 @@
+//! The counted readings of an event.
+ghost use Rattle.std.specs.Prelude.{◌≡◌, ◌≢◌, ◌≤◌, [], length, Ok, Err, OnOk, IfErr};
+ghost use Rattle.transaction_event.specs.Readings as spec;
+ghost use Rattle.transaction_event.specs.declared.fault.PayloadFault.TheVariants.{OutOfMemory};
+
+use crate::PayloadFault;
+use ledger_model::Reading;
+use std::alloc::Global;
+use std::marker::Model;
+
+/// The counted readings so far, at most 1,024.
+#[derive(Drop)]
+pub struct Readings {
+    items: Vec<Reading>,
+}
+
+impl Model for Readings {
+    ghost use Rattle.std.specs.Prelude.{List, ◌≤◌, length};
+    ghost use Rattle.ledger_model.specs.Event.{Metered};
+
+    ghost Value = { List Metered };
+
+    ghost view = { λ r. r.items.items };
+
+    ghost invariant = { λ r. length r.items.items ≤ 1_024 };
+}
+
+impl Readings {
+    /// No reading.
+    pub fn new(alloc: Global) -> Readings
+        ensures { result ≡ [] }
+    {
+        Readings {
+            items: Vec::new(alloc),
+        }
+    }
+
+    /// Takes one more: `TooManyReadings` where there are 1,024, or `OutOfMemory`.
+    pub fn add(&mut self, reading: Reading) -> Result<(), PayloadFault>
+        ensures ok { OnOk result (spec.one_more self.old reading ≡ Ok self.new) }
+        ensures err { IfErr result (λ f. f ≢ OutOfMemory → spec.one_more self.old reading ≡ Err f) }
+    {
+        if self.items.len() >= 1_024 {
+            return Err(PayloadFault::TooManyReadings);
+        }
+        match self.items.push(reading) {
+            Ok(()) => Ok(()),
+            Err(_) => Err(PayloadFault::OutOfMemory),
+        }
+    }
+
+    /// The readings, in the order in which they came.
+    pub fn into_vec(self) -> Vec<Reading>
+        ensures value { result.items ≡ self }
+        ensures few { length result.items ≤ 1_024 }
+    {
+        self.items
+    }
+}

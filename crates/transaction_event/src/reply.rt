@@ -1,0 +1,73 @@
+//! The replies to a TransactionEventRequest.
+ghost use Rattle.std.specs.Prelude.{◌≡◌, ◌≤◌, length, true};
+ghost use Rattle.std.specs.List.{list_all};
+ghost use Rattle.ocppj_frame.specs.Reply.{character_count, is_letter};
+ghost use Rattle.ledger_model.specs.Refusal.{refusal_name};
+ghost use Rattle.transaction_event.specs.Reply as spec;
+
+use crate::PayloadFault;
+use arrayvec::ArrayString;
+use ledger_model::{Answer, Refusal};
+use ocppj_frame::{Body, ErrorCode, error_text, result_text};
+
+fn fault_code(fault: PayloadFault) -> ErrorCode
+    ensures { result ≡ spec.fault_code fault }
+{
+    match fault {
+        PayloadFault::Format => ErrorCode::FormatViolation,
+        PayloadFault::Missing | PayloadFault::TooManyReadings => {
+            ErrorCode::OccurrenceConstraintViolation
+        }
+        PayloadFault::WrongType => ErrorCode::TypeConstraintViolation,
+        PayloadFault::Range | PayloadFault::Decimal | PayloadFault::Moment => {
+            ErrorCode::PropertyConstraintViolation
+        }
+        PayloadFault::OutOfMemory => ErrorCode::InternalError,
+    }
+}
+
+/// The CALLERROR to a payload with a fault.
+pub fn fault_reply(id: &str, fault: PayloadFault) -> ArrayString<512>
+    requires { character_count id.now ≤ 36 }
+    ensures { result.bytes ≡ spec.fault_reply id.now fault }
+{
+    error_text(id, fault_code(fault), fault.name())
+}
+
+fn refusal_code(refusal: Refusal) -> ErrorCode
+    requires { spec.refuses_delivery refusal ≡ true }
+    ensures { result ≡ spec.refusal_code refusal }
+{
+    match refusal {
+        Refusal::ConflictingEvent => ErrorCode::GenericError,
+        Refusal::TooManyTransactions
+        | Refusal::EventsFull
+        | Refusal::ReadingsFull
+        | Refusal::ChangesExhausted => ErrorCode::InternalError,
+        Refusal::NoSuchEvent | Refusal::AlreadyVoided | Refusal::NotVoided => unreachable!(),
+    }
+}
+
+fn name_of(refusal: Refusal) -> &'static str
+    ensures name { result.now ≡ refusal_name refusal }
+    ensures short { length result.now ≤ 32 }
+    ensures letters { list_all is_letter result.now ≡ true }
+{
+    refusal.name()
+}
+
+/// The reply to an event by the answer to its delivery (OCPP 2.0.1 Part 4): a CALLRESULT where it was
+/// accepted or is a repeat, with `idTokenInfo` where the request had an `idToken`, else a CALLERROR
+/// with the refusal's name. The id has at most 36 characters, which are Unicode scalar values, and the
+/// answer is one that a delivery can get.
+pub fn event_reply(id: &str, token: bool, answer: &Answer) -> ArrayString<512>
+    requires id { character_count id.now ≤ 36 }
+    requires delivery { spec.answers_delivery answer.now ≡ true }
+    ensures { result.bytes ≡ spec.event_reply_bytes id.now token answer.now }
+{
+    match answer {
+        Answer::Refused(refusal) => { error_text(id, refusal_code(*refusal), name_of(*refusal)) }
+        Answer::Accepted(_) | Answer::Repeat if token => result_text(id, Body::TokenAccepted),
+        Answer::Accepted(_) | Answer::Repeat => result_text(id, Body::Empty),
+    }
+}

@@ -1,0 +1,80 @@
+//! Sampled values, and which of them count.
+ghost use Rattle.std.specs.Prelude.{◌≡◌, ◌≢◌, ◌≤◌, Ok, Err, IfOk, OnOk, IfErr, option_map};
+ghost use Rattle.marked_json.specs.Reading.{node};
+ghost use Rattle.transaction_event.specs.Sampled as spec;
+ghost use Rattle.transaction_event.specs.declared.fault.PayloadFault.TheVariants.{OutOfMemory};
+
+use crate::PayloadFault;
+use crate::member::{optional_object, optional_text, required_number};
+use crate::readings::Readings;
+use crate::scale::Scale;
+use ledger_model::{Moment, Reading};
+use marked_json::Node;
+use reading_decimal::mwh_of;
+
+fn absent_or(expected: &str, text: Option<&str>) -> bool
+    ensures { result ≡ spec.absent_or expected.now (option_map (λ s. s.now) text.entry) }
+{
+    match text {
+        Some(text) => text == expected,
+        None => true,
+    }
+}
+
+// Whether a sampled value counts, once its three texts are checked.
+#[tactic(auto, unfolding(crate::specs::Sampled::counts))]
+fn counts(sampled: Node) -> Result<bool, PayloadFault>
+    ensures { result ≡ spec.counts (node sampled.entry) }
+{
+    let measurand = optional_text(sampled, "measurand")?;
+    let phase = optional_text(sampled, "phase")?;
+    let location = optional_text(sampled, "location")?;
+    Ok(
+        absent_or("Energy.Active.Import.Register", measurand)
+            && phase.is_none()
+            && absent_or("Outlet", location),
+    )
+}
+
+// The whole milliwatt-hours of a sampled value that counts.
+#[tactic(auto, unfolding(crate::specs::Sampled::sampled_mwh))]
+fn sampled_mwh(sampled: Node) -> Result<u64, PayloadFault>
+    ensures value { result ≡ spec.sampled_mwh (node sampled.entry) }
+    ensures range { IfOk result (λ mwh. mwh ≤ 10_000_000_000_000) }
+{
+    let scale = Scale::of(optional_object(sampled, "unitOfMeasure")?)?;
+    let token = required_number(sampled, "value")?;
+    mwh_of(token, scale.multiplier(), scale.unit()).map_err(|_| PayloadFault::Decimal)
+}
+
+fn add_counted(
+    moment: Moment,
+    sampled: Node,
+    counted: bool,
+    readings: &mut Readings,
+) -> Result<(), PayloadFault>
+    ensures ok { OnOk result
+        (spec.if_counted moment readings.old (node sampled.entry) counted ≡ Ok readings.new) }
+    ensures err { IfErr result
+        (λ f. f ≢ OutOfMemory → spec.if_counted moment readings.old (node sampled.entry) counted ≡ Err f) }
+{
+    if !counted {
+        return Ok(());
+    }
+    let mwh = sampled_mwh(sampled)?;
+    readings.add(Reading::new(moment, mwh).unwrap())
+}
+
+/// Adds the reading of a sampled value, where it counts.
+#[tactic(auto, unfolding(crate::specs::Sampled::sample))]
+pub fn sample(moment: Moment, value: Node, readings: &mut Readings) -> Result<(), PayloadFault>
+    ensures ok { OnOk result (spec.sample moment readings.old (node value.entry) ≡ Ok readings.new) }
+    ensures err { IfErr result
+        (λ f. f ≢ OutOfMemory → spec.sample moment readings.old (node value.entry) ≡ Err f) }
+{
+    if !value.is_object() {
+        return Err(PayloadFault::WrongType);
+    }
+    let counted = counts(value)?;
+    add_counted(moment, value, counted, readings)
+}

@@ -1,0 +1,25 @@
+//! The timestamp of an object.
+ghost use Rattle.std.specs.Prelude.{◌≡◌};
+ghost use Rattle.marked_json.specs.Reading.{node};
+ghost use Rattle.transaction_event.specs.Timestamp as spec;
+
+use crate::PayloadFault;
+use crate::member::required_text;
+use ledger_model::Moment;
+use marked_json::Node;
+use reading_decimal::moment_of;
+
+#[tactic(auto, unfolding(crate::specs::Timestamp::moment_named))]
+fn moment_named(text: &str) -> Result<Moment, PayloadFault>
+    ensures { result ≡ spec.moment_named text.now }
+{
+    moment_of(text).map_err(|_| PayloadFault::Moment)
+}
+
+/// The moment that the object's `timestamp` names: `Missing`, `WrongType` or `Moment`.
+#[tactic(auto, unfolding(crate::specs::Timestamp::timestamp))]
+pub fn timestamp(object: Node) -> Result<Moment, PayloadFault>
+    ensures { result ≡ spec.timestamp (node object.entry) }
+{
+    moment_named(required_text(object, "timestamp")?)
+}
