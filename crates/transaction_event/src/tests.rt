@@ -1,4 +1,7 @@
 // What each text of a station means, and what is sent back.
+ghost use Rattle.std.specs.Prelude.{◌≡◌, true};
+ghost use Rattle.transaction_event.specs.Reply.{answers_delivery};
+
 use crate::*;
 use arrayvec::ArrayString;
 use ledger_model::{Answer, Event, EvseId, Kind, Moment, Reading, Refusal};
@@ -126,9 +129,14 @@ fn frame_and_payload_faults(rt: HostRuntime) -> Result<(), Fail> {
     Ok(())
 }
 
-// For each member: absent, null, of another kind, out of range, and at the ends of its range.
+// What is sent back to the event with its first `from` replaced.
+fn reply_to_edited(alloc: Global, from: &str, to: &str) -> Result<Option<ArrayString<512>>, Fail> {
+    reply_to(alloc, edited(alloc, EVENT, from, to)?.as_str())
+}
+
+// Members absent, null, of another kind, out of range, and at the ends of their range.
 #[test]
-fn members_are_checked(rt: HostRuntime) -> Result<(), Fail> {
+fn kind_timestamp_and_reason_are_checked(rt: HostRuntime) -> Result<(), Fail> {
     for (from, to, want) in [
         (r#""eventType":"Started","#, "", MISSING),
         (r#""Started""#, "null", MISSING),
@@ -156,6 +164,20 @@ fn members_are_checked(rt: HostRuntime) -> Result<(), Fail> {
         (r#""triggerReason":"MeterValuePeriodic","#, "", MISSING),
         (r#""MeterValuePeriodic""#, "{}", WRONG_TYPE),
         (r#""MeterValuePeriodic""#, r#""""#, TAKEN),
+    ] {
+        let reply = reply_to_edited(rt.alloc(), from, to)?;
+        assert_eq!(rt;
+            reply.as_ref().map(ArrayString::as_str),
+            Some(want),
+            "at {to}"
+        );
+    }
+    Ok(())
+}
+
+#[test]
+fn key_members_are_checked(rt: HostRuntime) -> Result<(), Fail> {
+    for (from, to, want) in [
         (r#""seqNo":0"#, r#""seqNo":null"#, MISSING),
         (r#""seqNo":0"#, r#""seqNo":"0""#, WRONG_TYPE),
         (r#""seqNo":0"#, r#""seqNo":1e0"#, WRONG_TYPE),
@@ -178,6 +200,20 @@ fn members_are_checked(rt: HostRuntime) -> Result<(), Fail> {
             r#""123456789012345678901234567890123456""#,
             TAKEN,
         ),
+    ] {
+        let reply = reply_to_edited(rt.alloc(), from, to)?;
+        assert_eq!(rt;
+            reply.as_ref().map(ArrayString::as_str),
+            Some(want),
+            "at {to}"
+        );
+    }
+    Ok(())
+}
+
+#[test]
+fn evse_and_token_are_checked(rt: HostRuntime) -> Result<(), Fail> {
+    for (from, to, want) in [
         (r#""seqNo":0"#, r#""seqNo":0,"evse":null"#, TAKEN),
         (r#""seqNo":0"#, r#""seqNo":0,"evse":7"#, WRONG_TYPE),
         (
@@ -196,6 +232,20 @@ fn members_are_checked(rt: HostRuntime) -> Result<(), Fail> {
         (r#""seqNo":0"#, r#""seqNo":0,"idToken":null"#, TAKEN),
         (r#""seqNo":0"#, r#""seqNo":0,"idToken":"AA""#, WRONG_TYPE),
         (r#""seqNo":0"#, r#""seqNo":0,"offline":7"#, TAKEN),
+    ] {
+        let reply = reply_to_edited(rt.alloc(), from, to)?;
+        assert_eq!(rt;
+            reply.as_ref().map(ArrayString::as_str),
+            Some(want),
+            "at {to}"
+        );
+    }
+    Ok(())
+}
+
+#[test]
+fn meter_values_are_checked(rt: HostRuntime) -> Result<(), Fail> {
+    for (from, to, want) in [
         (r#""meterValue":["#, r#""meterValue":null,"x":["#, TAKEN),
         (r#""meterValue":["#, r#""meterValue":[],"x":["#, TAKEN),
         (r#""meterValue":["#, r#""meterValue":{},"x":["#, WRONG_TYPE),
@@ -227,6 +277,20 @@ fn members_are_checked(rt: HostRuntime) -> Result<(), Fail> {
             r#""sampledValue":[null,"#,
             WRONG_TYPE,
         ),
+    ] {
+        let reply = reply_to_edited(rt.alloc(), from, to)?;
+        assert_eq!(rt;
+            reply.as_ref().map(ArrayString::as_str),
+            Some(want),
+            "at {to}"
+        );
+    }
+    Ok(())
+}
+
+#[test]
+fn sampled_values_are_checked(rt: HostRuntime) -> Result<(), Fail> {
+    for (from, to, want) in [
         (
             r#"{"value":1000}"#,
             r#"{"measurand":7,"value":1000}"#,
@@ -276,20 +340,23 @@ fn members_are_checked(rt: HostRuntime) -> Result<(), Fail> {
         (r#"{"value":1000}"#, r#"{"value":"1000"}"#, WRONG_TYPE),
         (r#"{"value":1000}"#, r#"{"value":10000000001}"#, DECIMAL),
     ] {
-        let text = edited(rt.alloc(), EVENT, from, to)?;
-        let reply = reply_to(rt.alloc(), text.as_str())?;
+        let reply = reply_to_edited(rt.alloc(), from, to)?;
         assert_eq!(rt;
             reply.as_ref().map(ArrayString::as_str),
             Some(want),
             "at {to}"
         );
     }
-    let mut long = format!(in rt.alloc(); "\"seqNo\":")?;
+    Ok(())
+}
+
+#[test]
+fn a_long_integer_is_out_of_range(rt: HostRuntime) -> Result<(), Fail> {
+    let mut long = String::from_str(rt.alloc(), r#""seqNo":"#)?;
     for _ in 0..10_000 {
         long.push('9')?;
     }
-    let text = edited(rt.alloc(), EVENT, r#""seqNo":0"#, long.as_str())?;
-    let reply = reply_to(rt.alloc(), text.as_str())?;
+    let reply = reply_to_edited(rt.alloc(), r#""seqNo":0"#, long.as_str())?;
     assert_eq!(rt; reply.as_ref().map(ArrayString::as_str), Some(RANGE));
     Ok(())
 }
@@ -445,45 +512,53 @@ fn events_hold_what_was_sent(rt: HostRuntime) -> Result<(), Fail> {
     Ok(())
 }
 
+// The replies to the event by an answer, without and with an id token.
+fn replies(alloc: Global, answer: Answer) -> Result<(ArrayString<512>, ArrayString<512>), Fail>
+    requires { answers_delivery answer ≡ true }
+{
+    let Message::Event { id, .. } = message_of(alloc, EVENT, ten()?) else {
+        return Err("no event")?;
+    };
+    Ok((
+        event_reply(id.as_str(), false, &answer),
+        event_reply(id.as_str(), true, &answer),
+    ))
+}
+
 #[test]
-fn replies_to_answers(rt: HostRuntime) {
-    let token = r#"[3,"x",{"idTokenInfo":{"status":"Accepted"}}]"#;
-    for (answer, without, with) in [
-        (Answer::Accepted(9), r#"[3,"x",{}]"#, token),
-        (Answer::Repeat, r#"[3,"x",{}]"#, token),
+fn replies_to_answers(rt: HostRuntime) -> Result<(), Fail> {
+    let token = r#"[3,"a",{"idTokenInfo":{"status":"Accepted"}}]"#;
+    for (replies, without, with) in [
+        (replies(rt.alloc(), Answer::Accepted(9))?, TAKEN, token),
+        (replies(rt.alloc(), Answer::Repeat)?, TAKEN, token),
     ] {
-        assert_eq!(rt; event_reply("x", false, &answer).as_str(), without);
-        assert_eq!(rt; event_reply("x", true, &answer).as_str(), with);
+        assert_eq!(rt; (replies.0.as_str(), replies.1.as_str()), (without, with));
     }
-    for (refusal, want) in [
+    for (replies, want) in [
         (
-            Refusal::ConflictingEvent,
-            r#"[4,"x","GenericError","ConflictingEvent",{}]"#,
+            replies(rt.alloc(), Answer::Refused(Refusal::ConflictingEvent))?,
+            r#"[4,"a","GenericError","ConflictingEvent",{}]"#,
         ),
         (
-            Refusal::TooManyTransactions,
-            r#"[4,"x","InternalError","TooManyTransactions",{}]"#,
+            replies(rt.alloc(), Answer::Refused(Refusal::TooManyTransactions))?,
+            r#"[4,"a","InternalError","TooManyTransactions",{}]"#,
         ),
         (
-            Refusal::EventsFull,
-            r#"[4,"x","InternalError","EventsFull",{}]"#,
+            replies(rt.alloc(), Answer::Refused(Refusal::EventsFull))?,
+            r#"[4,"a","InternalError","EventsFull",{}]"#,
         ),
         (
-            Refusal::ReadingsFull,
-            r#"[4,"x","InternalError","ReadingsFull",{}]"#,
+            replies(rt.alloc(), Answer::Refused(Refusal::ReadingsFull))?,
+            r#"[4,"a","InternalError","ReadingsFull",{}]"#,
         ),
         (
-            Refusal::ChangesExhausted,
-            r#"[4,"x","InternalError","ChangesExhausted",{}]"#,
+            replies(rt.alloc(), Answer::Refused(Refusal::ChangesExhausted))?,
+            r#"[4,"a","InternalError","ChangesExhausted",{}]"#,
         ),
     ] {
-        for token in [false, true] {
-            assert_eq!(rt;
-                event_reply("x", token, &Answer::Refused(refusal)).as_str(),
-                want
-            );
-        }
+        assert_eq!(rt; (replies.0.as_str(), replies.1.as_str()), (want, want));
     }
+    Ok(())
 }
 
 #[test]
