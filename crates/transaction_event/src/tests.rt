@@ -638,6 +638,39 @@ fn always_out_of_memory(rt: HostRuntime) -> Result<(), Fail> {
     Ok(())
 }
 
+// What is sent back, and whether it tells of want of memory; the empty text for silence.
+fn told(alloc: Global, text: &str) -> Result<(ArrayString<512>, bool), Fail> {
+    Ok(match message_of(alloc, text, ten()?) {
+        Message::Event { id, token, .. } => (
+            event_reply(id.as_str(), token, &Answer::Accepted(1)),
+            false,
+        ),
+        Message::Reply { text, memory } => (text, memory),
+        Message::Silent => (ArrayString::new(), false),
+    })
+}
+
+// Where a growth is refused, by `rt try --test --fail-alloc N`, the reply is right or tells of want of memory.
+#[test]
+fn right_or_out_of_memory(rt: HostRuntime) -> Result<(), Fail> {
+    for (text, want) in [
+        ("{", r#"[4,"-1","RpcFrameworkError","NotJson",{}]"#),
+        (r#"[2,"a","MeterValues",{}]"#, TAKEN),
+        (r#"[2,"a","TransactionEvent",{}]"#, MISSING),
+        (EVENT, TAKEN),
+    ] {
+        let (reply, memory) = told(rt.alloc(), text)?;
+        if memory {
+            let unread = reply.as_str() == r#"[4,"-1","InternalError","OutOfMemory",{}]"#;
+            let unkept = reply.as_str() == r#"[4,"a","InternalError","OutOfMemory",{}]"#;
+            assert!(rt; unread || unkept, "at {text}");
+        } else {
+            assert_eq!(rt; reply.as_str(), want, "at {text}");
+        }
+    }
+    Ok(())
+}
+
 #[test]
 fn faults_have_numbers_and_names(rt: HostRuntime) {
     for (number, name, fault) in [

@@ -1,0 +1,10 @@
+pub mod Pieces
+pub mod Partway
+pub mod Written
+pub mod Cuts
+pub mod Going
+pub mod Opening
+pub mod Speaking
+pub mod Faults
+pub mod Opened
+pub mod Reaching

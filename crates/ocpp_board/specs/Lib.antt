@@ -1,0 +1,12 @@
+pub mod Lines
+pub mod Outcome
+pub mod Reading
+pub mod Turns
+pub mod Writing
+pub mod Echoes
+pub mod Script
+pub mod Words
+pub mod Plans
+pub mod Laws
+pub mod Seen
+pub mod Received

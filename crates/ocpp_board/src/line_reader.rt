@@ -1,0 +1,108 @@
+ghost use Rattle.std.specs.Prelude.{◌≡◌, ℕ, ◌<◌, ◌≤◌, ◌+◌, ◌^◌, List, [], OnSome};
+ghost use Rattle.std.specs.Io.KnownBytes.{Keeps, Consumes, IsAtEnd};
+ghost use Rattle.std.specs.Io.BufRead.{strip_last};
+ghost use Rattle.ocpp_board.specs.Lines.{line_bytes};
+ghost use Rattle.ocpp_board.specs.Reading.{TakesLine, line_of};
+
+use crate::fault::ReplayFault;
+use crate::piece::{Piece, read_piece};
+use std::alloc::Global;
+use std::io::{BufRead, Write};
+
+/// What ended a line.
+#[derive(Clone, Copy, Debug, PartialEq, Eq)]
+pub enum LineEnd {
+    /// A line feed.
+    Feed,
+    /// The end of the input.
+    Input,
+}
+
+/// Reads a script line by line, within the limits that it was made with.
+#[derive(Drop)]
+pub struct LineReader {
+    /// The bytes of the line under way, at most one more than a line may have.
+    pub held: Vec<u8>,
+    /// How many bytes a line may have.
+    pub most: usize,
+    /// How many bytes may still be read.
+    pub room: usize,
+    /// Whether all bytes that the reader showed were consumed, so that the next look may wait for more.
+    pub is_drained: bool,
+}
+
+impl LineReader {
+    /// A reader of lines of at most `most` bytes, of which it reads `room` bytes in all. It takes no memory yet.
+    pub fn open(alloc: Global, most: usize, room: usize) -> LineReader
+        ensures held { result.held.items ≡ [] }
+        ensures most { result.most ≡ most }
+        ensures room { result.room ≡ room }
+    {
+        LineReader {
+            held: Vec::new(alloc),
+            most,
+            room,
+            is_drained: false,
+        }
+    }
+
+    /// Reads one line into `held`, which keeps at most one byte more than a line may have. Before the reader
+    /// is asked for bytes that it does not show, what was written is flushed.
+    pub fn next_line<R: BufRead, W: Write>(
+        &mut self,
+        reader: &mut R,
+        writer: &mut W,
+    ) -> Result<LineEnd, ReplayFault>
+        requires short { self.old.most < 2 ^ 62 }
+        requires empty { self.old.held.items ≡ [] }
+        ensures takes { (bytes : List ℕ) × Consumes (R.remaining reader.old) (R.remaining reader.new) bytes
+            × TakesLine self.old.most self.old.room self.new.room result bytes self.new.held.items }
+        ensures end { result ≡ Ok LineEnd.Input → OnSome (R.remaining reader.old) (IsAtEnd (R.remaining reader.new)) }
+        ensures most { self.new.most ≡ self.old.most }
+        ensures writer { Keeps (W.contents writer.old) (W.contents writer.new) }
+    {
+        'pieces: loop {
+            if self.is_drained && writer.flush().is_err() {
+                return Err(ReplayFault::WriteFault);
+            }
+            match read_piece(reader, &mut self.held, self.most, self.room)? {
+                Piece::End => return Ok(LineEnd::Input),
+                Piece::Beyond => return Err(ReplayFault::TooMuchInput),
+                Piece::Part(count, is_drained) => {
+                    self.room -= count;
+                    self.is_drained = is_drained;
+                    continue 'pieces;
+                }
+                Piece::WholeLine(count, is_drained) => {
+                    self.room -= count;
+                    self.is_drained = is_drained;
+                    return Ok(LineEnd::Feed);
+                }
+            }
+        }
+    }
+
+    /// The line that was read and ended so, without its carriage return where a line feed ended it; None where
+    /// it is too long.
+    pub fn line(&self, end: LineEnd) -> Option<&[u8]>
+        ensures { line_bytes result ≡ line_of end self.now.most self.now.held.items }
+    {
+        if self.held.len() > self.most {
+            return None;
+        }
+        match end {
+            LineEnd::Feed => Some(without_return(&self.held)),
+            LineEnd::Input => Some(&self.held),
+        }
+    }
+}
+
+// The bytes without the one carriage return at their end.
+fn without_return(raw: &[u8]) -> &[u8]
+    ensures { result.now ≡ strip_last 13 raw.now }
+{
+    match raw {
+        [front @ .., b'\r'] => front,
+        _ => raw,
+    }
+}

@@ -1,0 +1,74 @@
+ghost use Rattle.std.specs.Prelude.{◌≡◌, ℕ, ◌+◌, ◌<◌, ◌≤◌, ◌^◌, List, [], ◌∷◌, ◌++◌, length, IfOk, OnOk, Ok};
+ghost use Rattle.std.specs.Io.KnownBytes.{Consumes, Appends};
+ghost use Rattle.ocpp_board.specs.Lines.{Line, line_bytes};
+ghost use Rattle.ocpp_board.specs.Outcome.{Replays};
+ghost use Rattle.ocpp_board.specs.Reading.{line_of, line_read, IsReadLine, ReadToEnd};
+ghost use Rattle.ocpp_board.specs.Turns.{Replies, Turns};
+
+use crate::fault::ReplayFault;
+use crate::line_reader::{LineEnd, LineReader};
+use std::alloc::AllocError;
+use std::io::{BufRead, Write};
+
+/// What answers the lines of a script once its ledgers are opened.
+pub trait Machine {
+    // The text that it writes for lines, from here on.
+    ghost text: { Self → List Line → List ℕ };
+
+    // At most how many lines it has answered.
+    ghost answered: { Self → ℕ };
+
+    /// Puts the text of one line, or of one that is too long, into `reply`. It writes nothing itself.
+    fn answer(&mut self, line: Option<&[u8]>, reply: &mut Vec<u8>) -> Result<(), AllocError>
+        requires empty { reply.old.items ≡ [] }
+        requires few { answered self.old < 2 ^ 62 }
+        ensures count { OnOk result (answered self.new ≤ answered self.old + 1) }
+        ensures replies { OnOk result (Replies (text self.old) (text self.new) (line_bytes line.entry) reply.new.items) };
+
+    ghost no_lines: { (s : Self) → text s [] ≡ [] };
+}
+
+/// What a line does to a script whose ledgers are not opened yet.
+#[derive(Clone, Copy, Debug, PartialEq, Eq)]
+pub enum Turn {
+    /// Its text is in the reply.
+    Answered,
+    /// It opens the ledgers, and is to be answered then.
+    Opens,
+}
+
+/// What answers the lines of a script until one opens the ledgers, and then opens them.
+pub trait Declarations: Drop {
+    // The text that it writes for lines, from here on.
+    ghost text: { Self → List Line → List ℕ };
+
+    // Whether a line opens the ledgers.
+    ghost opens: { Self → Line → Type 0 };
+
+    /// Puts the text of one line into `reply`, or tells that the line opens the ledgers, which one that is too
+    /// long never does.
+    fn answer(&mut self, line: Option<&[u8]>, reply: &mut Vec<u8>) -> Result<Turn, AllocError>
+        requires { reply.old.items ≡ [] }
+        ensures { IfOk result (λ turn. Turns (text self.old) (text self.new) (opens self.new) (line_bytes line.entry) turn reply.new.items) };
+
+    /// Opens the ledgers, answers the line that `lines` holds, and goes on to the end of the script.
+    fn replay_commands<R: BufRead, W: Write>(
+        self,
+        lines: LineReader,
+        end: LineEnd,
+        reply: Vec<u8>,
+        reader: &mut R,
+        writer: &mut W,
+    ) -> Result<(), ReplayFault>
+        requires short { lines.most < 2 ^ 62 }
+        requires line { IsReadLine end lines.most lines.held.items }
+        requires opening { opens self (line_of end lines.most lines.held.items) }
+        requires few { length (line_read end lines.held.items) + lines.room < 2 ^ 62 }
+        ensures run { (read written : List ℕ) × Consumes (R.remaining reader.old) (R.remaining reader.new) read
+            × Appends (W.contents writer.old) (W.contents writer.new) written
+            × Replays (text self) lines.most (length (line_read end lines.held.items) + lines.room) result
+            (line_read end lines.held.items ++ read) written }
+        ensures end { OnOk result (ReadToEnd end (R.remaining reader.old) (R.remaining reader.new)) };
+
+    ghost no_lines: { (s : Self) → text s [] ≡ [] };
+}

@@ -1,0 +1,73 @@
+//! `ocpp_board` answers a script of OCPP 2.0.1 traffic, line by line.
+//!
+//! `ocpp_board` or `ocpp_board replay` reads a script from standard input and writes the text of each line to
+//! standard output. What it writes is stated once, on [`stream::replay_stream`], over any reader and any
+//! writer: the text is a fold over the script's lines (`specs/Script.antt`), and each of the five ways to end
+//! says which bytes were read and which were written.
+//!
+//! The loops know lines and machines alone. [`line_reader`] cuts the input into lines and [`replay`] answers
+//! them, first the declarations and then, from the first line that needs the ledgers, the commands. [`plan`]
+//! and [`ledgers`] are the two machines.
+#![tactic(auto)]
+
+#[cfg(test)]
+mod echo;
+mod fault;
+mod laws;
+mod ledgers;
+mod line_reader;
+mod machine;
+#[cfg(test)]
+mod message_tests;
+mod piece;
+mod plan;
+mod replay;
+mod reply;
+#[cfg(test)]
+mod script_tests;
+mod spoken;
+mod stream;
+#[cfg(test)]
+mod stream_tests;
+#[cfg(test)]
+mod test_streams;
+mod text;
+mod words;
+
+use crate::fault::ReplayFault;
+use crate::words::{run_words, tell_fault};
+use std::io::{BufRead, BufReader, BufWriter, Write};
+use std::process::ExitCode;
+use std::rt::Env;
+use std::thread::Threads;
+use std::{env, io};
+
+const BUFFER: usize = 65_536;
+
+fn main(rt: HostRuntime) -> ExitCode {
+    let reader = BufReader::with_capacity(rt.alloc(), BUFFER, rt.stdin());
+    let writer = BufWriter::with_capacity(rt.alloc(), BUFFER, rt.stdout());
+    let mut errors = rt.stderr();
+    let status = match (reader, writer) {
+        (Ok(mut reader), Ok(mut writer)) => run(&rt, &mut reader, &mut writer, &mut errors),
+        _ => tell_fault(&mut errors, ReplayFault::OutOfMemory),
+    };
+    ExitCode::from(status)
+}
+
+// Runs the program's words, and gives its exit status.
+fn run<X: AllocGlobal + Env + Threads, R: BufRead, W: Write, E: Write>(
+    rt: &X,
+    reader: &mut R,
+    writer: &mut W,
+    errors: &mut E,
+) -> u8 {
+    match program_words(rt) {
+        Ok(words) => run_words(rt, words.as_slice(), reader, writer, errors),
+        Err(_) => tell_fault(errors, ReplayFault::OutOfMemory),
+    }
+}
+
+fn program_words<X: AllocGlobal + Env>(rt: &X) -> io::Result<Vec<String>> {
+    Ok(env::args(rt)?.collect(rt.alloc())?)
+}

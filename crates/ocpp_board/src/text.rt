@@ -1,0 +1,34 @@
+ghost use Rattle.std.specs.Prelude.{◌≡◌, ◌++◌, OnOk};
+ghost use Rattle.ocpp_board.specs.Script.{fault_line, energy_line, ended_line};
+
+use crate::spoken::LineFault;
+use energy_flow::Flow;
+use std::alloc::{AllocError, Global};
+
+/// Appends a text and a line feed.
+pub fn put_line(reply: &mut Vec<u8>, text: &str) -> Result<(), AllocError>
+    ensures { OnOk result (reply.new.items ≡ reply.old.items ++ ended_line text.now) }
+{
+    reply.extend_from_slice(text.as_bytes())?;
+    reply.push(b'\n')?;
+    Ok(())
+}
+
+/// Appends `fault <name>` and a line feed.
+pub fn put_fault(reply: &mut Vec<u8>, fault: LineFault) -> Result<(), AllocError>
+    ensures { OnOk result (reply.new.items ≡ reply.old.items ++ fault_line fault) }
+{
+    reply.extend_from_slice(b"fault ")?;
+    reply.extend_from_slice(fault.name().as_bytes())?;
+    reply.extend_from_slice(b"\n")?;
+    Ok(())
+}
+
+/// Appends `energy up=<n> down=<n>`, in milliwatt-hours, and a line feed.
+pub fn put_energy(alloc: Global, reply: &mut Vec<u8>, flow: Flow) -> Result<(), AllocError>
+    ensures { OnOk result (reply.new.items ≡ reply.old.items ++ energy_line flow) }
+{
+    let (up, down) = (flow.up(), flow.down());
+    let text = format!(in alloc; "energy up={up} down={down}\n")?;
+    reply.extend_from_slice(text.as_bytes())
+}
