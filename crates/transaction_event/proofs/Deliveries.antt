@@ -1,5 +1,5 @@
 -- The answers to deliveries.
-use Rattle.std.proofs.Common.{◌≡◌, ℕ, Bool, true, false, refl, length, ◌+◌}
+use Rattle.std.proofs.Common.{◌≡◌, Bool, true, false, refl, length, ◌+◌}
 use Rattle.std.specs.Prelude.{Option, None, Some, not, ◌&&◌, nat_le, nat_lt, if◌then◌else◌}
 use Rattle.std.specs.FinMap as finite
 use Rattle.ledger_model.specs.declared.answer.Answer.{Answer}

@@ -1,6 +1,6 @@
 -- The tokens that `parse` takes as integers.
-use Rattle.std.proofs.Common.{◌≡◌, ◌≢◌, ℕ, ◌<◌, ◌≤◌, Bool, true, false, cond, ltb, List, [], ◌∷◌, length, drop, get_or, arith, rules, ltb-true, ℤ, FitsSigned, w64, refl, sym, ◌∙◌}
-use Rattle.std.specs.Prelude.{◌==◌, ◌&&◌, nat_lt, slice_index, Result, Ok, Err, if◌then◌else◌}
+use Rattle.std.proofs.Common.{◌≡◌, ◌≢◌, ℕ, ◌<◌, Bool, true, false, cond, List, length, drop, get_or, arith, rules, ltb-true, ℤ, FitsSigned, w64, refl, sym, ◌∙◌}
+use Rattle.std.specs.Prelude.{◌==◌, ◌&&◌, nat_lt, slice_index, Ok, Err, if◌then◌else◌}
 use Rattle.std.specs.Char.{is_ascii_digit}
 use Rattle.std.specs.List.{list_all}
 use Rattle.std.specs.Int.Signed.{le_z}

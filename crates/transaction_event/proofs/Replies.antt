@@ -1,6 +1,6 @@
 -- Which replies tell of want of memory.
 use Rattle.std.proofs.Common.{◌≡◌, ◌≢◌, Bool, true, false, inl, inr, ◌∙◌, ◌++◌, ℕ, length, List, [], ◌∷◌, sym, ap, append_assoc, arith, length-append, codes, refl, drop}
-use Rattle.std.specs.Prelude.{IsTrue, ◌↔◌, Ok, Err}
+use Rattle.std.specs.Prelude.{IsTrue, ◌↔◌, Err}
 use Rattle.serde_json.specs.Data.{Data}
 use Rattle.ocppj_frame.specs.declared.action.Action.TheVariants.{BootNotification, Heartbeat, StatusNotification, MeterValues, TransactionEvent}
 use Rattle.ocppj_frame.specs.Frame.{Frame, Called, Silence, Ready}

@@ -1,5 +1,5 @@
 -- Integers: numbers of RFC 8259 without a point and without an exponent.
-use Rattle.std.specs.Prelude.{ℕ, Bool, ◌&&◌, ◌==◌, not, List, length, drop, slice_index, nat_lt, if◌then◌else◌, ℤ, Option, Some, None, option_and_then, Ok, Err}
+use Rattle.std.specs.Prelude.{ℕ, Bool, ◌&&◌, ◌==◌, List, length, drop, slice_index, nat_lt, if◌then◌else◌, ℤ, Option, Some, None, option_and_then, Ok, Err}
 use Rattle.std.specs.Int.Signed.{le_z}
 use Rattle.std.specs.Option.{ok_or}
 use Rattle.std.specs.Char.{is_ascii_digit}

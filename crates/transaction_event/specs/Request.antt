@@ -1,5 +1,5 @@
 -- What a TransactionEventRequest tells (OCPP 2.0.1 Part 2, block E), its members checked in this order; the ranges are this product's profile.
-use Rattle.std.specs.Prelude.{ℕ, Bool, List, ℤ, pos, unsigned_abs, is_some, if◌then◌else◌, Option, Some, None, Ok, Err, codes}
+use Rattle.std.specs.Prelude.{ℕ, Bool, List, pos, unsigned_abs, is_some, if◌then◌else◌, Option, Some, None, Ok, Err, codes}
 use Rattle.std.specs.Option.{ok_or}
 use Rattle.std.specs.Str.{bytes_eq}
 use Rattle.serde_json.specs.Data.{Data}

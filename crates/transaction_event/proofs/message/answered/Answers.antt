@@ -1,8 +1,7 @@
-use Rattle.std.proofs.Common.{sym, ◌∙◌, subst, ◌≡◌}
+use Rattle.std.proofs.Common.{sym, ◌∙◌, subst}
 use Rattle.ocppj_frame.specs.Frame.{Called}
 use Rattle.ocppj_frame.specs.Call.{id_of, payload_of}
 use Rattle.ocppj_frame.specs.declared.action.Action.{Action}
-use Rattle.ocppj_frame.specs.declared.action.Action.TheVariants.{TransactionEvent}
 use Rattle.transaction_event.specs.Means.{MeansAt}
 use Rattle.transaction_event.proofs.message.answered.Goals as goal
 

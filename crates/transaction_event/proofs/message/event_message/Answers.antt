@@ -1,4 +1,4 @@
-use Rattle.std.proofs.Common.{sym, ◌∙◌, subst, ap, ◌≡◌}
+use Rattle.std.proofs.Common.{sym, ◌∙◌, ap, ◌≡◌}
 use Rattle.ocppj_frame.specs.Call.{id_of, payload_of}
 use Rattle.transaction_event.specs.Reply.{fault_reply}
 use Rattle.transaction_event.specs.Request.{event_reading}
