@@ -1,4 +1,5 @@
 use crate::*;
+use energy_flow::Level;
 use std::test::Fail;
 
 #[test]
@@ -48,6 +49,10 @@ fn events_keep_what_was_handed_in(rt: HostRuntime) -> Result<(), Fail> {
     let moment = Moment::new(1_772_359_200_000_000_000).ok_or("moment")?;
     let reading = Reading::new(moment, 10_000_000_000_000).ok_or("reading")?;
     assert!(rt; Reading::new(moment, 10_000_000_000_001).is_none());
+    assert_eq!(rt;
+        (reading.moment(), reading.level()),
+        (moment, Level::new(10_000_000_000_000))
+    );
     let made = |evse, count: usize| -> Result<Result<Event, Vec<Reading>>, Fail> {
         let readings = vec![in rt.alloc(); reading; count]?;
         Ok(Event::new(Kind::Ended, moment, evse, readings))
