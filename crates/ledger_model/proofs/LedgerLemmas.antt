@@ -12,7 +12,7 @@ use Rattle.ledger_model.specs.declared.answer.Refusal.TheVariants.{AlreadyVoided
 use Rattle.ledger_model.specs.Key.{KeyName, key_cmp}
 use Rattle.ledger_model.specs.Limits.{Bounds}
 use Rattle.ledger_model.specs.Content.{Content, Stored}
-use Rattle.ledger_model.specs.Step.{step, answer_to_void, answer_to_voided, if_changes_left, content_after, marked_at}
+use Rattle.ledger_model.specs.Step.{step, answer_to_void, answer_to_voided, accepted_within_limit, content_after, marked_at}
 use Rattle.ledger_model.specs.Laws.{IsAccepted, AreAccepted, left_by}
 use Rattle.ledger_model.proofs.Keys.{key_total, exact_keys}
 
@@ -27,7 +27,7 @@ not_refused_else true why other h = (refl, h)
 not_refused_else false why other h = absurd h
 
 -- an accepted change is counted
-pub counted : (limits : Bounds) (c : Content) → IsAccepted (if_changes_left limits c) → if_changes_left limits c ≡ Accepted (c.changes + 1)
+pub counted : (limits : Bounds) (c : Content) → IsAccepted (accepted_within_limit limits c) → accepted_within_limit limits c ≡ Accepted (c.changes + 1)
 counted limits c h = ap (λ b. cond b (Refused ChangesExhausted) (Accepted (c.changes + 1))) (not_refused (nat_le limits.changes c.changes) ChangesExhausted (Accepted (c.changes + 1)) h).0
 
 -- what an accepted void found: an event that was not voided
@@ -35,28 +35,28 @@ pub record FoundLive (limits : Bounds) (c : Content) (o : Option Stored) : Type 
   pub stored : Stored
   pub found : o ≡ Some stored
   pub live : stored.voided ≡ false
-  pub left : IsAccepted (if_changes_left limits c)
+  pub left : IsAccepted (accepted_within_limit limits c)
   pub told : answer_to_void limits c o ≡ Accepted (c.changes + 1)
 
 pub found_live : (limits : Bounds) (c : Content) (o : Option Stored) → IsAccepted (answer_to_void limits c o) → FoundLive limits c o
 found_live limits c None h = absurd h
 found_live limits c (Some s) h =
-    let parts = not_refused s.voided AlreadyVoided (if_changes_left limits c) h in
-    record { stored = s; found = refl; live = parts.0; left = parts.1; told = ap (λ b. cond b (Refused AlreadyVoided) (if_changes_left limits c)) parts.0 ∙ counted limits c parts.1 }
+    let parts = not_refused s.voided AlreadyVoided (accepted_within_limit limits c) h in
+    record { stored = s; found = refl; live = parts.0; left = parts.1; told = ap (λ b. cond b (Refused AlreadyVoided) (accepted_within_limit limits c)) parts.0 ∙ counted limits c parts.1 }
 
 -- what an accepted restoration or erasure found: an event that was voided
 pub record FoundVoided (limits : Bounds) (c : Content) (o : Option Stored) : Type 0 where
   pub stored : Stored
   pub found : o ≡ Some stored
   pub voided : stored.voided ≡ true
-  pub left : IsAccepted (if_changes_left limits c)
+  pub left : IsAccepted (accepted_within_limit limits c)
   pub told : answer_to_voided limits c o ≡ Accepted (c.changes + 1)
 
 pub found_voided : (limits : Bounds) (c : Content) (o : Option Stored) → IsAccepted (answer_to_voided limits c o) → FoundVoided limits c o
 found_voided limits c None h = absurd h
 found_voided limits c (Some s) h =
-    let parts = not_refused_else s.voided NotVoided (if_changes_left limits c) h in
-    record { stored = s; found = refl; voided = parts.0; left = parts.1; told = ap (λ b. cond b (if_changes_left limits c) (Refused NotVoided)) parts.0 ∙ counted limits c parts.1 }
+    let parts = not_refused_else s.voided NotVoided (accepted_within_limit limits c) h in
+    record { stored = s; found = refl; voided = parts.0; left = parts.1; told = ap (λ b. cond b (accepted_within_limit limits c) (Refused NotVoided)) parts.0 ∙ counted limits c parts.1 }
 
 shadowed : {A : Type 0} (b : Bool) (x y z : A) → cond b x (cond b y z) ≡ cond b x z
 shadowed true x y z = refl

@@ -11,7 +11,7 @@ use Rattle.ledger_model.specs.declared.answer.Answer.{Answer}
 use Rattle.ledger_model.specs.declared.answer.Answer.TheVariants.{Accepted, Repeat, Refused}
 use Rattle.ledger_model.specs.declared.answer.Refusal.TheVariants.{ConflictingEvent, TooManyTransactions, EventsFull, ReadingsFull, NoSuchEvent, AlreadyVoided, NotVoided, ChangesExhausted}
 use Rattle.ledger_model.specs.Key.{KeyName, key_cmp}
-use Rattle.ledger_model.specs.Event.{Happening, same_event}
+use Rattle.ledger_model.specs.Event.{EventContent, same_event}
 use Rattle.ledger_model.specs.Limits.{Bounds}
 use Rattle.ledger_model.specs.Content.{Content, Stored, Entry, entries, empty_content, transactions_of, has_transaction}
 use Rattle.ledger_model.specs.Step.{step, answer, answer_to_deliver, answer_to_void, answer_to_voided, readings_stored, content_after, events_after, marked_at}
@@ -29,7 +29,7 @@ listed c = (entries c, c.changes)
 abbrev told_changes : Bounds → Listed → Answer
 told_changes limits l = cond (nat_le limits.changes l.1) (Refused ChangesExhausted) (Accepted (l.1 + 1))
 
-abbrev told_deliver : Bounds → Listed → KeyName → Happening → Option Stored → Answer
+abbrev told_deliver : Bounds → Listed → KeyName → EventContent → Option Stored → Answer
 told_deliver limits l key event (Some stored) = cond (same_event stored.event event) Repeat (Refused ConflictingEvent)
 told_deliver limits l key event None =
     cond (not (has_transaction key.tx l.0) && nat_le limits.transactions (length (transactions_of l.0))) (Refused TooManyTransactions)

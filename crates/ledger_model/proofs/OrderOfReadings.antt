@@ -11,7 +11,7 @@ use Rattle.std.proofs.lemmas.Bool.{lt-ltb, le-ltb}
 use Rattle.std.proofs.lemmas.List.Concat.{flat_map-append}
 use Rattle.std.proofs.lemmas.List.Elements.{recursion_from_All}
 use Rattle.std.proofs.lemmas.Map.Text.{is_eq-slice_cmp}
-use Rattle.ledger_model.specs.Event.{Metered}
+use Rattle.ledger_model.specs.Event.{MeterReading}
 use Rattle.ledger_model.specs.Key.{KeyName, key_cmp}
 use Rattle.ledger_model.specs.Content.{Content, Entry, entries, live_of, live}
 use Rattle.ledger_model.specs.Energy.{readings_of}
@@ -72,11 +72,11 @@ next n = omega arith
 
 module _ (tx : List ℕ) where
   -- the readings of an entry, where it is a live one of the transaction
-  abbrev here : Entry → List Metered
+  abbrev here : Entry → List MeterReading
   here e = cond e.1.voided [] (cond (bytes_eq tx e.0.tx) e.1.event.readings [])
 
   -- the same, where its number is below n
-  abbrev here_below : ℕ → Entry → List Metered
+  abbrev here_below : ℕ → Entry → List MeterReading
   here_below n e = cond (nat_lt e.0.seq n) (here e) []
 
   abbrev named : ℕ → KeyName

@@ -10,7 +10,7 @@ use Rattle.ledger_model.specs.declared.answer.Answer.TheVariants.{Accepted}
 use Rattle.ledger_model.specs.declared.answer.Refusal.TheVariants.{ChangesExhausted}
 use Rattle.ledger_model.specs.Limits.{Bounds}
 use Rattle.ledger_model.specs.Content.{Content, empty_content}
-use Rattle.ledger_model.specs.Step.{step, if_changes_left, content_after, Reached}
+use Rattle.ledger_model.specs.Step.{step, accepted_within_limit, content_after, Reached}
 use Rattle.ledger_model.specs.Laws.{IsAccepted, AreAccepted, left_by, IsLeftByRun}
 use Rattle.ledger_model.proofs.LedgerLemmas.{not_refused, found_live, found_voided}
 use Rattle.ledger_model.proofs.Deliveries.{room, told}
@@ -23,7 +23,7 @@ pub record IsCounted (limits : Bounds) (c : Content) (a : Answer) : Type 0 where
 below : (limits : Bounds) (c : Content) → nat_le limits.changes c.changes ≡ false → c.changes < limits.changes
 below limits c h = leb-false limits.changes c.changes h
 
-changes_left : (limits : Bounds) (c : Content) → IsAccepted (if_changes_left limits c) → c.changes < limits.changes
+changes_left : (limits : Bounds) (c : Content) → IsAccepted (accepted_within_limit limits c) → c.changes < limits.changes
 changes_left limits c h = below limits c (not_refused (nat_le limits.changes c.changes) ChangesExhausted (Accepted (c.changes + 1)) h).0
 
 pub is_counted : (limits : Bounds) (c : Content) (command : Command) → IsAccepted (step limits c command).1 → IsCounted limits c (step limits c command).1

@@ -2,7 +2,7 @@ use Rattle.std.specs.Prelude.{ℕ, List, [], ◌∷◌, ◌+◌, ◌*◌, Option
 use Rattle.energy_flow.specs.Flow.{Energy}
 use Rattle.ledger_model.specs.declared.kind.Kind.{Kind}
 use Rattle.ledger_model.specs.declared.kind.Kind.TheVariants.{Started, Updated, Ended}
-use Rattle.ledger_model.specs.Event.{Metered}
+use Rattle.ledger_model.specs.Event.{MeterReading}
 use Rattle.ledger_model.specs.Content.{Entry}
 use Rattle.ledger_model.specs.Board.{Board, SiteBoard}
 
@@ -11,11 +11,11 @@ abbrev pub minute : ℕ → ℕ
 minute n = (1_772_359_200 + 60 * n) * 1_000_000_000
 
 -- A reading of so many watt-hours at a minute.
-abbrev pub reading : ℕ → ℕ → Metered
+abbrev pub reading : ℕ → ℕ → MeterReading
 reading n wh = record { moment = minute n; mwh = 1_000 * wh }
 
 -- An event of transaction t1: its kind, number and minute, the EVSE that it names, and its readings.
-abbrev pub told : Kind → ℕ → ℕ → Option ℕ → List Metered → Entry
+abbrev pub told : Kind → ℕ → ℕ → Option ℕ → List MeterReading → Entry
 told kind seq n evse readings = (record { tx = codes "t1"; seq = seq }, record { event = record { kind = kind; moment = minute n; evse = evse; readings = readings }; voided = false })
 
 -- An event with one reading, at its own minute, and no EVSE.

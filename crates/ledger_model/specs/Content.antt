@@ -4,11 +4,11 @@ use Rattle.std.specs.Str.{bytes_eq}
 use Rattle.std.specs.FinMap as finite
 use Rattle.std.specs.FinMap.{FinMap}
 use Rattle.ledger_model.specs.Key.{KeyName, key_cmp}
-use Rattle.ledger_model.specs.Event.{Happening}
+use Rattle.ledger_model.specs.Event.{EventContent}
 
 -- An event that is stored, and whether it is voided.
 pub record Stored : Type 0 where
-  pub event : Happening
+  pub event : EventContent
   pub voided : Bool
 
 -- What a station's ledger holds: its events by their keys, each voided or not, and the number of changes accepted so far.

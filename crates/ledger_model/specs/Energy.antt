@@ -1,20 +1,20 @@
 use Rattle.std.specs.Prelude.{ℕ, List, [], ◌∷◌, ◌==◌, nat_lt, if◌then◌else◌, map, filter, sum_by, drop}
 use Rattle.std.specs.List.{flat_map, zip}
 use Rattle.energy_flow.specs.Flow.{Energy, difference_of}
-use Rattle.ledger_model.specs.Event.{Metered}
+use Rattle.ledger_model.specs.Event.{MeterReading}
 use Rattle.ledger_model.specs.Quarter.{quarter_at}
 use Rattle.ledger_model.specs.Content.{Entry, live, live_of, transactions_of}
 
 -- The readings of a transaction in order: of each live event in the order of its number, its readings in their order.
-abbrev pub readings_of : List ℕ → List Entry → List Metered
+abbrev pub readings_of : List ℕ → List Entry → List MeterReading
 readings_of tx es = flat_map (λ e. e.1.event.readings) (live_of tx es)
 
 -- A reading, and the one that follows it.
 abbrev pub Pair : Type 0
-Pair = Metered × Metered
+Pair = MeterReading × MeterReading
 
 -- Each reading of a list with the one that follows it.
-abbrev pub followed : List Metered → List Pair
+abbrev pub followed : List MeterReading → List Pair
 followed rs = zip rs (drop 1 rs)
 
 -- The difference of a pair.

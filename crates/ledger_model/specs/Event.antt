@@ -1,18 +1,19 @@
 use Rattle.std.specs.Prelude.{ℕ, Bool, true, false, List, [], ◌∷◌, ◌≢◌, ◌≤◌, ◌&&◌, ◌==◌, Option, None, Some, length}
 use Rattle.ledger_model.specs.declared.kind.Kind.{Kind}
 use Rattle.ledger_model.specs.declared.kind.Kind.TheVariants.{Started, Updated, Ended}
+use Rattle.ledger_model.specs.Ranges.{most_event_readings}
 
 -- A counted reading of the energy register: its moment in nanoseconds from 1970, and its milliwatt-hours.
-pub record Metered : Type 0 where
+pub record MeterReading : Type 0 where
   pub moment : ℕ
   pub mwh : ℕ
 
 -- The content of an event: its kind, moment, EVSE or none, and its counted readings in the order sent.
-pub record Happening : Type 0 where
+pub record EventContent : Type 0 where
   pub kind : Kind
   pub moment : ℕ
   pub evse : Option ℕ
-  pub readings : List Metered
+  pub readings : List MeterReading
 
 -- Tells whether two kinds are one.
 abbrev pub same_kind : Kind → Kind → Bool
@@ -28,19 +29,19 @@ same_evse (Some a) (Some b) = a == b
 same_evse _ _ = false
 
 -- Tells whether two readings agree in moment and value.
-abbrev pub same_reading : Metered → Metered → Bool
+abbrev pub same_reading : MeterReading → MeterReading → Bool
 same_reading a b = (a.moment == b.moment) && (a.mwh == b.mwh)
 
 -- Tells whether two lists have the same readings in the same order.
-abbrev pub same_readings : List Metered → List Metered → Bool
+abbrev pub same_readings : List MeterReading → List MeterReading → Bool
 same_readings [] [] = true
 same_readings (a ∷ as') (b ∷ bs) = same_reading a b && same_readings as' bs
 same_readings _ _ = false
 
 -- Tells whether two events are equal: in kind, moment, EVSE and readings.
-abbrev pub same_event : Happening → Happening → Bool
+abbrev pub same_event : EventContent → EventContent → Bool
 same_event a b = same_kind a.kind b.kind && (a.moment == b.moment) && same_evse a.evse b.evse && same_readings a.readings b.readings
 
--- An event has at most 1,024 counted readings, and an EVSE that it names is not 0.
-abbrev pub IsEvent : Option ℕ → List Metered → Type 0
-IsEvent evse readings = (length readings ≤ 1_024) × (evse ≢ Some 0)
+-- An event has a number of counted readings that it may have, and an EVSE that it names is not 0.
+abbrev pub IsEvent : Option ℕ → List MeterReading → Type 0
+IsEvent evse readings = (length readings ≤ most_event_readings) × (evse ≢ Some 0)

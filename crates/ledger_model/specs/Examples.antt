@@ -1,14 +1,10 @@
-use Rattle.std.specs.Prelude.{ℕ, ◌+◌, ◌*◌, ◌^◌, List, [], ◌∷◌, ◌++◌, None, codes}
+use Rattle.std.specs.Prelude.{ℕ, ◌+◌, ◌*◌, List, [], ◌∷◌, ◌++◌, None, codes}
 use Rattle.ledger_model.specs.declared.kind.Kind.{Kind}
 use Rattle.ledger_model.specs.declared.kind.Kind.TheVariants.{Started, Updated}
 use Rattle.ledger_model.specs.declared.command.Command.{Command}
 use Rattle.ledger_model.specs.declared.command.Command.TheVariants.{Deliver, Void, Restore, Erase}
 use Rattle.ledger_model.specs.Key.{KeyName}
 use Rattle.ledger_model.specs.Limits.{Bounds}
-
--- The limits of a station that none are declared for.
-abbrev pub default_limits : Bounds
-default_limits = record { transactions = 1_024; events = 16_384; readings = 16_384; changes = 2 ^ 63 }
 
 -- The limits of a station that is soon full.
 abbrev pub narrow_limits : Bounds

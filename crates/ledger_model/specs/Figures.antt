@@ -1,6 +1,7 @@
-use Rattle.std.specs.Prelude.{◌+◌, ◌*◌, ◌≤◌, ◌^◌}
+use Rattle.std.specs.Prelude.{◌+◌, ◌*◌, ◌≤◌}
 use Rattle.ledger_model.specs.declared.figures.Figures.{Figures}
 use Rattle.ledger_model.specs.Limits.{Bounds}
+use Rattle.ledger_model.specs.Ranges.{greatest_reading, sequence_end}
 
 -- The figures of a station without events.
 abbrev pub no_figures : Figures
@@ -11,6 +12,6 @@ pub record AreWithin (limits : Bounds) (f : Figures) : Type 0 where
   pub events : f.events + f.voided ≤ limits.events
   pub transactions : f.transactions ≤ limits.transactions
   pub complete : f.complete ≤ limits.transactions
-  pub missing : f.missing ≤ 2 ^ 31 * limits.transactions
-  pub up : f.up ≤ 10_000_000_000_000 * limits.readings
-  pub down : f.down ≤ 10_000_000_000_000 * limits.readings
+  pub missing : f.missing ≤ sequence_end * limits.transactions
+  pub up : f.up ≤ greatest_reading * limits.readings
+  pub down : f.down ≤ greatest_reading * limits.readings

@@ -7,7 +7,7 @@ use Rattle.ledger_model.specs.declared.answer.Answer.{Answer}
 use Rattle.ledger_model.specs.declared.answer.Answer.TheVariants.{Accepted, Repeat, Refused}
 use Rattle.ledger_model.specs.Limits.{Bounds}
 use Rattle.ledger_model.specs.Key.{KeyName}
-use Rattle.ledger_model.specs.Event.{Metered, Happening}
+use Rattle.ledger_model.specs.Event.{MeterReading, EventContent}
 use Rattle.ledger_model.specs.Content.{Content, Stored, empty_content}
 use Rattle.ledger_model.specs.Step.{step}
 
@@ -38,17 +38,17 @@ upto zero = []
 upto (suc n) = upto n ++ n ∷ []
 
 -- The readings of what stands under a key: those of its event, where there is one and it is live.
-abbrev pub readings_at : Option Stored → List Metered
+abbrev pub readings_at : Option Stored → List MeterReading
 readings_at None = []
 readings_at (Some stored) = if stored.voided then [] else stored.event.readings
 
 -- The readings of a transaction that are met by looking at its numbers below a number, one by one from 0 on.
-abbrev pub by_number : List ℕ → Content → ℕ → List Metered
+abbrev pub by_number : List ℕ → Content → ℕ → List MeterReading
 by_number tx c n = flat_map (λ seq. readings_at (finite.get c.events (record { tx = tx; seq = seq }))) (upto n)
 
 -- An event with its key, as a station sends it.
 abbrev pub Sent : Type 0
-Sent = KeyName × Happening
+Sent = KeyName × EventContent
 
 -- The deliveries of what a station sent.
 abbrev pub deliveries : List Sent → List Command

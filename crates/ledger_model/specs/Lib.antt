@@ -1,3 +1,4 @@
+pub mod Ranges
 pub mod Moment
 pub mod Quarter
 pub mod TxId

@@ -7,7 +7,7 @@ use Rattle.ledger_model.specs.declared.answer.Answer.{Answer}
 use Rattle.ledger_model.specs.declared.answer.Answer.TheVariants.{Accepted, Repeat, Refused}
 use Rattle.ledger_model.specs.declared.answer.Refusal.TheVariants.{ConflictingEvent, TooManyTransactions, EventsFull, ReadingsFull, NoSuchEvent, AlreadyVoided, NotVoided, ChangesExhausted}
 use Rattle.ledger_model.specs.Key.{KeyName, key_cmp}
-use Rattle.ledger_model.specs.Event.{Happening, same_event}
+use Rattle.ledger_model.specs.Event.{EventContent, same_event}
 use Rattle.ledger_model.specs.Limits.{Bounds}
 use Rattle.ledger_model.specs.Content.{Content, Stored, Entry, empty_content, entries, transactions_of, has_transaction}
 
@@ -16,27 +16,27 @@ abbrev pub readings_stored : List Entry → ℕ
 readings_stored es = sum_by (λ e. length e.1.event.readings) es
 
 -- One change more, where the limit of changes allows it.
-abbrev pub if_changes_left : Bounds → Content → Answer
-if_changes_left limits c = if nat_le limits.changes c.changes then Refused ChangesExhausted else Accepted (c.changes + 1)
+abbrev pub accepted_within_limit : Bounds → Content → Answer
+accepted_within_limit limits c = if nat_le limits.changes c.changes then Refused ChangesExhausted else Accepted (c.changes + 1)
 
 -- The answer to a delivery: by the event under its key, and for a new key the first limit that is reached.
-abbrev pub answer_to_deliver : Bounds → Content → KeyName → Happening → Option Stored → Answer
+abbrev pub answer_to_deliver : Bounds → Content → KeyName → EventContent → Option Stored → Answer
 answer_to_deliver limits c key event (Some stored) = if same_event stored.event event then Repeat else Refused ConflictingEvent
 answer_to_deliver limits c key event None =
     if not (has_transaction key.tx (entries c)) && nat_le limits.transactions (length (transactions_of (entries c))) then Refused TooManyTransactions
     else (if nat_le limits.events (length (entries c)) then Refused EventsFull
     else (if nat_lt limits.readings (readings_stored (entries c) + length event.readings) then Refused ReadingsFull
-    else if_changes_left limits c))
+    else accepted_within_limit limits c))
 
 -- The answer to a void, by the event under its key.
 abbrev pub answer_to_void : Bounds → Content → Option Stored → Answer
 answer_to_void limits c None = Refused NoSuchEvent
-answer_to_void limits c (Some stored) = if stored.voided then Refused AlreadyVoided else if_changes_left limits c
+answer_to_void limits c (Some stored) = if stored.voided then Refused AlreadyVoided else accepted_within_limit limits c
 
 -- The answer to a restoration or an erasure, by the event under its key.
 abbrev pub answer_to_voided : Bounds → Content → Option Stored → Answer
 answer_to_voided limits c None = Refused NoSuchEvent
-answer_to_voided limits c (Some stored) = if stored.voided then if_changes_left limits c else Refused NotVoided
+answer_to_voided limits c (Some stored) = if stored.voided then accepted_within_limit limits c else Refused NotVoided
 
 -- What a ledger of these limits answers to a command; the first check that applies answers.
 abbrev pub answer : Bounds → Content → Command → Answer

@@ -1,5 +1,6 @@
 use Rattle.std.specs.Prelude.{ℕ, Bool, List, length, map, ◌+◌, ◌&&◌, nat_lt, nat_le, if◌then◌else◌}
 use Rattle.std.specs.List.{list_all}
+use Rattle.ledger_model.specs.Ranges.{most_id_characters}
 
 -- A printing ASCII character other than the blank.
 abbrev pub is_visible : ℕ → Bool
@@ -13,6 +14,6 @@ folded_byte c = if nat_le 65 c && nat_le c 90 then c + 32 else c
 abbrev pub folded : List ℕ → List ℕ
 folded text = map folded_byte text
 
--- A transaction id has 1 to 36 visible ASCII characters.
+-- A transaction id has visible ASCII characters, at least one and no more than it may have.
 abbrev pub is_tx_id : List ℕ → Bool
-is_tx_id text = nat_lt 0 (length text) && nat_le (length text) 36 && list_all is_visible text
+is_tx_id text = nat_lt 0 (length text) && nat_le (length text) most_id_characters && list_all is_visible text

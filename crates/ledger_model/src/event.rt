@@ -1,8 +1,12 @@
 ghost use Rattle.std.specs.Prelude.{◌≡◌, ◌≤◌, ◌≢◌, ◌↔◌, length, Some, IsTrue, IsOk, IfOk, IfErr};
 ghost use Rattle.ledger_model.specs.Event.{IsEvent};
+ghost use Rattle.ledger_model.specs.Ranges.{most_event_readings};
 
 use crate::{EvseId, Kind, Listed, Moment, Reading};
 use std::marker::Model;
+
+/// How many counted readings an event may have (this product's profile).
+pub const MAX_EVENT_READINGS: usize = 1_024;
 
 /// A transaction event: its kind, its moment, the EVSE that it names, and its counted readings in the
 /// order in which they were sent (TransactionEventRequest, OCPP 2.0.1 Part 2, block E).
@@ -15,9 +19,9 @@ pub struct Event {
 }
 
 impl Model for Event {
-    ghost use Rattle.ledger_model.specs.Event.{Happening, IsEvent};
+    ghost use Rattle.ledger_model.specs.Event.{EventContent, IsEvent};
 
-    ghost Value = { Happening };
+    ghost Value = { EventContent };
 
     ghost view = { λ e. record { kind = e.kind; moment = e.moment; evse = e.evse; readings = e.readings } };
 
@@ -48,7 +52,7 @@ impl Event {
         ensures given_back { IfErr result (λ back. back.items ≡ readings.items) }
     {
         let names_none = matches!(&evse, Some(evse) if evse.number() == 0);
-        if names_none || readings.len() > 1_024 {
+        if names_none || readings.len() > MAX_EVENT_READINGS {
             return Err(readings);
         }
         Ok(Event {
@@ -84,7 +88,7 @@ impl Event {
     /// The counted readings, at most 1,024, in the order in which they were sent.
     pub fn readings(&self) -> &[Reading]
         ensures value { result.now ≡ self.now.readings }
-        ensures few { length result.now ≤ 1_024 }
+        ensures few { length result.now ≤ most_event_readings }
     {
         self.readings.as_slice()
     }

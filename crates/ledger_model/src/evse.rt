@@ -1,9 +1,13 @@
 ghost use Rattle.std.specs.Prelude.{◌≡◌, ◌≤◌, ◌↔◌, IsSome, IfSome};
+ghost use Rattle.ledger_model.specs.Ranges.{greatest_evse};
 
 use std::marker::Model;
 
-/// The number of an EVSE of a station, 1 to 64, or 0 where none is named (EVSEType, OCPP 2.0.1 Part 2,
-/// block E).
+/// The greatest number of an EVSE (this product's profile).
+pub const GREATEST_EVSE: u8 = 64;
+
+/// The number of an EVSE of a station, 1 to 64 (EVSEType, OCPP 2.0.1 Part 2, block E). A board shows
+/// transactions that name no EVSE under 0; no event names that number.
 #[derive(Clone, Copy, Debug, PartialEq, Eq, PartialOrd, Ord)]
 pub struct EvseId {
     number: u8,
@@ -11,12 +15,13 @@ pub struct EvseId {
 
 impl Model for EvseId {
     ghost use Rattle.std.specs.Prelude.{ℕ, ◌≤◌};
+    ghost use Rattle.ledger_model.specs.Ranges.{greatest_evse};
 
     ghost Value = { ℕ };
 
     ghost view = { λ e. e.number };
 
-    ghost invariant = { λ e. e.number ≤ 64 };
+    ghost invariant = { λ e. e.number ≤ greatest_evse };
 
     ghost inverse = { λ n. record { number = n } };
 }
@@ -24,10 +29,10 @@ impl Model for EvseId {
 impl EvseId {
     /// The EVSE of this number; `None` above 64.
     pub fn new(number: u8) -> Option<Self>
-        ensures valid { IsSome result ↔ (number ≤ 64) }
+        ensures valid { IsSome result ↔ (number ≤ greatest_evse) }
         ensures value { IfSome result (λ e. e ≡ number) }
     {
-        if number <= 64 {
+        if number <= GREATEST_EVSE {
             Some(EvseId { number })
         } else {
             None
@@ -37,7 +42,7 @@ impl EvseId {
     /// The number, 0 to 64.
     pub fn number(self) -> u8
         ensures value { result ≡ self }
-        ensures range { result ≤ 64 }
+        ensures range { result ≤ greatest_evse }
     {
         self.number
     }

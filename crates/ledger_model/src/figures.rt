@@ -1,6 +1,6 @@
 ghost use Rattle.std.specs.Prelude.{◌≡◌, ◌↔◌, IsTrue};
 
-use crate::Limits;
+use crate::{GREATEST_READING, Limits};
 
 /// Seven numbers that sum up a station or a site.
 #[derive(Clone, Copy, Debug, PartialEq, Eq)]
@@ -45,7 +45,7 @@ impl Figures {
     {
         let events = limits.events() as u64;
         let transactions = limits.transactions() as u64;
-        let energy = limits.readings() as u64 * 10_000_000_000_000;
+        let energy = limits.readings() as u64 * GREATEST_READING;
         let are_events = self.events <= events && self.voided <= events - self.events;
         let are_transactions = self.transactions <= transactions && self.complete <= transactions;
         let is_energy = self.up <= energy && self.down <= energy;

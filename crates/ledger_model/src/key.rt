@@ -1,7 +1,11 @@
-ghost use Rattle.std.specs.Prelude.{◌≡◌, ◌<◌, ◌^◌, ◌↔◌, IsSome, IfSome};
+ghost use Rattle.std.specs.Prelude.{◌≡◌, ◌<◌, ◌↔◌, IsSome, IfSome};
+ghost use Rattle.ledger_model.specs.Ranges.{sequence_end};
 
 use crate::TxId;
 use std::marker::Model;
+
+/// The first number that is above each sequence number: 2^31 (this product's profile).
+pub const SEQUENCE_END: u32 = 1 << 31;
 
 /// What names an event of a station: its transaction and its sequence number, 0 to 2,147,483,647
 /// (`transactionId` and `seqNo` of TransactionEventRequest, OCPP 2.0.1 Part 2, block E). Keys are
@@ -13,7 +17,8 @@ pub struct Key {
 }
 
 impl Model for Key {
-    ghost use Rattle.std.specs.Prelude.{◌<◌, ◌^◌};
+    ghost use Rattle.std.specs.Prelude.{◌<◌};
+    ghost use Rattle.ledger_model.specs.Ranges.{sequence_end};
     ghost use Rattle.ledger_model.specs.Key.{KeyName, key_code};
 
     ghost Value = { KeyName };
@@ -22,7 +27,7 @@ impl Model for Key {
 
     ghost view = { λ k. record { tx = k.tx; seq = k.seq } };
 
-    ghost invariant = { λ k. k.seq < 2 ^ 31 };
+    ghost invariant = { λ k. k.seq < sequence_end };
 
     ghost inverse = { λ n. record { tx = n.tx; seq = n.seq } };
 }
@@ -30,11 +35,11 @@ impl Model for Key {
 impl Key {
     /// The key of this transaction and number; `None` above 2,147,483,647.
     pub fn new(tx: TxId, seq: u32) -> Option<Self>
-        ensures valid { IsSome result ↔ (seq < 2 ^ 31) }
+        ensures valid { IsSome result ↔ (seq < sequence_end) }
         ensures tx { IfSome result (λ k. k.tx ≡ tx) }
         ensures seq { IfSome result (λ k. k.seq ≡ seq) }
     {
-        if seq < 1 << 31 {
+        if seq < SEQUENCE_END {
             Some(Key { tx, seq })
         } else {
             None
@@ -51,7 +56,7 @@ impl Key {
     /// The sequence number, 0 to 2,147,483,647.
     pub fn seq(&self) -> u32
         ensures value { result ≡ self.now.seq }
-        ensures range { result < 2 ^ 31 }
+        ensures range { result < sequence_end }
     {
         self.seq
     }

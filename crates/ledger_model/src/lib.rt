@@ -34,17 +34,17 @@ mod tx_id;
 
 pub use answer::{Answer, Refusal};
 pub use command::Command;
-pub use event::Event;
-pub use evse::EvseId;
+pub use event::{Event, MAX_EVENT_READINGS};
+pub use evse::{EvseId, GREATEST_EVSE};
 pub use figures::Figures;
-pub use key::Key;
+pub use key::{Key, SEQUENCE_END};
 pub use kind::Kind;
-pub use limits::Limits;
+pub use limits::{Limits, MAX_CHANGES, MAX_EVENTS, MAX_READINGS, MAX_TRANSACTIONS};
 pub use listed::Listed;
 pub use moment::{Moment, Quarter};
-pub use name::Name;
-pub use reading::Reading;
-pub use tx_id::TxId;
+pub use name::{MAX_NAME, Name};
+pub use reading::{GREATEST_READING, Reading};
+pub use tx_id::{MAX_TX_ID, TxId};
 
 #[cfg(test)]
 mod tests;

@@ -1,7 +1,20 @@
-ghost use Rattle.std.specs.Prelude.{◌≡◌, ◌≤◌, ◌^◌, ◌↔◌, IsSome, IfSome};
+ghost use Rattle.std.specs.Prelude.{◌≡◌, ◌≤◌, ◌↔◌, IsSome, IfSome};
 ghost use Rattle.ledger_model.specs.Limits.{AreBounds};
+ghost use Rattle.ledger_model.specs.Ranges.{most_transactions, most_events, most_readings, most_changes};
 
 use std::marker::Model;
+
+/// How many transactions one station may store (this product's profile, as all limits here).
+pub const MAX_TRANSACTIONS: u64 = 4_096;
+
+/// How many events one station may store, voided ones among them.
+pub const MAX_EVENTS: u64 = 65_536;
+
+/// How many readings one station may store, those of voided events among them.
+pub const MAX_READINGS: u64 = 65_536;
+
+/// How many changes one station may accept: 2^63.
+pub const MAX_CHANGES: u64 = 1 << 63;
 
 /// What one station's ledger may keep: transactions, events and readings stored at once, and changes
 /// accepted in all.
@@ -35,9 +48,11 @@ impl Limits {
         ensures readings { IfSome result (λ l. l.readings ≡ readings) }
         ensures changes { IfSome result (λ l. l.changes ≡ changes) }
     {
-        let are_few = transactions <= 4_096 && events <= 65_536 && readings <= 65_536;
+        let are_few = transactions <= MAX_TRANSACTIONS
+            && events <= MAX_EVENTS
+            && readings <= MAX_READINGS;
         let are_some = transactions >= 1 && events >= 1 && readings >= 1;
-        if are_few && are_some && changes >= 1 && changes <= 1 << 63 {
+        if are_few && are_some && changes >= 1 && changes <= MAX_CHANGES {
             Some(Limits {
                 transactions: transactions as u32,
                 events: events as u32,
@@ -53,7 +68,7 @@ impl Limits {
     pub fn transactions(&self) -> u32
         ensures value { result ≡ self.now.transactions }
         ensures least { 1 ≤ result }
-        ensures most { result ≤ 4_096 }
+        ensures most { result ≤ most_transactions }
     {
         self.transactions
     }
@@ -62,7 +77,7 @@ impl Limits {
     pub fn events(&self) -> u32
         ensures value { result ≡ self.now.events }
         ensures least { 1 ≤ result }
-        ensures most { result ≤ 65_536 }
+        ensures most { result ≤ most_events }
     {
         self.events
     }
@@ -71,7 +86,7 @@ impl Limits {
     pub fn readings(&self) -> u32
         ensures value { result ≡ self.now.readings }
         ensures least { 1 ≤ result }
-        ensures most { result ≤ 65_536 }
+        ensures most { result ≤ most_readings }
     {
         self.readings
     }
@@ -80,8 +95,26 @@ impl Limits {
     pub fn changes(&self) -> u64
         ensures value { result ≡ self.now.changes }
         ensures least { 1 ≤ result }
-        ensures most { result ≤ 2 ^ 63 }
+        ensures most { result ≤ most_changes }
     {
         self.changes
+    }
+}
+
+impl Default for Limits {
+    ghost use Rattle.std.specs.Prelude.{◌≡◌};
+    ghost use Rattle.ledger_model.specs.Limits.{default_limits};
+
+    ghost is_default = { λ l. l ≡ default_limits };
+
+    /// The limits of a station for which none are declared: 1,024 transactions, 16,384 events, 16,384
+    /// readings, 2^63 changes.
+    fn default() -> Self {
+        Limits {
+            transactions: 1_024,
+            events: 16_384,
+            readings: 16_384,
+            changes: MAX_CHANGES,
+        }
     }
 }

@@ -9,11 +9,14 @@ use arrayvec::ArrayString;
 use std::cmp::Ordering;
 use std::marker::Model;
 
+/// How many characters the name of a site or a station may have (this product's profile).
+pub const MAX_NAME: usize = 48;
+
 /// The name of a site or a station: 1 to 48 characters of `A-Z a-z 0-9 * - _ = : + | @ .`, compared
 /// exactly (this product's profile).
 #[derive(Debug, Drop)]
 pub struct Name {
-    text: ArrayString<48>,
+    text: ArrayString<MAX_NAME>,
 }
 
 impl Model for Name {
@@ -48,7 +51,7 @@ impl Name {
         ensures valid { IsSome result ↔ (is_name text.now ≡ true) }
         ensures value { IfSome result (λ n. n ≡ text.now) }
     {
-        if text.is_empty() || text.len() > 48 || !are_name_bytes(text.as_bytes()) {
+        if text.is_empty() || text.len() > MAX_NAME || !are_name_bytes(text.as_bytes()) {
             return None;
         }
         match ArrayString::from(text) {

@@ -1,8 +1,12 @@
 ghost use Rattle.std.specs.Prelude.{◌≡◌, ◌≤◌, ◌↔◌, IsSome, IfSome};
+ghost use Rattle.ledger_model.specs.Ranges.{greatest_reading};
 
 use crate::Moment;
 use energy_flow::Level;
 use std::marker::Model;
+
+/// The greatest reading, in milliwatt-hours: 10^13, ten gigawatt-hours (this product's profile).
+pub const GREATEST_READING: u64 = 10_000_000_000_000;
 
 /// A counted reading of the imported energy register: its moment, and its level in milliwatt-hours
 /// (MeterValueType, OCPP 2.0.1 Part 2, J02).
@@ -14,13 +18,14 @@ pub struct Reading {
 
 impl Model for Reading {
     ghost use Rattle.std.specs.Prelude.{◌≤◌};
-    ghost use Rattle.ledger_model.specs.Event.{Metered};
+    ghost use Rattle.ledger_model.specs.Event.{MeterReading};
+    ghost use Rattle.ledger_model.specs.Ranges.{greatest_reading};
 
-    ghost Value = { Metered };
+    ghost Value = { MeterReading };
 
     ghost view = { λ r. record { moment = r.moment; mwh = r.level } };
 
-    ghost invariant = { λ r. r.level ≤ 10_000_000_000_000 };
+    ghost invariant = { λ r. r.level ≤ greatest_reading };
 
     ghost inverse = { λ m. record { moment = m.moment; level = m.mwh } };
 }
@@ -28,11 +33,11 @@ impl Model for Reading {
 impl Reading {
     /// The reading of so many milliwatt-hours at a moment; `None` above 10^13.
     pub fn new(moment: Moment, mwh: u64) -> Option<Self>
-        ensures valid { IsSome result ↔ (mwh ≤ 10_000_000_000_000) }
+        ensures valid { IsSome result ↔ (mwh ≤ greatest_reading) }
         ensures moment { IfSome result (λ r. r.moment ≡ moment) }
         ensures mwh { IfSome result (λ r. r.mwh ≡ mwh) }
     {
-        if mwh <= 10_000_000_000_000 {
+        if mwh <= GREATEST_READING {
             Some(Reading {
                 moment,
                 level: Level::new(mwh),
@@ -52,7 +57,7 @@ impl Reading {
     /// What the register showed, in milliwatt-hours, at most 10^13.
     pub fn level(self) -> Level
         ensures value { result ≡ self.mwh }
-        ensures range { result ≤ 10_000_000_000_000 }
+        ensures range { result ≤ greatest_reading }
     {
         self.level
     }

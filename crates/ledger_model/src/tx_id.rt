@@ -3,18 +3,23 @@ ghost use Rattle.std.specs.List.{list_all};
 ghost use Rattle.std.specs.Ordering.{nat_cmp};
 ghost use Rattle.std.specs.Cmp.{partial_equiv_from_equiv};
 ghost use Rattle.std.specs.Cmp.Lexicographic.{pointwise, slice_cmp, nat_list_eq_equiv, nat_list_cmp_total, texts_po, texts_ties};
+ghost use Rattle.ledger_model.specs.Ranges.{most_id_characters};
 ghost use Rattle.ledger_model.specs.TxId.{is_tx_id, is_visible, folded, folded_byte};
 
 use arrayvec::ArrayString;
 use std::cmp::Ordering;
 use std::marker::Model;
 
+/// How many characters a transaction's id may have (transactionId of TransactionType, OCPP 2.0.1
+/// Part 2, block E).
+pub const MAX_TX_ID: usize = 36;
+
 /// The id of a transaction: 1 to 36 visible ASCII characters, compared and printed with A to Z turned
 /// into a to z (transactionInfo of TransactionEventRequest, OCPP 2.0.1 Part 2, block E; the folding is
 /// this product's profile).
 #[derive(Debug, Drop)]
 pub struct TxId {
-    text: ArrayString<36>,
+    text: ArrayString<MAX_TX_ID>,
 }
 
 impl Model for TxId {
@@ -42,12 +47,12 @@ fn folded_char(byte: u8) -> char
 }
 
 // The text in lower case.
-fn folded_text(bytes: &[u8]) -> ArrayString<36>
-    requires few { length bytes.now ≤ 36 }
+fn folded_text(bytes: &[u8]) -> ArrayString<MAX_TX_ID>
+    requires few { length bytes.now ≤ most_id_characters }
     requires visible { list_all is_visible bytes.now ≡ true }
     ensures { result.bytes ≡ folded bytes.now }
 {
-    let mut text = ArrayString::<36>::new();
+    let mut text = ArrayString::<MAX_TX_ID>::new();
     for byte in bytes {
         text.push(folded_char(*byte));
     }
@@ -62,7 +67,7 @@ impl TxId {
         ensures value { IfSome result (λ t. t ≡ folded text.now) }
     {
         let bytes = text.as_bytes();
-        if bytes.is_empty() || bytes.len() > 36 || !are_visible(bytes) {
+        if bytes.is_empty() || bytes.len() > MAX_TX_ID || !are_visible(bytes) {
             return None;
         }
         Some(TxId {

@@ -12,12 +12,12 @@ use Rattle.ledger_model.specs.declared.answer.Refusal.{Refusal}
 use Rattle.ledger_model.specs.declared.answer.Refusal.TheVariants.{ConflictingEvent, TooManyTransactions, EventsFull, ReadingsFull, AlreadyVoided, NotVoided, ChangesExhausted}
 use Rattle.ledger_model.specs.declared.command.Command.{Command}
 use Rattle.ledger_model.specs.declared.command.Command.TheVariants.{Deliver, Void, Restore, Erase}
-use Rattle.ledger_model.specs.Event.{Happening, same_event}
+use Rattle.ledger_model.specs.Event.{EventContent, same_event}
 use Rattle.ledger_model.specs.Key.{KeyName, key_cmp}
 use Rattle.ledger_model.specs.Limits.{Bounds}
 use Rattle.ledger_model.specs.Content.{Content, Entry, Stored, entries}
 use Rattle.ledger_model.specs.Energy.{difference, pairs}
-use Rattle.ledger_model.specs.Step.{answer, answer_to_deliver, answer_to_void, answer_to_voided, if_changes_left, readings_stored, step, content_after, Reached}
+use Rattle.ledger_model.specs.Step.{answer, answer_to_deliver, answer_to_void, answer_to_voided, accepted_within_limit, readings_stored, step, content_after, Reached}
 use Rattle.station_ledger.specs.Ledger.{content_of}
 use Rattle.station_ledger.specs.Places.{IsRising}
 use Rattle.station_ledger.specs.Edits.{marked_at, entries_after, IsReady}
@@ -48,7 +48,7 @@ le_from : (a b : ℕ) → nat_lt a b ≡ false → b ≤ a
 le_from a b h = grind (arith, nat_tests)
 
 -- the number of an accepted change is the next
-counts : (limits : Bounds) (c : Content) (m : ℕ) → if_changes_left limits c ≡ Accepted m → m ≡ suc c.changes
+counts : (limits : Bounds) (c : Content) (m : ℕ) → accepted_within_limit limits c ≡ Accepted m → m ≡ suc c.changes
 counts limits c m h =
     let left = passes (nat_le limits.changes c.changes) ChangesExhausted (Accepted (c.changes + 1)) m h in
     let e : c.changes + 1 ≡ m = let g = left.1 in cc in
@@ -62,16 +62,16 @@ pub record IsTaken (limits : Bounds) (es : List Entry) (n : ℕ) (command : Comm
   pub next : m ≡ suc n
 
 module _ (limits : Bounds) (es : List Entry) (n m : ℕ) (rising : IsRising es) where
-  new_taken : (key : KeyName) (event : Happening) → find key_cmp key es ≡ None → answer_to_new limits (content_of es n) key.tx (length event.readings) ≡ Accepted m → IsTaken limits es n (Deliver key event) m
+  new_taken : (key : KeyName) (event : EventContent) → find key_cmp key es ≡ None → answer_to_new limits (content_of es n) key.tx (length event.readings) ≡ Accepted m → IsTaken limits es n (Deliver key event) m
   new_taken key event none a =
       let c = content_of es n in
       let k = length event.readings in
       let v : Stored = record { event = event; voided = false } in
-      let third : Answer = cond (are_readings_too_many limits (entries c) k) (Refused ReadingsFull) (if_changes_left limits c) in
+      let third : Answer = cond (are_readings_too_many limits (entries c) k) (Refused ReadingsFull) (accepted_within_limit limits c) in
       let second : Answer = cond (is_full limits (entries c)) (Refused EventsFull) third in
       let one = passes (is_transaction_too_many limits (entries c) key.tx) TooManyTransactions second m a in
       let two = passes (is_full limits (entries c)) EventsFull third m one.1 in
-      let three = passes (are_readings_too_many limits (entries c) k) ReadingsFull (if_changes_left limits c) m two.1 in
+      let three = passes (are_readings_too_many limits (entries c) k) ReadingsFull (accepted_within_limit limits c) m two.1 in
       let events = lt_from limits.events (length es) (ap (is_full limits) (sym (entries_of es n rising)) ∙ two.0) in
       let readings = le_from limits.readings (readings_stored es + k) (ap (λ (xs : List Entry). are_readings_too_many limits xs k) (sym (entries_of es n rising)) ∙ three.0) in
       let long : length (put key_cmp key v es) ≡ length es + 1 = length-put key_cmp key_total key v es rising ∙ ap (λ (o : Option Stored). cond (is_some o) (length es) (length es + 1)) none in
@@ -82,7 +82,7 @@ module _ (limits : Bounds) (es : List Entry) (n m : ℕ) (rising : IsRising es) 
         next = counts limits c m three.1;
       }
 
-  deliver_taken : (key : KeyName) (event : Happening) (found : Option Stored) → find key_cmp key es ≡ found → answer_to_deliver limits (content_of es n) key event found ≡ Accepted m → IsTaken limits es n (Deliver key event) m
+  deliver_taken : (key : KeyName) (event : EventContent) (found : Option Stored) → find key_cmp key es ≡ found → answer_to_deliver limits (content_of es n) key event found ≡ Accepted m → IsTaken limits es n (Deliver key event) m
   deliver_taken key event (Some s) is a = absurd (no_delivery (same_event s.event event) ConflictingEvent m a)
   deliver_taken key event None is a = new_taken key event is a
 
@@ -97,12 +97,12 @@ module _ (limits : Bounds) (es : List Entry) (n m : ℕ) (rising : IsRising es) 
 
   void_taken : (key : KeyName) (found : Option Stored) → answer_to_void limits (content_of es n) found ≡ Accepted m → m ≡ suc n
   void_taken key None a = cc
-  void_taken key (Some s) a = counts limits (content_of es n) m (passes s.voided AlreadyVoided (if_changes_left limits (content_of es n)) m a).1
+  void_taken key (Some s) a = counts limits (content_of es n) m (passes s.voided AlreadyVoided (accepted_within_limit limits (content_of es n)) m a).1
 
   voided_taken : (key : KeyName) (found : Option Stored) → answer_to_voided limits (content_of es n) found ≡ Accepted m → (found ≢ None) × (m ≡ suc n)
   voided_taken key None a = cc
   voided_taken key (Some s) a =
-      (λ none. cc, counts limits (content_of es n) m (stops s.voided NotVoided (if_changes_left limits (content_of es n)) m a))
+      (λ none. cc, counts limits (content_of es n) m (stops s.voided NotVoided (accepted_within_limit limits (content_of es n)) m a))
 
   pub taken : (command : Command) → answer limits (content_of es n) command ≡ Accepted m → IsTaken limits es n command m
   taken (Deliver key event) a =

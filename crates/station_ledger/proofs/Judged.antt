@@ -7,7 +7,7 @@ use Rattle.ledger_model.specs.declared.kind.Kind.{Kind}
 use Rattle.ledger_model.specs.declared.kind.Kind.TheVariants.{Started, Updated, Ended}
 use Rattle.ledger_model.specs.declared.answer.Answer.TheVariants.{Repeat, Refused}
 use Rattle.ledger_model.specs.declared.answer.Refusal.TheVariants.{ConflictingEvent}
-use Rattle.ledger_model.specs.Event.{Metered, Happening, same_kind, same_evse, same_reading, same_readings, same_event}
+use Rattle.ledger_model.specs.Event.{MeterReading, EventContent, same_kind, same_evse, same_reading, same_readings, same_event}
 use Rattle.ledger_model.specs.Key.{KeyName}
 use Rattle.ledger_model.specs.Limits.{Bounds}
 use Rattle.ledger_model.specs.Content.{Content, Stored}
@@ -30,12 +30,12 @@ same_evse-Decides None (Some n) = (λ h. absurd (false≢true h), λ e. cc)
 same_evse-Decides (Some n) None = (λ h. absurd (false≢true h), λ e. cc)
 same_evse-Decides (Some m) (Some n) = Decides-like _ (λ e. ap Some e) (λ e. cc) (Decides-eqb m n)
 
-same_reading-Decides : (a b : Metered) → Decides (same_reading a b) (a ≡ b)
+same_reading-Decides : (a b : MeterReading) → Decides (same_reading a b) (a ≡ b)
 same_reading-Decides a b =
-    Decides-like _ (λ parts i. record { moment = parts.0 i; mwh = parts.1 i }) (λ e. (ap (λ (r : Metered). r.moment) e, ap (λ (r : Metered). r.mwh) e))
+    Decides-like _ (λ parts i. record { moment = parts.0 i; mwh = parts.1 i }) (λ e. (ap (λ (r : MeterReading). r.moment) e, ap (λ (r : MeterReading). r.mwh) e))
     (Decides-and _ _ (Decides-eqb a.moment b.moment) (Decides-eqb a.mwh b.mwh))
 
-same_readings-Decides : (rs ss : List Metered) → Decides (same_readings rs ss) (rs ≡ ss)
+same_readings-Decides : (rs ss : List MeterReading) → Decides (same_readings rs ss) (rs ≡ ss)
 same_readings-Decides [] [] = (λ _. refl, λ _. refl)
 same_readings-Decides [] (b ∷ ss) = (λ h. absurd (false≢true h), λ e. cc)
 same_readings-Decides (a ∷ rs) [] = (λ h. absurd (false≢true h), λ e. cc)
@@ -43,14 +43,14 @@ same_readings-Decides (a ∷ rs) (b ∷ ss) =
     Decides-like _ (λ parts i. parts.0 i ∷ parts.1 i) (λ e. (cc, cc)) (Decides-and _ _ (same_reading-Decides a b) (same_readings-Decides rs ss))
 
 -- the test of events decides whether they are equal
-pub same_event-Decides : (a b : Happening) → Decides (same_event a b) (a ≡ b)
+pub same_event-Decides : (a b : EventContent) → Decides (same_event a b) (a ≡ b)
 same_event-Decides a b =
     Decides-like _ (λ parts i. record { kind = parts.0.0.0 i; moment = parts.0.0.1 i; evse = parts.0.1 i; readings = parts.1 i })
-    (λ e. (((ap (λ (h : Happening). h.kind) e, ap (λ (h : Happening). h.moment) e), ap (λ (h : Happening). h.evse) e), ap (λ (h : Happening). h.readings) e))
+    (λ e. (((ap (λ (h : EventContent). h.kind) e, ap (λ (h : EventContent). h.moment) e), ap (λ (h : EventContent). h.evse) e), ap (λ (h : EventContent). h.readings) e))
     (Decides-and _ _ (Decides-and _ _ (Decides-and _ _ (same_kind-Decides a.kind b.kind) (Decides-eqb a.moment b.moment)) (same_evse-Decides a.evse b.evse)) (same_readings-Decides a.readings b.readings))
 
 -- the answer where an event stands under the key
-pub answer_known : (limits : Bounds) (c : Content) (key : KeyName) (event : Happening) (stored : Stored) (found : Option Stored) (same : Bool) → Some stored ≡ found → (IsTrue same ↔ (stored.event ≡ event)) → cond same Repeat (Refused ConflictingEvent) ≡ answer_to_deliver limits c key event found
+pub answer_known : (limits : Bounds) (c : Content) (key : KeyName) (event : EventContent) (stored : Stored) (found : Option Stored) (same : Bool) → Some stored ≡ found → (IsTrue same ↔ (stored.event ≡ event)) → cond same Repeat (Refused ConflictingEvent) ≡ answer_to_deliver limits c key event found
 answer_known limits c key event stored found same is decides =
     ap (λ b. cond b Repeat (Refused ConflictingEvent)) (same_from_decides same _ decides (same_event-Decides stored.event event))
     ∙ ap (answer_to_deliver limits c key event) is

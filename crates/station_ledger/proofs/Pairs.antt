@@ -4,7 +4,7 @@ use Rattle.std.proofs.lemmas.List.{map-append}
 use Rattle.std.specs.List.{filter, flat_map, zip}
 use Rattle.std.specs.Str.{bytes_eq}
 use Rattle.energy_flow.specs.Flow.{Energy}
-use Rattle.ledger_model.specs.Event.{Metered}
+use Rattle.ledger_model.specs.Event.{MeterReading}
 use Rattle.ledger_model.specs.Content.{Entry, live, distinct, transactions_of}
 use Rattle.ledger_model.specs.Energy.{difference, followed, pairs, pairs_of}
 use Rattle.station_ledger.specs.Places.{IsRising}
@@ -13,23 +13,23 @@ use Rattle.station_ledger.proofs.Walk.{differences_of}
 use Rattle.station_ledger.proofs.Transactions.{Absent, IsFirst, IsGrouped, ids, others, grouped, live_rising, same_text, differ_back, others_lack, distinct_again, distinct_absent}
 
 -- the readings of a transaction among live entries
-abbrev readings_in : List ℕ → List Entry → List Metered
+abbrev readings_in : List ℕ → List Entry → List MeterReading
 readings_in t es = flat_map (λ (e : Entry). e.1.event.readings) (filter (λ (e : Entry). bytes_eq t e.0.tx) es)
 
 -- the differences of a transaction among live entries
 abbrev differences_in : List Entry → List ℕ → List Energy
 differences_in es t = differences None (readings_in t es)
 
-differences_append : (before : Option ℕ) (rs ss : List Metered) → differences before (rs ++ ss) ≡ differences before rs ++ differences (level_after before rs) ss
+differences_append : (before : Option ℕ) (rs ss : List MeterReading) → differences before (rs ++ ss) ≡ differences before rs ++ differences (level_after before rs) ss
 differences_append before [] ss = refl
 differences_append before (r ∷ rs) ss = ap (λ ys. difference_at before r.mwh ++ ys) (differences_append (Some r.mwh) rs ss) ∙ sym (append_assoc (difference_at before r.mwh) _ _)
 
-followed_after : (r : Metered) (rs : List Metered) → map difference (zip (r ∷ rs) rs) ≡ differences (Some r.mwh) rs
+followed_after : (r : MeterReading) (rs : List MeterReading) → map difference (zip (r ∷ rs) rs) ≡ differences (Some r.mwh) rs
 followed_after r [] = refl
 followed_after r (s ∷ rs) = ap (λ ys. difference (r, s) ∷ ys) (followed_after s rs)
 
 -- the differences of each reading and the one that follows it
-followed_differences : (rs : List Metered) → map difference (followed rs) ≡ differences None rs
+followed_differences : (rs : List MeterReading) → map difference (followed rs) ≡ differences None rs
 followed_differences [] = refl
 followed_differences (r ∷ rs) = followed_after r rs
 
@@ -53,7 +53,7 @@ readings_absent t (x ∷ es) h = readings_there t x es h.0 ∙ readings_absent t
 others_keep : (x : Entry) (es : List Entry) (ts : List (List ℕ)) → Absent x.0.tx ts → flat_map (differences_in es) ts ≡ flat_map (differences_in (x ∷ es)) ts
 others_keep x es [] h = refl
 others_keep x es (t ∷ ts) h =
-    ap (λ (rs : List Metered). differences None rs ++ flat_map (differences_in es) ts) (sym (readings_there t x es (differ_back x.0.tx t h.0)))
+    ap (λ (rs : List MeterReading). differences None rs ++ flat_map (differences_in es) ts) (sym (readings_there t x es (differ_back x.0.tx t h.0)))
     ∙ ap (λ ys. differences_in (x ∷ es) t ++ ys) (others_keep x es ts h.1)
 
 -- the differences of an entry join those of its transaction that follow
@@ -65,7 +65,7 @@ entry_joined x from es more =
     ap (λ ys. differences from rs ++ ys) more
     ∙ sym (append_assoc (differences from rs) _ _)
     ∙ ap (λ ys. ys ++ flat_map (differences_in es) ts) (sym (differences_append from rs (readings_in t es)))
-    ∙ ap (λ (all : List Metered). differences from all ++ flat_map (differences_in es) ts) (sym (readings_here t x es (same_text t)))
+    ∙ ap (λ (all : List MeterReading). differences from all ++ flat_map (differences_in es) ts) (sym (readings_here t x es (same_text t)))
     ∙ ap (λ ys. differences from (readings_in t (x ∷ es)) ++ ys) (others_keep x es ts (others_lack t (distinct (ids es))))
 
 -- what the transaction of the entry before gets of an entry
@@ -80,7 +80,7 @@ entry_split t level x es (inr absent) =
     let all = x ∷ es in
     let s = x.0.tx in
     ap (λ (b : Bool). differences (cond b level None) (readings_in s all) ++ flat_map (differences_in all) (others s (distinct (ids es)))) (differ_back t s absent.0)
-    ∙ sym (ap (λ (rs : List Metered). differences level rs ++ flat_map (differences_in all) (others t (distinct (ids all)))) (readings_absent t all absent)
+    ∙ sym (ap (λ (rs : List MeterReading). differences level rs ++ flat_map (differences_in all) (others t (distinct (ids all)))) (readings_absent t all absent)
     ∙ ap (flat_map (differences_in all)) (distinct_absent t (ids all) absent))
 
 walk_from : (e : Entry) (level : Option ℕ) (es : List Entry) → IsGrouped (e.0.tx ∷ ids es) → differences_of (Some e) level es ≡ differences level (readings_in e.0.tx es) ++ flat_map (differences_in es) (others e.0.tx (distinct (ids es)))

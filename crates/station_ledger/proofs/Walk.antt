@@ -1,7 +1,7 @@
 -- What a walk along entries finds: the transactions that begin, and the differences.
 use Rattle.std.proofs.Common.{◌≡◌, ℕ, ◌+◌, ◌<◌, Bool, true, false, not, cond, if◌then◌else◌, List, [], ◌∷◌, ◌++◌, length, get_or, drop, Option, Some, None, sym, ap, ◌∙◌, append_assoc}
 use Rattle.std.proofs.lemmas.List.{at_drop_more}
-use Rattle.ledger_model.specs.Event.{Metered}
+use Rattle.ledger_model.specs.Event.{MeterReading}
 use Rattle.energy_flow.specs.Flow.{Energy}
 use Rattle.ledger_model.specs.Content.{Entry, live}
 use Rattle.station_ledger.specs.Flows.{difference_at, differences, level_after, goes_on}
@@ -19,14 +19,14 @@ differences_of before level (e ∷ es) =
     differences from e.1.event.readings ++ differences_of (Some e) (level_after from e.1.event.readings) es
 
 -- one reading more
-pub differences_more : (before : Option ℕ) (rs : List Metered) (i : ℕ) (x : Metered) → i < length rs → x ≡ get_or rs i x → differences before (drop i rs) ≡ difference_at before x.mwh ++ differences (Some x.mwh) (drop (i + 1) rs)
-differences_more before rs i x lt is = at_drop_more (differences before) rs i x lt ∙ ap (λ (y : Metered). differences before (y ∷ drop (i + 1) rs)) (sym is)
+pub differences_more : (before : Option ℕ) (rs : List MeterReading) (i : ℕ) (x : MeterReading) → i < length rs → x ≡ get_or rs i x → differences before (drop i rs) ≡ difference_at before x.mwh ++ differences (Some x.mwh) (drop (i + 1) rs)
+differences_more before rs i x lt is = at_drop_more (differences before) rs i x lt ∙ ap (λ (y : MeterReading). differences before (y ∷ drop (i + 1) rs)) (sym is)
 
-pub level_more : (before : Option ℕ) (rs : List Metered) (i : ℕ) (x : Metered) → i < length rs → x ≡ get_or rs i x → level_after before (drop i rs) ≡ level_after (Some x.mwh) (drop (i + 1) rs)
-level_more before rs i x lt is = at_drop_more (level_after before) rs i x lt ∙ ap (λ (y : Metered). level_after before (y ∷ drop (i + 1) rs)) (sym is)
+pub level_more : (before : Option ℕ) (rs : List MeterReading) (i : ℕ) (x : MeterReading) → i < length rs → x ≡ get_or rs i x → level_after before (drop i rs) ≡ level_after (Some x.mwh) (drop (i + 1) rs)
+level_more before rs i x lt is = at_drop_more (level_after before) rs i x lt ∙ ap (λ (y : MeterReading). level_after before (y ∷ drop (i + 1) rs)) (sym is)
 
 -- a difference that was added comes off what is left
-pub flows_more : (fs gs : List Energy) (before : Option ℕ) (level : ℕ) (rs : List Metered) (i : ℕ) (x : Metered) → i < length rs → x ≡ get_or rs i x → level ≡ x.mwh → gs ≡ fs ++ difference_at before level → gs ++ differences (Some level) (drop (i + 1) rs) ≡ fs ++ differences before (drop i rs)
+pub flows_more : (fs gs : List Energy) (before : Option ℕ) (level : ℕ) (rs : List MeterReading) (i : ℕ) (x : MeterReading) → i < length rs → x ≡ get_or rs i x → level ≡ x.mwh → gs ≡ fs ++ difference_at before level → gs ++ differences (Some level) (drop (i + 1) rs) ≡ fs ++ differences before (drop i rs)
 flows_more fs gs before level rs i x lt is same added = sym (
     ap (λ ys. fs ++ ys) (differences_more before rs i x lt is)
     ∙ sym (append_assoc fs _ _)

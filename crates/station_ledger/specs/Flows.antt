@@ -1,7 +1,7 @@
 use Rattle.std.specs.Prelude.{ℕ, Bool, false, List, [], ◌∷◌, ◌++◌, Option, None, Some, sum_by}
 use Rattle.std.specs.Str.{bytes_eq}
 use Rattle.energy_flow.specs.Flow.{Energy, difference_of}
-use Rattle.ledger_model.specs.Event.{Metered}
+use Rattle.ledger_model.specs.Event.{MeterReading}
 use Rattle.ledger_model.specs.Content.{Entry}
 
 -- The difference of a level to the one before it, where there was one.
@@ -10,12 +10,12 @@ difference_at None level = []
 difference_at (Some before) level = difference_of before level ∷ []
 
 -- The differences of readings in order, where a level came before them or none.
-abbrev pub differences : Option ℕ → List Metered → List Energy
+abbrev pub differences : Option ℕ → List MeterReading → List Energy
 differences before [] = []
 differences before (r ∷ rs) = difference_at before r.mwh ++ differences (Some r.mwh) rs
 
 -- The level after readings.
-abbrev pub level_after : Option ℕ → List Metered → Option ℕ
+abbrev pub level_after : Option ℕ → List MeterReading → Option ℕ
 level_after before [] = before
 level_after before (r ∷ rs) = level_after (Some r.mwh) rs
 

@@ -3,7 +3,7 @@ use Rattle.std.specs.Coded.{Coded, code_by, coded×, coded_bool, coded_ℕ}
 use Rattle.std.specs.FinMap as finite
 use Rattle.std.specs.FinMap.{FinMap}
 use Rattle.ledger_model.specs.contracts.event.Event.{the_row}
-use Rattle.ledger_model.specs.Event.{Happening}
+use Rattle.ledger_model.specs.Event.{EventContent}
 use Rattle.ledger_model.specs.Key.{key_cmp, key_code}
 use Rattle.ledger_model.specs.Limits.{Bounds}
 use Rattle.ledger_model.specs.Content.{Content, Stored, Entry}
@@ -15,7 +15,7 @@ pub record Ledger : Type 0 where
 
 -- A stored event is kept as the pair of its parts.
 abbrev pub stored_code : Coded Stored
-stored_code = code_by (Happening × Bool) (coded× the_row.coded coded_bool) (λ s. (s.event, s.voided)) (λ p. record { event = p.0; voided = p.1 }) (λ _. refl)
+stored_code = code_by (EventContent × Bool) (coded× the_row.coded coded_bool) (λ s. (s.event, s.voided)) (λ p. record { event = p.0; voided = p.1 }) (λ _. refl)
 
 -- An entry is kept as the pair of its parts.
 abbrev pub entry_code : Coded Entry

@@ -4,7 +4,7 @@ use Rattle.ledger_model.specs.declared.answer.Answer.TheVariants.{Refused}
 use Rattle.ledger_model.specs.declared.answer.Refusal.TheVariants.{TooManyTransactions, EventsFull, ReadingsFull}
 use Rattle.ledger_model.specs.Limits.{Bounds}
 use Rattle.ledger_model.specs.Content.{Content, Entry, entries, transactions_of, has_transaction}
-use Rattle.ledger_model.specs.Step.{readings_stored, if_changes_left}
+use Rattle.ledger_model.specs.Step.{readings_stored, accepted_within_limit}
 
 -- The transaction is new, and as many as the limits allow are stored.
 abbrev pub is_transaction_too_many : Bounds → List Entry → List ℕ → Bool
@@ -24,4 +24,4 @@ answer_to_new limits c tx readings =
     if is_transaction_too_many limits (entries c) tx then Refused TooManyTransactions
     else (if is_full limits (entries c) then Refused EventsFull
     else (if are_readings_too_many limits (entries c) readings then Refused ReadingsFull
-    else if_changes_left limits c))
+    else accepted_within_limit limits c))

@@ -2,7 +2,7 @@ ghost use Rattle.std.specs.Prelude.{◌≡◌, ◌≤◌, IfOk, option_map};
 ghost use Rattle.std.specs.FinMap as finite;
 ghost use Rattle.ledger_model.specs.Content.{empty_content, entries};
 ghost use Rattle.ledger_model.specs.Energy.{energy};
-ghost use Rattle.ledger_model.specs.Step.{Reached, answer, answer_to_deliver, answer_to_void, answer_to_voided, if_changes_left, step};
+ghost use Rattle.ledger_model.specs.Step.{Reached, answer, answer_to_deliver, answer_to_void, answer_to_voided, accepted_within_limit, step};
 ghost use Rattle.station_ledger.specs.New.{answer_to_new, is_transaction_too_many, is_full, are_readings_too_many};
 ghost use Rattle.station_ledger.specs.Spent.{IsSpent};
 
@@ -98,7 +98,7 @@ impl StationLedger {
         } else if self.are_readings_too_many(readings) {
             Answer::Refused(Refusal::ReadingsFull)
         } else {
-            self.if_changes_left()
+            self.accepted_within_limit()
         }
     }
 
@@ -132,7 +132,7 @@ impl StationLedger {
         match self.stored(key) {
             None => Answer::Refused(Refusal::NoSuchEvent),
             Some(row) if row.is_voided() => Answer::Refused(Refusal::AlreadyVoided),
-            Some(_) => self.if_changes_left(),
+            Some(_) => self.accepted_within_limit(),
         }
     }
 
@@ -142,7 +142,7 @@ impl StationLedger {
     {
         match self.stored(key) {
             None => Answer::Refused(Refusal::NoSuchEvent),
-            Some(row) if row.is_voided() => self.if_changes_left(),
+            Some(row) if row.is_voided() => self.accepted_within_limit(),
             Some(_) => Answer::Refused(Refusal::NotVoided),
         }
     }
@@ -158,8 +158,8 @@ impl StationLedger {
     }
 
     // The answer to a command that all other rules allow.
-    fn if_changes_left(&self) -> Answer
-        ensures { result ≡ if_changes_left self.now.limits self.now.content }
+    fn accepted_within_limit(&self) -> Answer
+        ensures { result ≡ accepted_within_limit self.now.limits self.now.content }
     {
         if self.limits.changes() <= self.changes {
             Answer::Refused(Refusal::ChangesExhausted)

@@ -6,10 +6,10 @@ use Rattle.ledger_model.specs.declared.answer.Answer.{Answer}
 use Rattle.ledger_model.specs.declared.answer.Answer.TheVariants.{Accepted, Repeat, Refused}
 use Rattle.ledger_model.specs.declared.answer.Refusal.TheVariants.{ConflictingEvent, TooManyTransactions, EventsFull, ReadingsFull, ChangesExhausted}
 use Rattle.ledger_model.specs.Key.{KeyName}
-use Rattle.ledger_model.specs.Event.{Happening, same_event}
+use Rattle.ledger_model.specs.Event.{EventContent, same_event}
 use Rattle.ledger_model.specs.Limits.{Bounds}
 use Rattle.ledger_model.specs.Content.{Content, Stored, entries, transactions_of, has_transaction}
-use Rattle.ledger_model.specs.Step.{answer_to_deliver, readings_stored, if_changes_left}
+use Rattle.ledger_model.specs.Step.{answer_to_deliver, readings_stored, accepted_within_limit}
 use Rattle.transaction_event.specs.Laws.{EachDeliveryIsAnswered}
 use Rattle.transaction_event.specs.Reply.{answers_delivery}
 
@@ -17,11 +17,11 @@ either : (b : Bool) (x y : Answer) → answers_delivery x ≡ true → answers_d
 either true x y left right = left
 either false x y left right = right
 
-by_event : (limits : Bounds) (c : Content) (key : KeyName) (event : Happening) (there : Option Stored) → answers_delivery (answer_to_deliver limits c key event there) ≡ true
+by_event : (limits : Bounds) (c : Content) (key : KeyName) (event : EventContent) (there : Option Stored) → answers_delivery (answer_to_deliver limits c key event there) ≡ true
 by_event limits c key event (Some stored) = either (same_event stored.event event) Repeat (Refused ConflictingEvent) refl refl
 by_event limits c key event None =
-    let changes : answers_delivery (if_changes_left limits c) ≡ true = either (nat_le limits.changes c.changes) (Refused ChangesExhausted) (Accepted (c.changes + 1)) refl refl in
-    let readings = either (nat_lt limits.readings (readings_stored (entries c) + length event.readings)) (Refused ReadingsFull) (if_changes_left limits c) refl changes in
+    let changes : answers_delivery (accepted_within_limit limits c) ≡ true = either (nat_le limits.changes c.changes) (Refused ChangesExhausted) (Accepted (c.changes + 1)) refl refl in
+    let readings = either (nat_lt limits.readings (readings_stored (entries c) + length event.readings)) (Refused ReadingsFull) (accepted_within_limit limits c) refl changes in
     let events = either (nat_le limits.events (length (entries c))) (Refused EventsFull) _ refl readings in
     either (not (has_transaction key.tx (entries c)) && nat_le limits.transactions (length (transactions_of (entries c)))) (Refused TooManyTransactions) _ refl events
 

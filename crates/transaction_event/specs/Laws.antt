@@ -2,7 +2,7 @@
 use Rattle.std.specs.Prelude.{◌≡◌, true}
 use Rattle.ledger_model.specs.declared.command.Command.TheVariants.{Deliver}
 use Rattle.ledger_model.specs.Key.{KeyName}
-use Rattle.ledger_model.specs.Event.{Happening}
+use Rattle.ledger_model.specs.Event.{EventContent}
 use Rattle.ledger_model.specs.Limits.{Bounds}
 use Rattle.ledger_model.specs.Content.{Content}
 use Rattle.ledger_model.specs.Step.{answer}
@@ -10,4 +10,4 @@ use Rattle.transaction_event.specs.Reply.{answers_delivery}
 
 -- Whatever a ledger holds, its answer to a delivery has a reply.
 abbrev pub EachDeliveryIsAnswered : Type 0
-EachDeliveryIsAnswered = (limits : Bounds) (content : Content) (key : KeyName) (event : Happening) → answers_delivery (answer limits content (Deliver key event)) ≡ true
+EachDeliveryIsAnswered = (limits : Bounds) (content : Content) (key : KeyName) (event : EventContent) → answers_delivery (answer limits content (Deliver key event)) ≡ true

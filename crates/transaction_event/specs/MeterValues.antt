@@ -3,7 +3,7 @@ use Rattle.std.specs.Prelude.{List, [], unwrap_or, codes}
 use Rattle.std.specs.Option.{ok_or}
 use Rattle.serde_json.specs.Data.{Data}
 use Rattle.marked_json.specs.Reading.{items_of}
-use Rattle.ledger_model.specs.Event.{Metered}
+use Rattle.ledger_model.specs.Event.{MeterReading}
 use Rattle.transaction_event.specs.declared.fault.PayloadFault.TheVariants.{WrongType}
 use Rattle.transaction_event.specs.Steps.{Checked, ◌>>=◌, for_each}
 use Rattle.transaction_event.specs.Member.{object_of, required, optional}
@@ -11,7 +11,7 @@ use Rattle.transaction_event.specs.Timestamp.{timestamp}
 use Rattle.transaction_event.specs.Sampled.{sample}
 
 -- The readings so far, and those of one meter value: its sampled values in turn, each at its moment.
-unfoldable pub meter_value : List Metered → Data → Checked (List Metered)
+unfoldable pub meter_value : List MeterReading → Data → Checked (List MeterReading)
 meter_value so_far element = do
   meter ← ok_or (object_of element) WrongType
   moment ← timestamp meter
@@ -19,7 +19,7 @@ meter_value so_far element = do
   for_each (sample moment) so_far values
 
 -- The counted readings of a request; it may have no meter values.
-unfoldable pub meter_values : Data → Checked (List Metered)
+unfoldable pub meter_values : Data → Checked (List MeterReading)
 meter_values request = do
   elements ← optional items_of (codes "meterValue") request
   for_each meter_value [] (unwrap_or elements [])

@@ -7,7 +7,7 @@ use Rattle.marked_json.specs.Reading.{text_of}
 use Rattle.ledger_model.specs.declared.kind.Kind.{Kind}
 use Rattle.ledger_model.specs.declared.kind.Kind.TheVariants.{Started, Updated, Ended}
 use Rattle.ledger_model.specs.Key.{KeyName}
-use Rattle.ledger_model.specs.Event.{Happening}
+use Rattle.ledger_model.specs.Event.{EventContent}
 use Rattle.ledger_model.specs.TxId.{is_tx_id, folded}
 use Rattle.transaction_event.specs.declared.fault.PayloadFault.TheVariants.{Format, Range}
 use Rattle.transaction_event.specs.Steps.{Checked, ◌>>=◌, checked_map}
@@ -57,7 +57,7 @@ has_token request = checked_map is_some (optional object_of (codes "idToken") re
 -- A request: the event's key, the event, and whether an id token was there.
 pub record Request : Type 0 where
   pub key : KeyName
-  pub event : Happening
+  pub event : EventContent
   pub token : Bool
 
 -- The request of an object; any text is a trigger reason.

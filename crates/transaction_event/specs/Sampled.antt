@@ -6,7 +6,7 @@ use Rattle.serde_json.specs.Data.{Data}
 use Rattle.marked_json.specs.Reading.{text_of, number_of}
 use Rattle.reading_decimal.specs.declared.decimal.DecimalFault.{DecimalFault}
 use Rattle.reading_decimal.specs.Decimal.{mwh_reading}
-use Rattle.ledger_model.specs.Event.{Metered}
+use Rattle.ledger_model.specs.Event.{MeterReading}
 use Rattle.transaction_event.specs.declared.fault.PayloadFault.TheVariants.{WrongType, Decimal}
 use Rattle.transaction_event.specs.Steps.{Checked, ◌>>=◌}
 use Rattle.transaction_event.specs.Member.{object_of, required, optional}
@@ -45,13 +45,13 @@ sampled_mwh sampled = do
   decimal (mwh_reading token scale.multiplier scale.unit)
 
 -- A sampled value that counts is one more reading at that moment.
-abbrev pub if_counted : ℕ → List Metered → Data → Bool → Checked (List Metered)
+abbrev pub if_counted : ℕ → List MeterReading → Data → Bool → Checked (List MeterReading)
 if_counted moment so_far sampled counted =
     if counted then (sampled_mwh sampled >>= (λ mwh. one_more so_far (record { moment = moment; mwh = mwh })))
     else Ok so_far
 
 -- The readings so far, and that of a sampled value where it counts.
-unfoldable pub sample : ℕ → List Metered → Data → Checked (List Metered)
+unfoldable pub sample : ℕ → List MeterReading → Data → Checked (List MeterReading)
 sample moment so_far value = do
   sampled ← ok_or (object_of value) WrongType
   counted ← counts sampled

@@ -16,9 +16,9 @@ pub struct Readings {
 
 impl Model for Readings {
     ghost use Rattle.std.specs.Prelude.{List, ◌≤◌, length};
-    ghost use Rattle.ledger_model.specs.Event.{Metered};
+    ghost use Rattle.ledger_model.specs.Event.{MeterReading};
 
-    ghost Value = { List Metered };
+    ghost Value = { List MeterReading };
 
     ghost view = { λ r. r.items.items };
 

@@ -7,12 +7,12 @@ ghost use Rattle.ledger_model.specs.declared.answer.Answer.TheVariants.{Accepted
 ghost use Rattle.ledger_model.specs.declared.answer.Refusal.{Refusal};
 ghost use Rattle.ledger_model.specs.declared.answer.Refusal.TheVariants.{ConflictingEvent, EventsFull, NoSuchEvent, AlreadyVoided, NotVoided};
 ghost use Rattle.ledger_model.specs.Key.{KeyName};
-ghost use Rattle.ledger_model.specs.Limits.{Bounds};
+ghost use Rattle.ledger_model.specs.Limits.{Bounds, default_limits};
 ghost use Rattle.ledger_model.specs.Content.{Content, empty_content, entries};
 ghost use Rattle.ledger_model.specs.Step.{step, Reached};
 ghost use Rattle.ledger_model.specs.Energy.{readings_of, energy};
 ghost use Rattle.ledger_model.specs.Laws.{AreAccepted, left_by, answers, by_number, Sent, deliveries, IsLeftByRun};
-ghost use Rattle.ledger_model.specs.Examples.{default_limits, narrow_limits, first_run, late_event, falling_register, conflict, void_and_restore, full_until_erased};
+ghost use Rattle.ledger_model.specs.Examples.{narrow_limits, first_run, late_event, falling_register, conflict, void_and_restore, full_until_erased};
 
 /// An accepted void, then an accepted restoration of the same key, gives back the events and which of
 /// them are voided; both are counted.

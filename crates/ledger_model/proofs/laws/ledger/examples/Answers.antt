@@ -1,5 +1,6 @@
 use Rattle.std.proofs.Common.{refl}
-use Rattle.ledger_model.specs.Examples.{default_limits, narrow_limits, first_run, late_event, falling_register, conflict, void_and_restore, full_until_erased}
+use Rattle.ledger_model.specs.Limits.{default_limits}
+use Rattle.ledger_model.specs.Examples.{narrow_limits, first_run, late_event, falling_register, conflict, void_and_restore, full_until_erased}
 use Rattle.ledger_model.proofs.Examples.{energy_after, answers_to}
 use Rattle.ledger_model.proofs.laws.ledger.examples.Goals as goal
 

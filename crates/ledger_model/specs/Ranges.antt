@@ -1,0 +1,42 @@
+-- The greatest and the longest that a ledger's values may be (this product's profile).
+use Rattle.std.specs.Prelude.{ℕ, ◌^◌}
+
+-- The greatest reading, in milliwatt-hours: ten gigawatt-hours.
+abbrev pub greatest_reading : ℕ
+greatest_reading = 10_000_000_000_000
+
+-- How many counted readings an event may have.
+abbrev pub most_event_readings : ℕ
+most_event_readings = 1_024
+
+-- How many characters a transaction's id may have.
+abbrev pub most_id_characters : ℕ
+most_id_characters = 36
+
+-- How many characters the name of a site or a station may have.
+abbrev pub most_name_characters : ℕ
+most_name_characters = 48
+
+-- The first number that is above each sequence number.
+abbrev pub sequence_end : ℕ
+sequence_end = 2 ^ 31
+
+-- The greatest number of an EVSE.
+abbrev pub greatest_evse : ℕ
+greatest_evse = 64
+
+-- How many transactions one station may store.
+abbrev pub most_transactions : ℕ
+most_transactions = 4_096
+
+-- How many events one station may store.
+abbrev pub most_events : ℕ
+most_events = 65_536
+
+-- How many readings one station may store.
+abbrev pub most_readings : ℕ
+most_readings = 65_536
+
+-- How many changes one station may accept.
+abbrev pub most_changes : ℕ
+most_changes = 2 ^ 63
