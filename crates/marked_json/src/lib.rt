@@ -6,7 +6,7 @@
 //! [`Node`] shows has the marks taken off again.
 //!
 //! The contract of [`read_marked`] is the marked reading: the tree that `serde_json`'s own definition gives for
-//! the marked text, or exactly the fault that the marked reading names. Only want of memory is left out of it.
+//! the marked text, or exactly the fault that the marked reading names. Only running out of memory is left out of it.
 //!
 //! ```text
 //! let marked = read_marked(alloc, r#"{"seqNo":1,"value":2.50}"#)?;

@@ -16,7 +16,7 @@ Replays text most limit (Err TooMuchInput) read written = (length read ≡ limit
 Replays text most limit (Err WriteFault) read written = (length read ≤ limit) × ((rest : List ℕ) × (text (lines_of most read) ≡ written ++ rest))
 Replays text most limit (Err OutOfMemory) read written = (length read ≤ limit) × (written ≡ text (complete_lines most (take (length read - 1) read)))
 
--- want of memory came after a byte was read
+-- memory ran out after a byte was read
 abbrev pub Began : {T : Type 0} → Result T ReplayFault → List ℕ → Type 0
 Began (Ok _) read = Unit {0}
 Began (Err ReadFault) read = Unit {0}

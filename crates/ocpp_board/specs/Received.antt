@@ -8,7 +8,7 @@ use Rattle.transaction_event.specs.declared.message.Message.TheVariants as messa
 use Rattle.transaction_event.specs.Reply.{event_reply_bytes}
 use Rattle.ocpp_board.specs.Script.{ended_line}
 
--- an event takes the ledger's step and gets the answer's reply; all else leaves the ledger, and a reply that tells of want of memory is none
+-- an event takes the ledger's step and gets the answer's reply; all else leaves the ledger, and a reply that tells OutOfMemory is none
 abbrev pub TakesMessage : Ledger → Ledger → Message → List ℕ → Type 0
 TakesMessage old new (message.Event id key event token) reply =
     (new ≡ record old { content = (step old.limits old.content (Deliver key event)).0 })

@@ -1,7 +1,7 @@
 ghost use Rattle.std.specs.Prelude.{◌≡◌, [], ◌++◌, true, IfOk, OnOk, Some};
 ghost use Rattle.ocpp_board.specs.Lines.{line_bytes};
 ghost use Rattle.ocpp_board.specs.Plans.{planned, opened, opened_world};
-ghost use Rattle.transaction_event.specs.Means.{HasShortId};
+ghost use Rattle.transaction_event.specs.MessageMeaning.{HasShortId};
 ghost use Rattle.ocpp_board.specs.Received.{TakesMessage};
 ghost use Rattle.ocpp_board.specs.Script.{default_limits as limits_of_a_station, line_step, energy_answer, sent_to, station_named};
 

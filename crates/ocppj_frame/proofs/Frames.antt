@@ -15,6 +15,7 @@ use Rattle.ocppj_frame.specs.Reply.{character_count}
 use Rattle.ocppj_frame.specs.Action.{action_of, action_name, actions}
 use Rattle.ocppj_frame.specs.Id.{message_id}
 use Rattle.ocppj_frame.specs.Frame.{Frame, Called, Silence, refused, id_of, with_action, with_name, with_id, with_type, frame_of, payload_in}
+use Rattle.ocppj_frame.specs.Ranges.{longest_message_id}
 
 -- the elements are those of a call
 pub record Calls (elements : List Data) (id : List ℕ) (action : Action) (payload : Data) : Type 0 where
@@ -24,7 +25,7 @@ pub record Calls (elements : List Data) (id : List ℕ) (action : Action) (paylo
   pub are : elements ≡ kind ∷ second ∷ third ∷ payload ∷ []
   pub is_two : number_of kind ≡ Some (codes "2")
   pub has_id : text_of second ≡ Some id
-  pub short_id : character_count id ≤ 36
+  pub short_id : character_count id ≤ longest_message_id
   pub has_action : text_of third ≡ Some (action_name action)
   pub has_object : is_object payload ≡ true
 
@@ -43,17 +44,17 @@ data Outcome (elements : List Data) (asked : Frame) : Type 0 where
 
 -- ---- ids and actions
 
-id-parts : (text : List ℕ) (short : Bool) → nat_le (character_count text) 36 ≡ short → (id : List ℕ) →
-    (if short then Some text else None) ≡ Some id → (text ≡ id) × (character_count id ≤ 36)
+id-parts : (text : List ℕ) (short : Bool) → nat_le (character_count text) longest_message_id ≡ short → (id : List ℕ) →
+    (if short then Some text else None) ≡ Some id → (text ≡ id) × (character_count id ≤ longest_message_id)
 id-parts text true e id is =
-    let same : text ≡ id = cc in (same, subst (λ t. character_count t ≤ 36) same (leb-true _ _ e))
+    let same : text ≡ id = cc in (same, subst (λ t. character_count t ≤ longest_message_id) same (leb-true _ _ e))
 id-parts text false e id is = absurd (cc)
 
 -- an id is a text of at most 36 characters
-id_of-parts : (text : Option (List ℕ)) (id : List ℕ) → option_and_then message_id text ≡ Some id → (text ≡ Some id) × (character_count id ≤ 36)
+id_of-parts : (text : Option (List ℕ)) (id : List ℕ) → option_and_then message_id text ≡ Some id → (text ≡ Some id) × (character_count id ≤ longest_message_id)
 id_of-parts None id e = absurd (cc)
 id_of-parts (Some text) id e =
-    let parts = id-parts text (nat_le (character_count text) 36) refl id e in (ap Some parts.0, parts.1)
+    let parts = id-parts text (nat_le (character_count text) longest_message_id) refl id e in (ap Some parts.0, parts.1)
 
 passes_next : (test : Action → Bool) (action found : Action) (actions : List Action) (passes : Bool) → test action ≡ passes →
     (find test actions ≡ Some found → test found ≡ true) → (if passes then Some action else find test actions) ≡ Some found → test found ≡ true

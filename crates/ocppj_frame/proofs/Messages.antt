@@ -12,6 +12,7 @@ use Rattle.ocppj_frame.specs.Id.{message_id}
 use Rattle.ocppj_frame.specs.Frame.{Called, Silence, refused, id_of, with_action, with_name, with_id, with_type, frame_of, elements_of, frame_read, frame}
 use Rattle.ocppj_frame.specs.Message.{IsCall, IsAnswer}
 use Rattle.ocppj_frame.proofs.Frames.{Calls, Answers, frame_of-Called, frame_of-Silence, action_of-action_name}
+use Rattle.ocppj_frame.specs.Ranges.{longest_message, longest_message_id}
 
 -- ---- arrays and their elements
 
@@ -52,13 +53,13 @@ text-Silence false (Ok tree) e = (refl, tree, refl, frame_of-Silence (elements_o
 IsCall-from_frame : (text id : List ℕ) (action : Action) (payload : Data) → frame text ≡ Called id action payload → IsCall text id action payload
 unfolding items_from
 IsCall-from_frame text id action payload e =
-    let parts = text-Called (nat_lt 262_144 (length text)) (marked_reading text) id action payload e in
+    let parts = text-Called (nat_lt longest_message (length text)) (marked_reading text) id action payload e in
     let calls = parts.3 in
     record {
       kind = calls.kind;
       second = calls.second;
       third = calls.third;
-      length_ok = ltb-false 262_144 (length text) parts.0;
+      length_ok = ltb-false longest_message (length text) parts.0;
       reading = parts.2 ∙ ap Ok (elements-array parts.1 calls.kind (calls.second ∷ calls.third ∷ payload ∷ []) calls.are);
       is_two = calls.is_two;
       has_id = calls.has_id;
@@ -70,24 +71,24 @@ IsCall-from_frame text id action payload e =
 IsAnswer-from_frame : (text : List ℕ) → frame text ≡ Silence → IsAnswer text
 unfolding items_from
 IsAnswer-from_frame text e =
-    let parts = text-Silence (nat_lt 262_144 (length text)) (marked_reading text) e in
+    let parts = text-Silence (nat_lt longest_message (length text)) (marked_reading text) e in
     let answers = parts.3 in
     record {
       kind = answers.kind;
       rest = items_from answers.rest;
-      length_ok = ltb-false 262_144 (length text) parts.0;
+      length_ok = ltb-false longest_message (length text) parts.0;
       reading = parts.2 ∙ ap Ok (elements-array parts.1 answers.kind answers.rest answers.are);
       is_three_or_four = answers.is_three_or_four;
     }
 
 -- ---- what is like that is taken
 
-read_frame_of : (text : List ℕ) (tree : Data) → length text ≤ 262_144 → marked_reading text ≡ Ok tree → frame text ≡ frame_of (elements_of tree)
+read_frame_of : (text : List ℕ) (tree : Data) → length text ≤ longest_message → marked_reading text ≡ Ok tree → frame text ≡ frame_of (elements_of tree)
 read_frame_of text tree short reading =
-    ap (λ long. if long then refused None TextTooLong else frame_read (marked_reading text)) (le-ltb 262_144 (length text) short) ∙ ap frame_read reading
+    ap (λ long. if long then refused None TextTooLong else frame_read (marked_reading text)) (le-ltb longest_message (length text) short) ∙ ap frame_read reading
 
-message_id-Some : (id : List ℕ) → character_count id ≤ 36 → message_id id ≡ Some id
-message_id-Some id short = ap (λ b. if b then Some id else None) (le-leb (character_count id) 36 short)
+message_id-Some : (id : List ℕ) → character_count id ≤ longest_message_id → message_id id ≡ Some id
+message_id-Some id short = ap (λ b. if b then Some id else None) (le-leb (character_count id) longest_message_id short)
 
 frame-from_IsCall : (text id : List ℕ) (action : Action) (payload : Data) → IsCall text id action payload → frame text ≡ Called id action payload
 frame-from_IsCall text id action payload call =

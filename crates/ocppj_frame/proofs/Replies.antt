@@ -33,17 +33,17 @@ same_last_letter id other_id code other_code start other_start letter other_lett
     (sym (error_bytes-ends id code start letter) ∙ e ∙ error_bytes-ends other_id other_code other_start other_letter) in
     cc
 
--- a reply whose description does not end in `y` does not tell of want of memory
-pub other_last_letter : (id : List ℕ) (code : ErrorCode) (start : List ℕ) (letter : ℕ) → letter ≢ 121 →
-    error_bytes id code (start ++ letter ∷ []) ≡ memory_bytes → ⊥
-other_last_letter id code start letter differs e =
-    differs (same_last_letter id (codes "-1") code InternalError start (codes "OutOfMemor") letter 121 e)
+-- a reply whose description does not end in `y` does not tell OutOfMemory, with whatever id
+pub other_last_letter : (id other : List ℕ) (code : ErrorCode) (start : List ℕ) (letter : ℕ) → letter ≢ 121 →
+    error_bytes id code (start ++ letter ∷ []) ≡ error_bytes other InternalError (codes "OutOfMemory") → ⊥
+other_last_letter id other code start letter differs e =
+    differs (same_last_letter id other code InternalError start (codes "OutOfMemor") letter 121 e)
 
--- no reply that tells of a fault tells of want of memory
+-- no reply that tells of a fault tells OutOfMemory
 pub fault_is_not_memory : (id : List ℕ) (fault : FrameFault) → error_bytes id (fault_code fault) (fault_name fault) ≡ memory_bytes → ⊥
-fault_is_not_memory id TextTooLong e = other_last_letter id (fault_code TextTooLong) (codes "TextTooLon") 103 (omega arith) e
-fault_is_not_memory id NotJson e = other_last_letter id (fault_code NotJson) (codes "NotJso") 110 (omega arith) e
-fault_is_not_memory id NotACall e = other_last_letter id (fault_code NotACall) (codes "NotACal") 108 (omega arith) e
-fault_is_not_memory id MessageType e = other_last_letter id (fault_code MessageType) (codes "MessageTyp") 101 (omega arith) e
-fault_is_not_memory id UnknownAction e = other_last_letter id (fault_code UnknownAction) (codes "UnknownActio") 110 (omega arith) e
-fault_is_not_memory id Format e = other_last_letter id (fault_code Format) (codes "Forma") 116 (omega arith) e
+fault_is_not_memory id TextTooLong e = other_last_letter id (codes "-1") (fault_code TextTooLong) (codes "TextTooLon") 103 (omega arith) e
+fault_is_not_memory id NotJson e = other_last_letter id (codes "-1") (fault_code NotJson) (codes "NotJso") 110 (omega arith) e
+fault_is_not_memory id NotACall e = other_last_letter id (codes "-1") (fault_code NotACall) (codes "NotACal") 108 (omega arith) e
+fault_is_not_memory id MessageType e = other_last_letter id (codes "-1") (fault_code MessageType) (codes "MessageTyp") 101 (omega arith) e
+fault_is_not_memory id UnknownAction e = other_last_letter id (codes "-1") (fault_code UnknownAction) (codes "UnknownActio") 110 (omega arith) e
+fault_is_not_memory id Format e = other_last_letter id (codes "-1") (fault_code Format) (codes "Forma") 116 (omega arith) e

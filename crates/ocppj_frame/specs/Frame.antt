@@ -12,6 +12,7 @@ use Rattle.ocppj_frame.specs.Reply.{error_bytes}
 use Rattle.ocppj_frame.specs.Action.{action_of}
 use Rattle.ocppj_frame.specs.Id.{message_id}
 use Rattle.ocppj_frame.specs.FrameFault.{fault_code, fault_name}
+use Rattle.ocppj_frame.specs.Ranges.{longest_message}
 
 -- A call with its id, action and payload, or no answer, or a ready reply.
 pub data Frame : Type 0 where
@@ -23,7 +24,7 @@ pub data Frame : Type 0 where
 abbrev pub refused : Option (List ℕ) → FrameFault → Frame
 refused id fault = Ready (error_bytes (unwrap_or id (codes "-1")) (fault_code fault) (fault_name fault))
 
--- An element as an id: a text of at most 36 characters.
+-- An element as an id: a text no longer than an id may be.
 abbrev pub id_of : Data → Option (List ℕ)
 id_of element = option_and_then message_id (text_of element)
 
@@ -68,9 +69,9 @@ abbrev pub frame_read : Result Data JsonFault → Frame
 frame_read (Err _) = refused None NotJson
 frame_read (Ok tree) = frame_of (elements_of tree)
 
--- What a text asks for; it has at most 262,144 bytes.
+-- What a text asks for; it is no longer than a message may be.
 abbrev pub frame : List ℕ → Frame
-frame text = if nat_lt 262_144 (length text) then refused None TextTooLong else frame_read (marked_reading text)
+frame text = if nat_lt longest_message (length text) then refused None TextTooLong else frame_read (marked_reading text)
 
 -- The fourth element; `null` where there is none.
 abbrev pub payload_in : List Data → Data

@@ -6,20 +6,20 @@ use Rattle.ocppj_frame.specs.Reply.{memory_bytes}
 use Rattle.ocppj_frame.specs.Frame.{Frame, Called, Silence, Ready}
 use Rattle.ocppj_frame.specs.Call.{id_of, action_of, payload_of}
 
--- The answer is what the text asks for, or it tells of want of memory.
+-- The answer is what the text asks for, or it tells OutOfMemory.
 abbrev pub Reads : Frame → Incoming → Type 0
 Reads frame (incoming.Call call) = frame ≡ Called (id_of call) (action_of call) (payload_of call)
 Reads frame incoming.Silent = frame ≡ Silence
 Reads frame (incoming.Reply text false) = frame ≡ Ready text.bytes
 Reads frame (incoming.Reply text true) = text.bytes ≡ memory_bytes
 
--- `memory` is true exactly where the reply is the one that tells of want of memory.
-abbrev pub TellsMemory : Incoming → Type 0
-TellsMemory (incoming.Call call) = ⊤
-TellsMemory incoming.Silent = ⊤
-TellsMemory (incoming.Reply text memory) = IsTrue memory ↔ (text.bytes ≡ memory_bytes)
+-- `memory` is true exactly where the reply is the one that tells OutOfMemory.
+abbrev pub IsMemoryTold : Incoming → Type 0
+IsMemoryTold (incoming.Call call) = ⊤
+IsMemoryTold incoming.Silent = ⊤
+IsMemoryTold (incoming.Reply text memory) = IsTrue memory ↔ (text.bytes ≡ memory_bytes)
 
--- The answer tells of want of memory.
+-- The answer tells OutOfMemory.
 abbrev pub IsOutOfMemory : Incoming → Type 0
 IsOutOfMemory (incoming.Call call) = ⊥
 IsOutOfMemory incoming.Silent = ⊥

@@ -1,3 +1,4 @@
+pub mod Ranges
 pub mod ErrorCode
 pub mod Reply
 pub mod Action

@@ -5,25 +5,26 @@ use Rattle.marked_json.specs.Reading.{marked_reading, text_of, number_of, is_obj
 use Rattle.ocppj_frame.specs.declared.action.Action.{Action}
 use Rattle.ocppj_frame.specs.Action.{action_name}
 use Rattle.ocppj_frame.specs.Reply.{character_count}
+use Rattle.ocppj_frame.specs.Ranges.{longest_message, longest_message_id}
 
--- A CALL is `[2,<id>,<action>,<payload>]` of at most 262,144 bytes: the id is a text of at most 36 characters, the
+-- A CALL is `[2,<id>,<action>,<payload>]` no longer than a message may be: the id is a text no longer than an id may be, the
 -- action is the name of one of the five, the payload is an object.
 pub record IsCall (text id : List ℕ) (action : Action) (payload : Data) : Type 0 where
   pub kind : Data
   pub second : Data
   pub third : Data
-  pub length_ok : length text ≤ 262_144
+  pub length_ok : length text ≤ longest_message
   pub reading : marked_reading text ≡ Ok (array (item kind (item second (item third (item payload no_items)))))
   pub is_two : number_of kind ≡ Some (codes "2")
   pub has_id : text_of second ≡ Some id
-  pub short_id : character_count id ≤ 36
+  pub short_id : character_count id ≤ longest_message_id
   pub has_action : text_of third ≡ Some (action_name action)
   pub has_object : is_object payload ≡ true
 
--- A CALLRESULT is `[3,..]` and a CALLERROR is `[4,..]`, of at most 262,144 bytes, whatever follows.
+-- A CALLRESULT is `[3,..]` and a CALLERROR is `[4,..]`, no longer than a message may be, whatever follows.
 pub record IsAnswer (text : List ℕ) : Type 0 where
   pub kind : Data
   pub rest : Items
-  pub length_ok : length text ≤ 262_144
+  pub length_ok : length text ≤ longest_message
   pub reading : marked_reading text ≡ Ok (array (item kind rest))
   pub is_three_or_four : (number_of kind ≡ Some (codes "3")) ⊎ (number_of kind ≡ Some (codes "4"))

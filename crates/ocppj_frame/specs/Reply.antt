@@ -24,23 +24,35 @@ escaped c =
 abbrev pub json_string : List ℕ → List ℕ
 json_string text = codes "\"" ++ (flat_map escaped (chars text) ++ codes "\"")
 
+-- A HeartbeatResponse at a moment's text.
+abbrev pub heartbeat : List ℕ → List ℕ
+heartbeat now = codes "{\"currentTime\":\"" ++ (now ++ codes "\"}")
+
+-- A BootNotificationResponse at a moment's text: accepted, with a heartbeat every 300 seconds.
+abbrev pub boot : List ℕ → List ℕ
+boot now = codes "{\"currentTime\":\"" ++ (now ++ codes "\",\"interval\":300,\"status\":\"Accepted\"}")
+
 -- The payload of a CALLRESULT.
 abbrev pub body_bytes : Body → List ℕ
 body_bytes Empty = codes "{}"
 body_bytes TokenAccepted = codes "{\"idTokenInfo\":{\"status\":\"Accepted\"}}"
-body_bytes (Now now) = codes "{\"currentTime\":\"" ++ (now.bytes ++ codes "\"}")
-body_bytes (Boot now) = codes "{\"currentTime\":\"" ++ (now.bytes ++ codes "\",\"interval\":300,\"status\":\"Accepted\"}")
+body_bytes (Now now) = heartbeat now.bytes
+body_bytes (Boot now) = boot now.bytes
 
--- A CALLRESULT: `[3,<id>,<payload>]`.
+-- A CALLRESULT with a payload: `[3,<id>,<payload>]`.
+abbrev pub call_result : List ℕ → List ℕ → List ℕ
+call_result id payload = codes "[3," ++ (json_string id ++ (codes "," ++ (payload ++ codes "]")))
+
+-- The CALLRESULT of a body.
 abbrev pub result_bytes : List ℕ → Body → List ℕ
-result_bytes id body = codes "[3," ++ (json_string id ++ (codes "," ++ (body_bytes body ++ codes "]")))
+result_bytes id body = call_result id (body_bytes body)
 
 -- A CALLERROR: `[4,<id>,"<code>","<description>",{}]`.
 abbrev pub error_bytes : List ℕ → ErrorCode → List ℕ → List ℕ
 error_bytes id code description =
     codes "[4," ++ (json_string id ++ (codes ",\"" ++ (code_name code ++ (codes "\",\"" ++ (description ++ codes "\",{}]")))))
 
--- The CALLERROR that tells of want of memory while a text is read.
+-- The CALLERROR that tells OutOfMemory while a text is read.
 abbrev pub memory_bytes : List ℕ
 memory_bytes = error_bytes (codes "-1") InternalError (codes "OutOfMemory")
 

@@ -2,6 +2,7 @@ ghost use Rattle.std.specs.Prelude.{◌≡◌, ◌≤◌, true, length};
 ghost use Rattle.marked_json.specs.Reading.{tree, node, is_object};
 ghost use Rattle.ocppj_frame.specs.Reply.{character_count};
 ghost use Rattle.ocppj_frame.specs.Frame.{elements_of, payload_in};
+ghost use Rattle.ocppj_frame.specs.Ranges.{longest_message_id};
 
 use crate::action::Action;
 use crate::message_id::MessageId;
@@ -13,7 +14,7 @@ pub struct Call {
     pub(crate) id: MessageId,
     pub(crate) action: Action,
     pub(crate) frame: Marked,
-    ghost short: { character_count id ≤ 36 },
+    ghost short: { character_count id ≤ longest_message_id },
     ghost four: { length (elements_of (tree frame)) ≡ 4 },
     ghost object: { is_object (payload_in (elements_of (tree frame))) ≡ true },
 }
@@ -24,7 +25,7 @@ impl Call {
     /// The id of the message, of at most 36 characters, which are Unicode scalar values.
     pub fn id(&self) -> &str
         ensures value { result.now ≡ id_of self.now }
-        ensures short { character_count result.now ≤ 36 }
+        ensures short { character_count result.now ≤ longest_message_id }
     {
         self.id.as_str()
     }

@@ -1,8 +1,9 @@
 ghost use Rattle.std.specs.Prelude.{◌≡◌, ◌≤◌, length};
 ghost use Rattle.marked_json.specs.Reading.{tree};
 ghost use Rattle.ocppj_frame.specs.Frame.{frame, frame_of, refused, elements_of};
-ghost use Rattle.ocppj_frame.specs.Incoming.{Reads, TellsMemory, IsOutOfMemory};
+ghost use Rattle.ocppj_frame.specs.Incoming.{Reads, IsMemoryTold, IsOutOfMemory};
 ghost use Rattle.ocppj_frame.specs.Reply.{memory_bytes};
+ghost use Rattle.ocppj_frame.specs.Ranges.{longest_message};
 
 use crate::call::Call;
 use crate::error_code::ErrorCode;
@@ -14,8 +15,8 @@ use arrayvec::ArrayString;
 use marked_json::{JsonFault, Marked, read_marked};
 use std::alloc::Global;
 
-// How many bytes a text has at most.
-const MAX_BYTES: usize = 262_144;
+/// How many bytes the text of a message may have (this product's profile).
+pub const MAX_MESSAGE: usize = 262_144;
 
 /// What a text asks for.
 #[derive(Drop)]
@@ -28,20 +29,20 @@ pub enum Incoming {
     Reply {
         /// The reply.
         text: ArrayString<512>,
-        /// Whether it tells of want of memory.
+        /// Whether it tells OutOfMemory.
         memory: bool,
     },
 }
 
 /// Reads a text as an OCPP-J frame (OCPP 2.0.1 Part 4). The first check that fails answers: a text above
 /// 262,144 bytes, no JSON, no call, an answer (silence), another type, another action, a payload that is
-/// no object. Want of memory while reading is a ready reply too, the one with `memory` set.
+/// no object. Running out of memory while reading is a ready reply too, the one with `memory` set.
 pub fn read_frame(alloc: Global, text: &str) -> Incoming
     ensures meaning { Reads (frame text.now) result }
-    ensures memory { TellsMemory result }
-    ensures while_reading { IsOutOfMemory result → length text.now ≤ 262_144 }
+    ensures memory { IsMemoryTold result }
+    ensures while_reading { IsOutOfMemory result → length text.now ≤ longest_message }
 {
-    if text.len() > MAX_BYTES {
+    if text.len() > MAX_MESSAGE {
         return refusal(None, FrameFault::TextTooLong);
     }
     match read_marked(alloc, text) {
@@ -57,7 +58,7 @@ pub fn read_frame(alloc: Global, text: &str) -> Incoming
 // What a text asks for that was read.
 fn read_tree(marked: Marked) -> Incoming
     ensures meaning { Reads (frame_of (elements_of (tree marked))) result }
-    ensures memory { TellsMemory result }
+    ensures memory { IsMemoryTold result }
     ensures read { ¬ IsOutOfMemory result }
 {
     match verdict_on(marked.root()) {
@@ -74,7 +75,7 @@ fn read_tree(marked: Marked) -> Incoming
 // The reply that tells of a fault.
 fn refusal(id: Option<MessageId>, fault: FrameFault) -> Incoming
     ensures meaning { Reads (refused id fault) result }
-    ensures memory { TellsMemory result }
+    ensures memory { IsMemoryTold result }
     ensures ready { ¬ IsOutOfMemory result }
 {
     let id = id.unwrap_or(MessageId::unknown());
@@ -84,7 +85,7 @@ fn refusal(id: Option<MessageId>, fault: FrameFault) -> Incoming
     }
 }
 
-// The reply that tells of want of memory.
+// The reply that tells OutOfMemory.
 fn memory_text() -> ArrayString<512>
     ensures { result.bytes ≡ memory_bytes }
 {

@@ -2,6 +2,7 @@ ghost use Rattle.std.specs.Prelude.{◌≡◌, ◌≤◌, ◌+◌, ◌<◌, ◌+
 ghost use Rattle.std.specs.Char.{digit_char};
 ghost use Rattle.arrayvec.specs.ArrayString.{array_string_len};
 ghost use Rattle.ocppj_frame.specs.Reply.{json_string as json_string_of, escaped, character_count};
+ghost use Rattle.ocppj_frame.specs.Ranges.{longest_message_id};
 
 use arrayvec::ArrayString;
 
@@ -36,7 +37,7 @@ fn push_escaped(text: &mut ArrayString<218>, character: char)
 
 // A text of at most 36 characters, as a JSON string.
 pub(crate) fn json_string(text: &str) -> ArrayString<218>
-    requires { character_count text.now ≤ 36 }
+    requires { character_count text.now ≤ longest_message_id }
     ensures { result.bytes ≡ json_string_of text.now }
 {
     let mut string = ArrayString::new();

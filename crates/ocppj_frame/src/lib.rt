@@ -6,7 +6,7 @@
 //!
 //! The crate's one contract: what a text asks for is the function `frame` of `specs/Frame.antt`, which names the
 //! checks in their order on the tree that the text is read into; `read_frame` gives that and nothing else, but
-//! for want of memory, which is a reply of its own. A reply is, byte for byte, what `specs/Reply.antt` says, and
+//! for running out of memory, which is a reply of its own. A reply is, byte for byte, what `specs/Reply.antt` says, and
 //! always fits 512 bytes.
 //!
 //! ```text
@@ -35,6 +35,6 @@ pub use action::Action;
 pub use body::Body;
 pub use call::Call;
 pub use error_code::ErrorCode;
-pub use incoming::{Incoming, read_frame};
-pub use message_id::is_message_id;
+pub use incoming::{Incoming, MAX_MESSAGE, read_frame};
+pub use message_id::{MAX_MESSAGE_ID, is_message_id};
 pub use reply::{error_text, result_text};

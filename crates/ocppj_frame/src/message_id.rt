@@ -1,19 +1,20 @@
 ghost use Rattle.std.specs.Prelude.{◌≡◌, ◌≤◌, ◌*◌, ◌↔◌, IsTrue, codes, length};
 ghost use Rattle.ocppj_frame.specs.Reply.{character_count as count_of};
 ghost use Rattle.ocppj_frame.specs.Id.{message_id};
+ghost use Rattle.ocppj_frame.specs.Ranges.{longest_message_id};
 
 use arrayvec::ArrayString;
 use std::marker::Model;
 
-// How many characters the id of a message has at most.
-const MAX_CHARACTERS: usize = 36;
+/// How many characters the id of a message may have, which are Unicode scalar values (OCPP 2.0.1 Part 4).
+pub const MAX_MESSAGE_ID: usize = 36;
 
 /// Whether a text can be the id of a message: it has at most 36 characters, which are Unicode scalar values
 /// (OCPP 2.0.1 Part 4).
 pub fn is_message_id(text: &str) -> bool
-    ensures { IsTrue result ↔ (count_of text.now ≤ 36) }
+    ensures { IsTrue result ↔ (count_of text.now ≤ longest_message_id) }
 {
-    character_count(text) <= MAX_CHARACTERS
+    character_count(text) <= MAX_MESSAGE_ID
 }
 
 // How many characters a text has.
@@ -32,13 +33,14 @@ pub(crate) struct MessageId {
 
 impl Model for MessageId {
     ghost use Rattle.std.specs.Prelude.{List, ℕ, ◌≤◌};
+    ghost use Rattle.ocppj_frame.specs.Ranges.{longest_message_id};
     ghost use Rattle.ocppj_frame.specs.Reply.{character_count};
 
     ghost Value = { List ℕ };
 
     ghost view = { λ id. id.text.bytes };
 
-    ghost invariant = { λ id. character_count id.text.bytes ≤ 36 };
+    ghost invariant = { λ id. character_count id.text.bytes ≤ longest_message_id };
 }
 
 impl MessageId {
@@ -46,7 +48,7 @@ impl MessageId {
     pub(crate) fn new(text: &str) -> Option<Self>
         ensures { result ≡ message_id text.now }
     {
-        if character_count(text) > MAX_CHARACTERS {
+        if character_count(text) > MAX_MESSAGE_ID {
             return None;
         }
         let mut kept = ArrayString::new();
@@ -66,7 +68,7 @@ impl MessageId {
     // The text.
     pub(crate) fn as_str(&self) -> &str
         ensures value { result.now ≡ self.now }
-        ensures short { count_of result.now ≤ 36 }
+        ensures short { count_of result.now ≤ longest_message_id }
     {
         self.text.as_str()
     }

@@ -1,6 +1,7 @@
 ghost use Rattle.std.specs.Prelude.{◌≡◌, ◌≤◌, true, length};
 ghost use Rattle.std.specs.List.{list_all};
 ghost use Rattle.ocppj_frame.specs.Reply.{result_bytes, error_bytes, character_count, is_letter};
+ghost use Rattle.ocppj_frame.specs.Ranges.{longest_message_id};
 
 use crate::body::{Body, body_text};
 use crate::error_code::ErrorCode;
@@ -10,7 +11,7 @@ use arrayvec::ArrayString;
 /// A CALLRESULT without blanks (OCPP 2.0.1 Part 4). The id has at most 36 characters, which are
 /// Unicode scalar values.
 pub fn result_text(id: &str, body: Body) -> ArrayString<512>
-    requires { character_count id.now ≤ 36 }
+    requires { character_count id.now ≤ longest_message_id }
     ensures { result.bytes ≡ result_bytes id.now body }
 {
     let mut text = ArrayString::new();
@@ -25,7 +26,7 @@ pub fn result_text(id: &str, body: Body) -> ArrayString<512>
 /// A CALLERROR without blanks and details (OCPP 2.0.1 Part 4). The id has at most 36 characters, which
 /// are Unicode scalar values, and the description at most 32, each a letter from A to Z or a to z.
 pub fn error_text(id: &str, code: ErrorCode, description: &str) -> ArrayString<512>
-    requires id { character_count id.now ≤ 36 }
+    requires id { character_count id.now ≤ longest_message_id }
     requires short { length description.now ≤ 32 }
     requires letters { list_all is_letter description.now ≡ true }
     ensures { result.bytes ≡ error_bytes id.now code description.now }

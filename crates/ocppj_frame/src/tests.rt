@@ -222,7 +222,7 @@ fn long_ids_and_texts(rt: HostRuntime) -> Result<(), Fail> {
     Ok(())
 }
 
-// Each allocation refused in turn, by hand: each text gets its answer, or the reply that tells of want of memory.
+// Each allocation refused in turn, by hand: each text gets its answer, or the reply that tells OutOfMemory.
 #[test]
 fn refused_memory(rt: HostRuntime) {
     for (text, answer) in [

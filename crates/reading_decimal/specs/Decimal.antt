@@ -3,6 +3,7 @@ use Rattle.std.specs.Prelude.{ℕ, ◌+◌, ◌*◌, ◌/◌, ◌^◌, ◌≤◌
 use Rattle.std.specs.Option.{ok_or}
 use Rattle.std.specs.Float.Numeral.{Parts, scan_numeral, numeral_digits, tens_up, tens_down}
 use Rattle.std.specs.Str.Parse.{digits_value}
+use Rattle.ledger_model.specs.Ranges.{greatest_reading}
 use Rattle.reading_decimal.specs.declared.decimal.Unit.{Unit as EnergyUnit}
 use Rattle.reading_decimal.specs.declared.decimal.Unit.TheVariants.{Wh, KWh}
 use Rattle.reading_decimal.specs.declared.decimal.DecimalFault.{DecimalFault}
@@ -61,15 +62,23 @@ pub record IsMwh (p : Parts) (multiplier : ℤ) (unit : EnergyUnit) (n : ℕ) : 
   pub within : n * 10 ^ tens_left p multiplier ≤ right_side p multiplier unit
   pub greatest : (m : ℕ) → m * 10 ^ tens_left p multiplier ≤ right_side p multiplier unit → m ≤ n
 
--- n, where a register can show it: at most 10^13 mWh
+-- n, where a register can show it
 abbrev pub within_register : ℕ → Option ℕ
-within_register n = if nat_le n 10_000_000_000_000 then Some n else None
+within_register n = if nat_le n greatest_reading then Some n else None
+
+-- how many characters a decimal may have (this product's profile)
+abbrev pub longest_decimal : ℕ
+longest_decimal = 36
+
+-- the greatest exponent that may be written, without its sign (this product's profile)
+abbrev pub greatest_exponent : ℕ
+greatest_exponent = 99
 
 -- A decimal has ASCII bytes alone, so that its characters are counted by its bytes. Minus zero is 0.
 abbrev pub mwh_reading : List ℕ → ℤ → EnergyUnit → Result ℕ DecimalFault
 mwh_reading token multiplier unit =
     if not (is_decimal token) then Err NotADecimal
-    else (if nat_lt 36 (length token) then Err TooLong
-    else (if nat_lt 99 (digits_value 10 (parts token).exponent) then Err ExponentRange
+    else (if nat_lt longest_decimal (length token) then Err TooLong
+    else (if nat_lt greatest_exponent (digits_value 10 (parts token).exponent) then Err ExponentRange
     else (if is_negative token && nat_lt 0 (numeral_digits (parts token)) then Err Negative
     else ok_or (within_register (mwh (parts token) multiplier unit)) TooLarge)))

@@ -3,7 +3,7 @@ use Rattle.std.specs.Prelude.{◌≡◌, ◌↔◌, ℕ, ℤ, List, IsTrue, Ok}
 use Rattle.std.specs.Float.Numeral.{Parts}
 use Rattle.reading_decimal.specs.declared.decimal.Unit.{Unit as EnergyUnit}
 use Rattle.ledger_model.specs.Moment.{IsMoment}
-use Rattle.ledger_model.specs.Quarter.{IsQuarter}
+use Rattle.ledger_model.specs.Quarter.{IsQuarter, quarter_seconds}
 use Rattle.reading_decimal.specs.Decimal.{IsMwh, is_decimal, mwh}
 use Rattle.reading_decimal.specs.Grammar.{IsNumber}
 use Rattle.reading_decimal.specs.Moment.{moment_reading}
@@ -14,9 +14,9 @@ use Rattle.reading_decimal.specs.Quarter.{IsStart, quarter_start}
 abbrev pub RoundsDown : Type 0
 RoundsDown = (p : Parts) (multiplier : ℤ) (unit : EnergyUnit) → IsMwh p multiplier unit (mwh p multiplier unit)
 
--- for each settlement period of 900 seconds that moments fall into
+-- for each quarter that moments fall into
 abbrev pub StartsQuarters : Type 0
-StartsQuarters = (number : ℕ) → IsQuarter number → IsStart 900 number (quarter_start 900 number)
+StartsQuarters = (number : ℕ) → IsQuarter number → IsStart quarter_seconds number (quarter_start quarter_seconds number)
 
 -- for each moment
 abbrev pub ReadsBack : Type 0

@@ -3,8 +3,7 @@ ghost use Rattle.std.specs.Prelude.{◌≡◌, ◌*◌, ◌/◌, ◌^◌, ◌<�
 ghost use Rattle.std.specs.Option.{SomeIff};
 ghost use Rattle.reading_decimal.specs.Decimal.{within_register};
 
-// The greatest reading of a register, in milliwatt-hours: 10^13.
-const MAX_MWH: u64 = 10_000_000_000_000;
+use ledger_model::GREATEST_READING;
 
 // `n * 10^up / 10^down`, rounded down, where a register can show it.
 pub fn scaled(n: u128, up: u32, down: u32) -> Option<u64>
@@ -41,7 +40,7 @@ fn divided(n: u128, tens: u32) -> u128
 fn within_register(n: u128) -> Option<u64>
     ensures { result ≡ within_register n }
 {
-    if n <= MAX_MWH as u128 {
+    if n <= GREATEST_READING as u128 {
         Some(n as u64)
     } else {
         None

@@ -1,4 +1,3 @@
-pub mod Ids
 pub mod Integers
 pub mod Replies
 pub mod Deliveries

@@ -1,63 +1,38 @@
--- Which replies tell of want of memory.
+-- Which replies tell OutOfMemory.
 use Rattle.std.proofs.Common.{◌≡◌, ◌≢◌, Bool, true, false, inl, inr, ◌∙◌, ◌++◌, ℕ, length, List, [], ◌∷◌, sym, ap, append_assoc, arith, length-append, codes, refl, drop}
 use Rattle.std.specs.Prelude.{IsTrue, ◌↔◌, Err}
 use Rattle.serde_json.specs.Data.{Data}
 use Rattle.ocppj_frame.specs.declared.action.Action.TheVariants.{BootNotification, Heartbeat, StatusNotification, MeterValues, TransactionEvent}
 use Rattle.ocppj_frame.specs.Frame.{Frame, Called, Silence, Ready}
-use Rattle.ocppj_frame.specs.declared.error_code.ErrorCode.{ErrorCode}
-use Rattle.ocppj_frame.specs.declared.error_code.ErrorCode.TheVariants.{InternalError}
-use Rattle.ocppj_frame.specs.ErrorCode.{code_name}
-use Rattle.ocppj_frame.specs.Reply.{error_bytes, json_string}
+use Rattle.ocppj_frame.proofs.Replies.{other_last_letter}
 use Rattle.transaction_event.specs.declared.fault.PayloadFault.{PayloadFault}
 use Rattle.transaction_event.specs.declared.fault.PayloadFault.TheVariants.{Format, Missing, WrongType, Range, TooManyReadings, Decimal, Moment, OutOfMemory}
 use Rattle.transaction_event.specs.Request.{event_reading}
 use Rattle.transaction_event.specs.Message as meaning
-use Rattle.transaction_event.specs.Means.{Answers, WantsMemory}
+use Rattle.transaction_event.specs.MessageMeaning.{Answers, IsMemoryReply}
 use Rattle.transaction_event.specs.Reply.{fault_code, fault_reply, memory_reply}
 
--- equal lists whose ends have one length end alike
-ends_alike : (a b xs ys : List ℕ) → length xs ≡ length ys → a ++ xs ≡ b ++ ys → xs ≡ ys
-ends_alike [] [] xs ys same e = e
-ends_alike [] (c ∷ b) xs ys same e = absurd (omega (arith, ap length e, length-append b ys))
-ends_alike (c ∷ a) [] xs ys same e = absurd (omega (arith, ap length e, length-append a xs))
-ends_alike (c ∷ a) (d ∷ b) xs ys same e = ends_alike a b xs ys same (ap (drop 1) e)
-
--- a CALLERROR up to the last letter of its description
-before_letter : List ℕ → ErrorCode → List ℕ → List ℕ
-before_letter id code start = ((((codes "[4," ++ json_string id) ++ codes ",\"") ++ code_name code) ++ codes "\",\"") ++ start
-
-at_letter : (id : List ℕ) (code : ErrorCode) (start : List ℕ) (letter : ℕ) → error_bytes id code (start ++ letter ∷ []) ≡ before_letter id code start ++ (letter ∷ codes "\",{}]")
-unfolding before_letter
-at_letter id code start letter = simp append_assoc
-
--- a description whose last letter is no `y` is not OutOfMemory
-other_letter : (id other : List ℕ) (code : ErrorCode) (start : List ℕ) (letter : ℕ) → letter ≢ 121 → error_bytes id code (start ++ letter ∷ []) ≡ memory_reply other → ⊥
-other_letter id other code start letter differs e =
-    let ends : (letter ∷ codes "\",{}]") ≡ (121 ∷ codes "\",{}]") = ends_alike (before_letter id code start) (before_letter other InternalError (codes "OutOfMemor")) _ _ refl (sym (at_letter id code start letter) ∙ e ∙ at_letter other InternalError (codes "OutOfMemor") 121) in
-    let same : letter ≡ 121 = cc in
-    differs same
-
--- only want of memory is told by such a reply
+-- only OutOfMemory is told by such a reply
 pub told_by_memory_alone : (id other : List ℕ) (fault : PayloadFault) → fault_reply id fault ≡ memory_reply other → fault ≡ OutOfMemory
-told_by_memory_alone id other Format e = absurd (other_letter id other (fault_code Format) (codes "Forma") 116 (omega arith) e)
-told_by_memory_alone id other Missing e = absurd (other_letter id other (fault_code Missing) (codes "Missin") 103 (omega arith) e)
-told_by_memory_alone id other WrongType e = absurd (other_letter id other (fault_code WrongType) (codes "WrongTyp") 101 (omega arith) e)
-told_by_memory_alone id other Range e = absurd (other_letter id other (fault_code Range) (codes "Rang") 101 (omega arith) e)
-told_by_memory_alone id other TooManyReadings e = absurd (other_letter id other (fault_code TooManyReadings) (codes "TooManyReading") 115 (omega arith) e)
-told_by_memory_alone id other Decimal e = absurd (other_letter id other (fault_code Decimal) (codes "Decima") 108 (omega arith) e)
-told_by_memory_alone id other Moment e = absurd (other_letter id other (fault_code Moment) (codes "Momen") 116 (omega arith) e)
+told_by_memory_alone id other Format e = absurd (other_last_letter id other (fault_code Format) (codes "Forma") 116 (omega arith) e)
+told_by_memory_alone id other Missing e = absurd (other_last_letter id other (fault_code Missing) (codes "Missin") 103 (omega arith) e)
+told_by_memory_alone id other WrongType e = absurd (other_last_letter id other (fault_code WrongType) (codes "WrongTyp") 101 (omega arith) e)
+told_by_memory_alone id other Range e = absurd (other_last_letter id other (fault_code Range) (codes "Rang") 101 (omega arith) e)
+told_by_memory_alone id other TooManyReadings e = absurd (other_last_letter id other (fault_code TooManyReadings) (codes "TooManyReading") 115 (omega arith) e)
+told_by_memory_alone id other Decimal e = absurd (other_last_letter id other (fault_code Decimal) (codes "Decima") 108 (omega arith) e)
+told_by_memory_alone id other Moment e = absurd (other_last_letter id other (fault_code Moment) (codes "Momen") 116 (omega arith) e)
 told_by_memory_alone id other OutOfMemory e = refl
 
--- a fault's reply tells of want of memory where that is the fault
-pub fault_tells : (id : List ℕ) (payload : Data) (fault : PayloadFault) (reply : List ℕ) (memory : Bool) → (IsTrue memory ↔ (fault ≡ OutOfMemory)) → reply ≡ fault_reply id fault → IsTrue memory ↔ WantsMemory (Called id TransactionEvent payload) reply
+-- a fault's reply tells OutOfMemory where that is the fault
+pub fault_tells : (id : List ℕ) (payload : Data) (fault : PayloadFault) (reply : List ℕ) (memory : Bool) → (IsTrue memory ↔ (fault ≡ OutOfMemory)) → reply ≡ fault_reply id fault → IsTrue memory ↔ IsMemoryReply (Called id TransactionEvent payload) reply
 fault_tells id payload fault reply memory is told =
     let memory_alone : (other : List ℕ) → reply ≡ memory_reply other → IsTrue memory = λ other same. is.1 (told_by_memory_alone id other fault (sym told ∙ same)) in (
       λ yes. inr (told ∙ ap (fault_reply id) (is.0 yes)),
       λ wants. elim wants [ inl unread ↦ memory_alone (codes "-1") unread | inr same ↦ memory_alone id same ],
     )
 
--- want of memory while a text is read is told with the id `-1`
-pub unread_tells : (asked : Frame) (reply : List ℕ) → reply ≡ memory_reply (codes "-1") → WantsMemory asked reply
+-- OutOfMemory while a text is read is told with the id `-1`
+pub unread_tells : (asked : Frame) (reply : List ℕ) → reply ≡ memory_reply (codes "-1") → IsMemoryReply asked reply
 unread_tells (Called id BootNotification payload) reply e = e
 unread_tells (Called id Heartbeat payload) reply e = e
 unread_tells (Called id StatusNotification payload) reply e = e

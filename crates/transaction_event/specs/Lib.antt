@@ -10,5 +10,5 @@ pub mod MeterValues
 pub mod Request
 pub mod Reply
 pub mod Message
-pub mod Means
+pub mod MessageMeaning
 pub mod Laws

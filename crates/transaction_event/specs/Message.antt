@@ -1,10 +1,10 @@
--- What a station's text means at a moment (OCPP 2.0.1 Part 4). Want of memory is no part of it.
-use Rattle.std.specs.Prelude.{ℕ, List, ◌++◌, Ok, Err, codes}
+-- What a station's text means at a moment (OCPP 2.0.1 Part 4). Running out of memory is no part of it.
+use Rattle.std.specs.Prelude.{ℕ, List, Ok, Err}
 use Rattle.serde_json.specs.Data.{Data}
 use Rattle.ocppj_frame.specs.declared.action.Action.{Action}
 use Rattle.ocppj_frame.specs.declared.action.Action.TheVariants.{BootNotification, Heartbeat, StatusNotification, MeterValues, TransactionEvent}
 use Rattle.ocppj_frame.specs.declared.body.Body.TheVariants.{Empty}
-use Rattle.ocppj_frame.specs.Reply.{json_string, result_bytes}
+use Rattle.ocppj_frame.specs.Reply.{call_result, heartbeat, boot, result_bytes}
 use Rattle.ocppj_frame.specs.Frame.{Frame, frame}
 use Rattle.ocppj_frame.specs.Frame as framed
 use Rattle.reading_decimal.specs.MomentText.{text_of}
@@ -17,18 +17,6 @@ pub data Meaning : Type 0 where
   Event : List ℕ → Request → Meaning
   Ready : List ℕ → Meaning
   Silence : Meaning
-
--- A CALLRESULT with a payload: `[3,<id>,<payload>]`.
-abbrev pub call_result : List ℕ → List ℕ → List ℕ
-call_result id payload = codes "[3," ++ (json_string id ++ (codes "," ++ (payload ++ codes "]")))
-
--- A HeartbeatResponse at a moment's text.
-abbrev pub heartbeat : List ℕ → List ℕ
-heartbeat now = codes "{\"currentTime\":\"" ++ (now ++ codes "\"}")
-
--- A BootNotificationResponse at a moment's text: accepted, with a heartbeat every 300 seconds.
-abbrev pub boot : List ℕ → List ℕ
-boot now = codes "{\"currentTime\":\"" ++ (now ++ codes "\",\"interval\":300,\"status\":\"Accepted\"}")
 
 -- What a TransactionEventRequest means: the event, or the reply that tells of its first fault.
 abbrev pub event_or_fault : List ℕ → Checked Request → Meaning

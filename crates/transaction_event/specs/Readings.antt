@@ -1,9 +1,10 @@
 -- The counted readings of an event, in the order in which they were sent.
 use Rattle.std.specs.Prelude.{List, [], ◌∷◌, ◌++◌, length, nat_lt, if◌then◌else◌, Ok, Err}
+use Rattle.ledger_model.specs.Ranges.{most_event_readings}
 use Rattle.ledger_model.specs.Event.{MeterReading}
 use Rattle.transaction_event.specs.declared.fault.PayloadFault.TheVariants.{TooManyReadings}
 use Rattle.transaction_event.specs.Steps.{Checked}
 
--- One more reading; an event has at most 1,024.
+-- One more reading; an event has no more than it may have.
 abbrev pub one_more : List MeterReading → MeterReading → Checked (List MeterReading)
-one_more readings reading = if nat_lt (length readings) 1_024 then Ok (readings ++ reading ∷ []) else Err TooManyReadings
+one_more readings reading = if nat_lt (length readings) most_event_readings then Ok (readings ++ reading ∷ []) else Err TooManyReadings

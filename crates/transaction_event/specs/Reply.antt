@@ -29,7 +29,7 @@ fault_code OutOfMemory = InternalError
 abbrev pub fault_reply : List ℕ → PayloadFault → List ℕ
 fault_reply id fault = error_bytes id (fault_code fault) (fault_name fault)
 
--- The reply that tells of want of memory.
+-- The reply that tells OutOfMemory.
 abbrev pub memory_reply : List ℕ → List ℕ
 memory_reply id = fault_reply id OutOfMemory
 

@@ -1,11 +1,12 @@
 -- What a TransactionEventRequest tells (OCPP 2.0.1 Part 2, block E), its members checked in this order; the ranges are this product's profile.
-use Rattle.std.specs.Prelude.{ℕ, Bool, List, pos, unsigned_abs, is_some, if◌then◌else◌, Option, Some, None, Ok, Err, codes}
+use Rattle.std.specs.Prelude.{ℕ, ◌-◌, Bool, List, pos, unsigned_abs, is_some, if◌then◌else◌, Option, Some, None, Ok, Err, codes}
 use Rattle.std.specs.Option.{ok_or}
 use Rattle.std.specs.Str.{bytes_eq}
 use Rattle.serde_json.specs.Data.{Data}
 use Rattle.marked_json.specs.Reading.{text_of}
 use Rattle.ledger_model.specs.declared.kind.Kind.{Kind}
 use Rattle.ledger_model.specs.declared.kind.Kind.TheVariants.{Started, Updated, Ended}
+use Rattle.ledger_model.specs.Ranges.{sequence_end, greatest_evse}
 use Rattle.ledger_model.specs.Key.{KeyName}
 use Rattle.ledger_model.specs.Event.{EventContent}
 use Rattle.ledger_model.specs.TxId.{is_tx_id, folded}
@@ -35,7 +36,7 @@ tx_named text = if is_tx_id text then Ok (folded text) else Err Range
 -- The key of an event: its number, and then the id of its transaction.
 unfoldable pub key_of : Data → Checked KeyName
 key_of request = do
-  seq ← required_integer (pos 0) (pos 2_147_483_647) (codes "seqNo") request
+  seq ← required_integer (pos 0) (pos (sequence_end - 1)) (codes "seqNo") request
   info ← required object_of (codes "transactionInfo") request
   text ← required text_of (codes "transactionId") info
   tx ← tx_named text
@@ -44,7 +45,7 @@ key_of request = do
 -- The number of an EVSE that is named.
 abbrev pub evse_number : Option Data → Checked (Option ℕ)
 evse_number None = Ok None
-evse_number (Some evse) = checked_map (λ n. Some (unsigned_abs n)) (required_integer (pos 1) (pos 64) (codes "id") evse)
+evse_number (Some evse) = checked_map (λ n. Some (unsigned_abs n)) (required_integer (pos 1) (pos greatest_evse) (codes "id") evse)
 
 -- The EVSE of an event, where it names one.
 unfoldable pub evse_of : Data → Checked (Option ℕ)

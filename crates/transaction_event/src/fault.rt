@@ -64,7 +64,7 @@ impl PayloadFault {
     }
 
     // Tells whether a growth of memory was refused.
-    pub(crate) fn is_want_of_memory(self) -> bool
+    pub(crate) fn is_out_of_memory(self) -> bool
         ensures { IsTrue result ↔ (self ≡ OutOfMemory) }
     {
         matches!(self, PayloadFault::OutOfMemory)

@@ -1,6 +1,6 @@
 //! A station's text, as what it asks of the ledger.
 ghost use Rattle.std.specs.Prelude.{◌≡◌, ℕ, false};
-ghost use Rattle.transaction_event.specs.Means.{Means, MeansAt, TellsMemory, TellsMemoryAt, HasShortId};
+ghost use Rattle.transaction_event.specs.MessageMeaning.{IsMeaningOf, IsMeaningOfFrame, IsMemoryTold, IsMemoryToldOfFrame, HasShortId};
 ghost use Rattle.ocppj_frame.specs.Frame.{Called};
 ghost use Rattle.ocppj_frame.specs.Call.{id_of, action_of, payload_of};
 ghost use Rattle.ocppj_frame.specs.declared.action.Action.TheVariants.{TransactionEvent};
@@ -31,7 +31,7 @@ pub enum Message {
     Reply {
         /// The reply.
         text: ArrayString<512>,
-        /// Whether it tells of want of memory.
+        /// Whether it tells OutOfMemory.
         memory: bool,
     },
     /// An answer of the station, which gets none.
@@ -57,8 +57,8 @@ fn kept_id(call: &Call) -> ArrayString<144>
 
 // What the call of a TransactionEventRequest means.
 fn event_message(alloc: Global, call: &Call) -> Message
-    ensures meaning { (now : ℕ) → MeansAt now (Called (id_of call.now) TransactionEvent (payload_of call.now)) result }
-    ensures memory { TellsMemoryAt (Called (id_of call.now) TransactionEvent (payload_of call.now)) result }
+    ensures meaning { (now : ℕ) → IsMeaningOfFrame now (Called (id_of call.now) TransactionEvent (payload_of call.now)) result }
+    ensures memory { IsMemoryToldOfFrame (Called (id_of call.now) TransactionEvent (payload_of call.now)) result }
     ensures short { HasShortId result }
 {
     match event_of(alloc, call.payload()) {
@@ -70,15 +70,15 @@ fn event_message(alloc: Global, call: &Call) -> Message
         },
         Err(fault) => Message::Reply {
             text: fault_reply(call.id(), fault),
-            memory: fault.is_want_of_memory(),
+            memory: fault.is_out_of_memory(),
         },
     }
 }
 
 // What a call means.
 fn answered(alloc: Global, call: &Call, now: Moment) -> Message
-    ensures meaning { MeansAt now (Called (id_of call.now) (action_of call.now) (payload_of call.now)) result }
-    ensures memory { TellsMemoryAt (Called (id_of call.now) (action_of call.now) (payload_of call.now)) result }
+    ensures meaning { IsMeaningOfFrame now (Called (id_of call.now) (action_of call.now) (payload_of call.now)) result }
+    ensures memory { IsMemoryToldOfFrame (Called (id_of call.now) (action_of call.now) (payload_of call.now)) result }
     ensures short { HasShortId result }
 {
     let id = call.id();
@@ -92,8 +92,8 @@ fn answered(alloc: Global, call: &Call, now: Moment) -> Message
 
 /// What a station's text means at a moment.
 pub fn message_of(alloc: Global, text: &str, now: Moment) -> Message
-    ensures meaning { Means text.now now result }
-    ensures memory { TellsMemory text.now result }
+    ensures meaning { IsMeaningOf text.now now result }
+    ensures memory { IsMemoryTold text.now result }
     ensures short { HasShortId result }
 {
     match read_frame(alloc, text) {

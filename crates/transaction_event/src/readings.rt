@@ -1,10 +1,11 @@
 //! The counted readings of an event.
 ghost use Rattle.std.specs.Prelude.{◌≡◌, ◌≢◌, ◌≤◌, [], length, Ok, Err, OnOk, IfErr};
+ghost use Rattle.ledger_model.specs.Ranges.{most_event_readings};
 ghost use Rattle.transaction_event.specs.Readings as spec;
 ghost use Rattle.transaction_event.specs.declared.fault.PayloadFault.TheVariants.{OutOfMemory};
 
 use crate::PayloadFault;
-use ledger_model::Reading;
+use ledger_model::{MAX_EVENT_READINGS, Reading};
 use std::alloc::Global;
 use std::marker::Model;
 
@@ -17,12 +18,13 @@ pub struct Readings {
 impl Model for Readings {
     ghost use Rattle.std.specs.Prelude.{List, ◌≤◌, length};
     ghost use Rattle.ledger_model.specs.Event.{MeterReading};
+    ghost use Rattle.ledger_model.specs.Ranges.{most_event_readings};
 
     ghost Value = { List MeterReading };
 
     ghost view = { λ r. r.items.items };
 
-    ghost invariant = { λ r. length r.items.items ≤ 1_024 };
+    ghost invariant = { λ r. length r.items.items ≤ most_event_readings };
 }
 
 impl Readings {
@@ -40,7 +42,7 @@ impl Readings {
         ensures ok { OnOk result (spec.one_more self.old reading ≡ Ok self.new) }
         ensures err { IfErr result (λ f. f ≢ OutOfMemory → spec.one_more self.old reading ≡ Err f) }
     {
-        if self.items.len() >= 1_024 {
+        if self.items.len() >= MAX_EVENT_READINGS {
             return Err(PayloadFault::TooManyReadings);
         }
         match self.items.push(reading) {
@@ -52,7 +54,7 @@ impl Readings {
     /// The readings, in the order in which they came.
     pub fn into_vec(self) -> Vec<Reading>
         ensures value { result.items ≡ self }
-        ensures few { length result.items ≤ 1_024 }
+        ensures few { length result.items ≤ most_event_readings }
     {
         self.items
     }

@@ -4,6 +4,7 @@ ghost use Rattle.std.specs.List.{list_all};
 ghost use Rattle.ocppj_frame.specs.Reply.{character_count, is_letter};
 ghost use Rattle.ledger_model.specs.Refusal.{refusal_name};
 ghost use Rattle.transaction_event.specs.Reply as spec;
+ghost use Rattle.ocppj_frame.specs.Ranges.{longest_message_id};
 
 use crate::PayloadFault;
 use arrayvec::ArrayString;
@@ -28,7 +29,7 @@ fn fault_code(fault: PayloadFault) -> ErrorCode
 
 /// The CALLERROR to a payload with a fault.
 pub fn fault_reply(id: &str, fault: PayloadFault) -> ArrayString<512>
-    requires { character_count id.now ≤ 36 }
+    requires { character_count id.now ≤ longest_message_id }
     ensures { result.bytes ≡ spec.fault_reply id.now fault }
 {
     error_text(id, fault_code(fault), fault.name())
@@ -61,7 +62,7 @@ fn name_of(refusal: Refusal) -> &'static str
 /// with the refusal's name. The id has at most 36 characters, which are Unicode scalar values, and the
 /// answer is one that a delivery can get.
 pub fn event_reply(id: &str, token: bool, answer: &Answer) -> ArrayString<512>
-    requires id { character_count id.now ≤ 36 }
+    requires id { character_count id.now ≤ longest_message_id }
     requires delivery { spec.answers_delivery answer.now ≡ true }
     ensures { result.bytes ≡ spec.event_reply_bytes id.now token answer.now }
 {

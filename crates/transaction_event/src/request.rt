@@ -9,7 +9,7 @@ use crate::integer::required_integer;
 use crate::member::{optional_object, required_object, required_text};
 use crate::meter::meter_values;
 use crate::timestamp::timestamp;
-use ledger_model::{Event, EvseId, Key, Kind, TxId};
+use ledger_model::{Event, EvseId, GREATEST_EVSE, Key, Kind, SEQUENCE_END, TxId};
 use marked_json::Node;
 use std::alloc::Global;
 
@@ -41,7 +41,7 @@ fn tx_named(text: &str) -> Result<TxId, PayloadFault>
 fn key_of(request: Node) -> Result<Key, PayloadFault>
     ensures { result ≡ spec.key_of (node request.entry) }
 {
-    let seq = required_integer(request, "seqNo", 0, 2_147_483_647)?;
+    let seq = required_integer(request, "seqNo", 0, i64::from(SEQUENCE_END) - 1)?;
     let info = required_object(request, "transactionInfo")?;
     let tx = tx_named(required_text(info, "transactionId")?)?;
     Ok(Key::new(tx, seq.unsigned_abs() as u32).unwrap())
@@ -53,7 +53,7 @@ fn evse_number(evse: Option<Node>) -> Result<Option<EvseId>, PayloadFault>
 {
     match evse {
         Some(evse) => {
-            let number = required_integer(evse, "id", 1, 64)?;
+            let number = required_integer(evse, "id", 1, i64::from(GREATEST_EVSE))?;
             Ok(EvseId::new(number.unsigned_abs() as u8))
         }
         None => Ok(None),

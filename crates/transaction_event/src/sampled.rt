@@ -1,6 +1,7 @@
 //! Sampled values, and which of them count.
 ghost use Rattle.std.specs.Prelude.{◌≡◌, ◌≢◌, ◌≤◌, Ok, Err, IfOk, OnOk, IfErr, option_map};
 ghost use Rattle.marked_json.specs.Reading.{node};
+ghost use Rattle.ledger_model.specs.Ranges.{greatest_reading};
 ghost use Rattle.transaction_event.specs.Sampled as spec;
 ghost use Rattle.transaction_event.specs.declared.fault.PayloadFault.TheVariants.{OutOfMemory};
 
@@ -40,7 +41,7 @@ fn counts(sampled: Node) -> Result<bool, PayloadFault>
 #[tactic(auto, unfolding(crate::specs::Sampled::sampled_mwh))]
 fn sampled_mwh(sampled: Node) -> Result<u64, PayloadFault>
     ensures value { result ≡ spec.sampled_mwh (node sampled.entry) }
-    ensures range { IfOk result (λ mwh. mwh ≤ 10_000_000_000_000) }
+    ensures range { IfOk result (λ mwh. mwh ≤ greatest_reading) }
 {
     let scale = Scale::of(optional_object(sampled, "unitOfMeasure")?)?;
     let token = required_number(sampled, "value")?;

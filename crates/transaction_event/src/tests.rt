@@ -638,7 +638,7 @@ fn always_out_of_memory(rt: HostRuntime) -> Result<(), Fail> {
     Ok(())
 }
 
-// What is sent back, and whether it tells of want of memory; the empty text for silence.
+// What is sent back, and whether it tells OutOfMemory; the empty text for silence.
 fn told(alloc: Global, text: &str) -> Result<(ArrayString<512>, bool), Fail> {
     Ok(match message_of(alloc, text, ten()?) {
         Message::Event { id, token, .. } => (
@@ -650,7 +650,7 @@ fn told(alloc: Global, text: &str) -> Result<(ArrayString<512>, bool), Fail> {
     })
 }
 
-// Where a growth is refused, by `rt try --test --fail-alloc N`, the reply is right or tells of want of memory.
+// Where a growth is refused, by `rt try --test --fail-alloc N`, the reply is right or tells OutOfMemory.
 #[test]
 fn right_or_out_of_memory(rt: HostRuntime) -> Result<(), Fail> {
     for (text, want) in [

@@ -7,11 +7,11 @@ use Rattle.transaction_event.proofs.message.event_message.Goals as goal
 
 pub returns-in-Err-clause-meaning : goal.returns-in-Err-clause-meaning
 returns-in-Err-clause-meaning c =
-    fault_answers (id_of c.args.call.now) (payload_of c.args.call.now) c.in-Err.fault c.fault_reply.result.bytes c.is_want_of_memory.result c.is_want_of_memory.ensures
+    fault_answers (id_of c.args.call.now) (payload_of c.args.call.now) c.in-Err.fault c.fault_reply.result.bytes c.is_out_of_memory.result c.is_out_of_memory.ensures
     (λ other. ap event_reading (sym c.payload.ensures.value) ∙ c.in-Err.ensures.err other)
     (let told : c.fault_reply.result.bytes ≡ fault_reply c.id.result.now c.in-Err.fault = c.fault_reply.ensures in told ∙ ap (λ id. fault_reply id c.in-Err.fault) c.id.ensures.value)
 
 pub returns-in-Err-clause-memory : goal.returns-in-Err-clause-memory
 returns-in-Err-clause-memory c =
-    fault_tells (id_of c.args.call.now) (payload_of c.args.call.now) c.in-Err.fault c.fault_reply.result.bytes c.is_want_of_memory.result c.is_want_of_memory.ensures
+    fault_tells (id_of c.args.call.now) (payload_of c.args.call.now) c.in-Err.fault c.fault_reply.result.bytes c.is_out_of_memory.result c.is_out_of_memory.ensures
     (let told : c.fault_reply.result.bytes ≡ fault_reply c.id.result.now c.in-Err.fault = c.fault_reply.ensures in told ∙ ap (λ id. fault_reply id c.in-Err.fault) c.id.ensures.value)

@@ -1,13 +1,14 @@
 use Rattle.std.proofs.Common.{◌∙◌, ◌≤◌, ◌++◌, codes, ap, subst, sym, lit≤}
 use Rattle.std.specs.Str.{chars}
 use Rattle.ocppj_frame.specs.Reply.{character_count}
+use Rattle.ocppj_frame.specs.Ranges.{longest_message_id}
 use Rattle.ocppj_frame.proofs.message_id.MessageId.unknown.Goals as goal
 
 -- `-1` is two characters
-unknown-short : character_count (codes "-1") ≤ 36
+unknown-short : character_count (codes "-1") ≤ longest_message_id
 unfolding chars
 unknown-short = lit≤ tt
 
 pub invariant_of-result : goal.invariant_of-result
 invariant_of-result c =
-    subst (λ text. character_count text ≤ 36) (sym (c.push_str.ensures.bytes ∙ ap (λ front. front ++ codes "-1") c.new-text.ensures)) unknown-short
+    subst (λ text. character_count text ≤ longest_message_id) (sym (c.push_str.ensures.bytes ∙ ap (λ front. front ++ codes "-1") c.new-text.ensures)) unknown-short

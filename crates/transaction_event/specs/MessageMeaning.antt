@@ -1,0 +1,47 @@
+-- What an answer of the reader says of the text.
+use Rattle.std.specs.Prelude.{◌≡◌, ◌≤◌, ◌⊎◌, ◌↔◌, ℕ, Bool, List, IsTrue, true, false, ⊤, codes}
+use Rattle.ocppj_frame.specs.declared.action.Action.TheVariants.{TransactionEvent}
+use Rattle.ocppj_frame.specs.Reply.{character_count}
+use Rattle.ocppj_frame.specs.Frame.{Frame, frame, Called}
+use Rattle.transaction_event.specs.declared.message.Message.{Message}
+use Rattle.transaction_event.specs.declared.message.Message.TheVariants as message
+use Rattle.transaction_event.specs.Message as meaning
+use Rattle.transaction_event.specs.Reply.{memory_reply}
+use Rattle.ocppj_frame.specs.Ranges.{longest_message_id}
+
+-- A reply that tells OutOfMemory: with the id of the call whose readings found none, or `-1` where the text found none.
+abbrev pub IsMemoryReply : Frame → List ℕ → Type 0
+IsMemoryReply (Called id TransactionEvent payload) reply = (reply ≡ memory_reply (codes "-1")) ⊎ (reply ≡ memory_reply id)
+IsMemoryReply _ reply = reply ≡ memory_reply (codes "-1")
+
+-- A reply is what the frame means at a moment, or it tells OutOfMemory.
+abbrev pub Answers : ℕ → Frame → List ℕ → Bool → Type 0
+Answers now frame reply false = meaning.meaning_of now frame ≡ meaning.Ready reply
+Answers now frame reply true = IsMemoryReply frame reply
+
+-- The answer is what the frame means at a moment, or it tells OutOfMemory.
+abbrev pub IsMeaningOfFrame : ℕ → Frame → Message → Type 0
+IsMeaningOfFrame now frame (message.Event id key event token) =
+    meaning.meaning_of now frame ≡ meaning.Event id.bytes (record { key = key; event = event; token = token })
+IsMeaningOfFrame now frame (message.Reply text memory) = Answers now frame text.bytes memory
+IsMeaningOfFrame now frame message.Silent = meaning.meaning_of now frame ≡ meaning.Silence
+
+-- The answer is what the text means at a moment, or it tells OutOfMemory.
+abbrev pub IsMeaningOf : List ℕ → ℕ → Message → Type 0
+IsMeaningOf text now answer = IsMeaningOfFrame now (frame text) answer
+
+-- `memory` is true exactly where the reply to a frame tells OutOfMemory.
+abbrev pub IsMemoryToldOfFrame : Frame → Message → Type 0
+IsMemoryToldOfFrame frame (message.Event id key event token) = ⊤
+IsMemoryToldOfFrame frame (message.Reply text memory) = IsTrue memory ↔ IsMemoryReply frame text.bytes
+IsMemoryToldOfFrame frame message.Silent = ⊤
+
+-- `memory` is true exactly where the reply to a text tells OutOfMemory.
+abbrev pub IsMemoryTold : List ℕ → Message → Type 0
+IsMemoryTold text answer = IsMemoryToldOfFrame (frame text) answer
+
+-- The id of an event's call is no longer than it may be.
+abbrev pub HasShortId : Message → Type 0
+HasShortId (message.Event id key event token) = character_count id.bytes ≤ longest_message_id
+HasShortId (message.Reply text memory) = ⊤
+HasShortId message.Silent = ⊤
