@@ -5,11 +5,11 @@ use Rattle.ledger_model.specs.declared.answer.Answer.TheVariants.{Accepted, Repe
 use Rattle.ledger_model.specs.World.{Station, World}
 use Rattle.transaction_event.specs.Message.{Meaning, Event, Ready, Silence, message}
 use Rattle.transaction_event.specs.Reply.{event_reply_bytes}
-use Rattle.ocpp_board.specs.declared.spoken.LineFault.{LineFault}
-use Rattle.ocpp_board.specs.declared.spoken.LineFault.TheVariants.{DeclaredLate}
+use Rattle.ocpp_board.specs.declared.script_line.LineFault.{LineFault}
+use Rattle.ocpp_board.specs.declared.script_line.LineFault.TheVariants.{DeclaredLate}
 use Rattle.ocpp_board.specs.Laws.{FaultsChangeNothing}
 use Rattle.ocpp_board.specs.Script.{Script, step_by, declared_to, by_meaning, sent_to, station_named, ended_line, fault_line}
-use Rattle.ocpp_board.specs.Words.{Said, nothing, fails, declares, tells, sends, asks, spoken}
+use Rattle.ocpp_board.specs.LineMeaning.{LineMeaning, nothing, fails, declares, tells, sends, asks, line_meaning}
 
 abbrev Same : Script → Script × List ℕ → Type 0
 Same s after = (after.0.world ≡ s.world) × (after.0.moment ≡ s.moment)
@@ -51,7 +51,7 @@ sent_by : (station : Option Station) (s : Script) (text : List ℕ) (fault : Lin
 sent_by None s text fault e = (refl, refl)
 sent_by (Some station) s text fault e = meant (message text s.moment) station s fault e
 
-steps : (s : Script) (said : Said) (fault : LineFault) → (step_by s said).1 ≡ fault_line fault → Same s (step_by s said)
+steps : (s : Script) (meaning : LineMeaning) (fault : LineFault) → (step_by s meaning).1 ≡ fault_line fault → Same s (step_by s meaning)
 steps s nothing fault e = (refl, refl)
 steps s (fails _) fault e = (refl, refl)
 steps s (declares site name) fault e = declared_late s.opened s site name fault e
@@ -60,4 +60,4 @@ steps s (sends name text) fault e = sent_by (station_named name s.world) s text 
 steps s (asks name) fault e = (refl, refl)
 
 pub faults_change_nothing : FaultsChangeNothing
-faults_change_nothing s line fault e = steps s (spoken line) fault e
+faults_change_nothing s line fault e = steps s (line_meaning line) fault e

@@ -1,10 +1,10 @@
 pub mod Pieces
-pub mod Partway
-pub mod Written
+pub mod PartOfLine
+pub mod WrittenReplies
 pub mod Cuts
-pub mod Going
-pub mod Opening
-pub mod Speaking
+pub mod AnsweredLines
+pub mod SecondPhase
+pub mod LineWords
 pub mod Faults
-pub mod Opened
-pub mod Reaching
+pub mod OpeningLine
+pub mod ReachedStations

@@ -15,29 +15,29 @@ HasNoFeed bytes = All (λ b. b ≢ 10) bytes
 
 -- the line of these bytes, of which it may have `most`
 abbrev pub whole : ℕ → List ℕ → Line
-whole most raw = if nat_le (length raw) most then Some raw else None
+whole max_line_bytes raw = if nat_le (length raw) max_line_bytes then Some raw else None
 
 -- the line of the bytes before a line feed: its carriage return counts, and is dropped
 abbrev pub ended : ℕ → List ℕ → Line
-ended most raw = if nat_le (length raw) most then Some (strip_last 13 raw) else None
+ended max_line_bytes raw = if nat_le (length raw) max_line_bytes then Some (strip_last 13 raw) else None
 
 -- what no line feed ends is a line where it is not empty, and keeps its carriage return
 abbrev pub unended : ℕ → List ℕ → List Line
-unended most [] = []
-unended most (b ∷ bs) = whole most (b ∷ bs) ∷ []
+unended max_line_bytes [] = []
+unended max_line_bytes (b ∷ bs) = whole max_line_bytes (b ∷ bs) ∷ []
 
 -- the lines of bytes, of whose first line raw was read already; `last` gives the lines of what no line feed ends
 abbrev pub cut : (List ℕ → List Line) → ℕ → List ℕ → List ℕ → List Line
-cut last most raw [] = last raw
-cut last most raw (b ∷ bs) = if b == 10 then ended most raw ∷ cut last most [] bs else cut last most (raw ++ b ∷ []) bs
+cut last max_line_bytes raw [] = last raw
+cut last max_line_bytes raw (b ∷ bs) = if b == 10 then ended max_line_bytes raw ∷ cut last max_line_bytes [] bs else cut last max_line_bytes (raw ++ b ∷ []) bs
 
 -- the lines that a line feed ends
 abbrev pub complete_lines : ℕ → List ℕ → List Line
-complete_lines most bytes = cut (λ _. []) most [] bytes
+complete_lines max_line_bytes bytes = cut (λ _. []) max_line_bytes [] bytes
 
 -- all lines
 abbrev pub lines_of : ℕ → List ℕ → List Line
-lines_of most bytes = cut (unended most) most [] bytes
+lines_of max_line_bytes bytes = cut (unended max_line_bytes) max_line_bytes [] bytes
 
 -- what a machine that goes from state to state by `step` writes for lines
 abbrev pub text_by : {S : Type 0} → (S → Line → S × List ℕ) → S → List Line → List ℕ

@@ -5,11 +5,11 @@ use Rattle.ocpp_board.specs.declared.plan.Plan.{Plan}
 use Rattle.ocpp_board.specs.declared.plan.PlannedStation.{PlannedStation}
 use Rattle.ocpp_board.specs.declared.ledgers.Ledgers.{Ledgers}
 use Rattle.ocpp_board.specs.declared.ledgers.OpenStation.{OpenStation}
-use Rattle.ocpp_board.specs.declared.machine.Turn.{Turn}
-use Rattle.ocpp_board.specs.declared.machine.Turn.TheVariants.{Answered, Opens}
+use Rattle.ocpp_board.specs.declared.machine.LineOutcome.{LineOutcome}
+use Rattle.ocpp_board.specs.declared.machine.LineOutcome.TheVariants.{Answered, Opens}
 use Rattle.ocpp_board.specs.Lines.{Line}
 use Rattle.ocpp_board.specs.Script.{Script, new_station, line_step, opening}
-use Rattle.ocpp_board.specs.Words.{spoken}
+use Rattle.ocpp_board.specs.LineMeaning.{line_meaning}
 
 -- the stations of a plan
 abbrev pub planned_world : Option PlannedStation → World
@@ -30,6 +30,6 @@ abbrev pub opened : Ledgers → Script
 opened ledgers = record { world = opened_world ledgers.station; opened = true; moment = ledgers.moment }
 
 -- a line takes its step, or it opens the ledgers and changes nothing yet
-abbrev pub PlanTurn : Script → Script → Line → Turn → List ℕ → Type 0
-PlanTurn old new line Answered reply = line_step old line ≡ (new, reply)
-PlanTurn old new line Opens reply = (opening (spoken line) ≡ true) × (new ≡ old)
+abbrev pub PlanAnswers : Script → Script → Line → LineOutcome → List ℕ → Type 0
+PlanAnswers old new line Answered reply = line_step old line ≡ (new, reply)
+PlanAnswers old new line Opens reply = (opening (line_meaning line) ≡ true) × (new ≡ old)

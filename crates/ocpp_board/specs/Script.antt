@@ -1,21 +1,21 @@
 -- The text of a script: a fold over its lines (this product's profile).
-use Rattle.std.specs.Prelude.{ℕ, Bool, true, false, ◌^◌, List, [], ◌∷◌, ◌++◌, codes, if◌then◌else◌, Option, None, Some}
+use Rattle.std.specs.Prelude.{ℕ, Bool, true, false, List, [], ◌∷◌, ◌++◌, codes, if◌then◌else◌, Option, None, Some}
 use Rattle.std.specs.Fmt.{decimal}
 use Rattle.std.specs.Str.{bytes_eq}
 use Rattle.energy_flow.specs.Flow.{Energy}
 use Rattle.ledger_model.specs.Content.{empty_content, entries}
 use Rattle.ledger_model.specs.Energy.{energy}
-use Rattle.ledger_model.specs.Limits.{Bounds}
+use Rattle.ledger_model.specs.Limits.{default_limits}
 use Rattle.ledger_model.specs.Moment.{first_moment}
 use Rattle.ledger_model.specs.declared.command.Command.TheVariants.{Deliver}
 use Rattle.ledger_model.specs.Step.{answer}
 use Rattle.ledger_model.specs.World.{Station, World, world_after}
 use Rattle.transaction_event.specs.Message.{Meaning, Event, Ready, Silence, message}
 use Rattle.transaction_event.specs.Reply.{event_reply_bytes}
-use Rattle.ocpp_board.specs.declared.spoken.LineFault.{LineFault}
-use Rattle.ocpp_board.specs.declared.spoken.LineFault.TheVariants.{DeclaredLate, PlanLimit, StationTwice, UnknownStation}
+use Rattle.ocpp_board.specs.declared.script_line.LineFault.{LineFault}
+use Rattle.ocpp_board.specs.declared.script_line.LineFault.TheVariants.{DeclaredLate, PlanLimit, StationTwice, UnknownStation}
 use Rattle.ocpp_board.specs.Lines.{Line, text_by}
-use Rattle.ocpp_board.specs.Words.{Said, nothing, fails, declares, tells, sends, asks, spoken, fault_name}
+use Rattle.ocpp_board.specs.LineMeaning.{LineMeaning, nothing, fails, declares, tells, sends, asks, line_meaning, fault_name}
 
 -- where a script stands: the world, whose stations are the plan declared so far and have empty contents until the ledgers are opened, whether they are, and the moment
 pub record Script : Type 0 where
@@ -26,10 +26,6 @@ pub record Script : Type 0 where
 -- no station, ledgers not opened, 2000-01-01T00:00:00Z
 abbrev pub start : Script
 start = record { world = []; opened = false; moment = first_moment }
-
--- the limits of a station: 1,024 transactions, 16,384 events, 16,384 readings, 2^63 changes
-abbrev pub default_limits : Bounds
-default_limits = record { transactions = 1_024; events = 16_384; readings = 16_384; changes = 2 ^ 63 }
 
 -- a station as it is declared
 abbrev pub new_station : List ℕ → List ℕ → Station
@@ -81,7 +77,7 @@ sent_to None s text = (record s { opened = true }, fault_line UnknownStation)
 sent_to (Some station) s text = by_meaning (message text s.moment) station s
 
 -- what a line does: the state that it leaves, and its text
-abbrev pub step_by : Script → Said → Script × List ℕ
+abbrev pub step_by : Script → LineMeaning → Script × List ℕ
 step_by s nothing = (s, [])
 step_by s (fails fault) = (s, fault_line fault)
 step_by s (declares site name) = if s.opened then (s, fault_line DeclaredLate) else declared_to s.world s site name
@@ -91,14 +87,14 @@ step_by s (asks name) = (record s { opened = true }, energy_answer (station_name
 
 -- the same for a line's bytes
 abbrev pub line_step : Script → Line → Script × List ℕ
-line_step s line = step_by s (spoken line)
+line_step s line = step_by s (line_meaning line)
 
 -- the text of lines from here on
 abbrev pub script_text : Script → List Line → List ℕ
 script_text = text_by line_step
 
 -- whether a line opens the ledgers
-abbrev pub opening : Said → Bool
+abbrev pub opening : LineMeaning → Bool
 opening nothing = false
 opening (fails _) = false
 opening (declares _ _) = false

@@ -1,12 +1,13 @@
-ghost use Rattle.std.specs.Prelude.{◌≡◌, [], ◌++◌, true, IfOk, OnOk, Some};
+ghost use Rattle.std.specs.Prelude.{◌≡◌, [], ◌++◌, true, IfOk, OnOk, Some, refl};
 ghost use Rattle.ocpp_board.specs.Lines.{line_bytes};
 ghost use Rattle.ocpp_board.specs.Plans.{planned, opened, opened_world};
 ghost use Rattle.transaction_event.specs.MessageMeaning.{HasShortId};
 ghost use Rattle.ocpp_board.specs.Received.{TakesMessage};
-ghost use Rattle.ocpp_board.specs.Script.{default_limits as limits_of_a_station, line_step, energy_answer, sent_to, station_named};
+ghost use Rattle.ocpp_board.specs.Script.{line_step, script_text, energy_answer, sent_to, station_named};
 
+use crate::machine::Machine;
 use crate::plan::{Plan, PlannedStation};
-use crate::spoken::{LineFault, Spoken, read_line};
+use crate::script_line::{LineFault, ScriptLine, read_line};
 use crate::text::{put_energy, put_fault, put_line};
 use energy_flow::Work;
 use ledger_model::{Command, Limits, Moment, Name};
@@ -44,7 +45,7 @@ impl Ledgers {
         let Plan { station, moment } = plan;
         let station = match station {
             Some(PlannedStation { site, name }) => {
-                let ledger = StationLedger::open(alloc, default_limits())?;
+                let ledger = StationLedger::open(alloc, Limits::default())?;
                 Some(OpenStation { site, name, ledger })
             }
             None => None,
@@ -63,15 +64,15 @@ impl Ledgers {
         ensures { OnOk result (line_step (opened self.old) (line_bytes line.entry) ≡ (opened self.new, reply.new.items)) }
     {
         match read_line(line) {
-            Spoken::Nothing => Ok(()),
-            Spoken::Fails(fault) => put_fault(reply, fault),
-            Spoken::Declares(_, _) => put_fault(reply, LineFault::DeclaredLate),
-            Spoken::Tells(moment) => {
+            ScriptLine::Nothing => Ok(()),
+            ScriptLine::Fails(fault) => put_fault(reply, fault),
+            ScriptLine::Declares(_, _) => put_fault(reply, LineFault::DeclaredLate),
+            ScriptLine::Tells(moment) => {
                 self.moment = moment;
                 Ok(())
             }
-            Spoken::Sends(name, text) => self.receive(&name, text, reply),
-            Spoken::Asks(name) => self.put_energy_of(&name, reply),
+            ScriptLine::Sends(name, text) => self.receive(&name, text, reply),
+            ScriptLine::Asks(name) => self.put_energy_of(&name, reply),
         }
     }
 
@@ -100,6 +101,19 @@ impl Ledgers {
             }
             _ => put_fault(reply, LineFault::UnknownStation),
         }
+    }
+}
+
+impl Machine for Ledgers {
+    ghost text = { λ s. script_text (opened s) };
+
+    ghost answered = { λ _. 0 };
+
+    ghost no_lines = { λ s. refl };
+
+    fn answer(&mut self, line: Option<&[u8]>, reply: &mut Vec<u8>) -> Result<(), AllocError> {
+        Ledgers::answer(self, line, reply)?;
+        Ok(())
     }
 }
 
@@ -133,11 +147,4 @@ fn take_message(
         }
         Message::Silent => put_line(reply, "silent"),
     }
-}
-
-// The limits of each station.
-fn default_limits() -> Limits
-    ensures { result ≡ limits_of_a_station }
-{
-    Limits::new(1_024, 16_384, 16_384, 1 << 63).unwrap()
 }

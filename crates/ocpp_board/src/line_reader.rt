@@ -4,8 +4,10 @@ ghost use Rattle.std.specs.Io.BufRead.{strip_last};
 ghost use Rattle.ocpp_board.specs.Lines.{line_bytes};
 ghost use Rattle.ocpp_board.specs.Reading.{TakesLine, line_of};
 
+mod piece;
+
 use crate::fault::ReplayFault;
-use crate::piece::{Piece, read_piece};
+use crate::line_reader::piece::{Piece, read_piece};
 use std::alloc::Global;
 use std::io::{BufRead, Write};
 
@@ -24,7 +26,7 @@ pub struct LineReader {
     /// The bytes of the line under way, at most one more than a line may have.
     pub held: Vec<u8>,
     /// How many bytes a line may have.
-    pub most: usize,
+    pub max_line_bytes: usize,
     /// How many bytes may still be read.
     pub room: usize,
     /// Whether all bytes that the reader showed were consumed, so that the next look may wait for more.
@@ -32,15 +34,15 @@ pub struct LineReader {
 }
 
 impl LineReader {
-    /// A reader of lines of at most `most` bytes, of which it reads `room` bytes in all. It takes no memory yet.
-    pub fn open(alloc: Global, most: usize, room: usize) -> LineReader
+    /// A reader of lines of at most `max_line_bytes` bytes, of which it reads `room` bytes in all. It takes no memory yet.
+    pub fn open(alloc: Global, max_line_bytes: usize, room: usize) -> LineReader
         ensures held { result.held.items ≡ [] }
-        ensures most { result.most ≡ most }
+        ensures max_line_bytes { result.max_line_bytes ≡ max_line_bytes }
         ensures room { result.room ≡ room }
     {
         LineReader {
             held: Vec::new(alloc),
-            most,
+            max_line_bytes,
             room,
             is_drained: false,
         }
@@ -53,19 +55,19 @@ impl LineReader {
         reader: &mut R,
         writer: &mut W,
     ) -> Result<LineEnd, ReplayFault>
-        requires short { self.old.most < 2 ^ 62 }
+        requires short { self.old.max_line_bytes < 2 ^ 62 }
         requires empty { self.old.held.items ≡ [] }
         ensures takes { (bytes : List ℕ) × Consumes (R.remaining reader.old) (R.remaining reader.new) bytes
-            × TakesLine self.old.most self.old.room self.new.room result bytes self.new.held.items }
+            × TakesLine self.old.max_line_bytes self.old.room self.new.room result bytes self.new.held.items }
         ensures end { result ≡ Ok LineEnd.Input → OnSome (R.remaining reader.old) (IsAtEnd (R.remaining reader.new)) }
-        ensures most { self.new.most ≡ self.old.most }
+        ensures max_line_bytes { self.new.max_line_bytes ≡ self.old.max_line_bytes }
         ensures writer { Keeps (W.contents writer.old) (W.contents writer.new) }
     {
         'pieces: loop {
             if self.is_drained && writer.flush().is_err() {
                 return Err(ReplayFault::WriteFault);
             }
-            match read_piece(reader, &mut self.held, self.most, self.room)? {
+            match read_piece(reader, &mut self.held, self.max_line_bytes, self.room)? {
                 Piece::End => return Ok(LineEnd::Input),
                 Piece::Beyond => return Err(ReplayFault::TooMuchInput),
                 Piece::Part(count, is_drained) => {
@@ -85,9 +87,9 @@ impl LineReader {
     /// The line that was read and ended so, without its carriage return where a line feed ended it; None where
     /// it is too long.
     pub fn line(&self, end: LineEnd) -> Option<&[u8]>
-        ensures { line_bytes result ≡ line_of end self.now.most self.now.held.items }
+        ensures { line_bytes result ≡ line_of end self.now.max_line_bytes self.now.held.items }
     {
-        if self.held.len() > self.most {
+        if self.held.len() > self.max_line_bytes {
             return None;
         }
         match end {

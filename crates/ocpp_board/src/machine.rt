@@ -3,7 +3,7 @@ ghost use Rattle.std.specs.Io.KnownBytes.{Consumes, Appends};
 ghost use Rattle.ocpp_board.specs.Lines.{Line, line_bytes};
 ghost use Rattle.ocpp_board.specs.Outcome.{Replays};
 ghost use Rattle.ocpp_board.specs.Reading.{line_of, line_read, IsReadLine, ReadToEnd};
-ghost use Rattle.ocpp_board.specs.Turns.{Replies, Turns};
+ghost use Rattle.ocpp_board.specs.Answering.{Replies, AnswersOrOpens};
 
 use crate::fault::ReplayFault;
 use crate::line_reader::{LineEnd, LineReader};
@@ -30,7 +30,7 @@ pub trait Machine {
 
 /// What a line does to a script whose ledgers are not opened yet.
 #[derive(Clone, Copy, Debug, PartialEq, Eq)]
-pub enum Turn {
+pub enum LineOutcome {
     /// Its text is in the reply.
     Answered,
     /// It opens the ledgers, and is to be answered then.
@@ -47,9 +47,13 @@ pub trait Declarations: Drop {
 
     /// Puts the text of one line into `reply`, or tells that the line opens the ledgers, which one that is too
     /// long never does.
-    fn answer(&mut self, line: Option<&[u8]>, reply: &mut Vec<u8>) -> Result<Turn, AllocError>
+    fn answer(
+        &mut self,
+        line: Option<&[u8]>,
+        reply: &mut Vec<u8>,
+    ) -> Result<LineOutcome, AllocError>
         requires { reply.old.items ≡ [] }
-        ensures { IfOk result (λ turn. Turns (text self.old) (text self.new) (opens self.new) (line_bytes line.entry) turn reply.new.items) };
+        ensures { IfOk result (λ turn. AnswersOrOpens (text self.old) (text self.new) (opens self.new) (line_bytes line.entry) turn reply.new.items) };
 
     /// Opens the ledgers, answers the line that `lines` holds, and goes on to the end of the script.
     fn replay_commands<R: BufRead, W: Write>(
@@ -60,13 +64,13 @@ pub trait Declarations: Drop {
         reader: &mut R,
         writer: &mut W,
     ) -> Result<(), ReplayFault>
-        requires short { lines.most < 2 ^ 62 }
-        requires line { IsReadLine end lines.most lines.held.items }
-        requires opening { opens self (line_of end lines.most lines.held.items) }
+        requires short { lines.max_line_bytes < 2 ^ 62 }
+        requires line { IsReadLine end lines.max_line_bytes lines.held.items }
+        requires opening { opens self (line_of end lines.max_line_bytes lines.held.items) }
         requires few { length (line_read end lines.held.items) + lines.room < 2 ^ 62 }
         ensures run { (read written : List ℕ) × Consumes (R.remaining reader.old) (R.remaining reader.new) read
             × Appends (W.contents writer.old) (W.contents writer.new) written
-            × Replays (text self) lines.most (length (line_read end lines.held.items) + lines.room) result
+            × Replays (ReadToEnd end (R.remaining reader.old) (R.remaining reader.new)) (text self) lines.max_line_bytes (length (line_read end lines.held.items) + lines.room) result
             (line_read end lines.held.items ++ read) written }
         ensures end { OnOk result (ReadToEnd end (R.remaining reader.old) (R.remaining reader.new)) };
 

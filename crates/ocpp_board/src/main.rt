@@ -10,32 +10,22 @@
 //! and [`ledgers`] are the two machines.
 #![tactic(auto)]
 
-#[cfg(test)]
-mod echo;
+mod cli;
 mod fault;
 mod laws;
 mod ledgers;
 mod line_reader;
 mod machine;
-#[cfg(test)]
-mod message_tests;
-mod piece;
 mod plan;
 mod replay;
-mod reply;
-#[cfg(test)]
-mod script_tests;
-mod spoken;
+mod script_line;
 mod stream;
 #[cfg(test)]
-mod stream_tests;
-#[cfg(test)]
-mod test_streams;
+mod tests;
 mod text;
-mod words;
 
+use crate::cli::{run_command_line, tell_fault};
 use crate::fault::ReplayFault;
-use crate::words::{run_words, tell_fault};
 use std::io::{BufRead, BufReader, BufWriter, Write};
 use std::process::ExitCode;
 use std::rt::Env;
@@ -56,14 +46,14 @@ fn main(rt: HostRuntime) -> ExitCode {
 }
 
 // Runs the program's words, and gives its exit status.
-fn run<X: AllocGlobal + Env + Threads, R: BufRead, W: Write, E: Write>(
+fn run<X: AllocGlobal + Env + Threads, R: BufRead, W: Write + Drop, E: Write>(
     rt: &X,
     reader: &mut R,
-    writer: &mut W,
+    writer: &mut BufWriter<W>,
     errors: &mut E,
 ) -> u8 {
     match program_words(rt) {
-        Ok(words) => run_words(rt, words.as_slice(), reader, writer, errors),
+        Ok(words) => run_command_line(rt, words.as_slice(), reader, writer, errors),
         Err(_) => tell_fault(errors, ReplayFault::OutOfMemory),
     }
 }

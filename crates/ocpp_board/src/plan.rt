@@ -1,13 +1,21 @@
-ghost use Rattle.std.specs.Prelude.{◌≡◌, [], ◌++◌, IfOk, OnOk};
+ghost use Rattle.std.specs.Prelude.{◌≡◌, true, [], ◌++◌, IfOk, OnOk, refl};
 ghost use Rattle.ocpp_board.specs.Lines.{line_bytes};
-ghost use Rattle.ocpp_board.specs.Plans.{planned, PlanTurn};
-ghost use Rattle.ocpp_board.specs.Script.{start, line_step, declared_to};
+ghost use Rattle.ocpp_board.specs.Plans.{planned, PlanAnswers};
+ghost use Rattle.ocpp_board.specs.Script.{start, script_text, line_step, declared_to, opening};
+ghost use Rattle.ocpp_board.specs.LineMeaning.{line_meaning};
 
-use crate::machine::Turn;
-use crate::spoken::{LineFault, Spoken, read_line};
+use crate::fault::ReplayFault;
+use crate::ledgers::Ledgers;
+use crate::line_reader::{LineEnd, LineReader};
+use crate::machine::{Declarations, LineOutcome};
+use crate::replay::replay_from;
+use crate::script_line::{LineFault, ScriptLine, read_line};
 use crate::text::put_fault;
+use energy_flow::Work;
 use ledger_model::{Moment, Name};
 use std::alloc::AllocError;
+use std::io::{BufRead, Write};
+use std::thread::Threads;
 
 /// A station that was declared.
 #[derive(Drop)]
@@ -40,18 +48,22 @@ impl Plan {
     }
 
     /// Answers one line, or tells that it opens the ledgers.
-    pub fn answer(&mut self, line: Option<&[u8]>, reply: &mut Vec<u8>) -> Result<Turn, AllocError>
+    pub fn answer(
+        &mut self,
+        line: Option<&[u8]>,
+        reply: &mut Vec<u8>,
+    ) -> Result<LineOutcome, AllocError>
         requires { reply.old.items ≡ [] }
-        ensures { IfOk result (λ turn. PlanTurn (planned self.old) (planned self.new) (line_bytes line.entry) turn reply.new.items) }
+        ensures { IfOk result (λ turn. PlanAnswers (planned self.old) (planned self.new) (line_bytes line.entry) turn reply.new.items) }
     {
         match read_line(line) {
-            Spoken::Nothing => {}
-            Spoken::Fails(fault) => put_fault(reply, fault)?,
-            Spoken::Declares(site, name) => self.declare(site, name, reply)?,
-            Spoken::Tells(moment) => self.moment = moment,
-            Spoken::Sends(_, _) | Spoken::Asks(_) => return Ok(Turn::Opens),
+            ScriptLine::Nothing => {}
+            ScriptLine::Fails(fault) => put_fault(reply, fault)?,
+            ScriptLine::Declares(site, name) => self.declare(site, name, reply)?,
+            ScriptLine::Tells(moment) => self.moment = moment,
+            ScriptLine::Sends(_, _) | ScriptLine::Asks(_) => return Ok(LineOutcome::Opens),
         }
-        Ok(Turn::Answered)
+        Ok(LineOutcome::Answered)
     }
 
     // Adds a station, or puts the fault that keeps it out into the reply.
@@ -66,6 +78,49 @@ impl Plan {
                 self.station = Some(PlannedStation { site, name });
                 Ok(())
             }
+        }
+    }
+}
+
+/// The declarations of a script, with what opens its ledgers.
+#[derive(Drop)]
+pub struct Declaring<'a, X> {
+    /// What the ledgers take their memory and their counts from.
+    pub rt: &'a X,
+    /// The plan so far, and the moment.
+    pub plan: Plan,
+}
+
+impl<X: AllocGlobal + Threads> Declarations for Declaring<'_, X> {
+    ghost text = { λ s. script_text (planned s.plan) };
+
+    ghost opens = { λ _ line. opening (line_meaning line) ≡ true };
+
+    ghost no_lines = { λ s. refl };
+
+    fn answer(
+        &mut self,
+        line: Option<&[u8]>,
+        reply: &mut Vec<u8>,
+    ) -> Result<LineOutcome, AllocError> {
+        self.plan.answer(line, reply)
+    }
+
+    fn replay_commands<R: BufRead, W: Write>(
+        self,
+        lines: LineReader,
+        end: LineEnd,
+        reply: Vec<u8>,
+        reader: &mut R,
+        writer: &mut W,
+    ) -> Result<(), ReplayFault> {
+        let (mut lines, mut reply) = (lines, reply);
+        let Declaring { rt, plan } = self;
+        match Ledgers::open(rt.alloc(), plan, Work::open(rt)) {
+            Ok(mut ledgers) => {
+                replay_from(&mut ledgers, &mut lines, end, &mut reply, reader, writer)
+            }
+            Err(_) => Err(ReplayFault::OutOfMemory),
         }
     }
 }

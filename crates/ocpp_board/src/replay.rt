@@ -3,12 +3,14 @@ ghost use Rattle.std.specs.Io.KnownBytes.{Consumes, Appends, IsAtEnd};
 ghost use Rattle.ocpp_board.specs.Lines.{Line, line_bytes};
 ghost use Rattle.ocpp_board.specs.Outcome.{Replays, Began};
 ghost use Rattle.ocpp_board.specs.Reading.{line_of, line_read, IsReadLine, ReadToEnd};
-ghost use Rattle.ocpp_board.specs.Turns.{AgreeFrom, WritesLine, WritesTurn, Declares, DeclaresToEnd};
+ghost use Rattle.ocpp_board.specs.Answering.{AgreeFrom, WritesLine, WritesOrOpens, Declares, DeclaresToEnd};
+
+mod reply;
 
 use crate::fault::ReplayFault;
 use crate::line_reader::{LineEnd, LineReader};
-use crate::machine::{Declarations, Machine, Turn};
-use crate::reply::write_reply;
+use crate::machine::{Declarations, LineOutcome, Machine};
+use crate::replay::reply::write_reply;
 use std::alloc::Global;
 use std::io::{BufRead, Write};
 
@@ -21,47 +23,24 @@ pub enum Declared {
     Opened(LineEnd),
 }
 
-/// Replays a script of at most `limit` bytes, whose lines may have `most` bytes before their line feed. The answer
-/// of each line is written before more input is waited for.
+/// Replays a script of at most `limit` bytes, whose lines may have `max_line_bytes` bytes before their line feed. The
+/// answer of each line is written before more input is waited for; the last flush is left to the caller.
 pub fn replay_lines<D: Declarations, R: BufRead, W: Write>(
-    alloc: Global,
-    declarations: D,
-    reader: &mut R,
-    writer: &mut W,
-    most: usize,
-    limit: usize,
-) -> Result<(), ReplayFault>
-    requires short { most < 2 ^ 62 }
-    requires few { limit < 2 ^ 62 }
-    ensures run { (read written : List ℕ) × Consumes (R.remaining reader.old) (R.remaining reader.new) read
-        × Appends (W.contents writer.old) (W.contents writer.new) written
-        × Replays (D.text declarations) most limit result read written }
-    ensures end { OnOk result (OnSome (R.remaining reader.old) (IsAtEnd (R.remaining reader.new))) }
-{
-    let result = replay_unflushed(alloc, declarations, reader, writer, most, limit);
-    match writer.flush() {
-        Ok(()) => result,
-        Err(_) => result.and(Err(ReplayFault::WriteFault)),
-    }
-}
-
-// Replays a script and leaves the last flush to the caller.
-fn replay_unflushed<D: Declarations, R: BufRead, W: Write>(
     alloc: Global,
     mut declarations: D,
     reader: &mut R,
     writer: &mut W,
-    most: usize,
+    max_line_bytes: usize,
     limit: usize,
 ) -> Result<(), ReplayFault>
-    requires short { most < 2 ^ 62 }
+    requires short { max_line_bytes < 2 ^ 62 }
     requires few { limit < 2 ^ 62 }
     ensures run { (read written : List ℕ) × Consumes (R.remaining reader.old) (R.remaining reader.new) read
         × Appends (W.contents writer.old) (W.contents writer.new) written
-        × Replays (D.text declarations) most limit result read written }
+        × Replays (OnSome (R.remaining reader.old) (IsAtEnd (R.remaining reader.new))) (D.text declarations) max_line_bytes limit result read written }
     ensures end { OnOk result (OnSome (R.remaining reader.old) (IsAtEnd (R.remaining reader.new))) }
 {
-    let mut lines = LineReader::open(alloc, most, limit);
+    let mut lines = LineReader::open(alloc, max_line_bytes, limit);
     let mut reply = Vec::new(alloc);
     match declare(&mut declarations, &mut lines, &mut reply, reader, writer)? {
         Declared::Ended => Ok(()),
@@ -77,13 +56,13 @@ fn declare<D: Declarations, R: BufRead, W: Write>(
     reader: &mut R,
     writer: &mut W,
 ) -> Result<Declared, ReplayFault>
-    requires short { lines.old.most < 2 ^ 62 }
+    requires short { lines.old.max_line_bytes < 2 ^ 62 }
     ensures run { (read written : List ℕ) × Consumes (R.remaining reader.old) (R.remaining reader.new) read
         × Appends (W.contents writer.old) (W.contents writer.new) written
-        × Declares (D.text declarations.old) (D.text declarations.new) (D.opens declarations.new) lines.old.most lines.old.room lines.new.room
+        × Declares (OnSome (R.remaining reader.old) (IsAtEnd (R.remaining reader.new))) (D.text declarations.old) (D.text declarations.new) (D.opens declarations.new) lines.old.max_line_bytes lines.old.room lines.new.room
         result lines.new.held.items read written }
     ensures end { DeclaresToEnd result (R.remaining reader.old) (R.remaining reader.new) }
-    ensures most { lines.new.most ≡ lines.old.most }
+    ensures max_line_bytes { lines.new.max_line_bytes ≡ lines.old.max_line_bytes }
 {
     'lines: loop {
         lines.held.clear();
@@ -91,8 +70,8 @@ fn declare<D: Declarations, R: BufRead, W: Write>(
             LineEnd::Feed => {
                 let line = lines.line(LineEnd::Feed);
                 match answer_declaration(declarations, line, reply, writer)? {
-                    Turn::Answered => continue 'lines,
-                    Turn::Opens => return Ok(Declared::Opened(LineEnd::Feed)),
+                    LineOutcome::Answered => continue 'lines,
+                    LineOutcome::Opens => return Ok(Declared::Opened(LineEnd::Feed)),
                 }
             }
             LineEnd::Input => {
@@ -101,8 +80,8 @@ fn declare<D: Declarations, R: BufRead, W: Write>(
                 }
                 let line = lines.line(LineEnd::Input);
                 match answer_declaration(declarations, line, reply, writer)? {
-                    Turn::Answered => return Ok(Declared::Ended),
-                    Turn::Opens => return Ok(Declared::Opened(LineEnd::Input)),
+                    LineOutcome::Answered => return Ok(Declared::Ended),
+                    LineOutcome::Opens => return Ok(Declared::Opened(LineEnd::Input)),
                 }
             }
         }
@@ -115,17 +94,17 @@ fn answer_declaration<D: Declarations, W: Write>(
     line: Option<&[u8]>,
     reply: &mut Vec<u8>,
     writer: &mut W,
-) -> Result<Turn, ReplayFault>
+) -> Result<LineOutcome, ReplayFault>
     ensures { (written : List ℕ) × Appends (W.contents writer.old) (W.contents writer.new) written
-        × WritesTurn (D.text declarations.old) (D.text declarations.new) (D.opens declarations.new) (line_bytes line.entry) result written }
+        × WritesOrOpens (D.text declarations.old) (D.text declarations.new) (D.opens declarations.new) (line_bytes line.entry) result written }
 {
     reply.clear();
     match declarations.answer(line, reply) {
-        Ok(Turn::Answered) => {
+        Ok(LineOutcome::Answered) => {
             write_reply(writer, reply)?;
-            Ok(Turn::Answered)
+            Ok(LineOutcome::Answered)
         }
-        Ok(Turn::Opens) => Ok(Turn::Opens),
+        Ok(LineOutcome::Opens) => Ok(LineOutcome::Opens),
         Err(_) => Err(ReplayFault::OutOfMemory),
     }
 }
@@ -139,15 +118,15 @@ pub fn replay_from<M: Machine, R: BufRead, W: Write>(
     reader: &mut R,
     writer: &mut W,
 ) -> Result<(), ReplayFault>
-    requires short { lines.old.most < 2 ^ 62 }
-    requires line { IsReadLine end lines.old.most lines.old.held.items }
+    requires short { lines.old.max_line_bytes < 2 ^ 62 }
+    requires line { IsReadLine end lines.old.max_line_bytes lines.old.held.items }
     requires few { M.answered machine.old + length (line_read end lines.old.held.items) + lines.old.room < 2 ^ 62 }
     // Of any text that is the machine's where a script begins with this line.
     ensures run { (text : List Line → List ℕ) → text [] ≡ []
-        → AgreeFrom (line_of end lines.old.most lines.old.held.items) text (M.text machine.old)
+        → AgreeFrom (line_of end lines.old.max_line_bytes lines.old.held.items) text (M.text machine.old)
         → (read written : List ℕ) × Consumes (R.remaining reader.old) (R.remaining reader.new) read
         × Appends (W.contents writer.old) (W.contents writer.new) written
-        × Replays text lines.old.most (length (line_read end lines.old.held.items) + lines.old.room) result
+        × Replays (ReadToEnd end (R.remaining reader.old) (R.remaining reader.new)) text lines.old.max_line_bytes (length (line_read end lines.old.held.items) + lines.old.room) result
         (line_read end lines.old.held.items ++ read) written }
     ensures end { OnOk result (ReadToEnd end (R.remaining reader.old) (R.remaining reader.new)) }
 {
@@ -167,12 +146,12 @@ fn drive<M: Machine, R: BufRead, W: Write>(
     reader: &mut R,
     writer: &mut W,
 ) -> Result<(), ReplayFault>
-    requires short { lines.old.most < 2 ^ 62 }
+    requires short { lines.old.max_line_bytes < 2 ^ 62 }
     requires few { M.answered machine.old + lines.old.room < 2 ^ 62 }
     ensures run { (read written : List ℕ) × Consumes (R.remaining reader.old) (R.remaining reader.new) read
         × Appends (W.contents writer.old) (W.contents writer.new) written
         × Began result read
-        × Replays (M.text machine.old) lines.old.most lines.old.room result read written }
+        × Replays (OnSome (R.remaining reader.old) (IsAtEnd (R.remaining reader.new))) (M.text machine.old) lines.old.max_line_bytes lines.old.room result read written }
     ensures end { OnOk result (OnSome (R.remaining reader.old) (IsAtEnd (R.remaining reader.new))) }
 {
     'lines: loop {

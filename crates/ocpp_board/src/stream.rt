@@ -1,32 +1,27 @@
-ghost use Rattle.std.specs.Prelude.{◌≡◌, ℕ, true, List, OnOk, OnSome, refl};
+ghost use Rattle.std.specs.Prelude.{◌≡◌, ℕ, List, [], OnOk, OnSome};
+ghost use Rattle.std.specs.Io.Buffered.{writer_buffer, writer_contents};
 ghost use Rattle.std.specs.Io.KnownBytes.{Consumes, Appends, IsAtEnd};
 ghost use Rattle.ocpp_board.specs.Outcome.{Replays};
-ghost use Rattle.ocpp_board.specs.Plans.{planned, opened};
-ghost use Rattle.ocpp_board.specs.Script.{start, script_text, opening};
-ghost use Rattle.ocpp_board.specs.Words.{spoken};
+ghost use Rattle.ocpp_board.specs.Ranges.{longest_line, longest_script};
+ghost use Rattle.ocpp_board.specs.Script.{start, script_text};
 
 use crate::fault::ReplayFault;
-use crate::ledgers::Ledgers;
-use crate::line_reader::{LineEnd, LineReader};
-use crate::machine::{Declarations, Machine, Turn};
-use crate::plan::Plan;
-use crate::replay::{replay_from, replay_lines};
-use energy_flow::Work;
-use std::alloc::{AllocError, Global};
-use std::io::{BufRead, Write};
+use crate::plan::{Declaring, Plan};
+use crate::replay::replay_lines;
+use std::io::{BufRead, BufWriter, Write};
 use std::thread::Threads;
 
 /// How many bytes a script's line may have before its line feed.
-pub const MOST_LINE: usize = 262_400;
+pub const MAX_LINE_BYTES: usize = 262_400;
 
 /// How many bytes a script may have: 1 GiB.
-pub const MOST_INPUT: usize = 1_073_741_824;
+pub const MAX_SCRIPT_BYTES: usize = 1_073_741_824;
 
 /// Replays a script: reads its lines and writes the text of each.
 ///
 /// After `Ok` the reader was read to its end, and the bytes written are the text of the bytes read. After a
 /// ReadFault or TooMuchInput they are the text of the complete lines read, after a WriteFault a front of the text
-/// of the lines read, and after OutOfMemory the text of the lines before that of the last byte read.
+/// of the complete lines read, or of all lines where the reader is at its end, and after OutOfMemory the text of the lines before that of the last byte read.
 pub fn replay_stream<X: AllocGlobal + Threads, R: BufRead, W: Write>(
     rt: &X,
     reader: &mut R,
@@ -34,66 +29,58 @@ pub fn replay_stream<X: AllocGlobal + Threads, R: BufRead, W: Write>(
 ) -> Result<(), ReplayFault>
     ensures run { (read written : List ℕ) × Consumes (R.remaining reader.old) (R.remaining reader.new) read
         × Appends (W.contents writer.old) (W.contents writer.new) written
-        × Replays (script_text start) MOST_LINE MOST_INPUT result read written }
+        × Replays (OnSome (R.remaining reader.old) (IsAtEnd (R.remaining reader.new))) (script_text start) longest_line longest_script result read written }
     ensures end { OnOk result (OnSome (R.remaining reader.old) (IsAtEnd (R.remaining reader.new))) }
 {
-    let plan = Plan::new();
+    let result = replay_unflushed(rt, reader, writer);
+    match writer.flush() {
+        Ok(()) => result,
+        Err(_) => result.and(Err(ReplayFault::WriteFault)),
+    }
+}
+
+/// Replays a script like [`replay_stream`], through a buffer of which nothing is left after `Ok`: each byte of the
+/// text was handed on to the writer behind it.
+pub fn replay_buffered<X: AllocGlobal + Threads, R: BufRead, W: Write + Drop>(
+    rt: &X,
+    reader: &mut R,
+    writer: &mut BufWriter<W>,
+) -> Result<(), ReplayFault>
+    ensures run { (read written : List ℕ) × Consumes (R.remaining reader.old) (R.remaining reader.new) read
+        × Appends (writer_contents W.contents writer.old) (writer_contents W.contents writer.new) written
+        × Replays (OnSome (R.remaining reader.old) (IsAtEnd (R.remaining reader.new))) (script_text start) longest_line longest_script result read written }
+    ensures end { OnOk result (OnSome (R.remaining reader.old) (IsAtEnd (R.remaining reader.new))) }
+    ensures handed_on { OnOk result (writer_buffer writer.new ≡ []) }
+{
+    let replayed = replay_unflushed(rt, reader, writer);
+    let flushed = writer.flush();
+    match flushed {
+        Ok(()) => replayed,
+        Err(_) => replayed.and(Err(ReplayFault::WriteFault)),
+    }
+}
+
+// Replays a script, and leaves the last flush to the caller.
+fn replay_unflushed<X: AllocGlobal + Threads, R: BufRead, W: Write>(
+    rt: &X,
+    reader: &mut R,
+    writer: &mut W,
+) -> Result<(), ReplayFault>
+    ensures run { (read written : List ℕ) × Consumes (R.remaining reader.old) (R.remaining reader.new) read
+        × Appends (W.contents writer.old) (W.contents writer.new) written
+        × Replays (OnSome (R.remaining reader.old) (IsAtEnd (R.remaining reader.new))) (script_text start) longest_line longest_script result read written }
+    ensures end { OnOk result (OnSome (R.remaining reader.old) (IsAtEnd (R.remaining reader.new))) }
+{
+    let declaring = Declaring {
+        rt,
+        plan: Plan::new(),
+    };
     replay_lines(
         rt.alloc(),
-        Declaring { rt, plan },
+        declaring,
         reader,
         writer,
-        MOST_LINE,
-        MOST_INPUT,
+        MAX_LINE_BYTES,
+        MAX_SCRIPT_BYTES,
     )
-}
-
-// The declarations of a script, with what opens its ledgers.
-#[derive(Drop)]
-struct Declaring<'a, X> {
-    rt: &'a X,
-    plan: Plan,
-}
-
-impl<X: AllocGlobal + Threads> Declarations for Declaring<'_, X> {
-    ghost text = { λ s. script_text (planned s.plan) };
-
-    ghost opens = { λ _ line. opening (spoken line) ≡ true };
-
-    ghost no_lines = { λ s. refl };
-
-    fn answer(&mut self, line: Option<&[u8]>, reply: &mut Vec<u8>) -> Result<Turn, AllocError> {
-        self.plan.answer(line, reply)
-    }
-
-    fn replay_commands<R: BufRead, W: Write>(
-        self,
-        lines: LineReader,
-        end: LineEnd,
-        reply: Vec<u8>,
-        reader: &mut R,
-        writer: &mut W,
-    ) -> Result<(), ReplayFault> {
-        let (mut lines, mut reply) = (lines, reply);
-        let Declaring { rt, plan } = self;
-        match Ledgers::open(rt.alloc(), plan, Work::open(rt)) {
-            Ok(mut ledgers) => {
-                replay_from(&mut ledgers, &mut lines, end, &mut reply, reader, writer)
-            }
-            Err(_) => Err(ReplayFault::OutOfMemory),
-        }
-    }
-}
-
-impl Machine for Ledgers {
-    ghost text = { λ s. script_text (opened s) };
-
-    ghost answered = { λ _. 0 };
-
-    ghost no_lines = { λ s. refl };
-
-    fn answer(&mut self, line: Option<&[u8]>, reply: &mut Vec<u8>) -> Result<(), AllocError> {
-        Ledgers::answer(self, line, reply)?;
-        Ok(())
-    }
 }

@@ -1,7 +1,7 @@
 ghost use Rattle.std.specs.Prelude.{◌≡◌, ◌++◌, OnOk};
 ghost use Rattle.ocpp_board.specs.Script.{fault_line, energy_line, ended_line};
 
-use crate::spoken::LineFault;
+use crate::script_line::LineFault;
 use energy_flow::Flow;
 use std::alloc::{AllocError, Global};
 

@@ -24,3 +24,9 @@ abbrev pub IsOutOfMemory : Incoming → Type 0
 IsOutOfMemory (incoming.Call call) = ⊥
 IsOutOfMemory incoming.Silent = ⊥
 IsOutOfMemory (incoming.Reply text memory) = IsTrue memory
+
+-- The answer is a call.
+abbrev pub IsCall : Incoming → Type 0
+IsCall (incoming.Call call) = ⊤
+IsCall incoming.Silent = ⊥
+IsCall (incoming.Reply text memory) = ⊥

@@ -1,7 +1,7 @@
 ghost use Rattle.std.specs.Prelude.{◌≡◌, ◌≤◌, length};
 ghost use Rattle.marked_json.specs.Reading.{tree};
 ghost use Rattle.ocppj_frame.specs.Frame.{frame, frame_of, refused, elements_of};
-ghost use Rattle.ocppj_frame.specs.Incoming.{Reads, IsMemoryTold, IsOutOfMemory};
+ghost use Rattle.ocppj_frame.specs.Incoming.{Reads, IsMemoryTold, IsOutOfMemory, IsCall};
 ghost use Rattle.ocppj_frame.specs.Reply.{memory_bytes};
 ghost use Rattle.ocppj_frame.specs.Ranges.{longest_message};
 
@@ -41,6 +41,7 @@ pub fn read_frame(alloc: Global, text: &str) -> Incoming
     ensures meaning { Reads (frame text.now) result }
     ensures memory { IsMemoryTold result }
     ensures while_reading { IsOutOfMemory result → length text.now ≤ longest_message }
+    ensures short { IsCall result → length text.now ≤ longest_message }
 {
     if text.len() > MAX_MESSAGE {
         return refusal(None, FrameFault::TextTooLong);

@@ -1,3 +1,4 @@
+pub mod Growing
 pub mod Integers
 pub mod Replies
 pub mod Deliveries

@@ -11,4 +11,5 @@ pub mod Request
 pub mod Reply
 pub mod Message
 pub mod MessageMeaning
+pub mod Growth
 pub mod Laws

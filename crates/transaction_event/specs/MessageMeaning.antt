@@ -6,12 +6,13 @@ use Rattle.ocppj_frame.specs.Frame.{Frame, frame, Called}
 use Rattle.transaction_event.specs.declared.message.Message.{Message}
 use Rattle.transaction_event.specs.declared.message.Message.TheVariants as message
 use Rattle.transaction_event.specs.Message as meaning
+use Rattle.transaction_event.specs.Growth.{PayloadGrows}
 use Rattle.transaction_event.specs.Reply.{memory_reply}
 use Rattle.ocppj_frame.specs.Ranges.{longest_message_id}
 
--- A reply that tells OutOfMemory: with the id of the call whose readings found none, or `-1` where the text found none.
+-- A reply that tells OutOfMemory: with the id of a call whose payload passes its checks up to a counted reading that found none, or `-1` where the text found none.
 abbrev pub IsMemoryReply : Frame → List ℕ → Type 0
-IsMemoryReply (Called id TransactionEvent payload) reply = (reply ≡ memory_reply (codes "-1")) ⊎ (reply ≡ memory_reply id)
+IsMemoryReply (Called id TransactionEvent payload) reply = (reply ≡ memory_reply (codes "-1")) ⊎ ((reply ≡ memory_reply id) × PayloadGrows payload)
 IsMemoryReply _ reply = reply ≡ memory_reply (codes "-1")
 
 -- A reply is what the frame means at a moment, or it tells OutOfMemory.
@@ -45,3 +46,9 @@ abbrev pub HasShortId : Message → Type 0
 HasShortId (message.Event id key event token) = character_count id.bytes ≤ longest_message_id
 HasShortId (message.Reply text memory) = ⊤
 HasShortId message.Silent = ⊤
+
+-- The reply tells OutOfMemory.
+abbrev pub IsOutOfMemory : Message → Type 0
+IsOutOfMemory (message.Event id key event token) = ⊥
+IsOutOfMemory (message.Reply text memory) = IsTrue memory
+IsOutOfMemory message.Silent = ⊥

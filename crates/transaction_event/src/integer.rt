@@ -1,9 +1,10 @@
 //! Integers of a payload, by range.
-ghost use Rattle.std.specs.Prelude.{◌≡◌, ◌≤◌, ◌≤ℤ◌, length, IfOk};
+ghost use Rattle.std.specs.Prelude.{◌≡◌, ◌≤◌, ◌≤ℤ◌, length, IfOk, ◌≢◌, IfErr};
 ghost use Rattle.marked_json.specs.Reading.{node};
 ghost use Rattle.std.specs.Char.{is_ascii_digit};
 ghost use Rattle.std.specs.List.{list_all};
 ghost use Rattle.transaction_event.specs.Integer as spec;
+ghost use Rattle.transaction_event.specs.declared.fault.PayloadFault.TheVariants.{OutOfMemory};
 
 use crate::PayloadFault;
 use marked_json::Node;
@@ -34,6 +35,7 @@ fn is_integer(token: &str) -> bool
 fn in_range(number: i64, low: i64, high: i64) -> Result<i64, PayloadFault>
     ensures value { result ≡ spec.within low high number }
     ensures range { IfOk result (λ n. (low ≤ℤ n) × (n ≤ℤ high)) }
+    ensures memory { IfErr result (λ f. f ≢ OutOfMemory) }
 {
     if low <= number && number <= high {
         Ok(number)
@@ -45,6 +47,7 @@ fn in_range(number: i64, low: i64, high: i64) -> Result<i64, PayloadFault>
 fn integer_within(token: &str, low: i64, high: i64) -> Result<i64, PayloadFault>
     ensures value { result ≡ spec.integer_within low high token.now }
     ensures range { IfOk result (λ n. (low ≤ℤ n) × (n ≤ℤ high)) }
+    ensures memory { IfErr result (λ f. f ≢ OutOfMemory) }
 {
     if !is_integer(token) {
         return Err(PayloadFault::WrongType);
@@ -58,6 +61,7 @@ fn integer_within(token: &str, low: i64, high: i64) -> Result<i64, PayloadFault>
 fn integer_in(member: Node, low: i64, high: i64) -> Result<i64, PayloadFault>
     ensures value { result ≡ spec.integer_in low high (node member.entry) }
     ensures range { IfOk result (λ n. (low ≤ℤ n) × (n ≤ℤ high)) }
+    ensures memory { IfErr result (λ f. f ≢ OutOfMemory) }
 {
     match member.number() {
         Some(token) => integer_within(token, low, high),
@@ -70,6 +74,7 @@ pub fn required_integer(object: Node, name: &str, low: i64, high: i64) -> Result
     requires { length name.now ≤ 63 }
     ensures value { result ≡ spec.required_integer low high name.now (node object.entry) }
     ensures range { IfOk result (λ n. (low ≤ℤ n) × (n ≤ℤ high)) }
+    ensures memory { IfErr result (λ f. f ≢ OutOfMemory) }
 {
     match object.field(name) {
         Some(member) => integer_in(member, low, high),
@@ -85,7 +90,8 @@ pub fn optional_integer(
     high: i64,
 ) -> Result<Option<i64>, PayloadFault>
     requires { length name.now ≤ 63 }
-    ensures { result ≡ spec.optional_integer low high name.now (node object.entry) }
+    ensures value { result ≡ spec.optional_integer low high name.now (node object.entry) }
+    ensures memory { IfErr result (λ f. f ≢ OutOfMemory) }
 {
     match object.field(name) {
         Some(member) => Ok(Some(integer_in(member, low, high)?)),

@@ -1,8 +1,9 @@
 //! The members of an object, each of the JSON kind that is wanted.
-ghost use Rattle.std.specs.Prelude.{◌≡◌, ◌≤◌, length, option_map};
+ghost use Rattle.std.specs.Prelude.{◌≡◌, ◌≤◌, length, option_map, ◌≢◌, IfErr};
 ghost use Rattle.marked_json.specs.Reading.{node, left_of, text_of, items_of, number_of};
 ghost use Rattle.transaction_event.specs.Steps.{checked_map};
 ghost use Rattle.transaction_event.specs.Member.{required, optional, object_of};
+ghost use Rattle.transaction_event.specs.declared.fault.PayloadFault.TheVariants.{OutOfMemory};
 
 use crate::PayloadFault;
 use marked_json::{Items, Node};
@@ -10,7 +11,8 @@ use marked_json::{Items, Node};
 /// A text that has to be there: `Missing`, or `WrongType`.
 pub fn required_text<'a>(object: Node<'a>, name: &str) -> Result<&'a str, PayloadFault>
     requires { length name.now ≤ 63 }
-    ensures { checked_map (λ s. s.now) result ≡ required text_of name.now (node object.entry) }
+    ensures value { checked_map (λ s. s.now) result ≡ required text_of name.now (node object.entry) }
+    ensures memory { IfErr result (λ f. f ≢ OutOfMemory) }
 {
     match object.field(name) {
         Some(member) => member.text().ok_or(PayloadFault::WrongType),
@@ -21,8 +23,9 @@ pub fn required_text<'a>(object: Node<'a>, name: &str) -> Result<&'a str, Payloa
 /// A text, or none where the member is absent: `WrongType`.
 pub fn optional_text<'a>(object: Node<'a>, name: &str) -> Result<Option<&'a str>, PayloadFault>
     requires { length name.now ≤ 63 }
-    ensures { checked_map (option_map (λ s. s.now)) result
+    ensures value { checked_map (option_map (λ s. s.now)) result
         ≡ optional text_of name.now (node object.entry) }
+    ensures memory { IfErr result (λ f. f ≢ OutOfMemory) }
 {
     match object.field(name) {
         Some(member) => match member.text() {
@@ -36,7 +39,8 @@ pub fn optional_text<'a>(object: Node<'a>, name: &str) -> Result<Option<&'a str>
 /// An object that has to be there: `Missing`, or `WrongType`.
 pub fn required_object<'a>(object: Node<'a>, name: &str) -> Result<Node<'a>, PayloadFault>
     requires { length name.now ≤ 63 }
-    ensures { checked_map node result ≡ required object_of name.now (node object.entry) }
+    ensures value { checked_map node result ≡ required object_of name.now (node object.entry) }
+    ensures memory { IfErr result (λ f. f ≢ OutOfMemory) }
 {
     match object.field(name) {
         Some(member) if member.is_object() => Ok(member),
@@ -48,8 +52,9 @@ pub fn required_object<'a>(object: Node<'a>, name: &str) -> Result<Node<'a>, Pay
 /// An object, or none where the member is absent: `WrongType`.
 pub fn optional_object<'a>(object: Node<'a>, name: &str) -> Result<Option<Node<'a>>, PayloadFault>
     requires { length name.now ≤ 63 }
-    ensures { checked_map (option_map node) result
+    ensures value { checked_map (option_map node) result
         ≡ optional object_of name.now (node object.entry) }
+    ensures memory { IfErr result (λ f. f ≢ OutOfMemory) }
 {
     match object.field(name) {
         Some(member) if member.is_object() => Ok(Some(member)),
@@ -61,7 +66,8 @@ pub fn optional_object<'a>(object: Node<'a>, name: &str) -> Result<Option<Node<'
 /// The items of an array that has to be there: `Missing`, or `WrongType`.
 pub fn required_items<'a>(object: Node<'a>, name: &str) -> Result<Items<'a>, PayloadFault>
     requires { length name.now ≤ 63 }
-    ensures { checked_map left_of result ≡ required items_of name.now (node object.entry) }
+    ensures value { checked_map left_of result ≡ required items_of name.now (node object.entry) }
+    ensures memory { IfErr result (λ f. f ≢ OutOfMemory) }
 {
     match object.field(name) {
         Some(member) => member.items().ok_or(PayloadFault::WrongType),
@@ -72,8 +78,9 @@ pub fn required_items<'a>(object: Node<'a>, name: &str) -> Result<Items<'a>, Pay
 /// The items of an array, or none where the member is absent: `WrongType`.
 pub fn optional_items<'a>(object: Node<'a>, name: &str) -> Result<Option<Items<'a>>, PayloadFault>
     requires { length name.now ≤ 63 }
-    ensures { checked_map (option_map left_of) result
+    ensures value { checked_map (option_map left_of) result
         ≡ optional items_of name.now (node object.entry) }
+    ensures memory { IfErr result (λ f. f ≢ OutOfMemory) }
 {
     match object.field(name) {
         Some(member) => match member.items() {
@@ -87,7 +94,8 @@ pub fn optional_items<'a>(object: Node<'a>, name: &str) -> Result<Option<Items<'
 /// The token of a number that has to be there: `Missing`, or `WrongType`.
 pub fn required_number<'a>(object: Node<'a>, name: &str) -> Result<&'a str, PayloadFault>
     requires { length name.now ≤ 63 }
-    ensures { checked_map (λ s. s.now) result ≡ required number_of name.now (node object.entry) }
+    ensures value { checked_map (λ s. s.now) result ≡ required number_of name.now (node object.entry) }
+    ensures memory { IfErr result (λ f. f ≢ OutOfMemory) }
 {
     match object.field(name) {
         Some(member) => member.number().ok_or(PayloadFault::WrongType),

@@ -1,6 +1,7 @@
 //! A station's text, as what it asks of the ledger.
-ghost use Rattle.std.specs.Prelude.{◌≡◌, ℕ, false};
-ghost use Rattle.transaction_event.specs.MessageMeaning.{IsMeaningOf, IsMeaningOfFrame, IsMemoryTold, IsMemoryToldOfFrame, HasShortId};
+ghost use Rattle.std.specs.Prelude.{◌≡◌, ◌≤◌, ℕ, false, length};
+ghost use Rattle.transaction_event.specs.MessageMeaning.{IsMeaningOf, IsMeaningOfFrame, IsMemoryTold, IsMemoryToldOfFrame, HasShortId, IsOutOfMemory};
+ghost use Rattle.ocppj_frame.specs.Ranges.{longest_message};
 ghost use Rattle.ocppj_frame.specs.Frame.{Called};
 ghost use Rattle.ocppj_frame.specs.Call.{id_of, action_of, payload_of};
 ghost use Rattle.ocppj_frame.specs.declared.action.Action.TheVariants.{TransactionEvent};
@@ -90,10 +91,12 @@ fn answered(alloc: Global, call: &Call, now: Moment) -> Message
     }
 }
 
-/// What a station's text means at a moment.
+/// What a station's text means at a moment. Memory runs out only while a text of at most 262,144 bytes is
+/// read as JSON, or at a counted reading of a payload that passed all checks before it.
 pub fn message_of(alloc: Global, text: &str, now: Moment) -> Message
     ensures meaning { IsMeaningOf text.now now result }
     ensures memory { IsMemoryTold text.now result }
+    ensures while_reading { IsOutOfMemory result → length text.now ≤ longest_message }
     ensures short { HasShortId result }
 {
     match read_frame(alloc, text) {

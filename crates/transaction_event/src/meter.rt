@@ -4,6 +4,7 @@ ghost use Rattle.marked_json.specs.Reading.{node, left_of};
 ghost use Rattle.transaction_event.specs.Steps.{for_each};
 ghost use Rattle.transaction_event.specs.Sampled.{sample};
 ghost use Rattle.transaction_event.specs.MeterValues as spec;
+ghost use Rattle.transaction_event.specs.Growth.{GrowsAmong, SampleGrows, MeterValueGrows, MeterValuesGrow};
 ghost use Rattle.transaction_event.specs.declared.fault.PayloadFault.TheVariants.{OutOfMemory};
 
 use crate::PayloadFault;
@@ -15,12 +16,14 @@ use ledger_model::Moment;
 use marked_json::{Items, Node};
 use std::alloc::Global;
 
-#[tactic(auto, unfolding(crate::specs::Steps::for_each))]
+#[tactic(auto, unfolding(crate::specs::Steps::for_each), using(crate::proofs::Growing::grows_here, crate::proofs::Growing::grows_later))]
 fn samples(moment: Moment, values: Items, readings: &mut Readings) -> Result<(), PayloadFault>
     ensures ok { OnOk result
         (for_each (sample moment) readings.old (left_of values.entry) ≡ Ok readings.new) }
     ensures err { IfErr result
         (λ f. f ≢ OutOfMemory → for_each (sample moment) readings.old (left_of values.entry) ≡ Err f) }
+    ensures memory { IfErr result
+        (λ f. f ≡ OutOfMemory → GrowsAmong (sample moment) (SampleGrows moment) readings.old (left_of values.entry)) }
 {
     for value in values {
         sample(moment, value, readings)?;
@@ -33,6 +36,7 @@ fn meter_value(element: Node, readings: &mut Readings) -> Result<(), PayloadFaul
     ensures ok { OnOk result (spec.meter_value readings.old (node element.entry) ≡ Ok readings.new) }
     ensures err { IfErr result
         (λ f. f ≢ OutOfMemory → spec.meter_value readings.old (node element.entry) ≡ Err f) }
+    ensures memory { IfErr result (λ f. f ≡ OutOfMemory → MeterValueGrows readings.old (node element.entry)) }
 {
     if !element.is_object() {
         return Err(PayloadFault::WrongType);
@@ -41,12 +45,14 @@ fn meter_value(element: Node, readings: &mut Readings) -> Result<(), PayloadFaul
     samples(moment, required_items(element, "sampledValue")?, readings)
 }
 
-#[tactic(auto, unfolding(crate::specs::Steps::for_each))]
+#[tactic(auto, unfolding(crate::specs::Steps::for_each), using(crate::proofs::Growing::grows_here, crate::proofs::Growing::grows_later))]
 fn elements_in_turn(elements: Items, readings: &mut Readings) -> Result<(), PayloadFault>
     ensures ok { OnOk result
         (for_each spec.meter_value readings.old (left_of elements.entry) ≡ Ok readings.new) }
     ensures err { IfErr result
         (λ f. f ≢ OutOfMemory → for_each spec.meter_value readings.old (left_of elements.entry) ≡ Err f) }
+    ensures memory { IfErr result
+        (λ f. f ≡ OutOfMemory → GrowsAmong spec.meter_value MeterValueGrows readings.old (left_of elements.entry)) }
 {
     for element in elements {
         meter_value(element, readings)?;
@@ -60,6 +66,7 @@ pub fn meter_values(alloc: Global, request: Node) -> Result<Readings, PayloadFau
     ensures ok { IfOk result (λ readings. spec.meter_values (node request.entry) ≡ Ok readings) }
     ensures err { IfErr result
         (λ f. f ≢ OutOfMemory → spec.meter_values (node request.entry) ≡ Err f) }
+    ensures memory { IfErr result (λ f. f ≡ OutOfMemory → MeterValuesGrow (node request.entry)) }
 {
     let mut readings = Readings::new(alloc);
     if let Some(elements) = optional_items(request, "meterValue")? {

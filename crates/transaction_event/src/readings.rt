@@ -1,5 +1,5 @@
 //! The counted readings of an event.
-ghost use Rattle.std.specs.Prelude.{◌≡◌, ◌≢◌, ◌≤◌, [], length, Ok, Err, OnOk, IfErr};
+ghost use Rattle.std.specs.Prelude.{◌≡◌, ◌≢◌, ◌≤◌, [], ◌∷◌, ◌++◌, length, Ok, Err, OnOk, IfErr};
 ghost use Rattle.ledger_model.specs.Ranges.{most_event_readings};
 ghost use Rattle.transaction_event.specs.Readings as spec;
 ghost use Rattle.transaction_event.specs.declared.fault.PayloadFault.TheVariants.{OutOfMemory};
@@ -41,6 +41,7 @@ impl Readings {
     pub fn add(&mut self, reading: Reading) -> Result<(), PayloadFault>
         ensures ok { OnOk result (spec.one_more self.old reading ≡ Ok self.new) }
         ensures err { IfErr result (λ f. f ≢ OutOfMemory → spec.one_more self.old reading ≡ Err f) }
+        ensures memory { IfErr result (λ f. f ≡ OutOfMemory → spec.one_more self.old reading ≡ Ok (self.old ++ reading ∷ [])) }
     {
         if self.items.len() >= MAX_EVENT_READINGS {
             return Err(PayloadFault::TooManyReadings);

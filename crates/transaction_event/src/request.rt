@@ -1,6 +1,7 @@
 //! A TransactionEventRequest, as an event of the ledger.
 ghost use Rattle.std.specs.Prelude.{◌≡◌, ◌≢◌, ◌≤◌, option_map, Some, Ok, Err, IfOk, IfErr};
 ghost use Rattle.marked_json.specs.Reading.{node};
+ghost use Rattle.transaction_event.specs.Growth.{RequestGrows, PayloadGrows};
 ghost use Rattle.transaction_event.specs.Request as spec;
 ghost use Rattle.transaction_event.specs.declared.fault.PayloadFault.TheVariants.{OutOfMemory};
 
@@ -14,7 +15,8 @@ use marked_json::Node;
 use std::alloc::Global;
 
 fn kind_named(name: &str) -> Result<Kind, PayloadFault>
-    ensures { result ≡ spec.kind_named name.now }
+    ensures value { result ≡ spec.kind_named name.now }
+    ensures memory { IfErr result (λ f. f ≢ OutOfMemory) }
 {
     match name {
         "Started" => Ok(Kind::Started),
@@ -26,20 +28,23 @@ fn kind_named(name: &str) -> Result<Kind, PayloadFault>
 
 #[tactic(auto, unfolding(crate::specs::Request::kind_of))]
 fn kind_of(request: Node) -> Result<Kind, PayloadFault>
-    ensures { result ≡ spec.kind_of (node request.entry) }
+    ensures value { result ≡ spec.kind_of (node request.entry) }
+    ensures memory { IfErr result (λ f. f ≢ OutOfMemory) }
 {
     kind_named(required_text(request, "eventType")?)
 }
 
 fn tx_named(text: &str) -> Result<TxId, PayloadFault>
-    ensures { result ≡ spec.tx_named text.now }
+    ensures value { result ≡ spec.tx_named text.now }
+    ensures memory { IfErr result (λ f. f ≢ OutOfMemory) }
 {
     TxId::new(text).ok_or(PayloadFault::Range)
 }
 
 #[tactic(auto, unfolding(crate::specs::Request::key_of))]
 fn key_of(request: Node) -> Result<Key, PayloadFault>
-    ensures { result ≡ spec.key_of (node request.entry) }
+    ensures value { result ≡ spec.key_of (node request.entry) }
+    ensures memory { IfErr result (λ f. f ≢ OutOfMemory) }
 {
     let seq = required_integer(request, "seqNo", 0, i64::from(SEQUENCE_END) - 1)?;
     let info = required_object(request, "transactionInfo")?;
@@ -50,6 +55,7 @@ fn key_of(request: Node) -> Result<Key, PayloadFault>
 fn evse_number(evse: Option<Node>) -> Result<Option<EvseId>, PayloadFault>
     ensures value { result ≡ spec.evse_number (option_map node evse.entry) }
     ensures named { IfOk result (λ evse. evse ≢ Some 0) }
+    ensures memory { IfErr result (λ f. f ≢ OutOfMemory) }
 {
     match evse {
         Some(evse) => {
@@ -64,13 +70,15 @@ fn evse_number(evse: Option<Node>) -> Result<Option<EvseId>, PayloadFault>
 fn evse_of(request: Node) -> Result<Option<EvseId>, PayloadFault>
     ensures value { result ≡ spec.evse_of (node request.entry) }
     ensures named { IfOk result (λ evse. evse ≢ Some 0) }
+    ensures memory { IfErr result (λ f. f ≢ OutOfMemory) }
 {
     evse_number(optional_object(request, "evse")?)
 }
 
 #[tactic(auto, unfolding(crate::specs::Request::has_token))]
 fn has_token(request: Node) -> Result<bool, PayloadFault>
-    ensures { result ≡ spec.has_token (node request.entry) }
+    ensures value { result ≡ spec.has_token (node request.entry) }
+    ensures memory { IfErr result (λ f. f ≢ OutOfMemory) }
 {
     Ok(optional_object(request, "idToken")?.is_some())
 }
@@ -80,6 +88,7 @@ fn read_event(alloc: Global, request: Node) -> Result<(Key, Event, bool), Payloa
     ensures ok { IfOk result
         (λ r. spec.request_of (node request.entry) ≡ Ok (record { key = r.0; event = r.1; token = r.2 })) }
     ensures err { IfErr result (λ f. f ≢ OutOfMemory → spec.request_of (node request.entry) ≡ Err f) }
+    ensures memory { IfErr result (λ f. f ≡ OutOfMemory → RequestGrows (node request.entry)) }
 {
     let kind = kind_of(request)?;
     let moment = timestamp(request)?;
@@ -98,13 +107,15 @@ fn read_event(alloc: Global, request: Node) -> Result<(Key, Event, bool), Payloa
 /// The checks come in this order, and the first fault answers: the payload an object; `eventType`;
 /// `timestamp`; `triggerReason`; `seqNo`, 0 to 2,147,483,647; `transactionInfo` with its
 /// `transactionId`; `evse` with its `id`, 1 to 64; `idToken`; `meterValue`, each element in turn, and
-/// in it each sampled value. `OutOfMemory` comes only where the list of readings could not grow.
+/// in it each sampled value. `OutOfMemory` comes only where the list of readings could not grow: at a
+/// counted reading, when all checks before it have passed.
 pub fn event_of(alloc: Global, payload: Node) -> Result<(Key, Event, bool), PayloadFault>
     ensures ok { IfOk result
         (λ r. spec.event_reading (node payload.entry)
         ≡ Ok (record { key = r.0; event = r.1; token = r.2 })) }
     ensures err { IfErr result
         (λ f. f ≢ OutOfMemory → spec.event_reading (node payload.entry) ≡ Err f) }
+    ensures memory { IfErr result (λ f. f ≡ OutOfMemory → PayloadGrows (node payload.entry)) }
 {
     if !payload.is_object() {
         return Err(PayloadFault::Format);

@@ -1,7 +1,9 @@
 //! Sampled values, and which of them count.
-ghost use Rattle.std.specs.Prelude.{◌≡◌, ◌≢◌, ◌≤◌, Ok, Err, IfOk, OnOk, IfErr, option_map};
+ghost use Rattle.std.specs.Prelude.{◌≡◌, ◌≢◌, ◌≤◌, Ok, Err, IfOk, OnOk, IfErr, option_map, [], ◌∷◌, ◌++◌};
 ghost use Rattle.marked_json.specs.Reading.{node};
 ghost use Rattle.ledger_model.specs.Ranges.{greatest_reading};
+ghost use Rattle.ledger_model.specs.Event.{MeterReading};
+ghost use Rattle.transaction_event.specs.Growth.{SampleGrows};
 ghost use Rattle.transaction_event.specs.Sampled as spec;
 ghost use Rattle.transaction_event.specs.declared.fault.PayloadFault.TheVariants.{OutOfMemory};
 
@@ -25,7 +27,8 @@ fn absent_or(expected: &str, text: Option<&str>) -> bool
 // Whether a sampled value counts, once its three texts are checked.
 #[tactic(auto, unfolding(crate::specs::Sampled::counts))]
 fn counts(sampled: Node) -> Result<bool, PayloadFault>
-    ensures { result ≡ spec.counts (node sampled.entry) }
+    ensures value { result ≡ spec.counts (node sampled.entry) }
+    ensures memory { IfErr result (λ f. f ≢ OutOfMemory) }
 {
     let measurand = optional_text(sampled, "measurand")?;
     let phase = optional_text(sampled, "phase")?;
@@ -42,6 +45,7 @@ fn counts(sampled: Node) -> Result<bool, PayloadFault>
 fn sampled_mwh(sampled: Node) -> Result<u64, PayloadFault>
     ensures value { result ≡ spec.sampled_mwh (node sampled.entry) }
     ensures range { IfOk result (λ mwh. mwh ≤ greatest_reading) }
+    ensures memory { IfErr result (λ f. f ≢ OutOfMemory) }
 {
     let scale = Scale::of(optional_object(sampled, "unitOfMeasure")?)?;
     let token = required_number(sampled, "value")?;
@@ -58,6 +62,9 @@ fn add_counted(
         (spec.if_counted moment readings.old (node sampled.entry) counted ≡ Ok readings.new) }
     ensures err { IfErr result
         (λ f. f ≢ OutOfMemory → spec.if_counted moment readings.old (node sampled.entry) counted ≡ Err f) }
+    ensures memory { IfErr result
+        (λ f. f ≡ OutOfMemory → (reading : MeterReading)
+        × (spec.if_counted moment readings.old (node sampled.entry) counted ≡ Ok (readings.old ++ reading ∷ []))) }
 {
     if !counted {
         return Ok(());
@@ -72,6 +79,7 @@ pub fn sample(moment: Moment, value: Node, readings: &mut Readings) -> Result<()
     ensures ok { OnOk result (spec.sample moment readings.old (node value.entry) ≡ Ok readings.new) }
     ensures err { IfErr result
         (λ f. f ≢ OutOfMemory → spec.sample moment readings.old (node value.entry) ≡ Err f) }
+    ensures memory { IfErr result (λ f. f ≡ OutOfMemory → SampleGrows moment readings.old (node value.entry)) }
 {
     if !value.is_object() {
         return Err(PayloadFault::WrongType);

@@ -1,7 +1,8 @@
 //! How a sampled value is scaled.
-ghost use Rattle.std.specs.Prelude.{◌≡◌, ◌≤ℤ◌, pos, negsuc, option_map, IfOk};
+ghost use Rattle.std.specs.Prelude.{◌≡◌, ◌≤ℤ◌, pos, negsuc, option_map, IfOk, ◌≢◌, IfErr};
 ghost use Rattle.marked_json.specs.Reading.{node};
 ghost use Rattle.transaction_event.specs.Scale as spec;
+ghost use Rattle.transaction_event.specs.declared.fault.PayloadFault.TheVariants.{OutOfMemory};
 
 use crate::PayloadFault;
 use crate::integer::optional_integer;
@@ -29,7 +30,8 @@ impl Model for Scale {
 }
 
 fn unit_named(name: Option<&str>) -> Result<Unit, PayloadFault>
-    ensures { result ≡ spec.unit_named (option_map (λ s. s.now) name.entry) }
+    ensures value { result ≡ spec.unit_named (option_map (λ s. s.now) name.entry) }
+    ensures memory { IfErr result (λ f. f ≢ OutOfMemory) }
 {
     match name {
         None | Some("Wh") => Ok(Unit::Wh),
@@ -40,7 +42,8 @@ fn unit_named(name: Option<&str>) -> Result<Unit, PayloadFault>
 
 #[tactic(auto, unfolding(crate::specs::Scale::named_scale))]
 fn named_scale(measure: Node) -> Result<Scale, PayloadFault>
-    ensures { result ≡ spec.named_scale (node measure.entry) }
+    ensures value { result ≡ spec.named_scale (node measure.entry) }
+    ensures memory { IfErr result (λ f. f ≢ OutOfMemory) }
 {
     let unit = unit_named(optional_text(measure, "unit")?)?;
     let multiplier = optional_integer(measure, "multiplier", -12, 12)?.unwrap_or(0);
@@ -53,7 +56,8 @@ fn named_scale(measure: Node) -> Result<Scale, PayloadFault>
 impl Scale {
     /// The scale of a unit of measure; watt-hours as they stand where there is none.
     pub fn of(measure: Option<Node>) -> Result<Scale, PayloadFault>
-        ensures { result ≡ spec.scale_of (option_map node measure.entry) }
+        ensures value { result ≡ spec.scale_of (option_map node measure.entry) }
+        ensures memory { IfErr result (λ f. f ≢ OutOfMemory) }
     {
         match measure {
             Some(measure) => named_scale(measure),
@@ -65,7 +69,7 @@ impl Scale {
     }
 
     pub fn unit(&self) -> Unit
-        ensures { result ≡ self.now.unit }
+        ensures value { result ≡ self.now.unit }
     {
         self.unit
     }

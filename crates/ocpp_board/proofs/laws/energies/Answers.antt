@@ -1,4 +1,4 @@
-use Rattle.ocpp_board.proofs.Reaching.{energy_is_from_scratch}
+use Rattle.ocpp_board.proofs.ReachedStations.{energy_is_from_scratch}
 use Rattle.ocpp_board.proofs.laws.energies.Goals as goal
 
 pub returns : goal.returns

@@ -1,4 +1,4 @@
-use Rattle.ocpp_board.proofs.Reaching.{stations_are_reached}
+use Rattle.ocpp_board.proofs.ReachedStations.{stations_are_reached}
 use Rattle.ocpp_board.proofs.laws.stations.Goals as goal
 
 pub returns : goal.returns

@@ -1,8 +1,8 @@
 use Rattle.std.proofs.Common.{subst}
 use Rattle.ocpp_board.specs.Lines.{line_bytes}
-use Rattle.ocpp_board.specs.Turns.{WritesLine}
-use Rattle.ocpp_board.proofs.Partway.{passed_on}
-use Rattle.ocpp_board.proofs.Going.{stops_writing}
+use Rattle.ocpp_board.specs.Answering.{WritesLine}
+use Rattle.ocpp_board.proofs.PartOfLine.{passed_on}
+use Rattle.ocpp_board.proofs.AnsweredLines.{stops_writing}
 use Rattle.ocpp_board.proofs.replay.answer_command.Goals as goal
 
 pub returns-in_err-write_reply-in-Ok-clause-run : goal.returns-in_err-write_reply-in-Ok-clause-run

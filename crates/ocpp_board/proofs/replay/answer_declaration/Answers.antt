@@ -1,8 +1,8 @@
 use Rattle.std.proofs.Common.{subst}
 use Rattle.ocpp_board.specs.Lines.{line_bytes}
-use Rattle.ocpp_board.specs.Turns.{WritesTurn}
-use Rattle.ocpp_board.proofs.Partway.{passed_on}
-use Rattle.ocpp_board.proofs.Going.{stops_writing}
+use Rattle.ocpp_board.specs.Answering.{WritesOrOpens}
+use Rattle.ocpp_board.proofs.PartOfLine.{passed_on}
+use Rattle.ocpp_board.proofs.AnsweredLines.{stops_writing}
 use Rattle.ocpp_board.proofs.replay.answer_declaration.Goals as goal
 
 pub returns-in_err-write_reply-in-Ok-Answered : goal.returns-in_err-write_reply-in-Ok-Answered
@@ -13,4 +13,4 @@ returns-in_err-write_reply-in-Ok-Answered g c =
     let t = c.in_err-write_reply-in-Ok-Answered.ensures in
     let fault = c.in_err-write_reply-in-Ok-Answered.field-0.0 in
     let stopped = stops_writing old new line c.answer.new.reply.items c.deref.result.now t.0 fault c.deref.ensures.value (rw c.in-Ok-Answered.field-0-is at c.in-Ok-Answered.ensures) t.2 in
-    (t.0, t.1, subst (λ r. WritesTurn old new (g.D.Declarations.opens c.answer.new.self) line r t.0) (passed_on _ fault c.from_residual.ensures.1) stopped)
+    (t.0, t.1, subst (λ r. WritesOrOpens old new (g.D.Declarations.opens c.answer.new.self) line r t.0) (passed_on _ fault c.from_residual.ensures.1) stopped)

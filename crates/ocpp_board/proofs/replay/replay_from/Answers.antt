@@ -1,4 +1,4 @@
-use Rattle.ocpp_board.proofs.Opening.{opening_stopped, opening_ended, opening_goes_on, agree_replies, agree_stops}
+use Rattle.ocpp_board.proofs.SecondPhase.{opening_stopped, opening_ended, opening_goes_on, agree_replies, agree_stops}
 use Rattle.ocpp_board.proofs.replay.replay_from.Goals as goal
 
 pub returns-in_err-answer_command-clause-run : goal.returns-in_err-answer_command-clause-run

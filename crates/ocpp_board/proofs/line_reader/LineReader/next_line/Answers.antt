@@ -1,6 +1,6 @@
 use Rattle.std.proofs.Common.{rules, ap, ◌∙◌, Ok}
 use Rattle.std.specs.Io.KnownBytes.{Keeps}
-use Rattle.ocpp_board.proofs.Partway.{goes_on, feeds, overflows, fails}
+use Rattle.ocpp_board.proofs.PartOfLine.{goes_on, feeds, overflows, fails}
 use Rattle.ocpp_board.proofs.line_reader.LineReader.next_line.Goals.{else-self-via-then-self+else-is_err, else-self-via-else-self}
 use Rattle.ocpp_board.proofs.line_reader.LineReader.next_line.Goals as goal
 
