@@ -5,6 +5,7 @@ pub mod Cuts
 pub mod AnsweredLines
 pub mod SecondPhase
 pub mod LineWords
+pub mod Flushes
 pub mod Faults
 pub mod OpeningLine
 pub mod ReachedStations
