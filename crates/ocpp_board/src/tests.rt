@@ -3,6 +3,7 @@ mod command_line;
 mod echo;
 mod loops;
 mod messages;
+mod payloads;
 mod scripts;
 mod streams;
 mod texts;
