@@ -219,18 +219,45 @@ pub read_line : (end : LineEnd) (max_line_bytes : ℕ) (held : List ℕ) → Has
 read_line Feed max_line_bytes held none short some = (none, short)
 read_line Input max_line_bytes held none short some = (none, short, some)
 
--- what a loop does after it asked for the next line
-module _ (old now : List Line → List ℕ) (max_line_bytes max_line_bytes' room left left' : ℕ) (r0 r1 r2 w0 w1 w2 : Option (List ℕ)) (p : AnsweredLines old now max_line_bytes room left r0 r1 w0 w1) (same : max_line_bytes' ≡ max_line_bytes)
-    (empty : now [] ≡ []) (result : Result LineEnd ReplayFault) (bytes held : List ℕ) (read : Consumes r1 r2 bytes) (kept : Keeps w1 w2)
-    (told : TakesLine max_line_bytes' left left' result bytes held) where
-  taken : (r : Result LineEnd ReplayFault) → result ≡ r → TakesLine max_line_bytes left left' r bytes held
-  taken r is = subst (λ x. TakesLine max_line_bytes left left' x bytes held) is (subst (λ m. TakesLine m left left' result bytes held) same told)
+-- what a loop knows once it asked for the next line: the lines before are answered, and these bytes were read of the
+-- line, of which `held` is kept
+pub record NextLine (old now : List Line → List ℕ) (max_line_bytes room left' : ℕ) (r0 r2 w0 w2 : Option (List ℕ)) (result : Result LineEnd ReplayFault) (held : List ℕ) : Type 0 where
+  pub left : ℕ
+  pub r1 : Option (List ℕ)
+  pub w1 : Option (List ℕ)
+  pub answered : AnsweredLines old now max_line_bytes room left r0 r1 w0 w1
+  pub empty : now [] ≡ []
+  pub bytes : List ℕ
+  pub read : Consumes r1 r2 bytes
+  pub kept : Keeps w1 w2
+  pub told : TakesLine max_line_bytes left left' result bytes held
+
+abbrev pub asked : (old now : List Line → List ℕ) (max_line_bytes max_line_bytes' room left left' : ℕ) (r0 r1 r2 w0 w1 w2 : Option (List ℕ)) (result : Result LineEnd ReplayFault) (held : List ℕ)
+    → AnsweredLines old now max_line_bytes room left r0 r1 w0 w1 → max_line_bytes' ≡ max_line_bytes → now [] ≡ []
+    → (bytes : List ℕ) × Consumes r1 r2 bytes × TakesLine max_line_bytes' left left' result bytes held → Keeps w1 w2
+    → NextLine old now max_line_bytes room left' r0 r2 w0 w2 result held
+asked old now max_line_bytes max_line_bytes' room left left' r0 r1 r2 w0 w1 w2 result held answered same empty taken kept = record {
+  left = left;
+  r1 = r1;
+  w1 = w1;
+  answered = answered;
+  empty = empty;
+  bytes = taken.0;
+  read = taken.1;
+  kept = kept;
+  told = subst (λ m. TakesLine m left left' result taken.0 held) same taken.2;
+}
+
+module _ (old now : List Line → List ℕ) (max_line_bytes room left' : ℕ) (r0 r2 w0 w2 : Option (List ℕ)) (result : Result LineEnd ReplayFault) (held : List ℕ)
+    (n : NextLine old now max_line_bytes room left' r0 r2 w0 w2 result held) where
+  taken : (r : Result LineEnd ReplayFault) → result ≡ r → TakesLine max_line_bytes n.left left' r n.bytes held
+  taken r is = subst (λ x. TakesLine max_line_bytes n.left left' x n.bytes held) is n.told
 
   -- no line was read
   pub line_fault : (T : Type 0) (fault : ReplayFault) → result ≡ Err fault → Tells T old max_line_bytes room r0 r2 w0 w2 (Err fault)
   line_fault T fault is =
-      closes old now max_line_bytes room left r0 r1 r2 w0 w1 w2 p T (OnSome r0 (IsAtEnd r2)) (Err fault) bytes [] read (Appends-none w1 w2 kept)
-      (stops_in_line now empty max_line_bytes T (OnSome r0 (IsAtEnd r2)) left left' fault bytes held (taken (Err fault) is))
+      closes old now max_line_bytes room n.left r0 n.r1 r2 w0 n.w1 w2 n.answered T (OnSome r0 (IsAtEnd r2)) (Err fault) n.bytes [] n.read (Appends-none n.w1 w2 n.kept)
+      (stops_in_line now n.empty max_line_bytes T (OnSome r0 (IsAtEnd r2)) n.left left' fault n.bytes held (taken (Err fault) is))
 
   pub line_stopped : (T : Type 0) (fault : ReplayFault) (passed : Result T ReplayFault) → result ≡ Err fault → IsErrAnd passed (λ x. x ≡ fault)
       → Tells T old max_line_bytes room r0 r2 w0 w2 passed
@@ -240,22 +267,22 @@ module _ (old now : List Line → List ℕ) (max_line_bytes max_line_bytes' room
   -- the input ended before a line
   pub line_absent : result ≡ Ok Input → length held ≡ 0 → Tells (Unit {0}) old max_line_bytes room r0 r2 w0 w2 (Ok tt)
   line_absent is none =
-      let t = taken_line max_line_bytes left left' Input bytes held (taken (Ok Input) is) in
-      let nothing : bytes ≡ [] = t.2 ∙ none_kept max_line_bytes held t.0 t.3 none in
-      closes old now max_line_bytes room left r0 r1 r2 w0 w1 w2 p (Unit {0}) (OnSome r0 (IsAtEnd r2)) (Ok tt) bytes [] read (Appends-none w1 w2 kept)
-      (tt, ends_at_none now empty max_line_bytes (OnSome r0 (IsAtEnd r2)) left bytes nothing)
+      let t = taken_line max_line_bytes n.left left' Input n.bytes held (taken (Ok Input) is) in
+      let nothing : n.bytes ≡ [] = t.2 ∙ none_kept max_line_bytes held t.0 t.3 none in
+      closes old now max_line_bytes room n.left r0 n.r1 r2 w0 n.w1 w2 n.answered (Unit {0}) (OnSome r0 (IsAtEnd r2)) (Ok tt) n.bytes [] n.read (Appends-none n.w1 w2 n.kept)
+      (tt, ends_at_none now n.empty max_line_bytes (OnSome r0 (IsAtEnd r2)) n.left n.bytes nothing)
 
   -- a line that a line feed ended had a byte
-  pub less_room : result ≡ Ok Feed → left' < left
+  pub less_room : result ≡ Ok Feed → left' < n.left
   less_room is =
-      let t = taken_line max_line_bytes left left' Feed bytes held (taken (Ok Feed) is) in
+      let t = taken_line max_line_bytes n.left left' Feed n.bytes held (taken (Ok Feed) is) in
       omega (arith, t.4, ap length t.2, length-append t.0 (10 ∷ []))
 
   -- a line was read
   module _ (end : LineEnd) (is : result ≡ Ok end) (some : 0 < length (line_read end held)) (max_line_bytes'' : ℕ) (line : Line) (same'' : max_line_bytes'' ≡ max_line_bytes) (line_is : line ≡ line_of end max_line_bytes'' held)
       (w3 : Option (List ℕ)) (part : List ℕ) (wrote : Appends w2 w3 part) where
-    raw_of : (raw : List ℕ) × HasNoFeed raw × (bytes ≡ line_read end raw) × (held ≡ take (max_line_bytes + 1) raw) × (length bytes + left' ≡ left)
-    raw_of = taken_line max_line_bytes left left' end bytes held (taken (Ok end) is)
+    raw_of : (raw : List ℕ) × HasNoFeed raw × (n.bytes ≡ line_read end raw) × (held ≡ take (max_line_bytes + 1) raw) × (length n.bytes + left' ≡ n.left)
+    raw_of = taken_line max_line_bytes n.left left' end n.bytes held (taken (Ok end) is)
 
     line_whole : line ≡ line_of end max_line_bytes raw_of.0
     line_whole = line_is ∙ ap (λ m. line_of end m held) same'' ∙ kept_line_of end max_line_bytes held raw_of.0 raw_of.3
@@ -263,20 +290,20 @@ module _ (old now : List Line → List ℕ) (max_line_bytes max_line_bytes' room
     some_raw : 0 < length (line_read end raw_of.0)
     some_raw = some_read end max_line_bytes held raw_of.0 raw_of.3 some
 
-    fits : length (line_read end raw_of.0) ≤ left
+    fits : length (line_read end raw_of.0) ≤ n.left
     fits = omega (arith, ap length raw_of.2, raw_of.4)
 
-    wrote_on : Appends w1 w3 part
-    wrote_on = Appends-trans w1 w2 w3 [] part (Appends-none w1 w2 kept) wrote
+    wrote_on : Appends n.w1 w3 part
+    wrote_on = Appends-trans n.w1 w2 w3 [] part (Appends-none n.w1 w2 n.kept) wrote
 
-    read_on : Consumes r1 r2 (line_read end raw_of.0)
-    read_on = subst (Consumes r1 r2) raw_of.2 read
+    read_on : Consumes n.r1 r2 (line_read end raw_of.0)
+    read_on = subst (Consumes n.r1 r2) raw_of.2 n.read
 
     -- its answer was not written whole
     pub answer_fault : (T : Type 0) (fault : ReplayFault) → (end ≡ Input → OnSome r0 (IsAtEnd r2)) → StopsAtLine now line fault part → Tells T old max_line_bytes room r0 r2 w0 w3 (Err fault)
     answer_fault T fault reached stops =
-        closes old now max_line_bytes room left r0 r1 r2 w0 w1 w3 p T (OnSome r0 (IsAtEnd r2)) (Err fault) (line_read end raw_of.0) part read_on wrote_on
-        (stops_at_answer now empty max_line_bytes T (OnSome r0 (IsAtEnd r2)) left end raw_of.0 fault part reached raw_of.1 some_raw fits (subst (λ l. StopsAtLine now l fault part) line_whole stops))
+        closes old now max_line_bytes room n.left r0 n.r1 r2 w0 n.w1 w3 n.answered T (OnSome r0 (IsAtEnd r2)) (Err fault) (line_read end raw_of.0) part read_on wrote_on
+        (stops_at_answer now n.empty max_line_bytes T (OnSome r0 (IsAtEnd r2)) n.left end raw_of.0 fault part reached raw_of.1 some_raw fits (subst (λ l. StopsAtLine now l fault part) line_whole stops))
 
     pub answer_stopped : (T : Type 0) (fault : ReplayFault) (passed : Result T ReplayFault) → (end ≡ Input → OnSome r0 (IsAtEnd r2)) → IsErrAnd passed (λ x. x ≡ fault) → StopsAtLine now line fault part
         → Tells T old max_line_bytes room r0 r2 w0 w3 passed
@@ -286,8 +313,8 @@ module _ (old now : List Line → List ℕ) (max_line_bytes max_line_bytes' room
     -- it was the last one, and was answered
     pub answer_ended : (later : List Line → List ℕ) → later [] ≡ [] → Replies now later line part → Tells (Unit {0}) old max_line_bytes room r0 r2 w0 w3 (Ok tt)
     answer_ended later none_later replies =
-        closes old now max_line_bytes room left r0 r1 r2 w0 w1 w3 p (Unit {0}) (OnSome r0 (IsAtEnd r2)) (Ok tt) (line_read end raw_of.0) part read_on wrote_on
-        (tt, ends_at_answer now empty max_line_bytes (OnSome r0 (IsAtEnd r2)) later none_later left end raw_of.0 part raw_of.1 some_raw fits (subst (λ l. Replies now later l part) line_whole replies))
+        closes old now max_line_bytes room n.left r0 n.r1 r2 w0 n.w1 w3 n.answered (Unit {0}) (OnSome r0 (IsAtEnd r2)) (Ok tt) (line_read end raw_of.0) part read_on wrote_on
+        (tt, ends_at_answer now n.empty max_line_bytes (OnSome r0 (IsAtEnd r2)) later none_later n.left end raw_of.0 part raw_of.1 some_raw fits (subst (λ l. Replies now later l part) line_whole replies))
 
     -- it opens the ledgers
     pub answer_opens : (later : List Line → List ℕ) (opens : Line → Type 0) → IsSome line → opens line → ((lines : List Line) → later lines ≡ now lines) → part ≡ []
@@ -295,20 +322,20 @@ module _ (old now : List Line → List ℕ) (max_line_bytes max_line_bytes' room
     answer_opens later opens some_line opening same_text none_written =
         let short = short_line end max_line_bytes'' held (subst IsSome line_is some_line) in
         let raw_held : held ≡ raw_of.0 = all_kept max_line_bytes held raw_of.0 raw_of.3 (omega (arith, short, same'')) in
-        let bytes_are : bytes ≡ line_read end held = raw_of.2 ∙ ap (line_read end) (sym raw_held) in (
-          p.done ++ bytes,
-          p.front ++ part,
-          Consumes-trans r0 r1 r2 p.done bytes p.read read,
-          Appends-trans w0 w1 w3 p.front part p.wrote wrote_on,
+        let bytes_are : n.bytes ≡ line_read end held = raw_of.2 ∙ ap (line_read end) (sym raw_held) in (
+          n.answered.done ++ n.bytes,
+          n.answered.front ++ part,
+          Consumes-trans r0 n.r1 r2 n.answered.done n.bytes n.answered.read n.read,
+          Appends-trans w0 n.w1 w3 n.answered.front part n.answered.wrote wrote_on,
           (
-            omega (arith, p.within, raw_of.4, length-append p.done bytes),
+            omega (arith, n.answered.within, raw_of.4, length-append n.answered.done n.bytes),
             read_line end max_line_bytes held (subst HasNoFeed (sym raw_held) raw_of.1) (omega (arith, short, same'')) some,
             subst opens (line_is ∙ ap (λ m. line_of end m held) same'') opening,
             (
-              p.done,
-              ap (λ l. p.done ++ l) bytes_are,
-              λ last more. p.told last more ∙ ap (λ l. p.front ++ l) (sym (same_text (cut last max_line_bytes [] more)))
-                  ∙ ap (λ l. l ++ later (cut last max_line_bytes [] more)) (sym (ap (λ l. p.front ++ l) none_written ∙ append-nil p.front)),
+              n.answered.done,
+              ap (λ l. n.answered.done ++ l) bytes_are,
+              λ last more. n.answered.told last more ∙ ap (λ l. n.answered.front ++ l) (sym (same_text (cut last max_line_bytes [] more)))
+                  ∙ ap (λ l. l ++ later (cut last max_line_bytes [] more)) (sym (ap (λ l. n.answered.front ++ l) none_written ∙ append-nil n.answered.front)),
             ),
           ),
         )
@@ -318,15 +345,15 @@ module _ (old now : List Line → List ℕ) (max_line_bytes max_line_bytes' room
       (w3 : Option (List ℕ)) (part : List ℕ) (wrote : Appends w2 w3 part) (later : List Line → List ℕ) (replies : Replies now later line part) where
     pub answer_goes_on : AnsweredLines old later max_line_bytes room left' r0 r2 w0 w3
     answer_goes_on =
-        let t = taken_line max_line_bytes left left' Feed bytes held (taken (Ok Feed) is) in
+        let t = taken_line max_line_bytes n.left left' Feed n.bytes held (taken (Ok Feed) is) in
         let line_of_raw : line ≡ line_of Feed max_line_bytes t.0 = line_is ∙ ap (λ m. line_of Feed m held) same'' ∙ kept_line_of Feed max_line_bytes held t.0 t.3 in
         record {
-          done = p.done ++ bytes;
-          front = p.front ++ part;
-          read = Consumes-trans r0 r1 r2 p.done bytes p.read read;
-          wrote = Appends-trans w0 w1 w3 p.front part p.wrote (Appends-trans w1 w2 w3 [] part (Appends-none w1 w2 kept) wrote);
-          within = omega (arith, p.within, t.4, length-append p.done bytes);
-          told = AnsweredBy-trans old now later max_line_bytes p.done p.front bytes part p.told
+          done = n.answered.done ++ n.bytes;
+          front = n.answered.front ++ part;
+          read = Consumes-trans r0 n.r1 r2 n.answered.done n.bytes n.answered.read n.read;
+          wrote = Appends-trans w0 n.w1 w3 n.answered.front part n.answered.wrote (Appends-trans n.w1 w2 w3 [] part (Appends-none n.w1 w2 n.kept) wrote);
+          within = omega (arith, n.answered.within, t.4, length-append n.answered.done n.bytes);
+          told = AnsweredBy-trans old now later max_line_bytes n.answered.done n.answered.front n.bytes part n.answered.told
               (subst (λ l. AnsweredBy now later max_line_bytes l part) (sym t.2)
               (answers_line now later max_line_bytes t.0 part t.1 (subst (λ l. Replies now later l part) line_of_raw replies)));
         }
@@ -346,6 +373,6 @@ known_after (Some xs) None r2 read consumed reached = absurd consumed
 known_after (Some xs) (Some ys) r2 read consumed reached = reached
 
 -- the input ended, and what was known of it at the start of a loop is all read
-pub reached_now : (old now : List Line → List ℕ) (max_line_bytes room left : ℕ) (r0 r1 r2 w0 w1 : Option (List ℕ)) → AnsweredLines old now max_line_bytes room left r0 r1 w0 w1
-    → OnSome r1 (IsAtEnd r2) → OnSome r0 (IsAtEnd r2)
-reached_now old now max_line_bytes room left r0 r1 r2 w0 w1 p reached = known_after r0 r1 r2 p.done p.read reached
+pub reached_now : (old now : List Line → List ℕ) (max_line_bytes room left' : ℕ) (r0 r2 w0 w2 : Option (List ℕ)) (result : Result LineEnd ReplayFault) (held : List ℕ)
+    (n : NextLine old now max_line_bytes room left' r0 r2 w0 w2 result held) → OnSome n.r1 (IsAtEnd r2) → OnSome r0 (IsAtEnd r2)
+reached_now old now max_line_bytes room left' r0 r2 w0 w2 result held n reached = known_after r0 n.r1 r2 n.answered.done n.answered.read reached

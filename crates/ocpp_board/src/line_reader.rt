@@ -55,14 +55,14 @@ impl LineReader {
         reader: &mut R,
         writer: &mut W,
     ) -> Result<LineEnd, ReplayFault>
-        requires short { self.old.max_line_bytes < 2 ^ 62 }
-        requires empty { self.old.held.items ≡ [] }
+        requires { self.old.max_line_bytes < 2 ^ 62 }
         ensures takes { (bytes : List ℕ) × Consumes (R.remaining reader.old) (R.remaining reader.new) bytes
             × TakesLine self.old.max_line_bytes self.old.room self.new.room result bytes self.new.held.items }
         ensures end { result ≡ Ok LineEnd.Input → OnSome (R.remaining reader.old) (IsAtEnd (R.remaining reader.new)) }
         ensures max_line_bytes { self.new.max_line_bytes ≡ self.old.max_line_bytes }
         ensures writer { Keeps (W.contents writer.old) (W.contents writer.new) }
     {
+        self.held.clear();
         'pieces: loop {
             if self.is_drained && writer.flush().is_err() {
                 return Err(ReplayFault::WriteFault);

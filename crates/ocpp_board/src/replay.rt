@@ -65,7 +65,6 @@ fn declare<D: Declarations, R: BufRead, W: Write>(
     ensures max_line_bytes { lines.new.max_line_bytes ≡ lines.old.max_line_bytes }
 {
     'lines: loop {
-        lines.held.clear();
         match lines.next_line(reader, writer)? {
             LineEnd::Feed => {
                 let line = lines.line(LineEnd::Feed);
@@ -155,7 +154,6 @@ fn drive<M: Machine, R: BufRead, W: Write>(
     ensures end { OnOk result (OnSome (R.remaining reader.old) (IsAtEnd (R.remaining reader.new))) }
 {
     'lines: loop {
-        lines.held.clear();
         match lines.next_line(reader, writer)? {
             LineEnd::Feed => {
                 let line = lines.line(LineEnd::Feed);
