@@ -17,18 +17,18 @@ use Rattle.reading_decimal.specs.Grammar.{Minus, no_minus, minus, IsInt, Frac, n
 use Rattle.reading_decimal.specs.Decimal.{is_decimal_of, is_decimal, is_negative}
 
 -- a digit's byte is one of '0' to '9'
-is_digit : (c : ℕ) → digit_value c < 10 → is_ascii_digit c ≡ true
+pub is_digit : (c : ℕ) → digit_value c < 10 → is_ascii_digit c ≡ true
 is_digit c h = let r = digit_from_value c h in grind (arith, nat_tests)
 
 digit_below : (c : ℕ) → is_ascii_digit c ≡ true → digit_value c < 10
 digit_below c h = grind (arith, nat_tests)
 
 -- digits, and then what is no digit
-digits_len-append : (xs rest : List ℕ) → AllDigits 10 xs → digits_len rest ≡ 0 → digits_len (xs ++ rest) ≡ length xs
+pub digits_len-append : (xs rest : List ℕ) → AllDigits 10 xs → digits_len rest ≡ 0 → digits_len (xs ++ rest) ≡ length xs
 digits_len-append [] rest h stop = stop
 digits_len-append (x ∷ xs) rest h stop = rw (is_digit x h.0, digits_len-append xs rest h.1 stop, one-add)
 
-digits_len-all : (xs : List ℕ) → AllDigits 10 xs → digits_len xs ≡ length xs
+pub digits_len-all : (xs : List ℕ) → AllDigits 10 xs → digits_len xs ≡ length xs
 digits_len-all [] h = refl
 digits_len-all (x ∷ xs) h = rw (is_digit x h.0, digits_len-all xs h.1, one-add)
 
@@ -37,17 +37,17 @@ abbrev exponent_len : List ℕ → ℕ
 exponent_len rest = cond (has_exponent rest 0) (digits_end rest (exponent_start rest 0)) 0
 
 -- an index of a text is one of what stands from another index on
-digits_end-drop : (bs : List ℕ) (b k : ℕ) → digits_end bs (b + k) ≡ b + digits_end (drop b bs) k
+pub digits_end-drop : (bs : List ℕ) (b k : ℕ) → digits_end bs (b + k) ≡ b + digits_end (drop b bs) k
 digits_end-drop bs b k = rw (drop-drop) (omega arith)
 
-exponent_start-drop : (bs : List ℕ) (b : ℕ) → exponent_start bs b ≡ b + exponent_start (drop b bs) 0
+pub exponent_start-drop : (bs : List ℕ) (b : ℕ) → exponent_start bs b ≡ b + exponent_start (drop b bs) 0
 exponent_start-drop bs b = rw (get_or-drop b bs 1 0) (by_sign (eqb (get_or bs (b + 1) 0) 45 || eqb (get_or bs (b + 1) 0) 43))
   where
     by_sign : (s : Bool) → cond s (b + 2) (b + 1) ≡ b + cond s 2 1
     by_sign true = refl
     by_sign false = refl
 
-has_exponent-drop : (bs : List ℕ) (b : ℕ) → has_exponent bs b ≡ has_exponent (drop b bs) 0
+pub has_exponent-drop : (bs : List ℕ) (b : ℕ) → has_exponent bs b ≡ has_exponent (drop b bs) 0
 has_exponent-drop bs b =
     let here : get_or bs b 0 ≡ get_or (drop b bs) 0 0 = ap (λ i. get_or bs i 0) (omega arith) ∙ sym (get_or-drop b bs 0 0) in
     let there : get_or bs (exponent_start bs b) 0 ≡ get_or (drop b bs) (exponent_start (drop b bs) 0) 0 =
@@ -212,7 +212,7 @@ exponent_len-Exp rest (lower sign digits s n) = marked_exponent 101 sign digits 
 exponent_len-Exp rest (upper sign digits s n) = marked_exponent 69 sign digits refl s n
 
 -- an exponent begins with no digit and no point
-exp_stops : (rest : List ℕ) → Exp rest → (digits_len rest ≡ 0) × (eqb (get_or rest 0 0) 46 ≡ false)
+pub exp_stops : (rest : List ℕ) → Exp rest → (digits_len rest ≡ 0) × (eqb (get_or rest 0 0) 46 ≡ false)
 exp_stops rest no_exp = (refl, refl)
 exp_stops rest (lower sign digits s n) = (refl, refl)
 exp_stops rest (upper sign digits s n) = (refl, refl)
@@ -246,16 +246,16 @@ unfolding scan_numeral
 scan_point u a b e p d = rw (e, p, d)
 
 -- the text behind the whole part
-behind : (int rest : List ℕ) → drop (length int) (int ++ rest) ≡ rest
+pub behind : (int rest : List ℕ) → drop (length int) (int ++ rest) ≡ rest
 behind int rest = drop_at int rest (length int) refl
 
-first_behind : (int rest : List ℕ) → get_or (int ++ rest) (length int) 0 ≡ get_or rest 0 0
+pub first_behind : (int rest : List ℕ) → get_or (int ++ rest) (length int) 0 ≡ get_or rest 0 0
 first_behind int rest =
     let at : get_or (drop (length int) (int ++ rest)) 0 0 ≡ get_or (int ++ rest) (length int) 0 =
     get_or-drop (length int) (int ++ rest) 0 0 ∙ ap (λ i. get_or (int ++ rest) i 0) (omega arith) in
     sym at ∙ ap (λ r. get_or r 0 0) (behind int rest)
 
-whole_front : (int rest : List ℕ) → slice_range (int ++ rest) 0 (length int) ≡ int
+pub whole_front : (int rest : List ℕ) → slice_range (int ++ rest) 0 (length int) ≡ int
 whole_front int rest = rw sub-zero (take_at int rest (length int) refl)
 
 read_plain : (int rest : List ℕ) → IsInt int → Exp rest → is_decimal_of (scan_numeral (int ++ rest)) (length (int ++ rest)) ≡ true
@@ -293,7 +293,7 @@ read_unsigned int ending rest i no_frac x = read_plain int rest i x
 read_unsigned int ending rest i (frac digits d) x = read_point int digits rest i d x
 
 -- the first digit is no `-`
-no_sign_first : (int rest : List ℕ) → IsInt int → is_negative (int ++ rest) ≡ false
+pub no_sign_first : (int rest : List ℕ) → IsInt int → is_negative (int ++ rest) ≡ false
 no_sign_first [] rest i = absurd (omega (arith, i.digits.0))
 no_sign_first (c ∷ cs) rest i = let r = digit_from_value c i.digits.1.0 in grind (arith, nat_tests)
 

@@ -5,3 +5,4 @@ pub mod LastStep
 pub mod CalendarDays
 pub mod ClockTexts
 pub mod GrammarLemmas
+pub mod PartsLemmas

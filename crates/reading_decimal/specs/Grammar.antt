@@ -1,5 +1,5 @@
 -- The numbers of RFC 8259, part by part as its grammar writes them.
-use Rattle.std.specs.Prelude.{◌≡◌, ℕ, List, [], ◌∷◌, ◌++◌, length, slice_index}
+use Rattle.std.specs.Prelude.{◌≡◌, ℕ, Bool, true, false, List, [], ◌∷◌, ◌++◌, length, slice_index}
 use Rattle.std.specs.Str.Parse.{IsNumeral}
 
 -- `minus`, which may be left out
@@ -40,3 +40,26 @@ pub record IsNumber (text : List ℕ) : Type 0 where
   pub is_frac : Frac frac_part
   pub is_exp : Exp exp_part
   pub is_text : text ≡ minus_part ++ (int_part ++ (frac_part ++ exp_part))
+
+-- the digits of a `frac`, none where it is left out
+abbrev pub frac_digits : {text : List ℕ} → Frac text → List ℕ
+frac_digits no_frac = []
+frac_digits (frac digits _) = digits
+
+-- a sign is `-`
+abbrev pub is_negative_sign : {text : List ℕ} → Sign text → Bool
+is_negative_sign no_sign = false
+is_negative_sign plus = false
+is_negative_sign negative = true
+
+-- the digits of an `exp`, none where it is left out
+abbrev pub exp_digits : {text : List ℕ} → Exp text → List ℕ
+exp_digits no_exp = []
+exp_digits (lower sign digits _ _) = digits
+exp_digits (upper sign digits _ _) = digits
+
+-- an `exp` has the sign `-`
+abbrev pub is_negative_exp : {text : List ℕ} → Exp text → Bool
+is_negative_exp no_exp = false
+is_negative_exp (lower sign digits s _) = is_negative_sign s
+is_negative_exp (upper sign digits s _) = is_negative_sign s

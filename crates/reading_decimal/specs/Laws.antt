@@ -4,8 +4,8 @@ use Rattle.std.specs.Float.Numeral.{Parts}
 use Rattle.reading_decimal.specs.declared.decimal.Unit.{Unit as EnergyUnit}
 use Rattle.ledger_model.specs.Moment.{IsMoment}
 use Rattle.ledger_model.specs.Quarter.{IsQuarter, quarter_seconds}
-use Rattle.reading_decimal.specs.Decimal.{IsMwh, is_decimal, mwh}
-use Rattle.reading_decimal.specs.Grammar.{IsNumber}
+use Rattle.reading_decimal.specs.Decimal.{IsMwh, is_decimal, is_negative, mwh, parts}
+use Rattle.reading_decimal.specs.Grammar.{IsNumber, frac_digits, exp_digits, is_negative_exp}
 use Rattle.reading_decimal.specs.Moment.{moment_reading}
 use Rattle.reading_decimal.specs.MomentText.{text_of, whole_second}
 use Rattle.reading_decimal.specs.Quarter.{IsStart, quarter_start}
@@ -25,3 +25,14 @@ ReadsBack = (moment : ℕ) → IsMoment moment → moment_reading (text_of momen
 -- for each token
 abbrev pub ReadsNumbers : Type 0
 ReadsNumbers = (token : List ℕ) → IsTrue (is_decimal token) ↔ IsNumber token
+
+-- the parts are those that the grammar writes: the digits before and behind the point, and the exponent's with its sign
+pub record AreWritten (token : List ℕ) (written : IsNumber token) (p : Parts) : Type 0 where
+  pub whole : p.whole ≡ written.int_part
+  pub fraction : p.fraction ≡ frac_digits written.is_frac
+  pub exponent : p.exponent ≡ exp_digits written.is_exp
+  pub exponent_negative : p.exponent_negative ≡ is_negative_exp written.is_exp
+
+-- for each number of the grammar
+abbrev pub ReadsParts : Type 0
+ReadsParts = (token : List ℕ) (written : IsNumber token) → AreWritten token written (parts token)
