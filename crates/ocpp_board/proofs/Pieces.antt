@@ -1,5 +1,5 @@
 -- Lemmas on the bytes that one look at a reader gives.
-use Rattle.std.proofs.Common.{◌≡◌, ◌≢◌, ℕ, ◌+◌, ◌-◌, ◌<◌, ◌≤◌, min, List, [], ◌∷◌, ◌++◌, Result, Ok, Err, length, take, OnOk, sym, ap, subst, ◌∙◌, arith, eqb-true, eq-eqb, take-take, length-take, length-take-le, get_or-take, zero-le, zero, suc, length-append, cond, eqb, false}
+use Rattle.std.proofs.Common.{◌≡◌, ◌≢◌, Bool, ℕ, ◌+◌, ◌-◌, ◌<◌, ◌≤◌, min, List, [], ◌∷◌, ◌++◌, Result, Ok, Err, length, take, OnOk, OnErr, sym, ap, subst, ◌∙◌, arith, eqb-true, eq-eqb, take-take, length-take, length-take-le, get_or-take, zero-le, zero, suc, length-append, cond, eqb, false}
 use Rattle.std.proofs.lemmas.Bool.{false≢true}
 use Rattle.std.proofs.lemmas.List.{take_more, take_min}
 use Rattle.std.proofs.lemmas.List.Elements.{All-take}
@@ -7,7 +7,13 @@ use Rattle.std.proofs.lemmas.Grind.{common_steps, get_or_default_zero}
 use Rattle.std.proofs.Math.Seq.{take-append-add, take-append_seam}
 use Rattle.std.specs.Result.{is_ok}
 use Rattle.memchr.specs.Find.{Nowhere, NoneBefore, Passes, is_byte}
+use Rattle.std.specs.declared.alloc.AllocError.{AllocError}
+use Rattle.ocpp_board.specs.declared.fault.ReplayFault.{ReplayFault}
+use Rattle.ocpp_board.specs.declared.fault.ReplayFault.TheVariants.{OutOfMemory}
+use Rattle.ocpp_board.specs.declared.line_reader.piece.Piece.{Piece}
+use Rattle.ocpp_board.specs.declared.line_reader.piece.Piece.TheVariants.{Part, WholeLine}
 use Rattle.ocpp_board.specs.Lines.{HasNoFeed}
+use Rattle.ocpp_board.specs.Reading.{TakesPiece}
 
 -- the front of a list, cut at its length at most
 pub take-min : (n : ℕ) (xs : List ℕ) → take (min (length xs) n) xs ≡ take n xs
@@ -65,3 +71,25 @@ pub but_last : (xs part : List ℕ) → xs ≡ part ++ 10 ∷ [] → HasNoFeed p
 but_last xs part e none =
     let count : length xs - 1 ≡ length part = omega (arith, ap length e, length-append part (10 ∷ [])) in
     subst HasNoFeed (sym (ap (λ n. take n xs) count ∙ ap (take (length part)) e ∙ take-append_seam part (10 ∷ []))) none
+
+-- a part of a line, kept or refused
+module _ (kept : Result (Unit {0}) AllocError) (result : Result Piece ReplayFault) (max_line_bytes room n : ℕ) (d : Bool) (bytes old new : List ℕ) (fits : length bytes ≤ room) where
+  pub part_told : OnOk kept (result ≡ Ok (Part n d)) → OnErr kept (result ≡ Err OutOfMemory) → length bytes ≡ n → 0 < n → HasNoFeed bytes
+      → OnOk kept (new ≡ take (max_line_bytes + 1) (old ++ bytes)) → TakesPiece max_line_bytes room result bytes old new
+  part_told is refused count some none held = by_kept kept is refused held
+    where
+      by_kept : (kept : Result (Unit {0}) AllocError) → OnOk kept (result ≡ Ok (Part n d)) → OnErr kept (result ≡ Err OutOfMemory)
+          → OnOk kept (new ≡ take (max_line_bytes + 1) (old ++ bytes)) → TakesPiece max_line_bytes room result bytes old new
+      by_kept (Ok _) is refused held = subst (λ r. TakesPiece max_line_bytes room r bytes old new) (sym is) (count, some, omega (arith, count, fits), none, held)
+      by_kept (Err _) is refused held = subst (λ r. TakesPiece max_line_bytes room r bytes old new) (sym refused) (omega (arith, count, some), fits, front_has_none (length bytes - 1) bytes none)
+
+  -- a whole line, kept or refused
+  pub line_told : (part : List ℕ) → OnOk kept (result ≡ Ok (WholeLine n d)) → OnErr kept (result ≡ Err OutOfMemory) → length bytes ≡ n → HasNoFeed part → bytes ≡ part ++ 10 ∷ []
+      → OnOk kept (new ≡ take (max_line_bytes + 1) (old ++ part)) → TakesPiece max_line_bytes room result bytes old new
+  line_told part is refused count none ends held = by_kept kept is refused held
+    where
+      by_kept : (kept : Result (Unit {0}) AllocError) → OnOk kept (result ≡ Ok (WholeLine n d)) → OnErr kept (result ≡ Err OutOfMemory)
+          → OnOk kept (new ≡ take (max_line_bytes + 1) (old ++ part)) → TakesPiece max_line_bytes room result bytes old new
+      by_kept (Ok _) is refused held = subst (λ r. TakesPiece max_line_bytes room r bytes old new) (sym is) (count, omega (arith, count, fits), (part, none, ends, held))
+      by_kept (Err _) is refused held = subst (λ r. TakesPiece max_line_bytes room r bytes old new) (sym refused)
+          (omega (arith, ap length ends, length-append part (10 ∷ [])), fits, but_last bytes part ends none)

@@ -1,4 +1,4 @@
-ghost use Rattle.std.specs.Prelude.{◌≡◌, ℕ, ◌+◌, ◌<◌, ◌≤◌, ◌^◌, ◌++◌, List, length, take, OnOk, OnSome};
+ghost use Rattle.std.specs.Prelude.{◌≡◌, ℕ, ◌+◌, ◌<◌, ◌≤◌, ◌^◌, ◌++◌, List, length, take, OnOk, OnErr, OnSome};
 ghost use Rattle.std.specs.Io.KnownBytes.{Consumes, IsAtEnd};
 ghost use Rattle.ocpp_board.specs.Reading.{TakesPiece};
 
@@ -50,21 +50,26 @@ pub fn read_piece<R: BufRead>(
             let is_drained = at + 1 == shown.len();
             let kept = keep(held, &near[..at], max_line_bytes);
             reader.consume(at + 1);
-            match kept {
-                Ok(()) => Ok(Piece::WholeLine(at + 1, is_drained)),
-                Err(_) => Err(ReplayFault::OutOfMemory),
-            }
+            piece_where_kept(kept, Piece::WholeLine(at + 1, is_drained))
         }
         None => {
             let count = near.len();
             let is_drained = count == shown.len();
             let kept = keep(held, near, max_line_bytes);
             reader.consume(count);
-            match kept {
-                Ok(()) => Ok(Piece::Part(count, is_drained)),
-                Err(_) => Err(ReplayFault::OutOfMemory),
-            }
+            piece_where_kept(kept, Piece::Part(count, is_drained))
         }
+    }
+}
+
+// The piece, unless its bytes found no memory.
+fn piece_where_kept(kept: Result<(), AllocError>, piece: Piece) -> Result<Piece, ReplayFault>
+    ensures ok { OnOk kept (result ≡ Ok piece) }
+    ensures err { OnErr kept (result ≡ Err ReplayFault.OutOfMemory) }
+{
+    match kept {
+        Ok(()) => Ok(piece),
+        Err(_) => Err(ReplayFault::OutOfMemory),
     }
 }
 

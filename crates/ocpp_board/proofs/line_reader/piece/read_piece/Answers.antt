@@ -2,7 +2,7 @@ use Rattle.std.proofs.Common.{◌+◌, ◌<◌, ◌≤◌, ◌-◌, length, take
 use Rattle.std.specs.Io.KnownBytes.{Consumes}
 use Rattle.std.specs.Io.BufRead.{FillKeeps}
 use Rattle.std.proofs.BufReadLemmas.{Consumes_shown}
-use Rattle.ocpp_board.proofs.Pieces.{nonempty, front_again, found_none, none_before, line_in_front, but_last, front_has_none}
+use Rattle.ocpp_board.proofs.Pieces.{nonempty, front_again, found_none, none_before, line_in_front, part_told, line_told}
 use Rattle.ocpp_board.proofs.line_reader.piece.read_piece.Goals as goal
 
 pub returns-then-room-eq0-clause-takes : goal.returns-then-room-eq0-clause-takes
@@ -14,8 +14,8 @@ returns-then-room-eq0-clause-takes g c =
     let moved = Consumes_shown _ _ _ _ shown 1 some c.in-Ok.ensures.front c.in-Ok.ensures.end filled.0 filled.1 c.consume.ensures.bytes in
     (take 1 shown, moved.0, (c.if-room-eq0.true, length-take-le 1 shown some))
 
-pub returns-in-Ok-kept-clause-takes : goal.returns-in-Ok-kept-clause-takes
-returns-in-Ok-kept-clause-takes g c =
+pub returns-in-Some-clause-takes : goal.returns-in-Some-clause-takes
+returns-in-Some-clause-takes g c =
     let shown = c.in-Ok.shown.now in
     let near = take c.min.result shown in
     let rested = c.fill_buf.follows.lender-at-none in
@@ -24,24 +24,12 @@ returns-in-Ok-kept-clause-takes g c =
     let feed = line_in_front c.min.result at shown c.in-Some.ensures.0.high c.in-Some.ensures.1 in
     let within : at + 1 ≤ length shown = omega (arith, length-take c.min.result shown, c.in-Some.ensures.0.high) in
     let moved = Consumes_shown _ _ _ _ shown (at + 1) within c.in-Ok.ensures.front c.in-Ok.ensures.end filled.0 filled.1 c.consume-in-Some.ensures.bytes in
-    let room : at + 1 ≤ c.args.room = omega (arith, feed.1, c.min.ensures) in
-    (take (at + 1) shown, moved.0, (feed.0, room, (take at near, none_before near at c.in-Some.ensures.0, feed.2, c.in-Ok-kept.ensures)))
+    let fits : length (take (at + 1) shown) ≤ c.args.room = omega (arith, feed.0, feed.1, c.min.ensures) in
+    let told = c.piece_where_kept.ensures in
+    (take (at + 1) shown, moved.0, line_told _ _ _ _ _ _ _ _ _ fits (take at near) told.ok told.err feed.0 (none_before near at c.in-Some.ensures.0) feed.2 c.keep-kept.ensures)
 
-pub returns-in-Err-clause-takes : goal.returns-in-Err-clause-takes
-returns-in-Err-clause-takes g c =
-    let shown = c.in-Ok.shown.now in
-    let near = take c.min.result shown in
-    let rested = c.fill_buf.follows.lender-at-none in
-    let filled = subst (FillKeeps _ (g.R.Read.remaining rested) (g.R.BufRead.consumable_len rested)) c.in-Ok.is c.fill_buf.follows.holds-at-none in
-    let at = c.in-Some.at in
-    let feed = line_in_front c.min.result at shown c.in-Some.ensures.0.high c.in-Some.ensures.1 in
-    let within : at + 1 ≤ length shown = omega (arith, length-take c.min.result shown, c.in-Some.ensures.0.high) in
-    let moved = Consumes_shown _ _ _ _ shown (at + 1) within c.in-Ok.ensures.front c.in-Ok.ensures.end filled.0 filled.1 c.consume-in-Some.ensures.bytes in
-    let room : length (take (at + 1) shown) ≤ c.args.room = omega (arith, feed.0, feed.1, c.min.ensures) in
-    (take (at + 1) shown, moved.0, (omega (arith, feed.0), room, but_last _ _ feed.2 (none_before near at c.in-Some.ensures.0)))
-
-pub returns-in-Ok-kept-2-clause-takes : goal.returns-in-Ok-kept-2-clause-takes
-returns-in-Ok-kept-2-clause-takes g c =
+pub returns-in-None-clause-takes : goal.returns-in-None-clause-takes
+returns-in-None-clause-takes g c =
     let shown = c.in-Ok.shown.now in
     let near = take c.min.result shown in
     let rested = c.fill_buf.follows.lender-at-none in
@@ -50,18 +38,6 @@ returns-in-Ok-kept-2-clause-takes g c =
     let moved = Consumes_shown _ _ _ _ shown (length near) within c.in-Ok.ensures.front c.in-Ok.ensures.end filled.0 filled.1 c.consume-in-None.ensures.bytes in
     let some = nonempty (length shown) c.if-is_empty.ensures in
     let long : 0 < length near = omega (arith, length-take c.min.result shown, c.min.ensures, c.if-room-eq0.false) in
-    let room : length near ≤ c.args.room = omega (arith, length-take c.min.result shown, c.min.ensures) in
-    (near, subst (Consumes _ _) (front_again c.min.result shown) moved.0, (refl, long, room, found_none near c.in-None.ensures, c.in-Ok-kept-2.ensures))
-
-pub returns-in-Err-kept-clause-takes : goal.returns-in-Err-kept-clause-takes
-returns-in-Err-kept-clause-takes g c =
-    let shown = c.in-Ok.shown.now in
-    let near = take c.min.result shown in
-    let rested = c.fill_buf.follows.lender-at-none in
-    let filled = subst (FillKeeps _ (g.R.Read.remaining rested) (g.R.BufRead.consumable_len rested)) c.in-Ok.is c.fill_buf.follows.holds-at-none in
-    let within : length near ≤ length shown = omega (arith, length-take c.min.result shown) in
-    let moved = Consumes_shown _ _ _ _ shown (length near) within c.in-Ok.ensures.front c.in-Ok.ensures.end filled.0 filled.1 c.consume-in-None.ensures.bytes in
-    let some = nonempty (length shown) c.if-is_empty.ensures in
-    let long : 0 < length near = omega (arith, length-take c.min.result shown, c.min.ensures, c.if-room-eq0.false) in
-    let room : length near ≤ c.args.room = omega (arith, length-take c.min.result shown, c.min.ensures) in
-    (near, subst (Consumes _ _) (front_again c.min.result shown) moved.0, (long, room, front_has_none (length near - 1) near (found_none near c.in-None.ensures)))
+    let fits : length near ≤ c.args.room = omega (arith, length-take c.min.result shown, c.min.ensures) in
+    let told = c.piece_where_kept-in-None.ensures in
+    (near, subst (Consumes _ _) (front_again c.min.result shown) moved.0, part_told _ _ _ _ _ _ _ _ _ fits told.ok told.err refl long (found_none near c.in-None.ensures) c.keep-kept-in-None.ensures)
