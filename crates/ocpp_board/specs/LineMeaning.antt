@@ -6,7 +6,7 @@ use Rattle.ledger_model.specs.Name.{is_name}
 use Rattle.reading_decimal.specs.declared.moment.MomentFault.{MomentFault}
 use Rattle.reading_decimal.specs.Moment.{moment_reading}
 use Rattle.ocpp_board.specs.declared.script_line.LineFault.{LineFault}
-use Rattle.ocpp_board.specs.declared.script_line.LineFault.TheVariants.{LineTooLong, BadLine, DeclaredLate, PlanLimit, StationTwice, UnknownStation}
+use Rattle.ocpp_board.specs.declared.script_line.LineFault.TheVariants.{LineTooLong, BadLine, DeclaredLate, StationTwice, PlanLimit, UnknownStation}
 use Rattle.ocpp_board.specs.Lines.{Line}
 
 -- what a line says: nothing, a fault, a station's declaration, a moment, a message of a station, or a question for a station's energy

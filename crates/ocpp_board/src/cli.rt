@@ -25,7 +25,7 @@ A script has one line for each step, and each answer is one line:
   energy <station>           writes `energy up=<n> down=<n>`, in milliwatt-hours
 Empty lines and lines that begin with # write nothing. A line with a fault writes
 `fault <name>` and changes no plan, content or moment: LineTooLong, BadLine,
-DeclaredLate, PlanLimit, StationTwice or UnknownStation.
+DeclaredLate, StationTwice, PlanLimit or UnknownStation.
 
 Exit status: 0; 1 with `fault <name>` on standard error where the replay stopped
 (ReadFault, WriteFault, TooMuchInput, OutOfMemory); 2 for a fault of the arguments.";

@@ -6,7 +6,7 @@ ghost use Rattle.ocpp_board.specs.LineMeaning as spec;
 use ledger_model::{Moment, Name};
 use reading_decimal::moment_of;
 
-/// Why a line of a script does nothing; the first that applies, in this order.
+/// Why a line of a script changes no plan, content or moment; the first that applies, in this order.
 #[derive(Clone, Copy, Debug, PartialEq, Eq)]
 pub enum LineFault {
     /// More than 262,400 bytes before the line feed.
@@ -16,10 +16,10 @@ pub enum LineFault {
     BadLine,
     /// A declaration after the ledgers were opened.
     DeclaredLate,
-    /// One more station than a plan may have.
-    PlanLimit,
-    /// A station of this name is declared already.
+    /// The station of this name is declared already, on whichever site.
     StationTwice,
+    /// One more station than a plan may have, which is one.
+    PlanLimit,
     /// No station of this name is declared.
     UnknownStation,
 }
@@ -33,8 +33,8 @@ impl LineFault {
             LineFault::LineTooLong => "LineTooLong",
             LineFault::BadLine => "BadLine",
             LineFault::DeclaredLate => "DeclaredLate",
-            LineFault::PlanLimit => "PlanLimit",
             LineFault::StationTwice => "StationTwice",
+            LineFault::PlanLimit => "PlanLimit",
             LineFault::UnknownStation => "UnknownStation",
         }
     }
@@ -45,7 +45,7 @@ impl LineFault {
 pub enum ScriptLine<'a> {
     /// An empty line or a comment.
     Nothing,
-    /// A line that does nothing but name its fault.
+    /// A line that changes no plan, content or moment, and names its fault.
     Fails(LineFault),
     /// `station <site> <station>`: one more station of the plan.
     Declares(Name, Name),
