@@ -1,0 +1,5 @@
+pub mod Prefix
+pub mod Book
+pub mod Tables
+pub mod Rule
+pub mod Kept
