@@ -25,3 +25,7 @@ pub record Admits (limits : List Bounds) (row : ℕ) (figures : Figures) : Type 
   pub bounds : Bounds
   pub there : slice_get limits row ≡ Some bounds
   pub within : AreWithin bounds figures
+
+-- What is known of a site's book by these posts.
+abbrev pub known : ℕ → List Post → Known
+known site posts = record { site = site; posts = posts }

@@ -1,4 +1,5 @@
-ghost use Rattle.ledger_model.specs.Figures.{AreWithin};
+ghost use Rattle.std.specs.Prelude.{◌≡◌, ◌≤◌};
+ghost use Rattle.ledger_model.specs.Figures.{no_figures, AreWithin};
 
 use ledger_model::{Figures, Limits};
 
@@ -8,4 +9,22 @@ pub(crate) struct Row {
     pub(crate) limits: Limits,
     pub(crate) figures: Figures,
     pub(crate) ghost within: { AreWithin limits figures },
+    pub(crate) ghost events: { limits.events ≤ 65_536 },
+    pub(crate) ghost transactions: { limits.transactions ≤ 4_096 },
+}
+
+impl Row {
+    // A row for which nothing was posted.
+    pub(crate) fn new(limits: &Limits) -> Self
+        ensures limits { result.limits ≡ limits.now }
+        ensures figures { result.figures ≡ no_figures }
+    {
+        // The bounds of these two bound the sums over all rows.
+        let _events = limits.events();
+        let _transactions = limits.transactions();
+        Row {
+            limits: *limits,
+            figures: Figures::zero(),
+        }
+    }
 }
