@@ -1,4 +1,4 @@
-ghost use Rattle.std.specs.Prelude.{◌≡◌, ◌↔◌, ◌<◌, ◌^◌, [], ◌∷◌, ◌++◌, length, map, IsTrue, IfOk, OnOk, OnErr, None, Some, slice_get, slice_set, replicate};
+ghost use Rattle.std.specs.Prelude.{◌≡◌, ◌↔◌, ◌<◌, ◌^◌, [], ◌∷◌, ◌++◌, length, map, IsTrue, IfOk, OnOk, OnErr, None, Some, slice_get, slice_set, replicate, All};
 ghost use Rattle.ledger_model.specs.Figures.{no_figures};
 ghost use Rattle.ledger_model.specs.Posts.{row_after, totals_after};
 ghost use Rattle.site_book.specs.Book.{ArePlanned, Admits, known};
@@ -61,6 +61,7 @@ impl<J: Naming> SiteBook<J> {
         ensures viewers { IfOk result (λ r. r.1.items ≡ replicate viewers (known site [])) }
         ensures taken { OnOk result (tables.new ≡ slice_set tables.old site None) }
         ensures stays { OnErr result (tables.new ≡ tables.old) }
+        ensures named { NamedBy J.table tables.new }
     {
         let rows = blank_rows(alloc, limits)?;
         let mut unused = tables.take(site);
@@ -175,7 +176,8 @@ impl<J: Naming> SiteBook<J> {
 
 // A row for each of these limits, with no figures.
 fn blank_rows(alloc: Global, limits: &[Limits]) -> Result<Vec<Row>, AllocError>
-    ensures { IfOk result (λ rows. map (λ r. r.limits) rows.items ≡ limits.now) }
+    ensures limits { IfOk result (λ rows. map (λ r. r.limits) rows.items ≡ limits.now) }
+    ensures blank { IfOk result (λ rows. All (λ r. r.figures ≡ no_figures) rows.items) }
 {
     let mut rows = Vec::with_capacity(alloc, limits.len())?;
     for each in limits {

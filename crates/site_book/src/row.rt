@@ -11,6 +11,7 @@ pub(crate) struct Row {
     pub(crate) ghost within: { AreWithin limits figures },
     pub(crate) ghost events: { limits.events ≤ 65_536 },
     pub(crate) ghost transactions: { limits.transactions ≤ 4_096 },
+    pub(crate) ghost readings: { limits.readings ≤ 65_536 },
 }
 
 impl Row {
@@ -19,9 +20,10 @@ impl Row {
         ensures limits { result.limits ≡ limits.now }
         ensures figures { result.figures ≡ no_figures }
     {
-        // The bounds of these two bound the sums over all rows.
+        // What limits can be bounds the sums over all rows.
         let _events = limits.events();
         let _transactions = limits.transactions();
+        let _readings = limits.readings();
         Row {
             limits: *limits,
             figures: Figures::zero(),
