@@ -4,7 +4,7 @@ use Rattle.std.specs.Prelude.{Option, is_some, slice_get}
 use Rattle.std.proofs.lemmas.Option.{slice_get_read, slice_get_past}
 use Rattle.std.proofs.lemmas.Bool.{cases_eq, false≢true}
 use Rattle.atomic_table.specs.Seated.{TableId}
-use Rattle.site_book.specs.Tables.{Unopened, HasTable, NamedBy}
+use Rattle.site_book.specs.Tables.{Unopened, HasTable, NamedBy, names_of}
 
 module _ {A : Type 0} where
   -- an element is written back
@@ -71,3 +71,11 @@ has-read tables site o less read = of o (slice_get_read tables (length tables) s
 
 pub has-past : (tables : Unopened) (site : ℕ) → length tables ≤ site → HasTable tables site → ⊥
 has-past tables site past has = let there = has.there in let none = slice_get_past tables site past in cc (there, none)
+
+-- tables that were just made are named by what stands in their list
+pub named-made : (tables : Unopened) → NamedBy (names_of tables) tables
+named-made [] site z at = absurd (cc (at))
+named-made (None ∷ tables) zero z at = absurd (cc (at))
+named-made (Some w ∷ tables) zero z at = cc (at)
+named-made (None ∷ tables) (suc site) z at = named-made tables site z at
+named-made (Some w ∷ tables) (suc site) z at = named-made tables site z at

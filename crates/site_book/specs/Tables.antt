@@ -1,4 +1,4 @@
-use Rattle.std.specs.Prelude.{◌≡◌, ℕ, List, [], Option, Some, slice_get}
+use Rattle.std.specs.Prelude.{◌≡◌, ℕ, zero, suc, List, [], ◌∷◌, Option, Some, None, slice_get}
 use Rattle.std.specs.Coded.{Coded, coded_list, coded_option}
 use Rattle.atomic_table.specs.Seated.{TableId, table_id_coded}
 
@@ -22,3 +22,10 @@ NamedBy naming tables = (site : ℕ) (table : TableId) → slice_get tables site
 -- The name of no table.
 abbrev pub no_table : TableId
 no_table = record { words = 0; slots = 0; views_name = 0; atom = 0; block = 0; offset = 0; slot_names = [] }
+
+-- The naming of tables that were just made: what stands in the list.
+abbrev pub names_of : Unopened → ℕ → TableId
+names_of [] site = no_table
+names_of (Some z ∷ tables) zero = z
+names_of (None ∷ tables) zero = no_table
+names_of (t ∷ tables) (suc site) = names_of tables site
