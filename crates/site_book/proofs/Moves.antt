@@ -1,17 +1,17 @@
 -- Each step keeps the rule of a site's table, over any number of totals.
-use Rattle.std.proofs.Common.{◌≡◌, ◌≢◌, ◌⊎◌, ℕ, zero, suc, ◌+◌, ◌*◌, ◌%◌, ◌<◌, ◌≤◌, eqb, true, false, true≢false, List, [], ◌∷◌, ◌++◌, length, take, drop, set, get_or, refl, ap, sym, ◌∙◌, subst, ⊎_elim, inl, inr, arith, append-nil, length-append, eq-eqb, ne_eqb, MatchBool, take-append-drop}
+use Rattle.std.proofs.Common.{◌≡◌, ◌≢◌, ℕ, zero, suc, ◌+◌, ◌*◌, ◌%◌, ◌<◌, ◌≤◌, eqb, true, false, true≢false, List, [], ◌∷◌, ◌++◌, length, take, drop, set, get_or, refl, ap, sym, ◌∙◌, subst, ⊎_elim, arith, append-nil, length-append, eq-eqb, ne_eqb, MatchBool, take-append-drop}
 use mathlib.Core.Option.{some, some-ne-none, some-injective}
 use mathlib.Core.Logic.{dite}
 use native.Mathlib.Decide.{ℕ_discrete}
 use lib.ListN.{get_elem?}
 use lib.Seq.{set-get_or}
-use Rattle.atomic_table.specs.Table.{State, Me, Act, keeps, stepped, Allows, Splits, Joins}
+use Rattle.atomic_table.specs.Table.{State, Me, keeps, Allows, Splits, Joins}
 use Rattle.atomic_table.proofs.Lists.{at_set, at_snoc, set_again}
 use Rattle.ledger_model.specs.Posts.{Post}
 use Rattle.site_book.specs.declared.table.View.{View}
 use Rattle.site_book.specs.Prefix.{IsPrefix}
 use Rattle.site_book.specs.Rule.{version_of, words_of, Fits, KeptAt, Kept, writing, seeing, looking}
-use Rattle.site_book.proofs.Prefixes.{prefix_self, prefix_none, prefix_push, prefix_trans, prefix_shorter, prefix_whole, prefix_length, prefix_next}
+use Rattle.site_book.proofs.Prefixes.{prefix_self, prefix_none, prefix_trans, prefix_shorter, prefix_whole, prefix_length, prefix_next}
 
 off : false ≡ true → ⊥
 off e = true≢false (sym e)
@@ -67,7 +67,7 @@ module _ (T : List Post → List ℕ) (wide : ℕ) (len : (log : List Post) → 
       → set words word n ≡ words_of T log pending word
   words_more log pending i word words n is at less e =
       let more : set (take i (T (log ++ pending)) ++ drop i (T log)) i n ≡ take (suc i) (T (log ++ pending)) ++ drop (suc i) (T log)
-          = set-mixed i (T (log ++ pending)) (T log) n (omega (arith, len (log ++ pending))) (len (log ++ pending) ∙ sym (len log)) e in
+      = set-mixed i (T (log ++ pending)) (T log) n (omega (arith, len (log ++ pending))) (len (log ++ pending) ∙ sym (len log)) e in
       ap (λ k. set words k n) at ∙ ap (λ ws. set ws (suc i) n) is ∙ ap (λ ns. version_of log pending ∷ ns) more ∙ ap (λ k. words_of T log pending k) (sym at)
 
   -- the words as the post is closed
@@ -167,8 +167,7 @@ module _ (T : List Post → List ℕ) (wide : ℕ) (len : (log : List Post) → 
   opens slots id log post n is s k deep at small =
       let b = book_at s.words s.views k id log [] [] 0 at in
       let w = writing log [] (post ∷ []) 0 in
-      let rose : version_of log [] < version_of log (post ∷ []) = omega arith in
-      (
+      let rose : version_of log [] < version_of log (post ∷ []) = omega arith in (
         w,
         keeps,
         tt,
@@ -191,8 +190,7 @@ module _ (T : List Post → List ℕ) (wide : ℕ) (len : (log : List Post) → 
       → Allows Rule slots id (writing log [] pending i, []) word (λ _. n) (λ _ w. w ≡ (writing log [] pending word, []))
   stores slots id log pending i word n next less is s k deep at small =
       let b = book_at s.words s.views k id log [] pending i at in
-      let w = writing log [] pending word in
-      (
+      let w = writing log [] pending word in (
         w,
         keeps,
         tt,
@@ -218,8 +216,7 @@ module _ (T : List Post → List ℕ) (wide : ℕ) (len : (log : List Post) → 
       let now = log ++ pending in
       let w = writing now [] [] 0 in
       let more : length now ≡ length log + 1 = length-append log pending ∙ ap (λ m. length log + m) one in
-      let rose : version_of log pending < version_of now [] = omega (arith, more, one) in
-      (
+      let rose : version_of log pending < version_of now [] = omega (arith, more, one) in (
         w,
         keeps,
         tt,
@@ -264,8 +261,7 @@ module _ (T : List Post → List ℕ) (wide : ℕ) (len : (log : List Post) → 
       let n : ℕ = get_or s.words 0 0 in
       let is : n ≡ version_of k.log k.pending = first_word s.words s.views k in
       let f = k.holds.seats id v at in
-      let w = looking v.log n [] in
-      (
+      let w = looking v.log n [] in (
         w,
         keeps,
         tt,
@@ -279,8 +275,7 @@ module _ (T : List Post → List ℕ) (wide : ℕ) (len : (log : List Post) → 
   recalls slots id log old s k deep at small =
       let b = book_at s.words s.views k id log old [] 0 at in
       let f = b.1.seats id (writing log old [] 0) at in
-      let w = writing log [] [] 0 in
-      (
+      let w = writing log [] [] 0 in (
         w,
         keeps,
         tt,
@@ -310,8 +305,7 @@ module _ (T : List Post → List ℕ) (wide : ℕ) (len : (log : List Post) → 
       let n : ℕ = get_or s.words word 0 in
       let f = k.holds.seats id (looking log version read) at in
       let l = f.looks refl in
-      let w = looking log version (read ++ n ∷ []) in
-      (
+      let w = looking log version (read ++ n ∷ []) in (
         w,
         keeps,
         tt,
@@ -346,24 +340,23 @@ module _ (T : List Post → List ℕ) (wide : ℕ) (len : (log : List Post) → 
       let f = k.holds.seats id (looking log version read) at in
       dite (ℕ_discrete n version)
       (λ (same : n ≡ version).
-          let stands : version ≡ version_of k.log k.pending = sym same ∙ is in
-          let none : k.pending ≡ [] = even_none k.log k.pending version k.holds.one stands even in
-          let whole : read ≡ T k.log = prefix_whole read (T k.log) ((f.looks refl).1 stands none) (omega (arith, len k.log, all)) in
-          let count : n ≡ 2 * length k.log = let e : n ≡ 2 * length k.log + 0 = is ∙ ap (λ p. version_of k.log p) none in omega (arith, e) in
-          (
-            seeing k.log [],
-            keeps,
-            tt,
-            loaded s k id 0 (seeing k.log []) (fits_seeing k.log k.pending k.log [] k.stored id (prefix_self k.log) (prefix_none k.log) (omega arith)),
-            shows_same log k.log version read n same f.begins whole count,
-          ))
+      let stands : version ≡ version_of k.log k.pending = sym same ∙ is in
+      let none : k.pending ≡ [] = even_none k.log k.pending version k.holds.one stands even in
+      let whole : read ≡ T k.log = prefix_whole read (T k.log) ((f.looks refl).1 stands none) (omega (arith, len k.log, all)) in
+      let count : n ≡ 2 * length k.log = let e : n ≡ 2 * length k.log + 0 = is ∙ ap (λ p. version_of k.log p) none in omega (arith, e) in (
+        seeing k.log [],
+        keeps,
+        tt,
+        loaded s k id 0 (seeing k.log []) (fits_seeing k.log k.pending k.log [] k.stored id (prefix_self k.log) (prefix_none k.log) (omega arith)),
+        shows_same log k.log version read n same f.begins whole count,
+      ))
       (λ (other : n ≢ version). (
-          seeing log [],
-          keeps,
-          tt,
-          loaded s k id 0 (seeing log []) (fits_seeing k.log k.pending log [] k.stored id f.begins (prefix_none k.log) (omega arith)),
-          shows_other log version read n other,
-        ))
+        seeing log [],
+        keeps,
+        tt,
+        loaded s k id 0 (seeing log []) (fits_seeing k.log k.pending log [] k.stored id f.begins (prefix_none k.log) (omega arith)),
+        shows_other log version read n other,
+      ))
 
   -- another seat that knows the same
   pub shares : (id : ℕ) (v : View) → Splits {S = Unit {0}} Rule id v v (seeing v.log [])
@@ -456,12 +449,12 @@ module _ (T : List Post → List ℕ) (wide : ℕ) (len : (log : List Post) → 
 
   pub checks_as : (slots id : ℕ) (me : Me (Unit {0}) View) → me ≡ (looking me.0.log me.0.version me.0.read, []) → me.0.version % 2 ≡ 0 → length me.0.read ≡ wide
       → Allows Rule slots id me 0 (λ n. n) (λ n w. MatchBool (eqb n me.0.version)
-          ((w ≡ (seeing w.0.log [], me.1)) × IsPrefix me.0.log w.0.log × (me.0.read ≡ T w.0.log) × (n ≡ 2 * length w.0.log))
-          (w ≡ (seeing me.0.log [], me.1)))
+      ((w ≡ (seeing w.0.log [], me.1)) × IsPrefix me.0.log w.0.log × (me.0.read ≡ T w.0.log) × (n ≡ 2 * length w.0.log))
+      (w ≡ (seeing me.0.log [], me.1)))
   checks_as slots id me is even all =
       subst (λ (m : Me (Unit {0}) View). Allows Rule slots id m 0 (λ n. n) (λ n w. MatchBool (eqb n m.0.version)
-          ((w ≡ (seeing w.0.log [], m.1)) × IsPrefix m.0.log w.0.log × (m.0.read ≡ T w.0.log) × (n ≡ 2 * length w.0.log))
-          (w ≡ (seeing m.0.log [], m.1)))) (sym is) (checks slots id me.0.log me.0.version me.0.read even all)
+      ((w ≡ (seeing w.0.log [], m.1)) × IsPrefix m.0.log w.0.log × (m.0.read ≡ T w.0.log) × (n ≡ 2 * length w.0.log))
+      (w ≡ (seeing m.0.log [], m.1)))) (sym is) (checks slots id me.0.log me.0.version me.0.read even all)
 
   pub takes_in_as : (id other : ℕ) (v w : View) → v ≡ writing v.log [] [] 0 → Joins {S = Unit {0}} Rule id v other w (writing v.log w.log [] 0) (seeing [] [])
   takes_in_as id other v w is = subst (λ (u : View). Joins {S = Unit {0}} Rule id u other w (writing u.log w.log [] 0) (seeing [] [])) (sym is) (takes_in id other v.log w)

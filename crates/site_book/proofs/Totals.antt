@@ -1,5 +1,5 @@
 -- Figures as sums: they fit their words.
-use Rattle.std.proofs.Common.{◌≡◌, ℕ, zero, suc, ◌+◌, ◌*◌, ◌<◌, ◌≤◌, List, [], ◌∷◌, length, map, Some, refl, ap, sym, ◌∙◌, subst, arith}
+use Rattle.std.proofs.Common.{◌≡◌, ℕ, suc, ◌+◌, ◌*◌, ◌≤◌, List, [], ◌∷◌, length, map, Some, refl, ap, sym, ◌∙◌, subst, arith}
 use Rattle.std.specs.Prelude.{sum_by, slice_get}
 use Rattle.std.specs.List.{range_with_len}
 use Rattle.std.proofs.lemmas.List.Sums.{sum_by-cons}
@@ -51,14 +51,14 @@ listed (r ∷ rows) g a each =
     let here : a + 0 ≡ a = omega arith in
     let head : r.figures ≡ g a = each 0 r refl ∙ ap g here in
     let tail : map (λ q. q.figures) rows ≡ map g (range_with_len (a + 1) (length rows))
-        = listed rows g (a + 1) (λ k q at. let next : a + suc k ≡ a + 1 + k = omega arith in each (suc k) q at ∙ ap g next) in
+    = listed rows g (a + 1) (λ k q at. let next : a + suc k ≡ a + 1 + k = omega arith in each (suc k) q at ∙ ap g next) in
     λ i. head i ∷ tail i
 
 -- the totals of a book's posts
 totals-under : (rows : List Row) (log : List Post) → AreRows rows log → AreUnder (length rows) (readings_of rows) (totals_after log)
 totals-under rows log kept =
     let same : map (λ r. r.figures) rows ≡ map (λ row. row_after row log) (range_with_len 0 (length rows))
-        = listed rows (λ row. row_after row log) 0 (λ k r at. let zero_plus : k ≡ 0 + k = omega arith in kept.figures k r at ∙ ap (λ n. row_after n log) zero_plus) in
+    = listed rows (λ row. row_after row log) 0 (λ k r at. let zero_plus : k ≡ 0 + k = omega arith in kept.figures k r at ∙ ap (λ n. row_after n log) zero_plus) in
     let total : totals_after log ≡ sum_of_figures (map (λ r. r.figures) rows) = totals-rows (length rows) log kept.posted ∙ ap sum_of_figures (sym same) in
     subst (AreUnder (length rows) (readings_of rows)) (sym total) (sum-under rows)
 

@@ -65,9 +65,11 @@ seeing log old = record { writes = false; log = log; old = old; pending = []; st
 abbrev pub looking : List Post → ℕ → List ℕ → View
 looking log version read = record { writes = false; log = log; old = []; pending = []; stored = 0; looks = true; version = version; read = read }
 
+-- A step on a table that has no slots.
 abbrev At : Type 0
 At = Step (Unit {0})
 
+-- What a seat knows, and the slots that it holds: none.
 abbrev Sat : Type 0
 Sat = Me (Unit {0}) View
 

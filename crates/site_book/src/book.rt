@@ -150,7 +150,13 @@ impl<J: Naming> SiteBook<J> {
         let totals = replaced(&self.totals, &kept.figures, &figures);
         kept.figures = figures;
         let words = &self.table.shared;
-        announce(words, &mut self.seat, 2 * self.posts, &(row, figures), &totals);
+        announce(
+            words,
+            &mut self.seat,
+            2 * self.posts,
+            &(row, figures),
+            &totals,
+        );
         self.posts += 1;
         self.totals = totals;
         Told {

@@ -5,7 +5,8 @@ ghost use Rattle.site_book.specs.Prefix.{IsPrefix};
 ghost use Rattle.site_book.specs.Rule.{shown, writing, seeing, looking};
 
 use crate::table::{
-    Checks, Closes, Grows, Keeps, Loads, Looks, Opens, Place, Recalls, Shares, Stores, TakesIn, ThePost, Words,
+    Checks, Closes, Grows, Keeps, Loads, Looks, Opens, Place, Recalls, Shares, Stores, TakesIn,
+    ThePost, Words,
 };
 use ledger_model::Figures;
 

@@ -5,27 +5,27 @@ use std::alloc::Global;
 use std::collections::LinkedList;
 use std::marker::{Brand, PhantomData};
 
-/// What a seat knows. No value of it is made.
-pub struct View {
-    /// It is the book's seat.
-    pub writes: bool,
-    /// The posts that it made, saw or was told.
-    pub log: LinkedList<(u16, Figures)>,
-    /// The shorter list, after a join.
-    pub old: LinkedList<(u16, Figures)>,
-    /// The post under way, none or one.
-    pub pending: LinkedList<(u16, Figures)>,
-    /// How many totals of the post under way are stored.
-    pub stored: u64,
-    /// It has loaded the version in a glance.
-    pub looks: bool,
-    pub version: u64,
-    /// The totals read since.
-    pub read: LinkedList<u64>,
+// What a seat knows. No value of it is made.
+pub(crate) struct View {
+    // It is the book's seat.
+    pub(crate) writes: bool,
+    // The posts that it made, saw or was told.
+    pub(crate) log: LinkedList<(u16, Figures)>,
+    // The shorter list, after a join.
+    pub(crate) old: LinkedList<(u16, Figures)>,
+    // The post under way, none or one.
+    pub(crate) pending: LinkedList<(u16, Figures)>,
+    // How many totals of the post under way are stored.
+    pub(crate) stored: u64,
+    // It has loaded the version in a glance.
+    pub(crate) looks: bool,
+    pub(crate) version: u64,
+    // The totals read since.
+    pub(crate) read: LinkedList<u64>,
 }
 
-/// The rule of a site's table.
-pub struct Totals;
+// The rule of a site's table.
+pub(crate) struct Totals;
 
 impl TableRule<(), View, ()> for Totals {
     ghost use Rattle.std.specs.Prelude.{[]};
@@ -42,8 +42,8 @@ pub(crate) type Words = Shared<(), View, (), Totals>;
 
 pub(crate) type Place = Seat<(), View>;
 
-/// Names the post that the book opens, for the proof alone: a store carries no post.
-pub trait ThePost {
+// Names the post that the book opens, for the proof alone: a store carries no post.
+pub(crate) trait ThePost {
     ghost use Rattle.ledger_model.specs.Posts.{Post};
 
     ghost post: { Post };
@@ -55,8 +55,8 @@ impl ThePost for Brand {
     ghost post = { no_post };
 }
 
-/// The book opens the post that Q names.
-pub struct Opens<Q> {
+// The book opens the post that Q names.
+pub(crate) struct Opens<Q> {
     post: PhantomData<Q>,
 }
 
@@ -66,8 +66,8 @@ impl<Q: ThePost> Play<(), View> for Opens<Q> {
     ghost then = { Opened Q.post };
 }
 
-/// The book stores one total.
-pub struct Stores;
+// The book stores one total.
+pub(crate) struct Stores;
 
 impl Play<(), View> for Stores {
     ghost use Rattle.site_book.specs.Rule.{Stored};
@@ -75,8 +75,8 @@ impl Play<(), View> for Stores {
     ghost then = { Stored };
 }
 
-/// The book closes the post under way.
-pub struct Closes;
+// The book closes the post under way.
+pub(crate) struct Closes;
 
 impl Play<(), View> for Closes {
     ghost use Rattle.site_book.specs.Rule.{Closed};
@@ -84,8 +84,8 @@ impl Play<(), View> for Closes {
     ghost then = { Closed };
 }
 
-/// A viewer loads the version.
-pub struct Looks;
+// A viewer loads the version.
+pub(crate) struct Looks;
 
 impl Play<(), View> for Looks {
     ghost use Rattle.site_book.specs.Rule.{Looked};
@@ -93,8 +93,8 @@ impl Play<(), View> for Looks {
     ghost then = { Looked };
 }
 
-/// The book loads the version.
-pub struct Recalls;
+// The book loads the version.
+pub(crate) struct Recalls;
 
 impl Play<(), View> for Recalls {
     ghost use Rattle.site_book.specs.Rule.{Recalled};
@@ -102,8 +102,8 @@ impl Play<(), View> for Recalls {
     ghost then = { Recalled };
 }
 
-/// A viewer loads one total.
-pub struct Loads;
+// A viewer loads one total.
+pub(crate) struct Loads;
 
 impl Play<(), View> for Loads {
     ghost use Rattle.site_book.specs.Rule.{Loaded};
@@ -111,8 +111,8 @@ impl Play<(), View> for Loads {
     ghost then = { Loaded };
 }
 
-/// A viewer loads the version again.
-pub struct Checks;
+// A viewer loads the version again.
+pub(crate) struct Checks;
 
 impl Play<(), View> for Checks {
     ghost use Rattle.site_book.specs.Rule.{Checked};
@@ -120,8 +120,8 @@ impl Play<(), View> for Checks {
     ghost then = { Checked };
 }
 
-/// A seat that knows what the one that is split knows.
-pub struct Shares;
+// A seat that knows what the one that is split knows.
+pub(crate) struct Shares;
 
 impl Split<View> for Shares {
     ghost use Rattle.std.specs.Prelude.{[]};
@@ -132,8 +132,8 @@ impl Split<View> for Shares {
     ghost right = { λ v. seeing v.log [] };
 }
 
-/// A viewer joins a seat that knows no more posts than it does.
-pub struct Keeps;
+// A viewer joins a seat that knows no more posts than it does.
+pub(crate) struct Keeps;
 
 impl Join<View> for Keeps {
     ghost use Rattle.std.specs.Prelude.{[]};
@@ -144,8 +144,8 @@ impl Join<View> for Keeps {
     ghost spent = { seeing [] [] };
 }
 
-/// A viewer joins a seat that knows at least as many posts.
-pub struct Grows;
+// A viewer joins a seat that knows at least as many posts.
+pub(crate) struct Grows;
 
 impl Join<View> for Grows {
     ghost use Rattle.std.specs.Prelude.{[]};
@@ -156,8 +156,8 @@ impl Join<View> for Grows {
     ghost spent = { seeing [] [] };
 }
 
-/// The book joins a viewer's seat.
-pub struct TakesIn;
+// The book joins a viewer's seat.
+pub(crate) struct TakesIn;
 
 impl Join<View> for TakesIn {
     ghost use Rattle.std.specs.Prelude.{[]};

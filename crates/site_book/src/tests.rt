@@ -116,7 +116,10 @@ fn sees_what_it_was_not_told<J: Naming, R: Abort>(
     assert_eq!(rt; (told_once.glance(), told_once.posts()), (events(6), 3));
     assert!(rt; learnt(&mut told_once, first), "what it was told late");
     assert_eq!(rt; (told_once.glance(), told_once.posts()), (events(6), 3));
-    assert_eq!(rt; (told_nothing.glance(), told_nothing.posts()), (events(6), 3));
+    assert_eq!(rt;
+        (told_nothing.glance(), told_nothing.posts()),
+        (events(6), 3)
+    );
     Ok(())
 }
 

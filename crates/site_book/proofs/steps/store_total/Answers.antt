@@ -1,4 +1,4 @@
-use Rattle.std.proofs.Common.{refl, add-one, arith, rules}
+use Rattle.std.proofs.Common.{refl, add-one, rules}
 use Rattle.site_book.specs.Rule.{shown}
 use Rattle.site_book.proofs.Moves.{stores_as}
 use Rattle.site_book.proofs.steps.store_total.Goals as goal

@@ -17,7 +17,7 @@ returns-in-Err-clause-named g c =
     let old = c.args.tables.now in
     let at = c.args.site in
     let same : c.put_back.new.self ≡ old = c.put_back.ensures
-        ∙ ap (λ t. set t at (Some c.viewers.new.self)) c.take-unused.ensures.taken
-        ∙ ap (λ u. set (set old at None) at (Some u)) c.viewers.ensures.same
-        ∙ set_back old at (Some c.take-unused.result) None c.take-unused.ensures.table in
+    ∙ ap (λ t. set t at (Some c.viewers.new.self)) c.take-unused.ensures.taken
+    ∙ ap (λ u. set (set old at None) at (Some u)) c.viewers.ensures.same
+    ∙ set_back old at (Some c.take-unused.result) None c.take-unused.ensures.table in
     subst (NamedBy g.J.Naming.table) (sym same) c.requires.named

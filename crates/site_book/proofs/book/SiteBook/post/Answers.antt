@@ -1,11 +1,10 @@
-use Rattle.std.proofs.Common.{◌≡◌, ◌+◌, List, length, ap, sym, ◌∙◌, subst, refl, arith, rules, map, [], ◌∷◌, ◌++◌}
+use Rattle.std.proofs.Common.{◌≡◌, ◌+◌, List, length, ap, sym, ◌∙◌, subst, refl, rules, [], ◌∷◌, ◌++◌}
 use Rattle.std.proofs.lemmas.List.{length_push}
 use Rattle.std.proofs.lemmas.Option.{get_or_from_slice_get}
 use Rattle.std.proofs.Math.Seq.{map-set_same}
 use Rattle.site_book.specs.declared.row.Row.{Row}
 use Rattle.ledger_model.specs.Posts.{Post, totals_after}
 use Rattle.site_book.specs.Kept.{AreRows}
-use Rattle.ledger_model.specs.declared.figures.Figures.{Figures}
 use Rattle.site_book.specs.Book.{Admits}
 use Rattle.site_book.specs.Rule.{numbers_of, writing, seeing}
 use Rattle.site_book.proofs.Books.{admitted, rows-posted, totals-posted, totals-part}

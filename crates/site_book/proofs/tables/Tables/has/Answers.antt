@@ -1,4 +1,4 @@
-use Rattle.std.proofs.Common.{IsTrue, false, sym, ap, ◌∙◌, subst}
+use Rattle.std.proofs.Common.{IsTrue, sym, ◌∙◌, subst}
 use Rattle.std.proofs.lemmas.Bool.{false≢true}
 use Rattle.site_book.specs.Tables.{HasTable}
 use Rattle.site_book.proofs.Named.{has-read, has-past}
