@@ -105,3 +105,10 @@ plus-cancel a b c e =
     let up : a.up ≡ b.up = let h : a.up + c.up ≡ b.up + c.up = ap (λ f. f.up) e in omega (arith, h) in
     let down : a.down ≡ b.down = let h : a.down + c.down ≡ b.down + c.down = ap (λ f. f.down) e in omega (arith, h) in
     λ i. record { events = events i; voided = voided i; transactions = transactions i; complete = complete i; missing = missing i; up = up i; down = down i }
+
+-- the totals are the sums over as many rows as there are limits
+pub totals-sums : (rows : List Row) (log : List Post) → AreRows rows log
+    → totals_after log ≡ sum_of_figures (map (λ row. row_after row log) (range_with_len 0 (length (map (λ r. r.limits) rows))))
+totals-sums rows log kept =
+    let count : length (map (λ (q : Row). q.limits) rows) ≡ length rows = length-map rows (λ (q : Row). q.limits) in
+    totals-rows (length rows) log kept.posted ∙ ap (λ n. sum_of_figures (map (λ row. row_after row log) (range_with_len 0 n))) (sym count)

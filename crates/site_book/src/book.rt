@@ -1,4 +1,6 @@
 ghost use Rattle.std.specs.Prelude.{◌≡◌, ◌↔◌, ◌<◌, ◌^◌, [], ◌∷◌, ◌++◌, length, map, IsTrue, IfOk, OnOk, OnErr, None, Some, slice_get, slice_set, replicate, All};
+ghost use Rattle.std.specs.List.{range_with_len};
+ghost use Rattle.ledger_model.specs.Board.{sum_of_figures};
 ghost use Rattle.ledger_model.specs.Figures.{no_figures};
 ghost use Rattle.ledger_model.specs.Posts.{row_after, totals_after};
 ghost use Rattle.site_book.specs.Book.{ArePlanned, Admits, known};
@@ -117,7 +119,8 @@ impl<J: Naming> SiteBook<J> {
 
     /// The sums over the rows.
     pub fn totals(&self) -> Figures
-        ensures { result ≡ totals_after self.now.posts }
+        ensures totals { result ≡ totals_after self.now.posts }
+        ensures sums { result ≡ sum_of_figures (map (λ row. row_after row self.now.posts) (range_with_len 0 (length self.now.limits))) }
     {
         self.totals
     }
