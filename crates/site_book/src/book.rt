@@ -49,6 +49,9 @@ impl<J: Naming> Model for SiteBook<J> {
 impl<J: Naming> SiteBook<J> {
     /// The book of a site, with a row for each of these limits, all figures zero, and so many viewers.
     /// It takes the site's table; where memory is wanting, the table stays.
+    ///
+    /// Conditions: the tables are those that J names, the site's is there ([`Tables::has`] tells), and
+    /// one plan can hold these stations: 64 at most, with limits of 1,048,576 readings in all.
     pub fn open(
         alloc: Global,
         tables: &mut Tables,
@@ -142,7 +145,11 @@ impl<J: Naming> SiteBook<J> {
         self.posts < 1 << 62
     }
 
-    /// Writes a station's figures into its row, and tells all posts up to this one. It waits for nobody.
+    /// Writes a station's figures into its row, and tells all posts up to this one. It takes no memory
+    /// and waits for nobody: nine stores and one load.
+    ///
+    /// Conditions: the row is there ([`SiteBook::holds`] tells), the figures are within its limits
+    /// ([`Figures::within`] tells), and fewer than 2^62 posts were made ([`SiteBook::can_post`] tells).
     pub fn post(&mut self, row: u16, figures: Figures) -> Told<J>
         requires admitted { Admits self.old.limits row figures }
         requires room { length self.old.posts < 2 ^ 62 }
