@@ -1,0 +1,5 @@
+pub mod Prefixes
+pub mod Moves
+pub mod Named
+pub mod Totals
+pub mod Books

@@ -1,0 +1,31 @@
+use Rattle.std.specs.Prelude.{◌≡◌, ℕ, ◌≤◌, List, length, Some, slice_get, sum_by}
+use Rattle.ledger_model.specs.declared.figures.Figures.{Figures}
+use Rattle.ledger_model.specs.Figures.{AreWithin}
+use Rattle.ledger_model.specs.Limits.{Bounds}
+use Rattle.ledger_model.specs.Posts.{Post}
+
+-- A site's book: the site's number, the limits of the station of each row, and all posts, first to last.
+pub record Book : Type 0 where
+  pub site : ℕ
+  pub limits : List Bounds
+  pub posts : List Post
+
+-- What a viewer knows, or a book told, of a site's book: the site's number, and its first posts.
+pub record Known : Type 0 where
+  pub site : ℕ
+  pub posts : List Post
+
+-- Stations that one plan can hold: 64 at most, which may keep 1,048,576 readings in all.
+pub record ArePlanned (limits : List Bounds) : Type 0 where
+  pub few : length limits ≤ 64
+  pub readings : sum_by (λ l. l.readings) limits ≤ 1_048_576
+
+-- The row is there, and its station can have these figures.
+pub record Admits (limits : List Bounds) (row : ℕ) (figures : Figures) : Type 0 where
+  pub bounds : Bounds
+  pub there : slice_get limits row ≡ Some bounds
+  pub within : AreWithin bounds figures
+
+-- What is known of a site's book by these posts.
+abbrev pub known : ℕ → List Post → Known
+known site posts = record { site = site; posts = posts }

@@ -1,0 +1,73 @@
+//! The steps on all seven totals, one after the other.
+ghost use Rattle.std.specs.Prelude.{◌≡◌, ◌+◌, ◌*◌, ◌<◌, ◌^◌, [], ◌∷◌, ◌++◌, length};
+ghost use Rattle.site_book.specs.Kept.{Sits};
+ghost use Rattle.site_book.specs.Rule.{numbers_of, shown, writing, looking};
+
+use crate::steps::{close_post, load_total, open_post, store_total};
+use crate::table::{Place, ThePost, Words};
+use ledger_model::Figures;
+use std::marker::Brand;
+
+// A viewer loads all totals.
+pub(crate) fn gather(words: &Words, seat: &mut Place) -> [u64; 7]
+    requires sits { Sits words.now.table_id seat.old.table_id }
+    requires looks { seat.old.me ≡ (looking seat.old.me.0.log seat.old.me.0.version [], []) }
+    ensures sits { Sits words.now.table_id seat.new.table_id }
+    ensures read { seat.new.me ≡ (looking seat.old.me.0.log seat.old.me.0.version result, []) }
+    ensures all { length result ≡ 7 }
+{
+    let mut read = [0; 7];
+    for i in 0..7 {
+        read[i] = load_total(words, seat, i);
+    }
+    read
+}
+
+// The book stores all totals of the post under way.
+fn publish(words: &Words, seat: &mut Place, totals: &[u64; 7])
+    requires sits { Sits words.now.table_id seat.old.table_id }
+    requires writes { seat.old.me ≡ (writing seat.old.me.0.log [] seat.old.me.0.pending 0, []) }
+    requires totals { totals.now ≡ shown (seat.old.me.0.log ++ seat.old.me.0.pending) }
+    ensures sits { Sits words.now.table_id seat.new.table_id }
+    ensures stored { seat.new.me ≡ (writing seat.old.me.0.log [] seat.old.me.0.pending 7, []) }
+{
+    for i in 0..7 {
+        store_total(words, seat, i, totals[i]);
+    }
+}
+
+// The book makes one post: nine stores.
+pub(crate) fn announce(
+    words: &Words,
+    seat: &mut Place,
+    version: u64,
+    post: &(u16, Figures),
+    totals: &Figures,
+)
+    requires sits { Sits words.now.table_id seat.old.table_id }
+    requires rests { seat.old.me ≡ (writing seat.old.me.0.log [] [] 0, []) }
+    requires version { version ≡ 2 * length seat.old.me.0.log }
+    requires more { version + 2 < 2 ^ 64 }
+    requires totals { numbers_of totals.now ≡ shown (seat.old.me.0.log ++ post.now ∷ []) }
+    ensures sits { Sits words.now.table_id seat.new.table_id }
+    ensures posted { seat.new.me ≡ (writing (seat.old.me.0.log ++ post.now ∷ []) [] [] 0, []) }
+{
+    open_post::<Brand>(words, seat, version, post);
+    publish(words, seat, &numbers(totals));
+    close_post(words, seat, version + 2);
+}
+
+// The figures in the order of the words.
+fn numbers(figures: &Figures) -> [u64; 7]
+    ensures { result ≡ numbers_of figures.now }
+{
+    [
+        figures.events,
+        figures.voided,
+        figures.transactions,
+        figures.complete,
+        figures.missing,
+        figures.up,
+        figures.down,
+    ]
+}

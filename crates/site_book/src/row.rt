@@ -1,0 +1,32 @@
+ghost use Rattle.std.specs.Prelude.{◌≡◌, ◌≤◌};
+ghost use Rattle.ledger_model.specs.Figures.{no_figures, AreWithin};
+
+use ledger_model::{Figures, Limits};
+
+// The row of one station: what its ledger may keep, and the figures that were posted last.
+#[derive(Clone, Copy)]
+pub(crate) struct Row {
+    pub(crate) limits: Limits,
+    pub(crate) figures: Figures,
+    pub(crate) ghost within: { AreWithin limits figures },
+    pub(crate) ghost events: { limits.events ≤ 65_536 },
+    pub(crate) ghost transactions: { limits.transactions ≤ 4_096 },
+    pub(crate) ghost readings: { limits.readings ≤ 65_536 },
+}
+
+impl Row {
+    // A row for which nothing was posted.
+    pub(crate) fn new(limits: &Limits) -> Self
+        ensures limits { result.limits ≡ limits.now }
+        ensures figures { result.figures ≡ no_figures }
+    {
+        // What limits can be bounds the sums over all rows.
+        let _events = limits.events();
+        let _transactions = limits.transactions();
+        let _readings = limits.readings();
+        Row {
+            limits: *limits,
+            figures: Figures::zero(),
+        }
+    }
+}
