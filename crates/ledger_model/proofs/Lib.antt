@@ -1,5 +1,6 @@
 pub mod Events
 pub mod Keys
+pub mod Rising
 pub mod LedgerLemmas
 pub mod OrderOfReadings
 pub mod ListedRuns
@@ -16,3 +17,4 @@ pub mod EnergyLemmas
 pub mod FigureLemmas
 pub mod PostLemmas
 pub mod TransactionLemmas
+pub mod Callers

@@ -9,6 +9,7 @@ pub mod Limits
 pub mod Figures
 pub mod Refusal
 pub mod Content
+pub mod Entries
 pub mod Step
 pub mod Energy
 pub mod Evse

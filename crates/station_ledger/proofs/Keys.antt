@@ -1,38 +1,15 @@
 -- The order of keys, and entries whose keys rise.
-use Rattle.std.proofs.Common.{◌≡◌, ℕ, zero, suc, ◌+◌, ◌<◌, Bool, true, false, T, ◌&&◌, List, [], ◌∷◌, length, get_or, refl, sym, ap, subst, ◌∙◌, arith}
-use Rattle.std.specs.Cmp.{IsTotalOrder}
-use Rattle.std.specs.Cmp.Lexicographic.{slice_cmp, nat_list_cmp_total}
+use Rattle.std.proofs.Common.{◌≡◌, ℕ, zero, suc, ◌+◌, ◌<◌, false, T, List, [], ◌∷◌, length, get_or, refl, sym, ap, subst, ◌∙◌, arith}
 use Rattle.std.specs.declared.cmp.Ordering.{Ordering}
 use Rattle.std.specs.declared.cmp.Ordering.TheVariants.{Less, Equal, Greater}
-use Rattle.std.specs.Ordering.{nat_cmp, is_lt, ordering_reverse}
+use Rattle.std.specs.Ordering.{is_lt, ordering_reverse, ordering_index}
 use Rattle.std.specs.FinMap.Entries.{below_all}
 use Rattle.std.specs.List.Sorted.{IsNonDecreasingBy}
-use Rattle.std.specs.Ordering.{ordering_index}
-use Rattle.std.proofs.lemmas.Cmp.{on_total, then_total, nat_cmp_total}
-use Rattle.std.proofs.lemmas.Map.Lookups.{CmpEqualImpliesEq, exact_pairs, exact_unsigned, exact_bytes}
 use Rattle.std.proofs.lemmas.List.Sorted.{searchable_from_sorted}
 use Rattle.ledger_model.specs.Key.{KeyName, key_cmp}
 use Rattle.ledger_model.specs.Content.{Entry}
-use Rattle.station_ledger.specs.Places.{IsRising}
-
-pub key_total : IsTotalOrder key_cmp
-key_total = then_total (on_total (λ k. k.tx) nat_list_cmp_total) (on_total (λ k. k.seq) nat_cmp_total)
-
--- keys that compare alike are one
-pub exact_keys : CmpEqualImpliesEq key_cmp
-exact_keys a b h = ap (λ (p : List ℕ × ℕ). record { tx = p.0; seq = p.1 }) (exact_pairs (slice_cmp nat_cmp) nat_cmp exact_bytes exact_unsigned (a.tx, a.seq) (b.tx, b.seq) h)
-
-pub first : (a b : Bool) → T (a && b) → T a
-first true b h = tt
-first false b h = h
-
-pub second : (a b : Bool) → T (a && b) → T b
-second true b h = h
-second false b h = absurd h
-
-pub both : (a b : Bool) → T a → T b → T (a && b)
-both true b g h = h
-both false b g h = g
+use Rattle.ledger_model.specs.Entries.{IsRising}
+use Rattle.ledger_model.proofs.Callers.{key_total, first, second, both}
 
 pub less : (o : Ordering) → T (is_lt o) → o ≡ Less
 less Less h = refl
