@@ -1,4 +1,5 @@
 -- The lemmas on contents, entries and events that callers cite.
+pub use Rattle.ledger_model.proofs.Ids.{IsFoldedId-folded}
 pub use Rattle.ledger_model.proofs.Keys.{key_total, exact_keys}
 pub use Rattle.ledger_model.proofs.Rising.{first, second, both, below_live, live_rising}
 pub use Rattle.ledger_model.proofs.Events.{same_event-Decides}

@@ -1,4 +1,5 @@
 pub mod Events
+pub mod Ids
 pub mod Keys
 pub mod Rising
 pub mod LedgerLemmas

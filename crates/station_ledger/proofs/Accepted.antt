@@ -15,6 +15,7 @@ use Rattle.ledger_model.specs.Key.{KeyName, key_cmp}
 use Rattle.ledger_model.specs.Limits.{Bounds}
 use Rattle.ledger_model.specs.Content.{Entry, Stored}
 use Rattle.ledger_model.specs.Energy.{difference, pairs}
+use Rattle.ledger_model.specs.Admissible.{IsAdmissible}
 use Rattle.ledger_model.specs.Step.{answer, readings_stored, step, content_after, Reached}
 use Rattle.station_ledger.specs.Ledger.{content_of}
 use Rattle.ledger_model.specs.Entries.{IsRising, entries_marked_at, entries_after}
@@ -109,14 +110,14 @@ module _ (limits : Bounds) (es : List Entry) (n m : ℕ) (rising : IsRising es) 
       (λ i. record { events = map_after es command rising i; changes = m }) ∙ ap (λ (x : Answer). content_after (content_of es n) command x) (sym a)
 
 -- content reached by accepted commands stays so reached
-reached_next : (limits : Bounds) (es : List Entry) (n m : ℕ) (command : Command) → IsRising es → m ≡ suc n → Reached limits n (content_of es n) → answer limits (content_of es n) command ≡ Accepted m → Reached limits m (content_of (entries_after es command) m)
-reached_next limits es n m command rising next reached a =
+reached_next : (limits : Bounds) (es : List Entry) (n m : ℕ) (command : Command) → IsRising es → m ≡ suc n → IsAdmissible command → Reached limits n (content_of es n) → answer limits (content_of es n) command ≡ Accepted m → Reached limits m (content_of (entries_after es command) m)
+reached_next limits es n m command rising next may reached a =
     let c = content_of es n in
     let left = content_left limits es n m rising command a in
     let number : answer limits c command ≡ Accepted (suc n) = a ∙ ap Accepted next in
     let taken_step : step limits c command ≡ (content_of (entries_after es command) m, Accepted (suc n)) = λ i. (sym left i, number i) in
     let P : ℕ → Type 0 = λ k. Reached limits k (content_of (entries_after es command) m) in
-    subst P (sym next) (c, command, (reached, taken_step))
+    subst P (sym next) (c, command, (may, reached, taken_step))
 
 -- no more readings are stored than the limits allow
 pub few_after : (limits : Bounds) (es : List Entry) (flows : List Energy) (readings n m : ℕ) (command : Command) → IsKept limits es flows readings n → answer limits (content_of es n) command ≡ Accepted m → readings_stored (entries_after es command) ≤ limits.readings
@@ -126,12 +127,12 @@ few_after limits es flows readings n m command kept a =
     (taken limits es n m kept.rising command a).readings (omega arith)
 
 -- what a ledger keeps after an accepted command
-pub IsKept-after : (limits : Bounds) (es : List Entry) (flows : List Energy) (readings n m : ℕ) (command : Command) (news : List Energy) (stored : ℕ) → IsKept limits es flows readings n → answer limits (content_of es n) command ≡ Accepted m → news ≡ map difference (pairs (entries_after es command)) → All IsSmall news → length news ≤ stored → stored ≡ readings_stored (entries_after es command) → IsKept limits (entries_after es command) news stored m
-IsKept-after limits es flows readings n m command news stored kept a flows_are small few_flows stored_are =
+pub IsKept-after : (limits : Bounds) (es : List Entry) (flows : List Energy) (readings n m : ℕ) (command : Command) (news : List Energy) (stored : ℕ) → IsKept limits es flows readings n → IsAdmissible command → answer limits (content_of es n) command ≡ Accepted m → news ≡ map difference (pairs (entries_after es command)) → All IsSmall news → length news ≤ stored → stored ≡ readings_stored (entries_after es command) → IsKept limits (entries_after es command) news stored m
+IsKept-after limits es flows readings n m command news stored kept may a flows_are small few_flows stored_are =
     let t = taken limits es n m kept.rising command a in
     record {
       rising = rising_after es command kept.rising;
-      reached = reached_next limits es n m command kept.rising t.next kept.reached a;
+      reached = reached_next limits es n m command kept.rising t.next may kept.reached a;
       flows_are = flows_are;
       small = small;
       few_flows = few_flows;

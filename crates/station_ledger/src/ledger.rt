@@ -176,6 +176,8 @@ impl StationLedger {
         ensures content { self.new ≡ record self.old { content = (step self.old.limits self.old.content command).0 } }
         ensures work { IsSpent result work.old work.new }
     {
+        // Its parts are in range, as their types keep them.
+        let _ = command.key();
         let answer = self.judge(&command);
         if let Answer::Accepted(changes) = answer {
             rows::carry_out(&mut self.rows, command);

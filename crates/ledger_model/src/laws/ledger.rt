@@ -34,8 +34,9 @@ pub fn orders()
     ensures content { (limits : Bounds) (c : Content) (one other : List Sent) → IsPermutation one other → AreAccepted limits c (deliveries one) → left_by limits c (deliveries other) ≡ left_by limits c (deliveries one) }
 {}
 
-/// A content is reached by so many changes exactly where some list of so many commands, each accepted,
-/// leaves it of the empty content; it has counted them, and they are no more than its limit of changes.
+/// A content is reached by so many changes exactly where some list of so many admissible commands, each
+/// accepted, leaves it of the empty content; it has counted them, and they are no more than its limit
+/// of changes.
 pub fn reached()
     ensures run { (limits : Bounds) (n : ℕ) (c : Content) → Reached limits n c → (commands : List Command) × IsLeftByRun limits n c commands }
     ensures each_run { (limits : Bounds) (n : ℕ) (c : Content) (commands : List Command) → IsLeftByRun limits n c commands → Reached limits n c }

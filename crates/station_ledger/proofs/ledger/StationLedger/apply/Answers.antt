@@ -43,7 +43,7 @@ invariant_of-self c =
     let stored = c.readings_stored-self-inside.ensures ∙ ap readings_stored (c.deref.ensures.value ∙ c.carry_out.ensures.items) in
     let flows = e.flows ∙ ap (λ (es : List Entry). map difference (pairs es)) seen in
     let same = ap readings_stored seen in (
-      rw c.carry_out.ensures.items (IsKept-after _ _ _ _ _ _ c.args.command _ _ kept a flows e.small (omega (arith, e.few, same, stored, c.evaluate.new.flows.ok)) stored),
+      rw c.carry_out.ensures.items (IsKept-after _ _ _ _ _ _ c.args.command _ _ kept c.key.ensures.admissible a flows e.small (omega (arith, e.few, same, stored, c.evaluate.new.flows.ok)) stored),
       record { for_events = omega (arith, room.for_events, c.carry_out.ensures.capacity); for_flows = omega (arith, room.for_flows, e.capacity) },
     )
 
