@@ -28,7 +28,7 @@ use Rattle.ledger_model.proofs.LedgerLemmas.{not_refused}
 use Rattle.ledger_model.proofs.Transactions.{transactions_added}
 use Rattle.ledger_model.proofs.Exchanges.{IsKeptByExchanges, of_permutation}
 
-abbrev fresh : Sent → Stored
+abbrev pub fresh : Sent → Stored
 fresh d = record { event = d.1; voided = false }
 
 -- the content with one delivery more
@@ -102,11 +102,11 @@ put_between k s (e ∷ es) h =
     ] h
 
 -- what a delivery of a new key adds
-record Grown (c : Content) (d : Sent) : Type 0 where
-  events : length (entries (delivered c d)) ≡ length (entries c) + 1
-  readings : readings_stored (entries (delivered c d)) ≡ readings_stored (entries c) + length d.1.readings
-  has : (tx : List ℕ) → has_transaction tx (entries (delivered c d)) ≡ (bytes_eq tx d.0.tx || has_transaction tx (entries c))
-  transactions : length (transactions_of (entries (delivered c d))) ≡ cond (has_transaction d.0.tx (entries c)) (length (transactions_of (entries c))) (length (transactions_of (entries c)) + 1)
+pub record Grown (c : Content) (d : Sent) : Type 0 where
+  pub events : length (entries (delivered c d)) ≡ length (entries c) + 1
+  pub readings : readings_stored (entries (delivered c d)) ≡ readings_stored (entries c) + length d.1.readings
+  pub has : (tx : List ℕ) → has_transaction tx (entries (delivered c d)) ≡ (bytes_eq tx d.0.tx || has_transaction tx (entries c))
+  pub transactions : length (transactions_of (entries (delivered c d))) ≡ cond (has_transaction d.0.tx (entries c)) (length (transactions_of (entries c))) (length (transactions_of (entries c)) + 1)
 
 or_swap : (a b c : Bool) → (a || (b || c)) ≡ (b || (a || c))
 or_swap true true c = refl
@@ -123,7 +123,7 @@ any_between : (p : Entry → Bool) (front back : List Entry) (e : Entry) → lis
 any_between p front back e =
     list_any-append p front (e ∷ back) ∙ or_swap (list_any p front) (p e) (list_any p back) ∙ ap (λ b. p e || b) (sym (list_any-append p front back))
 
-grown : (c : Content) (d : Sent) → finite.get c.events d.0 ≡ None → Grown c d
+pub grown : (c : Content) (d : Sent) → finite.get c.events d.0 ≡ None → Grown c d
 grown c d new =
     let p = put_between d.0 (fresh d) (entries c) (sym (finite.get-entries c.events d.0) ∙ new) in
     let e : Entry = (d.0, fresh d) in

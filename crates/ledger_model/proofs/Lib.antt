@@ -10,6 +10,9 @@ pub mod Exchanges
 pub mod Transactions
 pub mod Deliveries
 pub mod ReachedContents
+pub mod Stored
+pub mod Bounds
+pub mod FigureBounds
 pub mod GapLemmas
 pub mod NumberLemmas
 pub mod CompleteLemmas

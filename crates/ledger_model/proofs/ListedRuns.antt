@@ -147,8 +147,11 @@ no_length : (es : List Entry) → length es ≡ 0 → es ≡ []
 no_length [] h = refl
 no_length (e ∷ es) h = cc
 
+pub none_listed : entries empty_content ≡ []
+none_listed = no_length (entries empty_content) (sym (finite.len-entries finite.empty) ∙ finite.len-empty key_cmp Stored)
+
 nothing : listed empty_content ≡ ([], 0)
-nothing = λ i. (no_length (entries empty_content) (sym (finite.len-entries finite.empty) ∙ finite.len-empty key_cmp Stored) i, 0)
+nothing = λ i. (none_listed i, 0)
 
 -- the answers to a list of commands, from the empty content
 pub told_from_empty : (limits : Bounds) (commands : List Command) → answers limits empty_content commands ≡ told_all limits ([], 0) commands

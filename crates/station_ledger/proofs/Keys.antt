@@ -9,27 +9,7 @@ use Rattle.std.proofs.lemmas.List.Sorted.{searchable_from_sorted}
 use Rattle.ledger_model.specs.Key.{KeyName, key_cmp}
 use Rattle.ledger_model.specs.Content.{Entry}
 use Rattle.ledger_model.specs.Entries.{IsRising}
-use Rattle.ledger_model.proofs.Callers.{key_total, first, second, both}
-
-pub less : (o : Ordering) → T (is_lt o) → o ≡ Less
-less Less h = refl
-less Equal h = absurd h
-less Greater h = absurd h
-
--- the other way round, a comparison is turned
-pub turned : (a b : KeyName) (o : Ordering) → key_cmp a b ≡ o → key_cmp b a ≡ ordering_reverse o
-turned a b o h = key_total.antisymm b a ∙ ap ordering_reverse h
-
--- the key of each later entry is greater
-pub below_at : (x : KeyName) (es : List Entry) (i : ℕ) (d : Entry) → T (below_all key_cmp x es) → i < length es → key_cmp x (get_or es i d).0 ≡ Less
-below_at x [] i d h lt = absurd (omega arith)
-below_at x (e ∷ es) zero d h lt = less _ (first _ _ h)
-below_at x (e ∷ es) (suc i) d h lt = below_at x es i d (second _ _ h) (omega arith)
-
--- a key below another is below all that the other is below
-pub below_less : (x y : KeyName) (es : List Entry) → key_cmp x y ≡ Less → T (below_all key_cmp y es) → T (below_all key_cmp x es)
-below_less x y [] p h = tt
-below_less x y (e ∷ es) p h = both _ _ (subst (λ r. T (is_lt r)) (sym (key_total.trans x y e.0 p (less _ (first _ _ h)))) tt) (below_less x y es p (second _ _ h))
+use Rattle.ledger_model.proofs.Callers.{key_total, second, turned, below_at, first}
 
 -- neighbours stand in order
 rising_pair : (es : List Entry) (k : ℕ) (d : Entry) → IsRising es → k + 1 < length es → is_lt (key_cmp (get_or es (k + 1) d).0 (get_or es k d).0) ≡ false

@@ -11,8 +11,8 @@ use Rattle.ledger_model.specs.Key.{KeyName, key_cmp}
 use Rattle.ledger_model.specs.Content.{Entry, Stored}
 use Rattle.ledger_model.specs.Entries.{IsRising, entries_without}
 use Rattle.station_ledger.specs.Places.{IsAt, IsGap}
-use Rattle.ledger_model.proofs.Callers.{exact_keys, first, second}
-use Rattle.station_ledger.proofs.Keys.{less, turned, below_at, below_less, searchable}
+use Rattle.ledger_model.proofs.Callers.{exact_keys, first, second, find_below, less, turned, below_at, below_less}
+use Rattle.station_ledger.proofs.Keys.{searchable}
 
 -- an entry that stands in where a list has none
 no_entry : Entry
@@ -67,11 +67,6 @@ pub find_at : (key : KeyName) (es : List Entry) (i : ℕ) (d : Entry) → IsAt k
 find_at key [] i d h = absurd h
 find_at key (e ∷ es) zero d h = ap (λ r. cond (is_eq r) (Some e.1) (find key_cmp key es)) h
 find_at key (e ∷ es) (suc i) d h = ap (λ r. cond (is_eq r) (Some e.1) (find key_cmp key es)) h.0 ∙ find_at key es i d h.1
-
--- a key below all others is not in the map
-pub find_below : (key : KeyName) (es : List Entry) → T (below_all key_cmp key es) → find key_cmp key es ≡ None
-find_below key [] h = refl
-find_below key (e ∷ es) h = ap (λ r. cond (is_eq r) (Some e.1) (find key_cmp key es)) (less _ (first _ _ h)) ∙ find_below key es (second _ _ h)
 
 -- a key that belongs between two others is not in the map
 pub find_gap : (key : KeyName) (es : List Entry) (i : ℕ) → IsRising es → IsGap key es i → find key_cmp key es ≡ None

@@ -16,9 +16,7 @@ use Rattle.ledger_model.specs.Step.{readings_stored}
 use Rattle.ledger_model.specs.Entries.{entries_without, IsRising}
 use Rattle.station_ledger.specs.Kept.{IsSmall}
 use Rattle.station_ledger.specs.Flows.{total}
-use Rattle.ledger_model.proofs.Callers.{first, second, sum_by-map, put_between, sum_between}
-use Rattle.station_ledger.proofs.Keys.{below_less}
-use Rattle.station_ledger.proofs.Places.{find_below}
+use Rattle.ledger_model.proofs.Callers.{first, second, sum_by-map, put_between, sum_between, below_less, find_below}
 
 -- as many flows as readings may be stored, each no more than a reading can show, add up within 64 bits
 pub sum_fits : (f : Energy → ℕ) (flows : List Energy) → All (λ x. f x ≤ greatest_reading) flows → length flows ≤ most_readings → sum_by f flows < 2 ^ 64
@@ -43,45 +41,3 @@ total_of_pairs ps =
     let up = sum_by-map (λ (f : Energy). f.up) difference ps in
     let down = sum_by-map (λ (f : Energy). f.down) difference ps in
     λ i. record { up = up i; down = down i }
-
--- the readings of an entry
-abbrev size : Entry → ℕ
-size e = length e.1.event.readings
-
-cons : (e : Entry) (es : List Entry) → readings_stored (e ∷ es) ≡ size e + readings_stored es
-cons e es = sum_by-cons size e es
-
--- a new event brings its readings
-pub readings_put_new : (key : KeyName) (v : Stored) (es : List Entry) → find key_cmp key es ≡ None → readings_stored (put key_cmp key v es) ≡ readings_stored es + length v.event.readings
-readings_put_new key v es none =
-    let p = put_between key v es none in
-    ap readings_stored p.after ∙ sum_between size p.front p.back (key, v) ∙ ap (λ (fs : List Entry). readings_stored fs + length v.event.readings) (sym p.before)
-
-some_is : (a b : Stored) → Some a ≡ Some b → length a.event.readings ≡ length b.event.readings
-some_is a b h = let e : a ≡ b = cc in ap (λ (s : Stored). length s.event.readings) e
-
--- an event in the place of one with as many readings brings none
-pub readings_put_old : (key : KeyName) (v s : Stored) (es : List Entry) → IsRising es → find key_cmp key es ≡ Some s → length v.event.readings ≡ length s.event.readings → readings_stored (put key_cmp key v es) ≡ readings_stored es
-readings_put_old key v s [] rising h same = cc
-readings_put_old key v s (e ∷ es) rising h same =
-    elim (key_cmp key e.0) as (λ (o : Ordering). key_cmp key e.0 ≡ o → cond (is_eq o) (Some e.1) (find key_cmp key es) ≡ Some s → readings_stored (by_order o ((key, v) ∷ e ∷ es) ((e.0, v) ∷ es) (e ∷ put key_cmp key v es)) ≡ readings_stored (e ∷ es)) [
-      | Less ↦ λ smaller some. let none = find_below key es (below_less key e.0 es smaller (first _ _ rising)) in cc
-      | Equal ↦ λ _ some. omega (arith, cons e es, cons (e.0, v) es, some_is e.1 s some)
-      | Greater ↦ λ _ some. omega (arith, cons e es, cons e (put key_cmp key v es), readings_put_old key v s es (second _ _ rising) some same)
-    ] refl h
-
--- what is left when an entry goes is no more
-pub length_without : (key : KeyName) (es : List Entry) → length (entries_without key es) ≤ length es
-length_without key [] = omega arith
-length_without key (e ∷ es) =
-    let rest = length_without key es in
-    elim (eq_by_cmp key_cmp key e.0) as (λ b. length (cond (not b) (e ∷ entries_without key es) (entries_without key es)) ≤ length (e ∷ es)) [ true ↦ omega arith | false ↦ omega arith ]
-
-pub readings_without : (key : KeyName) (es : List Entry) → readings_stored (entries_without key es) ≤ readings_stored es
-readings_without key [] = omega arith
-readings_without key (e ∷ es) =
-    let rest = readings_without key es in
-    elim (eq_by_cmp key_cmp key e.0) as (λ b. readings_stored (cond (not b) (e ∷ entries_without key es) (entries_without key es)) ≤ readings_stored (e ∷ es)) [
-      | true ↦ omega (arith, cons e es)
-      | false ↦ omega (arith, cons e es, cons e (entries_without key es))
-    ]

@@ -13,8 +13,7 @@ use Rattle.ledger_model.specs.Key.{KeyName, key_cmp}
 use Rattle.ledger_model.specs.Content.{Entry, distinct, transactions_of}
 use Rattle.ledger_model.specs.Entries.{IsRising}
 use Rattle.station_ledger.proofs.Walk.{beginnings}
-use Rattle.ledger_model.proofs.Callers.{first, second}
-use Rattle.station_ledger.proofs.Keys.{less}
+use Rattle.ledger_model.proofs.Callers.{first, second, less}
 
 -- a text is not in the list
 abbrev pub Absent : List ℕ → List (List ℕ) → Type 0

@@ -1,5 +1,5 @@
 -- The content that entries in the order of their keys show.
-use Rattle.std.proofs.Common.{◌≡◌, ℕ, ◌≤◌, Bool, true, false, not, Option, Some, None, List, [], length, refl, sym, ap, ◌∙◌, arith}
+use Rattle.std.proofs.Common.{◌≡◌, ℕ, ◌≤◌, Bool, true, false, not, Option, Some, None, List, [], length, refl, sym, ap, subst, ◌∙◌, arith}
 use Rattle.std.specs.FinMap as finite
 use Rattle.std.specs.FinMap.{find}
 use Rattle.std.specs.FinMap.Entries.{is_sorted-put, is_sorted-where_key}
@@ -7,14 +7,14 @@ use Rattle.std.specs.Ordering.{eq_by_cmp}
 use Rattle.ledger_model.specs.Ranges.{most_events, most_readings}
 use Rattle.ledger_model.specs.declared.command.Command.{Command}
 use Rattle.ledger_model.specs.declared.command.Command.TheVariants.{Deliver, Void, Restore, Erase}
-use Rattle.ledger_model.specs.Step.{events_after}
+use Rattle.ledger_model.specs.Step.{events_after, Reached}
 use Rattle.ledger_model.specs.Key.{KeyName, key_cmp}
 use Rattle.ledger_model.specs.Limits.{Bounds}
 use Rattle.ledger_model.specs.Content.{Entry, Stored, empty_content, entries}
 use Rattle.station_ledger.specs.Ledger.{Ledger, content_of}
 use Rattle.station_ledger.specs.Kept.{IsKept}
 use Rattle.ledger_model.specs.Entries.{IsRising, entries_marked_at, entries_without, entries_after}
-use Rattle.ledger_model.proofs.Callers.{key_total, entries_after_is}
+use Rattle.ledger_model.proofs.Callers.{key_total, entries_after_is, AreKept, AreKept-reached}
 
 -- what the content of rising entries lists
 pub entries_of : (es : List Entry) (n : ℕ) → IsRising es → entries (content_of es n) ≡ es
@@ -39,7 +39,6 @@ IsKept-empty limits events readings = record {
   small = λ k d lt. absurd (omega arith);
   few_flows = omega arith;
   readings_are = refl;
-  few_events = omega arith;
   few_readings = omega arith;
   most_events = events;
   most_readings = readings;
@@ -72,3 +71,7 @@ pub map_after : (es : List Entry) (command : Command) → IsRising es → finite
 map_after es command h = finite.same_entries_map _ _ (
     finite.entries-from_sorted key_cmp (entries_after es command) (rising_after es command h)
     ∙ sym (entries_after_is (finite.from_sorted es) command ∙ ap (λ (fs : List Entry). entries_after fs command) (finite.entries-from_sorted key_cmp es h)))
+
+-- no more is stored than the limits allow
+pub AreKept-entries : (limits : Bounds) (es : List Entry) (n : ℕ) → IsRising es → Reached limits n (content_of es n) → AreKept limits es
+AreKept-entries limits es n rising reached = subst (AreKept limits) (entries_of es n rising) (AreKept-reached limits n (content_of es n) reached)

@@ -22,7 +22,6 @@ pub record IsKept (limits : Bounds) (es : List Entry) (flows : List Energy) (rea
   pub small : All IsSmall flows
   pub few_flows : length flows ≤ readings
   pub readings_are : readings ≡ readings_stored es
-  pub few_events : length es ≤ limits.events
   pub few_readings : readings ≤ limits.readings
   pub most_events : limits.events ≤ most_events
   pub most_readings : limits.readings ≤ most_readings

@@ -17,7 +17,7 @@ pub readings_stored-self-inside-requires : goal.readings_stored-self-inside-requ
 readings_stored-self-inside-requires c =
     let kept = c.self.invariant.0 in
     let a = ap (λ (l : Ledger). answer l.limits l.content c.args.command) c.self.view_is ∙ sym c.in-Accepted.ensures in
-    let few = few_after _ _ _ _ _ _ c.args.command kept a in
+    let few = few_after _ _ _ _ _ _ c.args.command kept c.key.ensures.admissible a in
     let same = ap readings_stored (c.deref.ensures.value ∙ c.carry_out.ensures.items) in
     omega (arith, few, same, kept.most_readings)
 
@@ -28,7 +28,7 @@ pub evaluate-requires-clause-room : goal.evaluate-requires-clause-room
 evaluate-requires-clause-room c =
     let kept = c.self.invariant.0 in
     let a = ap (λ (l : Ledger). answer l.limits l.content c.args.command) c.self.view_is ∙ sym c.in-Accepted.ensures in
-    let few = few_after _ _ _ _ _ _ c.args.command kept a in
+    let few = few_after _ _ _ _ _ _ c.args.command kept c.key.ensures.admissible a in
     let same = ap readings_stored (c.deref-in-Accepted.ensures.value ∙ c.carry_out.ensures.items) in
     omega (arith, few, same, c.self.invariant.1.for_flows)
 
