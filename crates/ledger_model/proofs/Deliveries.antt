@@ -28,7 +28,7 @@ use Rattle.ledger_model.proofs.LedgerLemmas.{not_refused}
 use Rattle.ledger_model.proofs.Transactions.{transactions_added}
 use Rattle.ledger_model.proofs.Exchanges.{IsKeptByExchanges, of_permutation}
 
-abbrev fresh : Sent → Stored
+abbrev pub fresh : Sent → Stored
 fresh d = record { event = d.1; voided = false }
 
 -- the content with one delivery more
@@ -79,11 +79,11 @@ module _ (limits : Bounds) (c : Content) (d : Sent) where
   left_with r commands = ap (λ (p : Content × Answer). left_by limits p.0 commands) (told r)
 
 -- an entry stands between others, without which the list is es
-record IsPut (e : Entry) (es fs : List Entry) : Type 0 where
-  front : List Entry
-  back : List Entry
-  before : es ≡ front ++ back
-  after : fs ≡ front ++ e ∷ back
+pub record IsPut (e : Entry) (es fs : List Entry) : Type 0 where
+  pub front : List Entry
+  pub back : List Entry
+  pub before : es ≡ front ++ back
+  pub after : fs ≡ front ++ e ∷ back
 
 put_behind : (e f : Entry) (es fs : List Entry) → IsPut e es fs → IsPut e (f ∷ es) (f ∷ fs)
 put_behind e f es fs p = record { front = f ∷ p.front; back = p.back; before = ap (λ gs. f ∷ gs) p.before; after = ap (λ gs. f ∷ gs) p.after }
@@ -92,7 +92,7 @@ some_not_none : {A : Type 0} (x : A) → Some x ≡ None → ⊥
 some_not_none x e = cc
 
 -- an entry of a new key is put between others
-put_between : (k : KeyName) (s : Stored) (es : List Entry) → find key_cmp k es ≡ None → IsPut (k, s) es (put key_cmp k s es)
+pub put_between : (k : KeyName) (s : Stored) (es : List Entry) → find key_cmp k es ≡ None → IsPut (k, s) es (put key_cmp k s es)
 put_between k s [] h = record { front = []; back = []; before = refl; after = refl }
 put_between k s (e ∷ es) h =
     elim (key_cmp k e.0) as (λ o. cond (is_eq o) (Some e.1) (find key_cmp k es) ≡ None → IsPut (k, s) (e ∷ es) (by_order o ((k, s) ∷ e ∷ es) ((e.0, s) ∷ es) (e ∷ put key_cmp k s es))) [
@@ -102,11 +102,11 @@ put_between k s (e ∷ es) h =
     ] h
 
 -- what a delivery of a new key adds
-record Grown (c : Content) (d : Sent) : Type 0 where
-  events : length (entries (delivered c d)) ≡ length (entries c) + 1
-  readings : readings_stored (entries (delivered c d)) ≡ readings_stored (entries c) + length d.1.readings
-  has : (tx : List ℕ) → has_transaction tx (entries (delivered c d)) ≡ (bytes_eq tx d.0.tx || has_transaction tx (entries c))
-  transactions : length (transactions_of (entries (delivered c d))) ≡ cond (has_transaction d.0.tx (entries c)) (length (transactions_of (entries c))) (length (transactions_of (entries c)) + 1)
+pub record Grown (c : Content) (d : Sent) : Type 0 where
+  pub events : length (entries (delivered c d)) ≡ length (entries c) + 1
+  pub readings : readings_stored (entries (delivered c d)) ≡ readings_stored (entries c) + length d.1.readings
+  pub has : (tx : List ℕ) → has_transaction tx (entries (delivered c d)) ≡ (bytes_eq tx d.0.tx || has_transaction tx (entries c))
+  pub transactions : length (transactions_of (entries (delivered c d))) ≡ cond (has_transaction d.0.tx (entries c)) (length (transactions_of (entries c))) (length (transactions_of (entries c)) + 1)
 
 or_swap : (a b c : Bool) → (a || (b || c)) ≡ (b || (a || c))
 or_swap true true c = refl
@@ -116,14 +116,14 @@ or_swap false b c = refl
 length_between : (front back : List Entry) (e : Entry) → length (front ++ e ∷ back) ≡ length (front ++ back) + 1
 length_between front back e = omega (arith, length-append front (e ∷ back), length-append front back)
 
-sum_between : (f : Entry → ℕ) (front back : List Entry) (e : Entry) → sum_by f (front ++ e ∷ back) ≡ sum_by f (front ++ back) + f e
+pub sum_between : (f : Entry → ℕ) (front back : List Entry) (e : Entry) → sum_by f (front ++ e ∷ back) ≡ sum_by f (front ++ back) + f e
 sum_between f front back e = omega (arith, sum_by-append f front (e ∷ back), sum_by-cons f e back, sum_by-append f front back)
 
 any_between : (p : Entry → Bool) (front back : List Entry) (e : Entry) → list_any p (front ++ e ∷ back) ≡ (p e || list_any p (front ++ back))
 any_between p front back e =
     list_any-append p front (e ∷ back) ∙ or_swap (list_any p front) (p e) (list_any p back) ∙ ap (λ b. p e || b) (sym (list_any-append p front back))
 
-grown : (c : Content) (d : Sent) → finite.get c.events d.0 ≡ None → Grown c d
+pub grown : (c : Content) (d : Sent) → finite.get c.events d.0 ≡ None → Grown c d
 grown c d new =
     let p = put_between d.0 (fresh d) (entries c) (sym (finite.get-entries c.events d.0) ∙ new) in
     let e : Entry = (d.0, fresh d) in

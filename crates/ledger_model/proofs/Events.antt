@@ -1,15 +1,44 @@
 -- The tests on events decide equality.
-use Rattle.std.proofs.Common.{◌≡◌, ap, eqb}
+use Rattle.std.proofs.Common.{◌≡◌, ℕ, List, [], ◌∷◌, Option, Some, None, refl, ap}
 use Rattle.std.specs.Bool.{Decides}
-use Rattle.std.proofs.lemmas.Bool.{eqb-true, eq-eqb, and_parts, and_from}
-use Rattle.ledger_model.specs.Event.{MeterReading, same_reading}
+use Rattle.std.proofs.lemmas.Bool.{false≢true}
+use Rattle.std.proofs.lemmas.Bool.Decides.{Decides-eqb, Decides-and, Decides-like}
+use Rattle.ledger_model.specs.declared.kind.Kind.{Kind}
+use Rattle.ledger_model.specs.declared.kind.Kind.TheVariants.{Started, Updated, Ended}
+use Rattle.ledger_model.specs.Event.{MeterReading, EventContent, same_kind, same_evse, same_reading, same_readings, same_event}
 
--- equal in both parts
+same_kind-Decides : (a b : Kind) → Decides (same_kind a b) (a ≡ b)
+same_kind-Decides Started Started = (λ _. refl, λ _. refl)
+same_kind-Decides Started Updated = (λ h. absurd (false≢true h), λ e. cc)
+same_kind-Decides Started Ended = (λ h. absurd (false≢true h), λ e. cc)
+same_kind-Decides Updated Started = (λ h. absurd (false≢true h), λ e. cc)
+same_kind-Decides Updated Updated = (λ _. refl, λ _. refl)
+same_kind-Decides Updated Ended = (λ h. absurd (false≢true h), λ e. cc)
+same_kind-Decides Ended Started = (λ h. absurd (false≢true h), λ e. cc)
+same_kind-Decides Ended Updated = (λ h. absurd (false≢true h), λ e. cc)
+same_kind-Decides Ended Ended = (λ _. refl, λ _. refl)
+
+same_evse-Decides : (a b : Option ℕ) → Decides (same_evse a b) (a ≡ b)
+same_evse-Decides None None = (λ _. refl, λ _. refl)
+same_evse-Decides None (Some n) = (λ h. absurd (false≢true h), λ e. cc)
+same_evse-Decides (Some n) None = (λ h. absurd (false≢true h), λ e. cc)
+same_evse-Decides (Some m) (Some n) = Decides-like _ (λ e. ap Some e) (λ e. cc) (Decides-eqb m n)
+
 pub same_reading-Decides : (a b : MeterReading) → Decides (same_reading a b) (a ≡ b)
-same_reading-Decides a b = (
-  λ h. let parts = and_parts (eqb a.moment b.moment) (eqb a.mwh b.mwh) h in
-      let moments = eqb-true a.moment b.moment parts.0 in
-      let values = eqb-true a.mwh b.mwh parts.1 in
-      λ i. record { moment = moments i; mwh = values i },
-  λ e. and_from (eqb a.moment b.moment) (eqb a.mwh b.mwh) (eq-eqb _ _ (ap (λ (r : MeterReading). r.moment) e)) (eq-eqb _ _ (ap (λ (r : MeterReading). r.mwh) e)),
-)
+same_reading-Decides a b =
+    Decides-like _ (λ parts i. record { moment = parts.0 i; mwh = parts.1 i }) (λ e. (ap (λ (r : MeterReading). r.moment) e, ap (λ (r : MeterReading). r.mwh) e))
+    (Decides-and _ _ (Decides-eqb a.moment b.moment) (Decides-eqb a.mwh b.mwh))
+
+same_readings-Decides : (rs ss : List MeterReading) → Decides (same_readings rs ss) (rs ≡ ss)
+same_readings-Decides [] [] = (λ _. refl, λ _. refl)
+same_readings-Decides [] (b ∷ ss) = (λ h. absurd (false≢true h), λ e. cc)
+same_readings-Decides (a ∷ rs) [] = (λ h. absurd (false≢true h), λ e. cc)
+same_readings-Decides (a ∷ rs) (b ∷ ss) =
+    Decides-like _ (λ parts i. parts.0 i ∷ parts.1 i) (λ e. (cc, cc)) (Decides-and _ _ (same_reading-Decides a b) (same_readings-Decides rs ss))
+
+-- the test of events decides whether they are equal
+pub same_event-Decides : (a b : EventContent) → Decides (same_event a b) (a ≡ b)
+same_event-Decides a b =
+    Decides-like _ (λ parts i. record { kind = parts.0.0.0 i; moment = parts.0.0.1 i; evse = parts.0.1 i; readings = parts.1 i })
+    (λ e. (((ap (λ (h : EventContent). h.kind) e, ap (λ (h : EventContent). h.moment) e), ap (λ (h : EventContent). h.evse) e), ap (λ (h : EventContent). h.readings) e))
+    (Decides-and _ _ (Decides-and _ _ (Decides-and _ _ (same_kind-Decides a.kind b.kind) (Decides-eqb a.moment b.moment)) (same_evse-Decides a.evse b.evse)) (same_readings-Decides a.readings b.readings))

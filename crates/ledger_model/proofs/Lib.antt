@@ -1,5 +1,7 @@
 pub mod Events
+pub mod Ids
 pub mod Keys
+pub mod Rising
 pub mod LedgerLemmas
 pub mod OrderOfReadings
 pub mod ListedRuns
@@ -8,6 +10,9 @@ pub mod Exchanges
 pub mod Transactions
 pub mod Deliveries
 pub mod ReachedContents
+pub mod Stored
+pub mod Bounds
+pub mod FigureBounds
 pub mod GapLemmas
 pub mod NumberLemmas
 pub mod CompleteLemmas
@@ -16,3 +21,4 @@ pub mod EnergyLemmas
 pub mod FigureLemmas
 pub mod PostLemmas
 pub mod TransactionLemmas
+pub mod Callers

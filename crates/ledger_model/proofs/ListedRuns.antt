@@ -4,7 +4,7 @@ use Rattle.std.specs.Ordering.{eq_by_cmp}
 use Rattle.std.specs.Cmp.{eq_by_cmp_equiv}
 use Rattle.std.specs.FinMap as finite
 use Rattle.std.specs.FinMap.{FinMap}
-use Rattle.std.specs.FinMap.Entries.{find, put, where_key, find-where_key, is_sorted-where_key, same_entries}
+use Rattle.std.specs.FinMap.Entries.{find, find-where_key, is_sorted-where_key, same_entries}
 use Rattle.ledger_model.specs.declared.command.Command.{Command}
 use Rattle.ledger_model.specs.declared.command.Command.TheVariants.{Deliver, Void, Restore, Erase}
 use Rattle.ledger_model.specs.declared.answer.Answer.{Answer}
@@ -15,6 +15,7 @@ use Rattle.ledger_model.specs.Event.{EventContent, same_event}
 use Rattle.ledger_model.specs.Limits.{Bounds}
 use Rattle.ledger_model.specs.Content.{Content, Stored, Entry, entries, empty_content, transactions_of, has_transaction}
 use Rattle.ledger_model.specs.Step.{step, answer, answer_to_deliver, answer_to_void, answer_to_voided, readings_stored, content_after, events_after, marked_at}
+use Rattle.ledger_model.specs.Entries.{entries_marked_at, entries_without, entries_after}
 use Rattle.ledger_model.specs.Laws.{answers, left_by}
 use Rattle.ledger_model.proofs.Keys.{key_total, exact_keys}
 
@@ -69,26 +70,12 @@ told_is limits c (Erase key) = ap (answer_to_voided limits c) (finite.get-entrie
   by_case None = refl
   by_case (Some stored) = refl
 
--- the entries after an accepted command
-abbrev remarked : List Entry → KeyName → Bool → Option Stored → List Entry
-remarked es key voided None = es
-remarked es key voided (Some stored) = put key_cmp key (record { event = stored.event; voided = voided }) es
-
-abbrev without : List Entry → KeyName → List Entry
-without es key = where_key key_cmp (λ x. not (eq_by_cmp key_cmp key x)) es
-
-abbrev entries_after : List Entry → Command → List Entry
-entries_after es (Deliver key event) = put key_cmp key (record { event = event; voided = false }) es
-entries_after es (Void key) = remarked es key true (find key_cmp key es)
-entries_after es (Restore key) = remarked es key false (find key_cmp key es)
-entries_after es (Erase key) = without es key
-
 turned : {A : Type 0} (b : Bool) (x y : A) → cond (not b) x y ≡ cond b y x
 turned true x y = refl
 turned false x y = refl
 
 -- what stands after an erasure
-pub entries_removed : (m : FinMap key_cmp Stored) (key : KeyName) → finite.entries (finite.remove m key) ≡ without (finite.entries m) key
+pub entries_removed : (m : FinMap key_cmp Stored) (key : KeyName) → finite.entries (finite.remove m key) ≡ entries_without key (finite.entries m)
 entries_removed m key =
     let p = λ (x : KeyName). not (eq_by_cmp key_cmp key x) in
     same_entries key_cmp key_total exact_keys _ _ (finite.entries_sorted (finite.remove m key)) (is_sorted-where_key key_cmp p (finite.entries m) (finite.entries_sorted m)) (λ q.
@@ -99,14 +86,14 @@ entries_removed m key =
     ∙ sym (turned (eq_by_cmp key_cmp key q) (find key_cmp q (finite.entries m)) None)
     ∙ sym (find-where_key key_cmp p q (λ x t. ap (λ (k : KeyName). not (eq_by_cmp key_cmp key k)) (sym (exact_keys q x t))) (finite.entries m)))
 
-remarked_is : (m : FinMap key_cmp Stored) (key : KeyName) (voided : Bool) (o : Option Stored) → finite.entries (marked_at m key voided o) ≡ remarked (finite.entries m) key voided o
-remarked_is m key voided None = refl
-remarked_is m key voided (Some stored) = finite.entries-insert key_total m key _
+marked_is : (m : FinMap key_cmp Stored) (key : KeyName) (voided : Bool) (o : Option Stored) → finite.entries (marked_at m key voided o) ≡ entries_marked_at (finite.entries m) key voided o
+marked_is m key voided None = refl
+marked_is m key voided (Some stored) = finite.entries-insert key_total m key _
 
-entries_after_is : (m : FinMap key_cmp Stored) (command : Command) → finite.entries (events_after m command) ≡ entries_after (finite.entries m) command
+pub entries_after_is : (m : FinMap key_cmp Stored) (command : Command) → finite.entries (events_after m command) ≡ entries_after (finite.entries m) command
 entries_after_is m (Deliver key event) = finite.entries-insert key_total m key _
-entries_after_is m (Void key) = remarked_is m key true (finite.get m key) ∙ ap (remarked (finite.entries m) key true) (finite.get-entries m key)
-entries_after_is m (Restore key) = remarked_is m key false (finite.get m key) ∙ ap (remarked (finite.entries m) key false) (finite.get-entries m key)
+entries_after_is m (Void key) = marked_is m key true (finite.get m key) ∙ ap (entries_marked_at (finite.entries m) key true) (finite.get-entries m key)
+entries_after_is m (Restore key) = marked_is m key false (finite.get m key) ∙ ap (entries_marked_at (finite.entries m) key false) (finite.get-entries m key)
 entries_after_is m (Erase key) = entries_removed m key
 
 abbrev after : Listed → Command → Answer → Listed
@@ -160,8 +147,11 @@ no_length : (es : List Entry) → length es ≡ 0 → es ≡ []
 no_length [] h = refl
 no_length (e ∷ es) h = cc
 
+pub none_listed : entries empty_content ≡ []
+none_listed = no_length (entries empty_content) (sym (finite.len-entries finite.empty) ∙ finite.len-empty key_cmp Stored)
+
 nothing : listed empty_content ≡ ([], 0)
-nothing = λ i. (no_length (entries empty_content) (sym (finite.len-entries finite.empty) ∙ finite.len-empty key_cmp Stored) i, 0)
+nothing = λ i. (none_listed i, 0)
 
 -- the answers to a list of commands, from the empty content
 pub told_from_empty : (limits : Bounds) (commands : List Command) → answers limits empty_content commands ≡ told_all limits ([], 0) commands

@@ -1,5 +1,5 @@
 -- The live numbers of a transaction rise, as a content keeps its events in the order of their keys.
-use Rattle.std.proofs.Common.{◌≡◌, ℕ, ◌<◌, Bool, true, false, cond, not, ◌&&◌, ◌==◌, nat_lt, T, List, [], ◌∷◌, refl, sym, subst, map}
+use Rattle.std.proofs.Common.{◌≡◌, ℕ, ◌<◌, true, false, cond, not, ◌==◌, nat_lt, T, List, [], ◌∷◌, refl, sym, subst, map}
 use Rattle.std.specs.Prelude.{filter}
 use Rattle.std.specs.Str.{bytes_eq}
 use Rattle.std.specs.Ordering.{nat_cmp, ordering_then, is_lt}
@@ -7,13 +7,15 @@ use Rattle.std.specs.declared.cmp.Ordering.TheVariants.{Less, Equal, Greater}
 use Rattle.std.specs.Cmp.{tied_itself}
 use Rattle.std.specs.Cmp.Lexicographic.{slice_cmp, nat_list_cmp_total}
 use Rattle.std.specs.FinMap.{entries_sorted}
-use Rattle.std.specs.FinMap.Entries.{is_sorted, below_all}
+use Rattle.std.specs.FinMap.Entries.{below_all}
 use Rattle.std.proofs.lemmas.Bool.{ltb-true}
 use Rattle.std.proofs.lemmas.Slice.Eq.{bytes_eq-Decides}
 use Rattle.ledger_model.specs.Key.{KeyName, key_cmp}
 use Rattle.ledger_model.specs.Content.{Content, Entry, entries, live, live_of}
 use Rattle.ledger_model.specs.Gaps.{numbers_of}
+use Rattle.ledger_model.specs.Entries.{IsRising}
 use Rattle.ledger_model.specs.BoardLaws.{AreRising}
+use Rattle.ledger_model.proofs.Rising.{first, second}
 
 -- a number is below each of a list
 abbrev IsBelowAll : ℕ → List ℕ → Type 0
@@ -23,14 +25,6 @@ IsBelowAll n (m ∷ ms) = (n < m) × IsBelowAll n ms
 AreRising-cons : (n : ℕ) (ns : List ℕ) → IsBelowAll n ns → AreRising ns → AreRising (n ∷ ns)
 AreRising-cons n [] below up = tt
 AreRising-cons n (m ∷ ns) below up = (below.0, up)
-
-pub and_first : (a b : Bool) → T (a && b) → T a
-and_first true b h = tt
-and_first false b h = h
-
-pub and_second : (a b : Bool) → T (a && b) → T b
-and_second true b h = h
-and_second false b h = absurd h
 
 -- a property of the live numbers, by whether the first event is live and of the transaction
 numbers_cases : (P : List ℕ → Type 0) (tx : List ℕ) (e : Entry) (es : List Entry) → (bytes_eq tx e.0.tx ≡ true → P (e.0.seq ∷ numbers_of tx es)) → P (numbers_of tx es) → P (numbers_of tx (e ∷ es))
@@ -63,16 +57,16 @@ same_text tx other h = (bytes_eq-Decides tx other).0 h
 below_numbers : (key : KeyName) (es : List Entry) → T (below_all key_cmp key es) → IsBelowAll key.seq (numbers_of key.tx es)
 below_numbers key [] h = tt
 below_numbers key (e ∷ es) h =
-    let here : T (is_lt (key_cmp key e.0)) = and_first (is_lt (key_cmp key e.0)) (below_all key_cmp key es) h in
-    let there : IsBelowAll key.seq (numbers_of key.tx es) = below_numbers key es (and_second (is_lt (key_cmp key e.0)) (below_all key_cmp key es) h) in
+    let here : T (is_lt (key_cmp key e.0)) = first _ _ h in
+    let there : IsBelowAll key.seq (numbers_of key.tx es) = below_numbers key es (second _ _ h) in
     numbers_cases (IsBelowAll key.seq) key.tx e es (λ is. (less_key key e.0 (same_text key.tx e.0.tx is) here, there)) there
 
-rising_from_sorted : (tx : List ℕ) (es : List Entry) → T (is_sorted key_cmp es) → AreRising (numbers_of tx es)
+pub rising_from_sorted : (tx : List ℕ) (es : List Entry) → IsRising es → AreRising (numbers_of tx es)
 rising_from_sorted tx [] h = tt
 rising_from_sorted tx (e ∷ es) h =
-    let rest : AreRising (numbers_of tx es) = rising_from_sorted tx es (and_second (below_all key_cmp e.0 es) (is_sorted key_cmp es) h) in
+    let rest : AreRising (numbers_of tx es) = rising_from_sorted tx es (second _ _ h) in
     numbers_cases AreRising tx e es
-    (λ is. AreRising-cons e.0.seq (numbers_of tx es) (subst (λ t. IsBelowAll e.0.seq (numbers_of t es)) (sym (same_text tx e.0.tx is)) (below_numbers e.0 es (and_first (below_all key_cmp e.0 es) (is_sorted key_cmp es) h))) rest)
+    (λ is. AreRising-cons e.0.seq (numbers_of tx es) (subst (λ t. IsBelowAll e.0.seq (numbers_of t es)) (sym (same_text tx e.0.tx is)) (below_numbers e.0 es (first _ _ h))) rest)
     rest
 
 pub numbers-AreRising : (tx : List ℕ) (c : Content) → AreRising (numbers_of tx (entries c))

@@ -2,7 +2,9 @@
 use Rattle.std.proofs.Common.{◌≡◌, ℕ, zero, suc, ◌+◌, ◌<◌, ◌≤◌, false, List, [], ◌∷◌, ◌++◌, length, refl, ap, sym, subst, ◌∙◌, nat_le, arith}
 use Rattle.std.specs.FinMap as finite
 use Rattle.std.proofs.lemmas.Bool.{leb-false}
+use Rattle.std.specs.List.{All}
 use Rattle.std.proofs.lemmas.List.{length-append}
+use Rattle.std.proofs.lemmas.List.Elements.{All-nil, All-push}
 use Rattle.ledger_model.specs.declared.command.Command.{Command}
 use Rattle.ledger_model.specs.declared.command.Command.TheVariants.{Deliver, Void, Restore, Erase}
 use Rattle.ledger_model.specs.declared.answer.Answer.{Answer}
@@ -10,6 +12,7 @@ use Rattle.ledger_model.specs.declared.answer.Answer.TheVariants.{Accepted}
 use Rattle.ledger_model.specs.declared.answer.Refusal.TheVariants.{ChangesExhausted}
 use Rattle.ledger_model.specs.Limits.{Bounds}
 use Rattle.ledger_model.specs.Content.{Content, empty_content}
+use Rattle.ledger_model.specs.Admissible.{IsAdmissible}
 use Rattle.ledger_model.specs.Step.{step, accepted_within_limit, content_after, Reached}
 use Rattle.ledger_model.specs.Laws.{IsAccepted, AreAccepted, left_by, IsLeftByRun}
 use Rattle.ledger_model.proofs.LedgerLemmas.{not_refused, found_live, found_voided}
@@ -47,7 +50,7 @@ count_after limits c command n h = ap (λ a. (content_after c command a).changes
 pub counts : (limits : Bounds) (n : ℕ) (c : Content) → Reached limits n c → c.changes ≡ n
 counts limits zero c h = ap (λ (d : Content). d.changes) h
 counts limits (suc n) c h =
-    ap (λ (p : Content × Answer). p.0.changes) (sym h.2.1) ∙ count_after limits h.0 h.1 (suc n) (ap (λ (p : Content × Answer). p.1) h.2.1)
+    ap (λ (p : Content × Answer). p.0.changes) (sym h.2.2) ∙ count_after limits h.0 h.1 (suc n) (ap (λ (p : Content × Answer). p.1) h.2.2)
 
 accepted_append : (limits : Bounds) (c : Content) (xs ys : List Command) → AreAccepted limits c xs → AreAccepted limits (left_by limits c xs) ys → AreAccepted limits c (xs ++ ys)
 accepted_append limits c [] ys h k = k
@@ -63,39 +66,40 @@ last_accepted limits n before c command h = subst (λ (p : Content × Answer). I
 
 -- a reached content is left by a run
 pub run_of : (limits : Bounds) (n : ℕ) (c : Content) → Reached limits n c → (commands : List Command) × IsLeftByRun limits n c commands
-run_of limits zero c h = ([], (refl, tt, sym h))
+run_of limits zero c h = ([], record { long = refl; admissible = All-nil IsAdmissible; accepted = tt; left = sym h })
 run_of limits (suc n) c h =
-    let r = run_of limits n h.0 h.2.0 in
+    let r = run_of limits n h.0 h.2.1 in
     let last = h.1 ∷ [] in
-    let long : length (r.0 ++ last) ≡ suc n = omega (arith, length-append r.0 last, r.1.0) in
-    let told : AreAccepted limits h.0 last = (last_accepted limits n h.0 c h.1 h.2.1, tt) in (
+    let told : AreAccepted limits h.0 last = (last_accepted limits n h.0 c h.1 h.2.2, tt) in (
       r.0 ++ last,
-      (
-        long,
-        accepted_append limits empty_content r.0 last r.1.1 (subst (λ (d : Content). AreAccepted limits d last) (sym r.1.2) told),
-        left_by-append limits empty_content r.0 last ∙ ap (λ (d : Content). (step limits d h.1).0) r.1.2 ∙ ap (λ (p : Content × Answer). p.0) h.2.1,
-      ),
+      record {
+        long = omega (arith, length-append r.0 last, r.1.long);
+        admissible = All-push IsAdmissible r.0 h.1 r.1.admissible h.2.0;
+        accepted = accepted_append limits empty_content r.0 last r.1.accepted (subst (λ (d : Content). AreAccepted limits d last) (sym r.1.left) told);
+        left = left_by-append limits empty_content r.0 last ∙ ap (λ (d : Content). (step limits d h.1).0) r.1.left ∙ ap (λ (p : Content × Answer). p.0) h.2.2;
+      },
     )
 
 -- what a run leaves of a reached content is reached
-reached_further : (limits : Bounds) (n : ℕ) (c : Content) (commands : List Command) → Reached limits n c → AreAccepted limits c commands → Reached limits (n + length commands) (left_by limits c commands)
-reached_further limits n c [] h a = let same : n ≡ n + 0 = omega arith in subst (λ m. Reached limits m c) same h
-reached_further limits n c (command ∷ commands) h a =
+reached_further : (limits : Bounds) (n : ℕ) (c : Content) (commands : List Command) → Reached limits n c → All IsAdmissible commands → AreAccepted limits c commands → Reached limits (n + length commands) (left_by limits c commands)
+reached_further limits n c [] h may a = let same : n ≡ n + 0 = omega arith in subst (λ m. Reached limits m c) same h
+reached_further limits n c (command ∷ commands) h may a =
     let k = is_counted limits c command a.0 in
     let next : c.changes + 1 ≡ suc n = omega (arith, counts limits n c h) in
     let told : (step limits c command).1 ≡ Accepted (suc n) = k.next ∙ ap (λ m. Accepted m) next in
-    let reached : Reached limits (suc n) (step limits c command).0 = (c, command, (h, λ i. ((step limits c command).0, told i))) in
+    let reached : Reached limits (suc n) (step limits c command).0 = (c, command, (may 0 command (omega arith), h, λ i. ((step limits c command).0, told i))) in
     let same : suc n + length commands ≡ n + suc (length commands) = omega arith in
-    subst (λ m. Reached limits m (left_by limits (step limits c command).0 commands)) same (reached_further limits (suc n) (step limits c command).0 commands reached a.1)
+    let rest : All IsAdmissible commands = λ k d lt. may (suc k) d (omega arith) in
+    subst (λ m. Reached limits m (left_by limits (step limits c command).0 commands)) same (reached_further limits (suc n) (step limits c command).0 commands reached rest a.1)
 
 pub reached_by : (limits : Bounds) (n : ℕ) (c : Content) (commands : List Command) → IsLeftByRun limits n c commands → Reached limits n c
 reached_by limits n c commands h =
-    let long : 0 + length commands ≡ n = omega (arith, h.0) in
-    subst (λ (d : Content). Reached limits n d) h.2
-    (subst (λ m. Reached limits m (left_by limits empty_content commands)) long (reached_further limits 0 empty_content commands refl h.1))
+    let long : 0 + length commands ≡ n = omega (arith, h.long) in
+    subst (λ (d : Content). Reached limits n d) h.left
+    (subst (λ m. Reached limits m (left_by limits empty_content commands)) long (reached_further limits 0 empty_content commands refl h.admissible h.accepted))
 
 pub few_changes : (limits : Bounds) (n : ℕ) (c : Content) → Reached limits n c → n ≤ limits.changes
 few_changes limits zero c h = omega arith
 few_changes limits (suc n) c h =
-    let k = is_counted limits h.0 h.1 (last_accepted limits n h.0 c h.1 h.2.1) in
-    omega (arith, k.below, counts limits n h.0 h.2.0)
+    let k = is_counted limits h.0 h.1 (last_accepted limits n h.0 c h.1 h.2.2) in
+    omega (arith, k.below, counts limits n h.0 h.2.1)

@@ -1,5 +1,5 @@
 -- The transactions of a station, each listed once, and in the order of their ids where the events are in the order of their keys.
-use Rattle.std.proofs.Common.{◌≡◌, ◌⊎◌, Bool, true, false, cond, not, ◌||◌, ◌&&◌, T, List, [], ◌∷◌, ℕ, refl, ap, sym, ◌∙◌, subst, ⊎_elim, inl, inr, map}
+use Rattle.std.proofs.Common.{◌≡◌, ◌⊎◌, Bool, true, false, cond, not, ◌||◌, T, List, [], ◌∷◌, ℕ, refl, ap, sym, ◌∙◌, subst, ⊎_elim, inl, inr, map}
 use Rattle.std.specs.Prelude.{filter}
 use Rattle.std.specs.List.{list_any, AllByRecursion}
 use Rattle.std.specs.List.Sorted.{IsStrictlySortedBy}
@@ -8,13 +8,14 @@ use Rattle.std.specs.Ordering.{nat_cmp, ordering_then, is_lt}
 use Rattle.std.specs.declared.cmp.Ordering.TheVariants.{Less, Equal, Greater}
 use Rattle.std.specs.Cmp.Lexicographic.{slice_cmp}
 use Rattle.std.specs.FinMap.{entries_sorted, slice_cmp-IsAntisymmetric, nat_cmp-IsAntisymmetric}
-use Rattle.std.specs.FinMap.Entries.{is_sorted, below_all}
+use Rattle.std.specs.FinMap.Entries.{below_all}
 use Rattle.std.proofs.lemmas.Bool.{true≢false}
 use Rattle.std.proofs.lemmas.List.Kept.{IsStrictlySortedBy-filter}
 use Rattle.std.proofs.lemmas.Slice.Eq.{bytes_eq-Decides}
 use Rattle.ledger_model.specs.Key.{KeyName, key_cmp}
 use Rattle.ledger_model.specs.Content.{Content, Entry, entries, live, distinct, transactions_of, has_transaction}
-use Rattle.ledger_model.proofs.NumberLemmas.{and_first, and_second}
+use Rattle.ledger_model.specs.Entries.{IsRising}
+use Rattle.ledger_model.proofs.Rising.{first, second, live_rising}
 
 -- leaving out one text loses no other
 others_stay : (x tx : List ℕ) → bytes_eq tx x ≡ false → (ys : List (List ℕ)) → list_any (bytes_eq tx) (filter (λ y. not (bytes_eq x y)) ys) ≡ list_any (bytes_eq tx) ys
@@ -58,8 +59,8 @@ not_after a b h =
 texts_after : (key : KeyName) (es : List Entry) → T (below_all key_cmp key es) → AllByRecursion (NotAfter key.tx) (map (λ e. e.0.tx) es)
 texts_after key [] h = tt
 texts_after key (e ∷ es) h = (
-  not_after key e.0 (and_first (is_lt (key_cmp key e.0)) (below_all key_cmp key es) h),
-  texts_after key es (and_second (is_lt (key_cmp key e.0)) (below_all key_cmp key es) h),
+  not_after key e.0 (first _ _ h),
+  texts_after key es (second _ _ h),
 )
 
 all_filter : (P : List ℕ → Type 0) (p : List ℕ → Bool) (xs : List (List ℕ)) → AllByRecursion P xs → AllByRecursion P (filter p xs)
@@ -80,38 +81,15 @@ all_less x (y ∷ ys) h =
       | false ↦ λ e. (⊎_elim (λ (less : slice_cmp nat_cmp x y ≡ Less). less) (λ (same : x ≡ y). absurd (true≢false (sym ((bytes_eq-Decides x y).1 same) ∙ e))) h.0, all_less x ys h.1)
     ]) refl
 
-rising_texts : (es : List Entry) → T (is_sorted key_cmp es) → IsStrictlySortedBy (slice_cmp nat_cmp) (transactions_of es)
+rising_texts : (es : List Entry) → IsRising es → IsStrictlySortedBy (slice_cmp nat_cmp) (transactions_of es)
 unfolding IsStrictlySortedBy
 rising_texts [] h = tt
 rising_texts (e ∷ es) h =
-    let rest : IsStrictlySortedBy (slice_cmp nat_cmp) (transactions_of es) = rising_texts es (and_second (below_all key_cmp e.0 es) (is_sorted key_cmp es) h) in
-    let after : AllByRecursion (NotAfter e.0.tx) (map (λ f. f.0.tx) es) = texts_after e.0 es (and_first (below_all key_cmp e.0 es) (is_sorted key_cmp es) h) in (
+    let rest : IsStrictlySortedBy (slice_cmp nat_cmp) (transactions_of es) = rising_texts es (second _ _ h) in
+    let after : AllByRecursion (NotAfter e.0.tx) (map (λ f. f.0.tx) es) = texts_after e.0 es (first _ _ h) in (
       all_less e.0.tx (transactions_of es) (all_distinct (NotAfter e.0.tx) (map (λ f. f.0.tx) es) after),
       IsStrictlySortedBy-filter (slice_cmp nat_cmp) (λ y. not (bytes_eq e.0.tx y)) (transactions_of es) rest,
     )
 
-both : (a b : Bool) → T a → T b → T (a && b)
-both true b p q = q
-both false b p q = absurd p
-
--- leaving out voided events keeps the order
-below_live : (key : KeyName) (es : List Entry) → T (below_all key_cmp key es) → T (below_all key_cmp key (live es))
-below_live key [] h = tt
-below_live key (e ∷ es) h =
-    let rest : T (below_all key_cmp key (live es)) = below_live key es (and_second (is_lt (key_cmp key e.0)) (below_all key_cmp key es) h) in
-    elim (e.1.voided) as (λ v. T (below_all key_cmp key (cond (not v) (e ∷ live es) (live es)))) [
-      | true ↦ rest
-      | false ↦ both (is_lt (key_cmp key e.0)) (below_all key_cmp key (live es)) (and_first (is_lt (key_cmp key e.0)) (below_all key_cmp key es) h) rest
-    ]
-
-live-is_sorted : (es : List Entry) → T (is_sorted key_cmp es) → T (is_sorted key_cmp (live es))
-live-is_sorted [] h = tt
-live-is_sorted (e ∷ es) h =
-    let rest : T (is_sorted key_cmp (live es)) = live-is_sorted es (and_second (below_all key_cmp e.0 es) (is_sorted key_cmp es) h) in
-    elim (e.1.voided) as (λ v. T (is_sorted key_cmp (cond (not v) (e ∷ live es) (live es)))) [
-      | true ↦ rest
-      | false ↦ both (below_all key_cmp e.0 (live es)) (is_sorted key_cmp (live es)) (below_live e.0 es (and_first (below_all key_cmp e.0 es) (is_sorted key_cmp es) h)) rest
-    ]
-
 pub transactions_rise : (c : Content) → IsStrictlySortedBy (slice_cmp nat_cmp) (transactions_of (live (entries c)))
-transactions_rise c = rising_texts (live (entries c)) (live-is_sorted (entries c) (entries_sorted c.events))
+transactions_rise c = rising_texts (live (entries c)) (live_rising (entries c) (entries_sorted c.events))

@@ -6,7 +6,7 @@ use Rattle.std.proofs.lemmas.Slice.Eq.{bytes_eq-Decides}
 use Rattle.ledger_model.specs.Content.{distinct, transactions_of, has_transaction, Entry}
 
 -- how many distinct texts pass a test
-abbrev how_many : (List ℕ → Bool) → List (List ℕ) → ℕ
+abbrev pub how_many : (List ℕ → Bool) → List (List ℕ) → ℕ
 how_many p [] = 0
 how_many p (x ∷ xs) = cond (p x) 1 0 + how_many (λ y. not (bytes_eq x y) && p y) xs
 
@@ -14,7 +14,7 @@ kept : (p : List ℕ → Bool) (x : List ℕ) (b : Bool) (ys zs : List (List ℕ
 kept p x true ys zs h = ap (λ rest. cond (p x) (x ∷ rest) rest) h
 kept p x false ys zs h = h
 
-filter_twice : (p q : List ℕ → Bool) (xs : List (List ℕ)) → filter p (filter q xs) ≡ filter (λ y. q y && p y) xs
+pub filter_twice : (p q : List ℕ → Bool) (xs : List (List ℕ)) → filter p (filter q xs) ≡ filter (λ y. q y && p y) xs
 filter_twice p q [] = refl
 filter_twice p q (x ∷ xs) = kept p x (q x) (filter q xs) _ (filter_twice p q xs)
 
@@ -28,12 +28,12 @@ counted_by p (x ∷ xs) =
     length_more (p x) x (filter p (filter (λ y. not (bytes_eq x y)) (distinct xs)))
     ∙ ap (λ n. cond (p x) 1 0 + n) (ap length (filter_twice p (λ y. not (bytes_eq x y)) (distinct xs)) ∙ counted_by (λ y. not (bytes_eq x y) && p y) xs)
 
-all_pass : (xs : List (List ℕ)) → filter (λ _. true) xs ≡ xs
+pub all_pass : (xs : List (List ℕ)) → filter (λ _. true) xs ≡ xs
 all_pass [] = refl
 all_pass (x ∷ xs) = ap (λ ys. x ∷ ys) (all_pass xs)
 
 -- how many distinct texts there are
-counted : (xs : List (List ℕ)) → length (distinct xs) ≡ how_many (λ _. true) xs
+pub counted : (xs : List (List ℕ)) → length (distinct xs) ≡ how_many (λ _. true) xs
 counted xs = ap length (sym (all_pass (distinct xs))) ∙ counted_by (λ _. true) xs
 
 none : (b : Bool) → 0 ≡ cond (b && false) 1 0 + 0
@@ -56,7 +56,7 @@ same_text : (t x : List ℕ) → bytes_eq t x ≡ true → t ≡ x
 same_text t x = (bytes_eq-Decides t x).0
 
 -- one text is counted where it stands, and the others without it
-split_by : (t : List ℕ) (p : List ℕ → Bool) (xs : List (List ℕ)) → how_many p xs ≡ cond (p t && list_any (bytes_eq t) xs) 1 0 + how_many (λ y. not (bytes_eq t y) && p y) xs
+pub split_by : (t : List ℕ) (p : List ℕ → Bool) (xs : List (List ℕ)) → how_many p xs ≡ cond (p t && list_any (bytes_eq t) xs) 1 0 + how_many (λ y. not (bytes_eq t y) && p y) xs
 split_by t p [] = none (p t)
 split_by t p (x ∷ xs) =
     let a = list_any (bytes_eq t) xs in

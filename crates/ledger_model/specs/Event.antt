@@ -1,7 +1,8 @@
-use Rattle.std.specs.Prelude.{ℕ, Bool, true, false, List, [], ◌∷◌, ◌≢◌, ◌≤◌, ◌&&◌, ◌==◌, Option, None, Some, length}
+use Rattle.std.specs.Prelude.{ℕ, Bool, true, false, List, [], ◌∷◌, ◌≢◌, ◌≤◌, ◌&&◌, ◌==◌, Option, None, Some, IfSome, All, length}
 use Rattle.ledger_model.specs.declared.kind.Kind.{Kind}
 use Rattle.ledger_model.specs.declared.kind.Kind.TheVariants.{Started, Updated, Ended}
-use Rattle.ledger_model.specs.Ranges.{most_event_readings}
+use Rattle.ledger_model.specs.Moment.{IsMoment}
+use Rattle.ledger_model.specs.Ranges.{greatest_evse, greatest_reading, most_event_readings}
 
 -- A counted reading of the energy register: its moment in nanoseconds from 1970, and its milliwatt-hours.
 pub record MeterReading : Type 0 where
@@ -45,3 +46,15 @@ same_event a b = same_kind a.kind b.kind && (a.moment == b.moment) && same_evse 
 -- An event has a number of counted readings that it may have, and an EVSE that it names is not 0.
 abbrev pub IsEvent : Option ℕ → List MeterReading → Type 0
 IsEvent evse readings = (length readings ≤ most_event_readings) × (evse ≢ Some 0)
+
+-- A reading in range: its moment, and its milliwatt-hours.
+pub record IsMeterReading (r : MeterReading) : Type 0 where
+  pub moment : IsMoment r.moment
+  pub mwh : r.mwh ≤ greatest_reading
+
+-- An event in range: its moment, the EVSE that it names, and each of its readings.
+pub record IsEventContent (e : EventContent) : Type 0 where
+  pub moment : IsMoment e.moment
+  pub event : IsEvent e.evse e.readings
+  pub evse : IfSome e.evse (λ number. number ≤ greatest_evse)
+  pub readings : All IsMeterReading e.readings

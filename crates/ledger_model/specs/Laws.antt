@@ -1,4 +1,4 @@
-use Rattle.std.specs.Prelude.{ℕ, zero, suc, List, [], ◌∷◌, ◌++◌, Option, None, Some, ⊤, ◌≡◌, map, length, if◌then◌else◌}
+use Rattle.std.specs.Prelude.{ℕ, zero, suc, List, [], ◌∷◌, ◌++◌, Option, None, Some, ⊤, ◌≡◌, map, length, All, if◌then◌else◌}
 use Rattle.std.specs.List.{flat_map}
 use Rattle.std.specs.FinMap as finite
 use Rattle.ledger_model.specs.declared.command.Command.{Command}
@@ -9,6 +9,7 @@ use Rattle.ledger_model.specs.Limits.{Bounds}
 use Rattle.ledger_model.specs.Key.{KeyName}
 use Rattle.ledger_model.specs.Event.{MeterReading, EventContent}
 use Rattle.ledger_model.specs.Content.{Content, Stored, empty_content}
+use Rattle.ledger_model.specs.Admissible.{IsAdmissible}
 use Rattle.ledger_model.specs.Step.{step}
 
 -- What a list of commands, one after the other, leaves of a content.
@@ -54,7 +55,9 @@ Sent = KeyName × EventContent
 abbrev pub deliveries : List Sent → List Command
 deliveries sent = map (λ (d : Sent). Deliver d.0 d.1) sent
 
--- A list of so many commands, each accepted under these limits, leaves this content of the empty one.
-abbrev pub IsLeftByRun : Bounds → ℕ → Content → List Command → Type 0
-IsLeftByRun limits n c commands =
-    (length commands ≡ n) × AreAccepted limits empty_content commands × (left_by limits empty_content commands ≡ c)
+-- A list of so many admissible commands, each accepted under these limits, leaves this content of the empty one.
+pub record IsLeftByRun (limits : Bounds) (n : ℕ) (c : Content) (commands : List Command) : Type 0 where
+  pub long : length commands ≡ n
+  pub admissible : All IsAdmissible commands
+  pub accepted : AreAccepted limits empty_content commands
+  pub left : left_by limits empty_content commands ≡ c

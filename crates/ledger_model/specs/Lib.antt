@@ -9,6 +9,8 @@ pub mod Limits
 pub mod Figures
 pub mod Refusal
 pub mod Content
+pub mod Entries
+pub mod Admissible
 pub mod Step
 pub mod Energy
 pub mod Evse

@@ -9,6 +9,7 @@ use Rattle.ledger_model.specs.declared.answer.Refusal.TheVariants.{ConflictingEv
 use Rattle.ledger_model.specs.Key.{KeyName, key_cmp}
 use Rattle.ledger_model.specs.Event.{EventContent, same_event}
 use Rattle.ledger_model.specs.Limits.{Bounds}
+use Rattle.ledger_model.specs.Admissible.{IsAdmissible}
 use Rattle.ledger_model.specs.Content.{Content, Stored, Entry, empty_content, entries, transactions_of, has_transaction}
 
 -- How many readings the stored events have, those of voided events among them.
@@ -71,8 +72,8 @@ content_after c command (Refused why) = c
 abbrev pub step : Bounds → Content → Command → Content × Answer
 step limits c command = (content_after c command (answer limits c command), answer limits c command)
 
--- A content that some list of n commands, each accepted under these limits, leaves of the empty content.
+-- A content that some list of n admissible commands, each accepted under these limits, leaves of the empty content.
 abbrev pub Reached : Bounds → ℕ → Content → Type 0
 Reached limits zero c = c ≡ empty_content
 Reached limits (suc n) c =
-    (before : Content) × (command : Command) × (Reached limits n before × (step limits before command ≡ (c, Accepted (suc n))))
+    (before : Content) × (command : Command) × (IsAdmissible command × Reached limits n before × (step limits before command ≡ (c, Accepted (suc n))))

@@ -1,4 +1,4 @@
-use Rattle.std.specs.Prelude.{ℕ, Bool, List, length, map, ◌+◌, ◌&&◌, nat_lt, nat_le, if◌then◌else◌}
+use Rattle.std.specs.Prelude.{◌≡◌, ℕ, Bool, true, List, length, map, ◌+◌, ◌&&◌, nat_lt, nat_le, if◌then◌else◌}
 use Rattle.std.specs.List.{list_all}
 use Rattle.ledger_model.specs.Ranges.{most_id_characters}
 
@@ -17,3 +17,8 @@ folded text = map folded_byte text
 -- A transaction id has visible ASCII characters, at least one and no more than it may have.
 abbrev pub is_tx_id : List ℕ → Bool
 is_tx_id text = nat_lt 0 (length text) && nat_le (length text) most_id_characters && list_all is_visible text
+
+-- An id as it is kept: a transaction may have it, and to fold it changes nothing.
+pub record IsFoldedId (id : List ℕ) : Type 0 where
+  pub valid : is_tx_id id ≡ true
+  pub lower : folded id ≡ id

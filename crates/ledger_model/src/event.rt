@@ -1,6 +1,7 @@
-ghost use Rattle.std.specs.Prelude.{◌≡◌, ◌≤◌, ◌≢◌, ◌↔◌, length, Some, IsTrue, IsOk, IfOk, IfErr};
-ghost use Rattle.ledger_model.specs.Event.{IsEvent};
-ghost use Rattle.ledger_model.specs.Ranges.{most_event_readings};
+ghost use Rattle.std.specs.Prelude.{◌≡◌, ◌≤◌, ◌≢◌, ◌↔◌, length, All, Some, IsTrue, IfSome, IsOk, IfOk, IfErr};
+ghost use Rattle.ledger_model.specs.Event.{IsEvent, IsMeterReading};
+ghost use Rattle.ledger_model.specs.Moment.{IsMoment};
+ghost use Rattle.ledger_model.specs.Ranges.{greatest_evse, most_event_readings};
 
 use crate::{EvseId, Kind, Listed, Moment, Reading};
 use std::marker::Model;
@@ -19,13 +20,14 @@ pub struct Event {
 }
 
 impl Model for Event {
-    ghost use Rattle.ledger_model.specs.Event.{EventContent, IsEvent};
+    ghost use Rattle.std.specs.Prelude.{All};
+    ghost use Rattle.ledger_model.specs.Event.{EventContent, IsEvent, IsMeterReading};
 
     ghost Value = { EventContent };
 
     ghost view = { λ e. record { kind = e.kind; moment = e.moment; evse = e.evse; readings = e.readings } };
 
-    ghost invariant = { λ e. IsEvent e.evse e.readings };
+    ghost invariant = { λ e. IsEvent e.evse e.readings × All IsMeterReading e.readings };
 }
 
 // Tells whether both lists have the same readings in the same order.
@@ -33,6 +35,15 @@ fn are_same(readings: &[Reading], others: &[Reading]) -> bool
     ensures { IsTrue result ↔ (readings.now ≡ others.now) }
 {
     readings == others
+}
+
+// Reads the parts of each reading, which their types keep in range.
+fn read_parts(readings: &[Reading])
+    ensures { All IsMeterReading readings.now }
+{
+    for reading in readings {
+        let _ = (reading.moment().nanos(), reading.level());
+    }
 }
 
 impl Event {
@@ -55,6 +66,7 @@ impl Event {
         if names_none || readings.len() > MAX_EVENT_READINGS {
             return Err(readings);
         }
+        read_parts(&readings);
         Ok(Event {
             kind,
             moment,
@@ -72,8 +84,10 @@ impl Event {
 
     /// The moment of the event, as its station tells it.
     pub fn moment(&self) -> Moment
-        ensures { result ≡ self.now.moment }
+        ensures value { result ≡ self.now.moment }
+        ensures range { IsMoment result }
     {
+        let _ = self.moment.nanos();
         self.moment
     }
 
@@ -81,7 +95,11 @@ impl Event {
     pub fn evse(&self) -> Option<EvseId>
         ensures value { result ≡ self.now.evse }
         ensures named { result ≢ Some 0 }
+        ensures range { IfSome result (λ number. number ≤ greatest_evse) }
     {
+        if let Some(evse) = self.evse {
+            let _ = evse.number();
+        }
         self.evse
     }
 
@@ -89,6 +107,7 @@ impl Event {
     pub fn readings(&self) -> &[Reading]
         ensures value { result.now ≡ self.now.readings }
         ensures few { length result.now ≤ most_event_readings }
+        ensures ranges { All IsMeterReading result.now }
     {
         self.readings.as_slice()
     }

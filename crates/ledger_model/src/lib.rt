@@ -41,7 +41,7 @@ pub use key::{Key, SEQUENCE_END};
 pub use kind::Kind;
 pub use limits::{Limits, MAX_CHANGES, MAX_EVENTS, MAX_READINGS, MAX_TRANSACTIONS};
 pub use listed::Listed;
-pub use moment::{Moment, Quarter};
+pub use moment::{FIRST_MOMENT, FIRST_QUARTER, LAST_QUARTER, MOMENTS_END, Moment, Quarter};
 pub use name::{MAX_NAME, Name};
 pub use reading::{GREATEST_READING, Reading};
 pub use tx_id::{MAX_TX_ID, TxId};

@@ -4,6 +4,19 @@ ghost use Rattle.ledger_model.specs.Quarter.{IsQuarter};
 
 use std::marker::Model;
 
+/// The nanosecond at which moments begin: 2000-01-01T00:00:00Z, counted from 1970 (this product's
+/// profile, as the other bounds here).
+pub const FIRST_MOMENT: u64 = 946_684_800_000_000_000;
+
+/// The first nanosecond after the last moment: 2100-01-01T00:00:00Z, counted from 1970.
+pub const MOMENTS_END: u64 = 4_102_444_800_000_000_000;
+
+/// The quarter of the first moment.
+pub const FIRST_QUARTER: u32 = 1_051_872;
+
+/// The quarter of the last moment.
+pub const LAST_QUARTER: u32 = 4_558_271;
+
 /// An instant of the years 2000 to 2099, in nanoseconds from 1970-01-01T00:00:00Z.
 #[derive(Clone, Copy, Debug, PartialEq, Eq, PartialOrd, Ord)]
 pub struct Moment {
@@ -30,7 +43,7 @@ impl Moment {
         ensures valid { IsSome result ↔ IsMoment nanos }
         ensures value { IfSome result (λ m. m ≡ nanos) }
     {
-        if (946_684_800_000_000_000..4_102_444_800_000_000_000).contains(&nanos) {
+        if (FIRST_MOMENT..MOMENTS_END).contains(&nanos) {
             Some(Moment { nanos })
         } else {
             None
@@ -72,7 +85,7 @@ impl Quarter {
         ensures valid { IsSome result ↔ IsQuarter number }
         ensures value { IfSome result (λ q. q ≡ number) }
     {
-        if (1_051_872..=4_558_271).contains(&number) {
+        if (FIRST_QUARTER..=LAST_QUARTER).contains(&number) {
             Some(Quarter { number })
         } else {
             None

@@ -65,6 +65,9 @@ fn events_keep_what_was_handed_in(rt: HostRuntime) -> Result<(), Fail> {
     assert_eq!(rt; event.readings().len(), 1_024);
     assert!(rt; event.is_same(&event) && !event.is_same(&made(None, 1_024)?.ok().ok_or("other")?));
     assert!(rt; made(None, 1_025)?.is_err() && made(EvseId::new(0), 1)?.is_err());
+    let key = Key::new(TxId::new("T1").ok_or("id")?, 3).ok_or("key")?;
+    assert!(rt; Command::Void(key.copied()).key() == &key);
+    assert!(rt; Command::Deliver(key.copied(), event).key() == &key);
     Ok(())
 }
 

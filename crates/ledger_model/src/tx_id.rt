@@ -4,7 +4,7 @@ ghost use Rattle.std.specs.Ordering.{nat_cmp};
 ghost use Rattle.std.specs.Cmp.{partial_equiv_from_equiv};
 ghost use Rattle.std.specs.Cmp.Lexicographic.{pointwise, slice_cmp, nat_list_eq_equiv, nat_list_cmp_total, texts_po, texts_ties};
 ghost use Rattle.ledger_model.specs.Ranges.{most_id_characters};
-ghost use Rattle.ledger_model.specs.TxId.{is_tx_id, is_visible, folded, folded_byte};
+ghost use Rattle.ledger_model.specs.TxId.{is_tx_id, is_visible, folded, folded_byte, IsFoldedId};
 
 use arrayvec::ArrayString;
 use std::cmp::Ordering;
@@ -24,10 +24,13 @@ pub struct TxId {
 
 impl Model for TxId {
     ghost use Rattle.std.specs.Prelude.{List, ℕ};
+    ghost use Rattle.ledger_model.specs.TxId.{IsFoldedId};
 
     ghost Value = { List ℕ };
 
     ghost view = { λ t. t.text.bytes };
+
+    ghost invariant = { λ t. IsFoldedId t.text.bytes };
 }
 
 // Tells whether each byte is a visible character.
@@ -77,7 +80,8 @@ impl TxId {
 
     /// The folded text.
     pub fn text(&self) -> &str
-        ensures { result.now ≡ self.now }
+        ensures value { result.now ≡ self.now }
+        ensures folded { IsFoldedId result.now }
     {
         self.text.as_str()
     }

@@ -1,53 +1,14 @@
 -- The answer to a delivery under a key that has an event.
-use Rattle.std.proofs.Common.{◌≡◌, ℕ, Bool, ◌↔◌, IsTrue, cond, List, [], ◌∷◌, Option, Some, None, refl, ap, ◌∙◌}
-use Rattle.std.specs.Bool.{Decides}
-use Rattle.std.proofs.lemmas.Bool.{false≢true}
-use Rattle.std.proofs.lemmas.Bool.Decides.{same_from_decides, Decides-eqb, Decides-and, Decides-like}
-use Rattle.ledger_model.specs.declared.kind.Kind.{Kind}
-use Rattle.ledger_model.specs.declared.kind.Kind.TheVariants.{Started, Updated, Ended}
+use Rattle.std.proofs.Common.{◌≡◌, Bool, ◌↔◌, IsTrue, cond, Option, Some, ap, ◌∙◌}
+use Rattle.std.proofs.lemmas.Bool.Decides.{same_from_decides}
 use Rattle.ledger_model.specs.declared.answer.Answer.TheVariants.{Repeat, Refused}
 use Rattle.ledger_model.specs.declared.answer.Refusal.TheVariants.{ConflictingEvent}
-use Rattle.ledger_model.specs.Event.{MeterReading, EventContent, same_kind, same_evse, same_reading, same_readings, same_event}
+use Rattle.ledger_model.specs.Event.{EventContent}
 use Rattle.ledger_model.specs.Key.{KeyName}
 use Rattle.ledger_model.specs.Limits.{Bounds}
 use Rattle.ledger_model.specs.Content.{Content, Stored}
 use Rattle.ledger_model.specs.Step.{answer_to_deliver}
-
-same_kind-Decides : (a b : Kind) → Decides (same_kind a b) (a ≡ b)
-same_kind-Decides Started Started = (λ _. refl, λ _. refl)
-same_kind-Decides Started Updated = (λ h. absurd (false≢true h), λ e. cc)
-same_kind-Decides Started Ended = (λ h. absurd (false≢true h), λ e. cc)
-same_kind-Decides Updated Started = (λ h. absurd (false≢true h), λ e. cc)
-same_kind-Decides Updated Updated = (λ _. refl, λ _. refl)
-same_kind-Decides Updated Ended = (λ h. absurd (false≢true h), λ e. cc)
-same_kind-Decides Ended Started = (λ h. absurd (false≢true h), λ e. cc)
-same_kind-Decides Ended Updated = (λ h. absurd (false≢true h), λ e. cc)
-same_kind-Decides Ended Ended = (λ _. refl, λ _. refl)
-
-same_evse-Decides : (a b : Option ℕ) → Decides (same_evse a b) (a ≡ b)
-same_evse-Decides None None = (λ _. refl, λ _. refl)
-same_evse-Decides None (Some n) = (λ h. absurd (false≢true h), λ e. cc)
-same_evse-Decides (Some n) None = (λ h. absurd (false≢true h), λ e. cc)
-same_evse-Decides (Some m) (Some n) = Decides-like _ (λ e. ap Some e) (λ e. cc) (Decides-eqb m n)
-
-same_reading-Decides : (a b : MeterReading) → Decides (same_reading a b) (a ≡ b)
-same_reading-Decides a b =
-    Decides-like _ (λ parts i. record { moment = parts.0 i; mwh = parts.1 i }) (λ e. (ap (λ (r : MeterReading). r.moment) e, ap (λ (r : MeterReading). r.mwh) e))
-    (Decides-and _ _ (Decides-eqb a.moment b.moment) (Decides-eqb a.mwh b.mwh))
-
-same_readings-Decides : (rs ss : List MeterReading) → Decides (same_readings rs ss) (rs ≡ ss)
-same_readings-Decides [] [] = (λ _. refl, λ _. refl)
-same_readings-Decides [] (b ∷ ss) = (λ h. absurd (false≢true h), λ e. cc)
-same_readings-Decides (a ∷ rs) [] = (λ h. absurd (false≢true h), λ e. cc)
-same_readings-Decides (a ∷ rs) (b ∷ ss) =
-    Decides-like _ (λ parts i. parts.0 i ∷ parts.1 i) (λ e. (cc, cc)) (Decides-and _ _ (same_reading-Decides a b) (same_readings-Decides rs ss))
-
--- the test of events decides whether they are equal
-pub same_event-Decides : (a b : EventContent) → Decides (same_event a b) (a ≡ b)
-same_event-Decides a b =
-    Decides-like _ (λ parts i. record { kind = parts.0.0.0 i; moment = parts.0.0.1 i; evse = parts.0.1 i; readings = parts.1 i })
-    (λ e. (((ap (λ (h : EventContent). h.kind) e, ap (λ (h : EventContent). h.moment) e), ap (λ (h : EventContent). h.evse) e), ap (λ (h : EventContent). h.readings) e))
-    (Decides-and _ _ (Decides-and _ _ (Decides-and _ _ (same_kind-Decides a.kind b.kind) (Decides-eqb a.moment b.moment)) (same_evse-Decides a.evse b.evse)) (same_readings-Decides a.readings b.readings))
+use Rattle.ledger_model.proofs.Callers.{same_event-Decides}
 
 -- the answer where an event stands under the key
 pub answer_known : (limits : Bounds) (c : Content) (key : KeyName) (event : EventContent) (stored : Stored) (found : Option Stored) (same : Bool) → Some stored ≡ found → (IsTrue same ↔ (stored.event ≡ event)) → cond same Repeat (Refused ConflictingEvent) ≡ answer_to_deliver limits c key event found

@@ -1,58 +1,15 @@
 -- The order of keys, and entries whose keys rise.
-use Rattle.std.proofs.Common.{◌≡◌, ℕ, zero, suc, ◌+◌, ◌<◌, Bool, true, false, T, ◌&&◌, List, [], ◌∷◌, length, get_or, refl, sym, ap, subst, ◌∙◌, arith}
-use Rattle.std.specs.Cmp.{IsTotalOrder}
-use Rattle.std.specs.Cmp.Lexicographic.{slice_cmp, nat_list_cmp_total}
+use Rattle.std.proofs.Common.{◌≡◌, ℕ, zero, suc, ◌+◌, ◌<◌, false, T, List, [], ◌∷◌, length, get_or, refl, sym, ap, subst, ◌∙◌, arith}
 use Rattle.std.specs.declared.cmp.Ordering.{Ordering}
 use Rattle.std.specs.declared.cmp.Ordering.TheVariants.{Less, Equal, Greater}
-use Rattle.std.specs.Ordering.{nat_cmp, is_lt, ordering_reverse}
+use Rattle.std.specs.Ordering.{is_lt, ordering_reverse, ordering_index}
 use Rattle.std.specs.FinMap.Entries.{below_all}
 use Rattle.std.specs.List.Sorted.{IsNonDecreasingBy}
-use Rattle.std.specs.Ordering.{ordering_index}
-use Rattle.std.proofs.lemmas.Cmp.{on_total, then_total, nat_cmp_total}
-use Rattle.std.proofs.lemmas.Map.Lookups.{CmpEqualImpliesEq, exact_pairs, exact_unsigned, exact_bytes}
 use Rattle.std.proofs.lemmas.List.Sorted.{searchable_from_sorted}
 use Rattle.ledger_model.specs.Key.{KeyName, key_cmp}
 use Rattle.ledger_model.specs.Content.{Entry}
-use Rattle.station_ledger.specs.Places.{IsRising}
-
-pub key_total : IsTotalOrder key_cmp
-key_total = then_total (on_total (λ k. k.tx) nat_list_cmp_total) (on_total (λ k. k.seq) nat_cmp_total)
-
--- keys that compare alike are one
-pub exact_keys : CmpEqualImpliesEq key_cmp
-exact_keys a b h = ap (λ (p : List ℕ × ℕ). record { tx = p.0; seq = p.1 }) (exact_pairs (slice_cmp nat_cmp) nat_cmp exact_bytes exact_unsigned (a.tx, a.seq) (b.tx, b.seq) h)
-
-pub first : (a b : Bool) → T (a && b) → T a
-first true b h = tt
-first false b h = h
-
-pub second : (a b : Bool) → T (a && b) → T b
-second true b h = h
-second false b h = absurd h
-
-pub both : (a b : Bool) → T a → T b → T (a && b)
-both true b g h = h
-both false b g h = g
-
-pub less : (o : Ordering) → T (is_lt o) → o ≡ Less
-less Less h = refl
-less Equal h = absurd h
-less Greater h = absurd h
-
--- the other way round, a comparison is turned
-pub turned : (a b : KeyName) (o : Ordering) → key_cmp a b ≡ o → key_cmp b a ≡ ordering_reverse o
-turned a b o h = key_total.antisymm b a ∙ ap ordering_reverse h
-
--- the key of each later entry is greater
-pub below_at : (x : KeyName) (es : List Entry) (i : ℕ) (d : Entry) → T (below_all key_cmp x es) → i < length es → key_cmp x (get_or es i d).0 ≡ Less
-below_at x [] i d h lt = absurd (omega arith)
-below_at x (e ∷ es) zero d h lt = less _ (first _ _ h)
-below_at x (e ∷ es) (suc i) d h lt = below_at x es i d (second _ _ h) (omega arith)
-
--- a key below another is below all that the other is below
-pub below_less : (x y : KeyName) (es : List Entry) → key_cmp x y ≡ Less → T (below_all key_cmp y es) → T (below_all key_cmp x es)
-below_less x y [] p h = tt
-below_less x y (e ∷ es) p h = both _ _ (subst (λ r. T (is_lt r)) (sym (key_total.trans x y e.0 p (less _ (first _ _ h)))) tt) (below_less x y es p (second _ _ h))
+use Rattle.ledger_model.specs.Entries.{IsRising}
+use Rattle.ledger_model.proofs.Callers.{key_total, second, turned, below_at, first}
 
 -- neighbours stand in order
 rising_pair : (es : List Entry) (k : ℕ) (d : Entry) → IsRising es → k + 1 < length es → is_lt (key_cmp (get_or es (k + 1) d).0 (get_or es k d).0) ≡ false

@@ -7,10 +7,11 @@ use Rattle.energy_flow.specs.Flow.{Energy}
 use Rattle.ledger_model.specs.Event.{MeterReading}
 use Rattle.ledger_model.specs.Content.{Entry, live, distinct, transactions_of}
 use Rattle.ledger_model.specs.Energy.{difference, followed, pairs, pairs_of}
-use Rattle.station_ledger.specs.Places.{IsRising}
+use Rattle.ledger_model.specs.Entries.{IsRising}
 use Rattle.station_ledger.specs.Flows.{difference_at, differences, level_after}
 use Rattle.station_ledger.proofs.Walk.{differences_of}
-use Rattle.station_ledger.proofs.Transactions.{Absent, IsFirst, IsGrouped, ids, others, grouped, live_rising, same_text, differ_back, others_lack, distinct_again, distinct_absent}
+use Rattle.ledger_model.proofs.Callers.{live_rising}
+use Rattle.station_ledger.proofs.Transactions.{Absent, IsFirst, IsGrouped, ids, others, grouped, same_text, differ_back, others_lack, distinct_again, distinct_absent}
 
 -- the readings of a transaction among live entries
 abbrev readings_in : List ℕ → List Entry → List MeterReading

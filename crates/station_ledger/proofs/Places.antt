@@ -9,9 +9,10 @@ use Rattle.std.specs.FinMap.Entries.{by_order, below_all}
 use Rattle.ledger_model.specs.declared.kind.Kind.TheVariants.{Started}
 use Rattle.ledger_model.specs.Key.{KeyName, key_cmp}
 use Rattle.ledger_model.specs.Content.{Entry, Stored}
-use Rattle.station_ledger.specs.Places.{IsRising, IsAt, IsGap}
-use Rattle.station_ledger.specs.Edits.{without}
-use Rattle.station_ledger.proofs.Keys.{exact_keys, first, second, less, turned, below_at, below_less, searchable}
+use Rattle.ledger_model.specs.Entries.{IsRising, entries_without}
+use Rattle.station_ledger.specs.Places.{IsAt, IsGap}
+use Rattle.ledger_model.proofs.Callers.{exact_keys, first, second, find_below, less, turned, below_at, below_less}
+use Rattle.station_ledger.proofs.Keys.{searchable}
 
 -- an entry that stands in where a list has none
 no_entry : Entry
@@ -67,11 +68,6 @@ find_at key [] i d h = absurd h
 find_at key (e ∷ es) zero d h = ap (λ r. cond (is_eq r) (Some e.1) (find key_cmp key es)) h
 find_at key (e ∷ es) (suc i) d h = ap (λ r. cond (is_eq r) (Some e.1) (find key_cmp key es)) h.0 ∙ find_at key es i d h.1
 
--- a key below all others is not in the map
-pub find_below : (key : KeyName) (es : List Entry) → T (below_all key_cmp key es) → find key_cmp key es ≡ None
-find_below key [] h = refl
-find_below key (e ∷ es) h = ap (λ r. cond (is_eq r) (Some e.1) (find key_cmp key es)) (less _ (first _ _ h)) ∙ find_below key es (second _ _ h)
-
 -- a key that belongs between two others is not in the map
 pub find_gap : (key : KeyName) (es : List Entry) (i : ℕ) → IsRising es → IsGap key es i → find key_cmp key es ≡ None
 find_gap key [] i h g = refl
@@ -95,16 +91,16 @@ put_at key v (e ∷ es) zero h =
 put_at key v (e ∷ es) (suc i) h =
     ap (λ r. by_order r ((key, v) ∷ e ∷ es) ((e.0, v) ∷ es) (e ∷ put key_cmp key v es)) h.0 ∙ ap (λ rest. e ∷ rest) (put_at key v es i h.1)
 
-without_below : (key : KeyName) (es : List Entry) → T (below_all key_cmp key es) → without key es ≡ es
+without_below : (key : KeyName) (es : List Entry) → T (below_all key_cmp key es) → entries_without key es ≡ es
 without_below key [] h = refl
 without_below key (e ∷ es) h =
-    ap (λ r. cond (not (is_eq r)) (e ∷ without key es) (without key es)) (less (key_cmp key e.0) (first _ _ h)) ∙ ap (λ rest. e ∷ rest) (without_below key es (second _ _ h))
+    ap (λ r. cond (not (is_eq r)) (e ∷ entries_without key es) (entries_without key es)) (less (key_cmp key e.0) (first _ _ h)) ∙ ap (λ rest. e ∷ rest) (without_below key es (second _ _ h))
 
 -- to remove what stands there leaves the entries without the key
-pub without_at : (key : KeyName) (es : List Entry) (i : ℕ) → IsRising es → IsAt key es i → without key es ≡ remove es i
+pub without_at : (key : KeyName) (es : List Entry) (i : ℕ) → IsRising es → IsAt key es i → entries_without key es ≡ remove es i
 without_at key [] i h g = absurd g
 without_at key (e ∷ es) zero h g =
     let here : e.0 ≡ key = sym (exact_keys key e.0 g) in
-    ap (λ r. cond (not (is_eq r)) (e ∷ without key es) (without key es)) g ∙ without_below key es (subst (λ k. T (below_all key_cmp k es)) here (first _ _ h))
+    ap (λ r. cond (not (is_eq r)) (e ∷ entries_without key es) (entries_without key es)) g ∙ without_below key es (subst (λ k. T (below_all key_cmp k es)) here (first _ _ h))
 without_at key (e ∷ es) (suc i) h g =
-    ap (λ r. cond (not (is_eq r)) (e ∷ without key es) (without key es)) g.0 ∙ ap (λ rest. e ∷ rest) (without_at key es i (second _ _ h) g.1)
+    ap (λ r. cond (not (is_eq r)) (e ∷ entries_without key es) (entries_without key es)) g.0 ∙ ap (λ rest. e ∷ rest) (without_at key es i (second _ _ h) g.1)

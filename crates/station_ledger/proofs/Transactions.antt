@@ -10,10 +10,10 @@ use Rattle.std.specs.FinMap.Entries.{below_all}
 use Rattle.std.proofs.lemmas.Map.Lookups.{exact_bytes}
 use Rattle.std.proofs.lemmas.Slice.Eq.{bytes_eq-Decides}
 use Rattle.ledger_model.specs.Key.{KeyName, key_cmp}
-use Rattle.ledger_model.specs.Content.{Entry, live, distinct, transactions_of}
-use Rattle.station_ledger.specs.Places.{IsRising}
+use Rattle.ledger_model.specs.Content.{Entry, distinct, transactions_of}
+use Rattle.ledger_model.specs.Entries.{IsRising}
 use Rattle.station_ledger.proofs.Walk.{beginnings}
-use Rattle.station_ledger.proofs.Keys.{first, second, both, less}
+use Rattle.ledger_model.proofs.Callers.{first, second, less}
 
 -- a text is not in the list
 abbrev pub Absent : List ℕ → List (List ℕ) → Type 0
@@ -78,19 +78,6 @@ first_or_absent x (e ∷ es) below rising = elim (not_after _ _ (less (key_cmp x
 pub grouped : (es : List Entry) → IsRising es → IsGrouped (ids es)
 grouped [] rising = tt
 grouped (e ∷ es) rising = (first_or_absent e es (first _ _ rising) (second _ _ rising), grouped es (second _ _ rising))
-
-below_live : (k : KeyName) (es : List Entry) → T (below_all key_cmp k es) → T (below_all key_cmp k (live es))
-below_live k [] h = tt
-below_live k (e ∷ es) h =
-    let rest = below_live k es (second _ _ h) in
-    elim e.1.voided as (λ b. T (below_all key_cmp k (cond (not b) (e ∷ live es) (live es)))) [ true ↦ rest | false ↦ both _ _ (first _ _ h) rest ]
-
--- the live entries rise
-pub live_rising : (es : List Entry) → IsRising es → IsRising (live es)
-live_rising [] h = tt
-live_rising (e ∷ es) h =
-    let rest = live_rising es (second _ _ h) in
-    elim e.1.voided as (λ b. IsRising (cond (not b) (e ∷ live es) (live es))) [ true ↦ rest | false ↦ both _ _ (below_live e.0 es (first _ _ h)) rest ]
 
 -- where a text is absent, all others are all
 pub others_absent : (t : List ℕ) (ts : List (List ℕ)) → Absent t ts → others t ts ≡ ts

@@ -1,6 +1,6 @@
 pub mod Ledger
 pub mod Places
-pub mod Edits
+pub mod Ready
 pub mod Flows
 pub mod Kept
 pub mod Spent

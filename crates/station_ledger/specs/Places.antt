@@ -1,12 +1,7 @@
-use Rattle.std.specs.Prelude.{◌≡◌, ℕ, zero, suc, T, List, [], ◌∷◌}
-use Rattle.std.specs.FinMap.{is_sorted}
+use Rattle.std.specs.Prelude.{◌≡◌, ℕ, zero, suc, List, [], ◌∷◌}
 use Rattle.std.specs.declared.cmp.Ordering.TheVariants.{Less, Equal, Greater}
 use Rattle.ledger_model.specs.Key.{KeyName, key_cmp}
 use Rattle.ledger_model.specs.Content.{Entry}
-
--- The keys of entries rise strictly.
-abbrev pub IsRising : List Entry → Type 0
-IsRising es = T (is_sorted key_cmp es)
 
 -- The key stands at this place, and all before it are smaller.
 abbrev pub IsAt : KeyName → List Entry → ℕ → Type 0

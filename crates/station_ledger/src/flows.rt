@@ -1,9 +1,10 @@
 ghost use Rattle.std.specs.Prelude.{◌≡◌, ◌<◌, ◌≤◌, ◌+◌, ◌++◌, IfSome, None, map, length, vec_len, vec_capacity};
 ghost use Rattle.std.specs.List.{All};
+ghost use Rattle.ledger_model.specs.Ranges.{greatest_reading, most_readings};
 ghost use Rattle.ledger_model.specs.Content.{live};
 ghost use Rattle.ledger_model.specs.Step.{readings_stored};
 ghost use Rattle.ledger_model.specs.Energy.{difference, pairs};
-ghost use Rattle.station_ledger.specs.Places.{IsRising};
+ghost use Rattle.ledger_model.specs.Entries.{IsRising};
 ghost use Rattle.station_ledger.specs.Kept.{IsSmall};
 ghost use Rattle.station_ledger.specs.Flows.{difference_at, differences, level_after, total};
 
@@ -13,8 +14,8 @@ use ledger_model::Reading;
 
 // Adds the difference of a level to the one before it, where there was one.
 fn add_difference(before: Option<Level>, level: Level, flows: &mut Vec<Flow>, work: &mut Work)
-    requires low_before { IfSome before (λ earlier. earlier ≤ 10_000_000_000_000) }
-    requires low { level ≤ 10_000_000_000_000 }
+    requires low_before { IfSome before (λ earlier. earlier ≤ greatest_reading) }
+    requires low { level ≤ greatest_reading }
     requires room { vec_len flows.old < vec_capacity flows.old }
     ensures flows { flows.new.items ≡ flows.old.items ++ difference_at before level }
     ensures few { vec_len flows.new ≤ vec_len flows.old + 1 }
@@ -34,13 +35,13 @@ fn add_differences(
     flows: &mut Vec<Flow>,
     work: &mut Work,
 ) -> Option<Level>
-    requires low { IfSome before (λ level. level ≤ 10_000_000_000_000) }
+    requires low { IfSome before (λ level. level ≤ greatest_reading) }
     requires room { vec_len flows.old + length readings.now ≤ vec_capacity flows.old }
     ensures flows { flows.new.items ≡ flows.old.items ++ differences before readings.now }
     ensures few { vec_len flows.new ≤ vec_len flows.old + length readings.now }
     ensures capacity { vec_capacity flows.new ≡ vec_capacity flows.old }
     ensures level { result ≡ level_after before readings.now }
-    ensures low { IfSome result (λ level. level ≤ 10_000_000_000_000) }
+    ensures low { IfSome result (λ level. level ≤ greatest_reading) }
     ensures small { All IsSmall flows.old.items → All IsSmall flows.new.items }
     ensures work { work.old ≤ work.new }
 {
@@ -79,7 +80,7 @@ pub(crate) fn evaluate(rows: &[Row], flows: &mut Vec<Flow>, work: &mut Work)
 // The sum of so many flows.
 pub(crate) fn sum(flows: &[Flow]) -> Flow
     requires small { All IsSmall flows.now }
-    requires few { length flows.now ≤ 65_536 }
+    requires few { length flows.now ≤ most_readings }
     ensures { result ≡ total flows.now }
 {
     let mut total = Flow::zero();

@@ -1,5 +1,6 @@
 ghost use Rattle.std.specs.Prelude.{◌≡◌, ◌≤◌, IfOk, option_map};
 ghost use Rattle.std.specs.FinMap as finite;
+ghost use Rattle.ledger_model.specs.Ranges.{most_event_readings};
 ghost use Rattle.ledger_model.specs.Content.{empty_content, entries};
 ghost use Rattle.ledger_model.specs.Energy.{energy};
 ghost use Rattle.ledger_model.specs.Step.{Reached, answer, answer_to_deliver, answer_to_void, answer_to_voided, accepted_within_limit, step};
@@ -88,7 +89,7 @@ impl StationLedger {
 
     // The answer to an event of this transaction under a new key, with so many readings.
     fn judge_new(&self, tx: &TxId, readings: usize) -> Answer
-        requires { readings ≤ 1_024 }
+        requires { readings ≤ most_event_readings }
         ensures { result ≡ answer_to_new self.now.limits self.now.content tx.now readings }
     {
         if self.is_transaction_too_many(tx) {
@@ -119,7 +120,7 @@ impl StationLedger {
 
     // Tells whether so many more readings may not be stored.
     fn are_readings_too_many(&self, more: usize) -> bool
-        requires { more ≤ 1_024 }
+        requires { more ≤ most_event_readings }
         ensures { result ≡ are_readings_too_many self.now.limits (entries self.now.content) more }
     {
         (self.limits.readings() as usize) < self.readings + more
@@ -175,6 +176,8 @@ impl StationLedger {
         ensures content { self.new ≡ record self.old { content = (step self.old.limits self.old.content command).0 } }
         ensures work { IsSpent result work.old work.new }
     {
+        // Its parts are in range, as their types keep them.
+        let _ = command.key();
         let answer = self.judge(&command);
         if let Answer::Accepted(changes) = answer {
             rows::carry_out(&mut self.rows, command);

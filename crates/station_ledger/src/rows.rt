@@ -1,10 +1,12 @@
 ghost use Rattle.std.specs.Prelude.{◌≡◌, ◌≢◌, ◌<◌, ◌≤◌, length, None, IfOk, IfErr, vec_len, vec_capacity};
 ghost use Rattle.std.specs.FinMap.{find, put};
+ghost use Rattle.ledger_model.specs.Ranges.{most_readings};
 ghost use Rattle.ledger_model.specs.Key.{key_cmp};
 ghost use Rattle.ledger_model.specs.Content.{transactions_of, has_transaction};
 ghost use Rattle.ledger_model.specs.Step.{readings_stored};
-ghost use Rattle.station_ledger.specs.Places.{IsRising, IsAt, IsGap};
-ghost use Rattle.station_ledger.specs.Edits.{marked, without, entries_after, IsReady};
+ghost use Rattle.ledger_model.specs.Entries.{IsRising, entries_marked, entries_without, entries_after};
+ghost use Rattle.station_ledger.specs.Places.{IsAt, IsGap};
+ghost use Rattle.station_ledger.specs.Ready.{IsReady};
 
 use crate::row::Row;
 use ledger_model::{Command, Key, TxId};
@@ -43,7 +45,7 @@ pub(crate) fn transactions(rows: &[Row]) -> usize
 
 // How many readings the events of these rows have.
 pub(crate) fn readings_stored(rows: &[Row]) -> usize
-    requires { readings_stored rows.now ≤ 65_536 }
+    requires { readings_stored rows.now ≤ most_readings }
     ensures { result ≡ readings_stored rows.now }
 {
     rows.iter().map(|row| row.event().readings().len()).sum()
@@ -66,7 +68,7 @@ fn insert(rows: &mut Vec<Row>, row: Row)
 // Marks the row of this key, if there is one, as voided or not.
 fn mark(rows: &mut Vec<Row>, key: &Key, voided: bool)
     requires { IsRising rows.old.items }
-    ensures items { rows.new.items ≡ marked rows.old.items key.now voided }
+    ensures items { rows.new.items ≡ entries_marked rows.old.items key.now voided }
     ensures capacity { vec_capacity rows.new ≡ vec_capacity rows.old }
 {
     if let Ok(at) = place(rows, key) {
@@ -78,7 +80,7 @@ fn mark(rows: &mut Vec<Row>, key: &Key, voided: bool)
 fn remove(rows: &mut Vec<Row>, key: &Key)
     requires rising { IsRising rows.old.items }
     requires present { find key_cmp key.now rows.old.items ≢ None }
-    ensures items { rows.new.items ≡ without key.now rows.old.items }
+    ensures items { rows.new.items ≡ entries_without key.now rows.old.items }
     ensures capacity { vec_capacity rows.new ≡ vec_capacity rows.old }
 {
     if let Ok(at) = place(rows, key) {

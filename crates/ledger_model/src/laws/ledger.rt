@@ -1,6 +1,6 @@
 //! Laws of the step, of the order of readings, and worked examples of both.
 
-ghost use Rattle.std.specs.Prelude.{◌≡◌, ℕ, ◌+◌, ◌<◌, ◌≤◌, List, [], ◌∷◌, All, IsPermutation};
+ghost use Rattle.std.specs.Prelude.{◌≡◌, ℕ, ◌+◌, ◌<◌, ◌≤◌, List, [], ◌∷◌, All, length, IsPermutation};
 ghost use Rattle.ledger_model.specs.declared.command.Command.{Command};
 ghost use Rattle.ledger_model.specs.declared.command.Command.TheVariants.{Void, Restore};
 ghost use Rattle.ledger_model.specs.declared.answer.Answer.TheVariants.{Accepted, Repeat, Refused};
@@ -8,8 +8,10 @@ ghost use Rattle.ledger_model.specs.declared.answer.Refusal.{Refusal};
 ghost use Rattle.ledger_model.specs.declared.answer.Refusal.TheVariants.{ConflictingEvent, EventsFull, NoSuchEvent, AlreadyVoided, NotVoided};
 ghost use Rattle.ledger_model.specs.Key.{KeyName};
 ghost use Rattle.ledger_model.specs.Limits.{Bounds, default_limits};
-ghost use Rattle.ledger_model.specs.Content.{Content, empty_content, entries};
-ghost use Rattle.ledger_model.specs.Step.{step, Reached};
+ghost use Rattle.ledger_model.specs.Content.{Content, empty_content, entries, transactions_of};
+ghost use Rattle.ledger_model.specs.Board.{figures};
+ghost use Rattle.ledger_model.specs.Figures.{AreWithin};
+ghost use Rattle.ledger_model.specs.Step.{step, Reached, readings_stored};
 ghost use Rattle.ledger_model.specs.Energy.{readings_of, energy};
 ghost use Rattle.ledger_model.specs.Laws.{AreAccepted, left_by, answers, by_number, Sent, deliveries, IsLeftByRun};
 ghost use Rattle.ledger_model.specs.Examples.{narrow_limits, first_run, late_event, falling_register, conflict, void_and_restore, full_until_erased};
@@ -34,13 +36,18 @@ pub fn orders()
     ensures content { (limits : Bounds) (c : Content) (one other : List Sent) → IsPermutation one other → AreAccepted limits c (deliveries one) → left_by limits c (deliveries other) ≡ left_by limits c (deliveries one) }
 {}
 
-/// A content is reached by so many changes exactly where some list of so many commands, each accepted,
-/// leaves it of the empty content; it has counted them, and they are no more than its limit of changes.
+/// A content is reached by so many changes exactly where some list of so many admissible commands, each
+/// accepted, leaves it of the empty content. It has counted them, and they are no more than its limit
+/// of changes; what it stores and its figures are such as its limits allow.
 pub fn reached()
     ensures run { (limits : Bounds) (n : ℕ) (c : Content) → Reached limits n c → (commands : List Command) × IsLeftByRun limits n c commands }
     ensures each_run { (limits : Bounds) (n : ℕ) (c : Content) (commands : List Command) → IsLeftByRun limits n c commands → Reached limits n c }
     ensures counted { (limits : Bounds) (n : ℕ) (c : Content) → Reached limits n c → c.changes ≡ n }
     ensures few { (limits : Bounds) (n : ℕ) (c : Content) → Reached limits n c → n ≤ limits.changes }
+    ensures events { (limits : Bounds) (n : ℕ) (c : Content) → Reached limits n c → length (entries c) ≤ limits.events }
+    ensures readings { (limits : Bounds) (n : ℕ) (c : Content) → Reached limits n c → readings_stored (entries c) ≤ limits.readings }
+    ensures transactions { (limits : Bounds) (n : ℕ) (c : Content) → Reached limits n c → length (transactions_of (entries c)) ≤ limits.transactions }
+    ensures figures { (limits : Bounds) (n : ℕ) (c : Content) → Reached limits n c → AreWithin limits (figures (entries c)) }
 {}
 
 /// The readings of a transaction in order are those met by looking at the numbers 0, 1, .. one by one,

@@ -1,4 +1,6 @@
 use Rattle.ledger_model.proofs.ReachedContents.{run_of, reached_by, counts, few_changes}
+use Rattle.ledger_model.proofs.Bounds.{AreKept-reached}
+use Rattle.ledger_model.proofs.FigureBounds.{figures_within}
 use Rattle.ledger_model.proofs.laws.ledger.reached.Goals as goal
 
 pub returns-clause-run : goal.returns-clause-run
@@ -12,3 +14,15 @@ returns-clause-counted c = counts
 
 pub returns-clause-few : goal.returns-clause-few
 returns-clause-few c = few_changes
+
+pub returns-clause-events : goal.returns-clause-events
+returns-clause-events c limits n d reached = (AreKept-reached limits n d reached).events
+
+pub returns-clause-readings : goal.returns-clause-readings
+returns-clause-readings c limits n d reached = (AreKept-reached limits n d reached).readings
+
+pub returns-clause-transactions : goal.returns-clause-transactions
+returns-clause-transactions c limits n d reached = (AreKept-reached limits n d reached).transactions
+
+pub returns-clause-figures : goal.returns-clause-figures
+returns-clause-figures c = figures_within

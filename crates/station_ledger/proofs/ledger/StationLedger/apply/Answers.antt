@@ -17,7 +17,7 @@ pub readings_stored-self-inside-requires : goal.readings_stored-self-inside-requ
 readings_stored-self-inside-requires c =
     let kept = c.self.invariant.0 in
     let a = ap (λ (l : Ledger). answer l.limits l.content c.args.command) c.self.view_is ∙ sym c.in-Accepted.ensures in
-    let few = few_after _ _ _ _ _ _ c.args.command kept a in
+    let few = few_after _ _ _ _ _ _ c.args.command kept c.key.ensures.admissible a in
     let same = ap readings_stored (c.deref.ensures.value ∙ c.carry_out.ensures.items) in
     omega (arith, few, same, kept.most_readings)
 
@@ -28,7 +28,7 @@ pub evaluate-requires-clause-room : goal.evaluate-requires-clause-room
 evaluate-requires-clause-room c =
     let kept = c.self.invariant.0 in
     let a = ap (λ (l : Ledger). answer l.limits l.content c.args.command) c.self.view_is ∙ sym c.in-Accepted.ensures in
-    let few = few_after _ _ _ _ _ _ c.args.command kept a in
+    let few = few_after _ _ _ _ _ _ c.args.command kept c.key.ensures.admissible a in
     let same = ap readings_stored (c.deref-in-Accepted.ensures.value ∙ c.carry_out.ensures.items) in
     omega (arith, few, same, c.self.invariant.1.for_flows)
 
@@ -43,7 +43,7 @@ invariant_of-self c =
     let stored = c.readings_stored-self-inside.ensures ∙ ap readings_stored (c.deref.ensures.value ∙ c.carry_out.ensures.items) in
     let flows = e.flows ∙ ap (λ (es : List Entry). map difference (pairs es)) seen in
     let same = ap readings_stored seen in (
-      rw c.carry_out.ensures.items (IsKept-after _ _ _ _ _ _ c.args.command _ _ kept a flows e.small (omega (arith, e.few, same, stored, c.evaluate.new.flows.ok)) stored),
+      rw c.carry_out.ensures.items (IsKept-after _ _ _ _ _ _ c.args.command _ _ kept c.key.ensures.admissible a flows e.small (omega (arith, e.few, same, stored, c.evaluate.new.flows.ok)) stored),
       record { for_events = omega (arith, room.for_events, c.carry_out.ensures.capacity); for_flows = omega (arith, room.for_flows, e.capacity) },
     )
 

@@ -1,0 +1,138 @@
+-- What a reached content holds: as much as the limits allow, and entries in range.
+use Rattle.std.proofs.Common.{◌≡◌, ℕ, zero, suc, ◌+◌, ◌<◌, ◌≤◌, Bool, true, false, not, ◌&&◌, cond, nat_le, List, [], ◌∷◌, length, Option, Some, refl, sym, ap, subst, ◌∙◌, arith, is_some}
+use Rattle.std.specs.List.{filter}
+use Rattle.std.specs.Ordering.{is_eq, eq_by_cmp}
+use Rattle.std.specs.declared.cmp.Ordering.{Ordering}
+use Rattle.std.specs.declared.cmp.Ordering.TheVariants.{Less, Equal, Greater}
+use Rattle.std.specs.FinMap as finite
+use Rattle.std.specs.FinMap.{find, put, entries_sorted}
+use Rattle.std.specs.FinMap.Entries.{by_order, length-put}
+use Rattle.std.proofs.lemmas.Bool.{leb-false, ltb-false}
+use Rattle.ledger_model.specs.declared.command.Command.{Command}
+use Rattle.ledger_model.specs.declared.command.Command.TheVariants.{Deliver, Void, Restore, Erase}
+use Rattle.ledger_model.specs.declared.answer.Answer.{Answer}
+use Rattle.ledger_model.specs.declared.answer.Answer.TheVariants.{Accepted}
+use Rattle.ledger_model.specs.Key.{KeyName, key_cmp, IsKeyName}
+use Rattle.ledger_model.specs.Event.{EventContent, IsEventContent}
+use Rattle.ledger_model.specs.Limits.{Bounds}
+use Rattle.ledger_model.specs.Content.{Content, Entry, Stored, entries, distinct, transactions_of, has_transaction}
+use Rattle.ledger_model.specs.Entries.{IsRising, entries_marked, entries_marked_at, entries_without, entries_after}
+use Rattle.ledger_model.specs.Admissible.{IsAdmissible}
+use Rattle.ledger_model.specs.Step.{readings_stored, step, content_after, Reached}
+use Rattle.ledger_model.specs.Laws.{IsAccepted}
+use Rattle.ledger_model.proofs.Keys.{key_total}
+use Rattle.ledger_model.proofs.Stored.{readings_put_old, length_without, readings_without, transactions-filter, ids_put_old}
+use Rattle.ledger_model.proofs.ListedRuns.{entries_after_is, none_listed}
+use Rattle.ledger_model.proofs.LedgerLemmas.{found_live, found_voided}
+use Rattle.ledger_model.proofs.Deliveries.{room, grown, fresh}
+
+-- an entry whose key and event are in range
+pub record IsEntry (e : Entry) : Type 0 where
+  pub key : IsKeyName e.0
+  pub event : IsEventContent e.1.event
+
+abbrev pub AreEntries : List Entry → Type 0
+AreEntries [] = Unit {0}
+AreEntries (e ∷ es) = IsEntry e × AreEntries es
+
+pub AreEntries-filter : (p : Entry → Bool) (es : List Entry) → AreEntries es → AreEntries (filter p es)
+AreEntries-filter p [] h = tt
+AreEntries-filter p (e ∷ es) h =
+    let rest = AreEntries-filter p es h.1 in
+    elim (p e) as (λ b. AreEntries (cond b (e ∷ filter p es) (filter p es))) [ true ↦ (h.0, rest) | false ↦ rest ]
+
+AreEntries-put : (key : KeyName) (v : Stored) (es : List Entry) → IsKeyName key → IsEventContent v.event → AreEntries es → AreEntries (put key_cmp key v es)
+AreEntries-put key v [] k event h = (record { key = k; event = event }, tt)
+AreEntries-put key v (e ∷ es) k event h =
+    elim (key_cmp key e.0) as (λ (o : Ordering). AreEntries (by_order o ((key, v) ∷ e ∷ es) ((e.0, v) ∷ es) (e ∷ put key_cmp key v es))) [
+      | Less ↦ (record { key = k; event = event }, h)
+      | Equal ↦ (record { key = h.0.key; event = event }, h.1)
+      | Greater ↦ (h.0, AreEntries-put key v es k event h.1)
+    ]
+
+-- what stands under a key is in range
+AreEntries-find : (key : KeyName) (s : Stored) (es : List Entry) → AreEntries es → find key_cmp key es ≡ Some s → IsEventContent s.event
+AreEntries-find key s [] h is = cc
+AreEntries-find key s (e ∷ es) h is =
+    elim (key_cmp key e.0) as (λ (o : Ordering). cond (is_eq o) (Some e.1) (find key_cmp key es) ≡ Some s → IsEventContent s.event) [
+      | Less ↦ λ some. AreEntries-find key s es h.1 some
+      | Equal ↦ λ some. let same : e.1 ≡ s = cc in subst (λ (t : Stored). IsEventContent t.event) same h.0.event
+      | Greater ↦ λ some. AreEntries-find key s es h.1 some
+    ] is
+
+-- entries within the limits, each in range
+pub record AreKept (limits : Bounds) (es : List Entry) : Type 0 where
+  pub events : length es ≤ limits.events
+  pub readings : readings_stored es ≤ limits.readings
+  pub transactions : length (transactions_of es) ≤ limits.transactions
+  pub in_range : AreEntries es
+
+AreKept-none : (limits : Bounds) → AreKept limits []
+AreKept-none limits = record { events = omega arith; readings = omega arith; transactions = omega arith; in_range = tt }
+
+-- a transaction that is there already, or for which there is room
+few_transactions : (limit n : ℕ) (has : Bool) → n ≤ limit → (not has && nat_le limit n) ≡ false → cond has n (n + 1) ≤ limit
+few_transactions limit n true few h = few
+few_transactions limit n false few h = let below : n < limit = leb-false limit n h in omega arith
+
+module _ (limits : Bounds) (c : Content) (kept : AreKept limits (entries c)) where
+  AreKept-deliver : (key : KeyName) (event : EventContent) → IsAdmissible (Deliver key event) → IsAccepted (step limits c (Deliver key event)).1 → AreKept limits (entries_after (entries c) (Deliver key event))
+  AreKept-deliver key event may a =
+      let r = room limits c (key, event) a in
+      let g = grown c (key, event) r.new in
+      let v : Stored = fresh (key, event) in
+      let is : finite.entries (finite.insert c.events key v) ≡ put key_cmp key v (entries c) = finite.entries-insert key_total c.events key v in
+      let events : length (entries c) < limits.events = leb-false limits.events _ r.events in
+      let readings : readings_stored (entries c) + length event.readings ≤ limits.readings = ltb-false limits.readings _ r.readings in
+      let few = few_transactions limits.transactions (length (transactions_of (entries c))) (has_transaction key.tx (entries c)) kept.transactions r.transactions in
+      record {
+        events = omega (arith, ap length is, g.events);
+        readings = omega (arith, ap readings_stored is, g.readings);
+        transactions = omega (arith, few, ap (λ es. length (transactions_of es)) is, g.transactions);
+        in_range = AreEntries-put key v (entries c) may.0 may.1 kept.in_range;
+      }
+
+  AreKept-mark : (key : KeyName) (voided : Bool) (s : Stored) → IsKeyName key → finite.get c.events key ≡ Some s → AreKept limits (entries_marked (entries c) key voided)
+  AreKept-mark key voided s may found =
+      let es = entries c in
+      let rising : IsRising es = entries_sorted c.events in
+      let v : Stored = record { event = s.event; voided = voided } in
+      let is : find key_cmp key es ≡ Some s = sym (finite.get-entries c.events key) ∙ found in
+      let marks : entries_marked es key voided ≡ put key_cmp key v es = ap (entries_marked_at es key voided) is in
+      let long : length (put key_cmp key v es) ≡ length es = length-put key_cmp key_total key v es rising ∙ ap (λ (o : Option Stored). cond (is_some o) (length es) (length es + 1)) is in
+      let ids = ap (λ ts. length (distinct ts)) (ids_put_old key v s es rising is) in
+      subst (AreKept limits) (sym marks) (record {
+        events = omega (arith, long, kept.events);
+        readings = omega (arith, readings_put_old key v s es rising is refl, kept.readings);
+        transactions = omega (arith, ids, kept.transactions);
+        in_range = AreEntries-put key v es may (AreEntries-find key s es kept.in_range is) kept.in_range;
+      })
+
+  AreKept-erase : (key : KeyName) → AreKept limits (entries_without key (entries c))
+  AreKept-erase key =
+      let es = entries c in
+      let p : Entry → Bool = λ e. not (eq_by_cmp key_cmp key e.0) in
+      record {
+        events = omega (arith, length_without key es, kept.events);
+        readings = omega (arith, readings_without key es, kept.readings);
+        transactions = omega (arith, transactions-filter p es, kept.transactions);
+        in_range = AreEntries-filter p es kept.in_range;
+      }
+
+  AreKept-after : (command : Command) → IsAdmissible command → IsAccepted (step limits c command).1 → AreKept limits (entries_after (entries c) command)
+  AreKept-after (Deliver key event) may a = AreKept-deliver key event may a
+  AreKept-after (Void key) may a = let f = found_live limits c (finite.get c.events key) a in AreKept-mark key true f.stored may f.found
+  AreKept-after (Restore key) may a = let f = found_voided limits c (finite.get c.events key) a in AreKept-mark key false f.stored may f.found
+  AreKept-after (Erase key) may a = AreKept-erase key
+
+-- a reached content is within the limits
+pub AreKept-reached : (limits : Bounds) (n : ℕ) (c : Content) → Reached limits n c → AreKept limits (entries c)
+AreKept-reached limits zero c h = subst (λ (d : Content). AreKept limits (entries d)) (sym h) (subst (AreKept limits) (sym none_listed) (AreKept-none limits))
+AreKept-reached limits (suc n) c h =
+    let before = h.0 in
+    let command = h.1 in
+    let kept = AreKept-reached limits n before h.2.1 in
+    let accepted : (step limits before command).1 ≡ Accepted (suc n) = ap (λ (p : Content × Answer). p.1) h.2.2 in
+    let told : IsAccepted (step limits before command).1 = subst IsAccepted (sym accepted) tt in
+    let is : c ≡ content_after before command (Accepted (suc n)) = sym (ap (λ (p : Content × Answer). p.0) h.2.2) ∙ ap (content_after before command) accepted in
+    subst (AreKept limits) (sym (ap entries is ∙ entries_after_is before.events command)) (AreKept-after limits before kept command h.2.0 told)
