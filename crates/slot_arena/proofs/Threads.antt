@@ -1,13 +1,12 @@
 -- The thread of free slots is kept by each step of an arena.
-use Rattle.std.proofs.Common.{◌≡◌, ℕ, zero, suc, ◌+◌, ◌-◌, ◌<◌, ◌≤◌, Bool, true, false, cond, List, [], ◌∷◌, length, get_or, set, map, replicate, Option, Some, None, is_some, refl, sym, ap, ◌∙◌, subst, arith, length-set}
-use Rattle.std.specs.List.{sum_by, count_by}
+use Rattle.std.proofs.Common.{◌≡◌, ℕ, zero, suc, ◌+◌, ◌-◌, ◌<◌, ◌≤◌, true, cond, List, [], ◌∷◌, length, get_or, set, replicate, Option, Some, None, is_some, refl, sym, ap, ◌∙◌, subst, arith, length-set}
 use Rattle.std.proofs.lemmas.List.{map-set, get_or-set_same, get_or-set_other}
 use Rattle.std.proofs.lemmas.List.Sums.{sum_by-set, sum_by-cons}
 use Rattle.slot_arena.specs.declared.slot.Slot.{Slot}
 use Rattle.slot_arena.specs.declared.slot.Slot.TheVariants.{Free, Held}
-use Rattle.slot_arena.specs.Place.{Holds}
 use Rattle.slot_arena.specs.Slots.{HoldsValue, LinksOn}
-use Rattle.slot_arena.specs.Arena.{value_at, IsHeld, held_count, most_slots}
+use Rattle.slot_arena.specs.declared.arena.TheConstants.{MAX_SLOTS}
+use Rattle.slot_arena.specs.Arena.{value_at, IsHeld, held_count}
 use Rattle.slot_arena.specs.Free.{IsApart, AreApart, value_in, values_in, IsThread, AreMade, IsThreaded, links}
 use Rattle.slot_arena.proofs.Rooms.{holding_within}
 use Rattle.slot_arena.proofs.Fresh.{length-links, links_at, links_made, links_values}
@@ -87,14 +86,14 @@ module _ {X : Type 0} where
 
   -- The first free slot takes a value, and the thread goes on at the next one.
   taken_at : (row : List (Option (Slot X))) (first spare next : ℕ) (x : X) (free : List ℕ) → get_or row first None ≡ Some (Free next) → 0 < spare
-      → IsThread row first free → AreApart free → spare ≡ length free → length free + held_count (values_in row) ≡ length row → AreMade row → length row ≤ most_slots
+      → IsThread row first free → AreApart free → spare ≡ length free → length free + held_count (values_in row) ≡ length row → AreMade row → length row ≤ MAX_SLOTS
       → IsThreaded (set row first (Some (Held x))) next (spare - 1)
   taken_at row first spare next x [] links some thread apart count all made few = absurd (omega arith)
   taken_at row first spare next x (id ∷ free) links some thread apart count all made few =
       let new = set row first (Some (Held x)) in let within = holding_within row first (Free next) links in
       let same : thread.1.0 ≡ next = let e : Some (Free thread.1.0) ≡ Some (Free next) = sym thread.1.1.0 ∙ ap (λ n. get_or row n None) (sym thread.0) ∙ links in cc in
       let one_more : held_count (values_in new) ≡ held_count (values_in row) + 1 =
-        let was : one (value_in (get_or row first None)) ≡ 0 = ap (λ place. one (value_in place)) links in omega (arith, counted row first (Some (Held x)) within, was) in
+      let was : one (value_in (get_or row first None)) ≡ 0 = ap (λ place. one (value_in place)) links in omega (arith, counted row first (Some (Held x)) within, was) in
       record {
         free = free;
         thread = thread_kept row next first free (Some (Held x)) (subst (λ n. IsApart n free) (sym thread.0) apart.0) (subst (λ n. IsThread row n free) same thread.1.1.1);
@@ -115,7 +114,7 @@ module _ {X : Type 0} where
   threaded-give row first spare id t holds =
       let new = set row id (Some (Free first)) in let within = holding_within row id (Held holds.0) holds.1 in let apart = held_apart row first id holds.0 t.free holds.1 t.thread in
       let one_less : held_count (values_in new) + 1 ≡ held_count (values_in row) =
-        let was : one (value_in (get_or row id None)) ≡ 1 = ap (λ place. one (value_in place)) holds.1 in omega (arith, counted row id (Some (Free first)) within, was) in
+      let was : one (value_in (get_or row id None)) ≡ 1 = ap (λ place. one (value_in place)) holds.1 in omega (arith, counted row id (Some (Free first)) within, was) in
       record {
         free = id ∷ t.free;
         thread = (refl, (first, (get_or-set_same row id (Some (Free first)) None within, thread_kept row first id t.free (Some (Free first)) apart t.thread)));
@@ -131,7 +130,7 @@ module _ {X : Type 0} where
   threaded-write row first spare id w t holds =
       let new = set row id (Some (Held w)) in let within = holding_within row id (Held holds.0) holds.1 in let apart = held_apart row first id holds.0 t.free holds.1 t.thread in
       let as_many : held_count (values_in new) ≡ held_count (values_in row) =
-        let was : one (value_in (get_or row id None)) ≡ 1 = ap (λ place. one (value_in place)) holds.1 in omega (arith, counted row id (Some (Held w)) within, was) in
+      let was : one (value_in (get_or row id None)) ≡ 1 = ap (λ place. one (value_in place)) holds.1 in omega (arith, counted row id (Some (Held w)) within, was) in
       record {
         free = t.free;
         thread = thread_kept row first id t.free (Some (Held w)) apart t.thread;
@@ -174,7 +173,7 @@ module _ (X : Type 0) where
   numbers_thread row from (suc count) n next le = (refl, (suc from, (next from (omega arith), numbers_thread row (suc from) count n next (omega arith))))
 
   -- A new row of links is one thread.
-  pub threaded-new : (n : ℕ) → n ≤ most_slots → IsThreaded (links {X = X} 0 n) 0 n
+  pub threaded-new : (n : ℕ) → n ≤ MAX_SLOTS → IsThreaded (links {X = X} 0 n) 0 n
   threaded-new n few =
       let row = links {X = X} 0 n in
       let none : held_count (values_in row) ≡ 0 = ap held_count (links_values X 0 n) ∙ none_held n in

@@ -1,10 +1,6 @@
 -- An arena as its callers see it: a list with an `Option` for each id.
 use Rattle.std.specs.Prelude.{◌≡◌, ℕ, get_or, length, List, Option, None, is_some, IsSome, count_by}
 
--- The most slots that an arena may have.
-abbrev pub most_slots : ℕ
-most_slots = 65536
-
 module _ {X : Type 0} where
   -- The value at an id; none where the id is free or is no id of the arena.
   abbrev pub value_at : List (Option X) → ℕ → Option X

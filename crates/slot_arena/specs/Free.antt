@@ -2,7 +2,8 @@
 use Rattle.std.specs.Prelude.{◌≡◌, ℕ, ◌+◌, ◌≤◌, zero, suc, get_or, length, map, List, [], ◌∷◌, Option, Some, None}
 use Rattle.slot_arena.specs.declared.slot.Slot.{Slot}
 use Rattle.slot_arena.specs.declared.slot.Slot.TheVariants.{Free, Held}
-use Rattle.slot_arena.specs.Arena.{held_count, most_slots}
+use Rattle.slot_arena.specs.declared.arena.TheConstants.{MAX_SLOTS}
+use Rattle.slot_arena.specs.Arena.{held_count}
 
 -- The number is none of the list.
 abbrev pub IsApart : ℕ → List ℕ → Type 0
@@ -43,7 +44,7 @@ module _ {X : Type 0} where
     pub spare_is : spare ≡ length free
     pub others_held : length free + held_count (values_in row) ≡ length row
     pub made : AreMade row
-    pub few : length row ≤ most_slots
+    pub few : length row ≤ MAX_SLOTS
 
   -- The slots from the number on, so many, each free and before the next.
   abbrev pub links : ℕ → ℕ → List (Option (Slot X))

@@ -1,6 +1,6 @@
 ghost use Rattle.std.specs.Prelude.{◌≡◌, ◌-◌, ◌<◌, ◌≤◌, ◌↔◌, Some, None, length, replicate, slice_set, IfOk, IfErr, OnErr, IsTrue};
 ghost use Rattle.std.specs.Borrow.{sem};
-ghost use Rattle.slot_arena.specs.Arena.{value_at, IsHeld, held_count, IsFull, most_slots};
+ghost use Rattle.slot_arena.specs.Arena.{value_at, IsHeld, held_count, IsFull};
 
 use crate::block::{Lease, Places, Start, release, reserve};
 use crate::id::SlotId;
@@ -38,10 +38,10 @@ impl<T> Model for SlotArena<T> {
 impl<T> SlotArena<T> {
     ghost use Rattle.slot_arena.specs.LentValue.{lends_value};
 
-    /// An arena of `n` free slots, at most [`MAX_SLOTS`]. The error says that the allocator refused the block, or
-    /// that no block can be that large, as with values of 2^46 bytes.
+    /// An arena of `n` free slots, at most [`MAX_SLOTS`], by one request for memory. The error says that the allocator
+    /// refused it, or that the block would have 2^63 bytes or more.
     pub fn with_capacity(alloc: Global, n: u32) -> Result<Self, AllocError>
-        requires { n ≤ most_slots }
+        requires { n ≤ MAX_SLOTS }
         ensures { IfOk result (λ a. a ≡ replicate n None) }
     {
         if !may_hold::<Slot<T>>(n as usize) {
@@ -137,7 +137,7 @@ impl<T> SlotArena<T> {
     /// How many values the arena can hold.
     pub fn capacity(&self) -> u32
         ensures capacity { result ≡ length self.now }
-        ensures within { result ≤ most_slots }
+        ensures within { result ≤ MAX_SLOTS }
     {
         self.capacity
     }

@@ -29,7 +29,12 @@ impl<T> Slot<T> {
 }
 
 /// Puts a value into a free slot, and answers the next free one.
-pub(crate) fn hold<T>(start: Start<Slot<T>>, places: &mut Places<Slot<T>>, index: u32, value: T) -> u32
+pub(crate) fn hold<T>(
+    start: Start<Slot<T>>,
+    places: &mut Places<Slot<T>>,
+    index: u32,
+    value: T,
+) -> u32
     requires { (start.ptr ≡ places.old.at) × LinksOn places.old.row index }
     ensures next { get_or places.old.row index None ≡ Some (Slot.Free result) }
     ensures row { (places.new.at ≡ places.old.at) × (places.new.row ≡ slice_set places.old.row index (Some (Slot.Held value))) }
@@ -44,7 +49,12 @@ pub(crate) fn hold<T>(start: Start<Slot<T>>, places: &mut Places<Slot<T>>, index
 }
 
 /// Takes the value out of a held slot, which is free from then on, before the slot `next`.
-pub(crate) fn vacate<T>(start: Start<Slot<T>>, places: &mut Places<Slot<T>>, index: u32, next: u32) -> T
+pub(crate) fn vacate<T>(
+    start: Start<Slot<T>>,
+    places: &mut Places<Slot<T>>,
+    index: u32,
+    next: u32,
+) -> T
     requires { (start.ptr ≡ places.old.at) × HoldsValue places.old.row index }
     ensures value { get_or places.old.row index None ≡ Some (Slot.Held result) }
     ensures row { (places.new.at ≡ places.old.at) × (places.new.row ≡ slice_set places.old.row index (Some (Slot.Free next))) }

@@ -5,20 +5,19 @@ use native.Mathlib.Omega.{arith}
 use mathlib.Core.List.{List, [], ◌∷◌, ◌++◌}
 use lib.Dec.{T as T-of}
 use lib.ListN.{replicate, length-replicate}
-use seplogic.Ra.Ura.{Ura}
-use base.Logic.{id⊢, never, emp}
+use base.Logic.{id⊢, never}
 use base.Fml.{Lft, Incl-trans, ftrue, froom, flft}
 use mir.Syntax.{Fn, ty_array, ty_unit, w64}
 use mir.MapTy.{inst_fn}
-use mir.Val.{Val, has_ty, WT, vptr, vint, vunit}
+use mir.Val.{Val, has_ty, WT, vint, vunit}
 use prog.Capped.{capped_fits}
 use prog.Memory.{align, capped}
 use prog.Wp.{WpFn}
 use contract.BorrowLft.{◌⊑◌}
-use contract.Monad.{fact, fact_i}
+use contract.Monad.{fact}
 use contract.Running.{tables, tables_of}
 use sound.WpLaws.{fm_of}
-use types.Kit.{Item, ‵, raw, prop, ◌⊛◌, given, later, await, learn, group, at_ret, ◌$◌, ◌∵◌, !, qed, by, move, drop, use0, use1, split, join, rewrite, regoal, fsplit, fsplit3, fjoin, feq_i, feq_l, flt_l}
+use types.Kit.{‵, raw, prop, ◌⊛◌, given, later, await, learn, group, at_ret, ◌$◌, ◌∵◌, !, qed, by, move, drop, use1, split, join, rewrite, regoal, fsplit, fsplit3, fjoin, feq_i, feq_l, flt_l}
 use types.Part.{whole, sub}
 use types.Run.{stop, fld, unit_lit, of_opd, and_then, no_more, bin, size_word, align_word, first, blocks, exec, returns, enter}
 use types.ByLocal.{alloc_all, pass_all, free_all, look_at, get, get_in, is, sets, lands_last, env}
@@ -35,12 +34,12 @@ use Rattle.core.proofs.slots.Leases.{uncapped, block_ty, block_size, block_align
 use Rattle.std.proofs.raw_atomic.Walks.{proved_at, leaves}
 use Rattle.std.specs.Prelude.{None}
 use Rattle.std_alloc.proofs.RawLayout.{as_raw}
-use Rattle.std_alloc.proofs.RcSteps.{word, word-Good}
+use Rattle.std_alloc.proofs.RcSteps.{word-Good}
 use Rattle.std_alloc.proofs.VecSteps.Shapes.{after}
 use Rattle.slot_arena.specs.Owned.{owned_places, owned_lease}
 use Rattle.slot_arena.specs.contracts.block.Lease as lease
 use Rattle.slot_arena.specs.contracts.block.release as f
-use Rattle.slot_arena.proofs.Rooms.{Row, First, Place, step_of, mark, mark_told, word_told, room_of_row}
+use Rattle.slot_arena.proofs.Rooms.{Row, First, Place, step_of, mark_told, word_told, room_of_row}
 use Rattle.slot_arena.proofs.block.release.Statement.{statement}
 use Rattle.slot_arena.proofs.block.release.Code as code
 
@@ -54,8 +53,16 @@ release_spec 𝓤 𝓛 𝓜 𝓡 wired T W laws alloc_laws g d dd met md =
     let owner = plain {n = 3} (λ _. Row E) in let leave = plain {n = 3} (λ _. Leave) in let kept = ended.kept in
     let stays : Stays params kept = (stay_dropped handle kept.0, (stay_dropped by_value kept.1.0, (stay_dropped number kept.1.1.0, (stay_dropped owner kept.1.1.1.0, (stay_dropped leave kept.1.1.1.1.0, tt))))) in
     let 𝓣 = tables_of 𝓤 𝓛.H 𝓜 (tables 𝓤 𝓛.H 𝓜 𝓡 𝓡.env) in let C = 𝓣.C in let Λ = 𝓣.Λ in
-    proved_at 𝓛 ended stays c 𝓜 𝓡 (Goes-dropped 𝓛 3 handle kept.0 (λ κs x w. refl), (Goes-dropped 𝓛 3 by_value kept.1.0 (λ κs x w. refl), (Goes-dropped 𝓛 3 number kept.1.1.0 (λ κs x w. refl),
-    (Goes-blank 𝓛 3 owner kept.1.1.1.0 (λ κs x w. tt), (Goes-blank 𝓛 3 leave kept.1.1.1.1.0 (λ κs x w. tt), tt)))))
+    proved_at 𝓛 ended stays c 𝓜 𝓡 (
+      Goes-dropped 𝓛 3 handle kept.0 (λ κs x w. refl),
+      (
+        Goes-dropped 𝓛 3 by_value kept.1.0 (λ κs x w. refl),
+        (
+          Goes-dropped 𝓛 3 number kept.1.1.0 (λ κs x w. refl),
+          (Goes-blank 𝓛 3 owner kept.1.1.1.0 (λ κs x w. tt), (Goes-blank 𝓛 3 leave kept.1.1.1.1.0 (λ κs x w. tt), tt)),
+        ),
+      ),
+    )
     (f.Key.name (args E Z)) fn (code.unfolded 𝓤 𝓛.H 𝓜 𝓡 wired (T, (W, tt)) d dd) (λ y are.
     let Post = (walk_of 𝓛 ended stays c).post y in
     let κ : Lft = y.0.0.0 in let κ₁ : Lft = y.0.0.1.0 in let κ₂ : Lft = y.0.0.1.1.0 in let q = y.0.1.0 in let q₁ = y.0.1.1.0 in let q₂ = y.0.1.1.1.0 in let a = y.0.3 in let vss = y.0.4 in

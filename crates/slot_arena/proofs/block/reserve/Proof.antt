@@ -6,12 +6,11 @@ use native.Mathlib.Omega.{arith}
 use mathlib.Core.List.{List, [], ◌∷◌, ◌++◌}
 use lib.Dec.{lit<}
 use lib.ListN.{length, replicate, length-replicate}
-use seplogic.Ra.Ura.{Ura}
-use base.Logic.{ent, emp}
+use base.Logic.{emp}
 use base.Fml.{Lft, Incl-trans, ftrue, flft}
 use mir.Syntax.{Fn, Body, ty_array, w64}
 use mir.MapTy.{inst_fn}
-use mir.Val.{Val, vptr, vint, vstruct, vcons, vnil}
+use mir.Val.{Val, vint, vstruct, vcons, vnil}
 use prog.Capped.{capped_fits}
 use prog.Memory.{align, capped}
 use prog.Wp.{WpFn, Wp, after_seq, at_return}
@@ -19,7 +18,7 @@ use contract.BorrowLft.{◌⊑◌}
 use contract.Monad.{fact, fact_i}
 use contract.Running.{tables, tables_of}
 use sound.WpLaws.{fm_of}
-use types.Kit.{Item, Post as After, any_q, ‵, raw, prop, ◌⊛◌, Sq, later, await, at_ret, ◌$◌, ◌∵◌, !, qed, by, move, drop, use0, use1, use2, use3, split, join, regoal, fsplit, fjoin, feq_l, flt_i, flt_l}
+use types.Kit.{Post as After, any_q, ‵, raw, prop, ◌⊛◌, Sq, later, await, at_ret, ◌$◌, ◌∵◌, !, qed, by, move, drop, use0, use1, use2, use3, split, join, regoal, fsplit, fjoin, feq_l, flt_i, flt_l}
 use types.Match.{live, vrt, in_variant}
 use types.Part.{whole, agg}
 use types.Run.{stop, fld, lit, of_opd, and_then, no_more, bin, size_word, align_word, first, switches_on, exec, returns, enter}

@@ -25,8 +25,7 @@ invariant_of-self-lent g c =
 
 pub returns : goal.returns
 returns g c =
-    let a = c.self.inside in let id = c.number.result in let old = c.args.self.now in
-    (
+    let a = c.self.inside in let id = c.number.result in let old = c.args.self.now in (
       (refl, λ w. shown_set a.places.row id (Some (Held w)) ∙ ap (λ slots. set slots id (Some w)) c.self.view_is ∙ ap (λ i. set old i (Some w)) c.number.ensures),
       record {
         writes_back = tt;

@@ -1,4 +1,4 @@
-use Rattle.std.proofs.Common.{length, refl, sym, ap, ◌∙◌, subst}
+use Rattle.std.proofs.Common.{length, sym, ap, ◌∙◌, subst}
 use Rattle.slot_arena.specs.Free.{values_in, IsThreaded}
 use Rattle.slot_arena.proofs.Fresh.{length-links, links_values}
 use Rattle.slot_arena.proofs.Threads.{threaded-new}

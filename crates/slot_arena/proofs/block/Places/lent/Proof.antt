@@ -8,15 +8,15 @@ use seplogic.Ra.Ura.{Ura}
 use base.Fraction.{full_share}
 use base.Logic.{ent, sep, id⊢, never, emp}
 use base.Fml.{Lft, Fml, GName, ftrue, fsep, fat, flft}
-use mir.Syntax.{Fn, named, w64}
+use mir.Syntax.{Fn, named}
 use mir.MapTy.{inst_fn}
-use mir.Val.{Val, vptr, vint}
+use mir.Val.{Val, vptr}
 use prog.Wp.{WpFn}
 use contract.BorrowLft.{◌⊑◌}
 use contract.Monad.{fact, fact_i}
 use contract.Running.{tables}
 use types.Logic.{Logic, sem}
-use types.Kit.{Item, ‵, raw, prop, ◌⊛◌, some, later, await, pick, group, at_ret, ◌$◌, ◌∵◌, !, qed, by, move, drop, use0, use1, use2, split, split3, join, rewrite, regoal, fsplit, fsplit3, fjoin, fjoin3, fpack, feq_l, flt_i, flt_l, done}
+use types.Kit.{‵, raw, prop, ◌⊛◌, some, later, await, pick, group, at_ret, ◌$◌, ◌∵◌, !, qed, by, move, drop, use0, use1, use2, split, split3, join, rewrite, regoal, fsplit, fsplit3, fjoin, fjoin3, fpack, feq_l, flt_i, flt_l, done}
 use types.Part.{whole, sub}
 use types.Run.{stop, fld, of_opd, addr, bin, size_lit, first, blocks, exec, returns, enter}
 use types.ByLocal.{alloc_all, pass_all, free_all, look_at, get, get_in, take_at, give_at, through, sets, sets_last, env}

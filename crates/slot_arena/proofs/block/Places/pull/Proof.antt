@@ -1,24 +1,24 @@
 -- `pull` reads a value out of one place, and leaves bare room.
 use mathlib.Core.Path.{◌≡◌, refl, sym, subst, ◌∙◌}
-use Prim.Native.Nat.{ℕ, ◌+◌, ◌*◌, ◌<◌, ◌^◌}
+use Prim.Native.Nat.{◌+◌, ◌*◌, ◌<◌, ◌^◌}
 use native.Mathlib.Omega.{arith}
 use mathlib.Core.List.{List, [], ◌∷◌, ◌++◌}
 use lib.ListN.{length, set, get_or, length-set}
 use base.Fraction.{full_share}
 use base.Logic.{id⊢, never, emp}
 use base.Fml.{Lft, ftrue, fat, froom, flft}
-use mir.Syntax.{Fn, w64}
+use mir.Syntax.{Fn}
 use mir.MapTy.{inst_fn}
-use mir.Val.{Val, vptr, vint}
+use mir.Val.{Val, vptr}
 use prog.Wp.{WpFn}
 use contract.BorrowLft.{◌⊑◌}
 use contract.Monad.{fact, fact_i}
 use contract.Running.{tables}
-use types.Kit.{Item, ‵, raw, prop, ◌⊛◌, some, given, pick, learn, at_ret, ◌$◌, ◌∵◌, !, qed, by, move, drop, use0, use1, use2, split, join, rewrite, regoal, fsplit, fsplit3, fjoin, fjoin3, feq_i, feq_l, flt_i, flt_l}
+use types.Kit.{‵, raw, prop, ◌⊛◌, some, given, pick, learn, at_ret, ◌$◌, ◌∵◌, !, qed, by, move, drop, use0, use1, use2, split, join, rewrite, regoal, fsplit, fsplit3, fjoin, fjoin3, feq_i, feq_l, flt_i, flt_l}
 use types.Part.{whole, sub}
 use types.Run.{stop, fld, of_opd, load, look, bin, size_lit, first, blocks, exec, returns, enter}
 use types.ByLocal.{alloc_all, pass_all, free_all, look_at, get, get_in, take_at, give_at, through, sets, sets_last, env}
-use denote.Builtin.{RefMutOf, usize}
+use denote.Builtin.{usize}
 use denote.RattleType.{owns}
 use denote.Param.{layout}
 use denote.RawPtr.{Ptr, in_a_block}

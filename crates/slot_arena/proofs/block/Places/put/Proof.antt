@@ -1,24 +1,24 @@
 -- `put` writes a value into the bare room of one place.
 use mathlib.Core.Path.{◌≡◌, refl, sym, subst, ◌∙◌}
-use Prim.Native.Nat.{ℕ, ◌+◌, ◌*◌, ◌<◌, ◌^◌}
+use Prim.Native.Nat.{◌+◌, ◌*◌, ◌<◌, ◌^◌}
 use native.Mathlib.Omega.{arith}
 use mathlib.Core.List.{List, [], ◌∷◌, ◌++◌}
 use lib.ListN.{length, set, get_or, length-set}
 use base.Fraction.{full_share}
 use base.Logic.{id⊢, never, emp}
 use base.Fml.{Lft, ftrue, fat, flft}
-use mir.Syntax.{Fn, w64}
+use mir.Syntax.{Fn}
 use mir.MapTy.{inst_fn}
-use mir.Val.{Val, vptr, vint, vunit}
+use mir.Val.{Val, vptr, vunit}
 use prog.Wp.{WpFn}
 use contract.BorrowLft.{◌⊑◌}
 use contract.Monad.{fact, fact_i}
 use contract.Running.{tables}
-use types.Kit.{Item, ‵, raw, prop, ◌⊛◌, at_ret, ◌$◌, ◌∵◌, !, qed, by, move, drop, use0, use1, use2, split, join, rewrite, regoal, fsplit, fsplit3, fjoin, fjoin3, feq_i, feq_l, flt_i, flt_l}
+use types.Kit.{‵, raw, prop, ◌⊛◌, at_ret, ◌$◌, ◌∵◌, !, qed, by, move, drop, use0, use1, use2, split, join, rewrite, regoal, fsplit, fsplit3, fjoin, fjoin3, feq_i, feq_l, flt_i, flt_l}
 use types.Part.{whole, sub}
 use types.Run.{init, stop, fld, unit_lit, of_opd, bin, size_lit, assigns_last, first, blocks, exec, returns, enter}
 use types.ByLocal.{alloc_all, pass_all, free_all, look_at, get, get_in, take_at, give_at, through, sets, env}
-use denote.Builtin.{RefMutOf, usize}
+use denote.Builtin.{usize}
 use denote.RattleType.{owns}
 use denote.Param.{layout}
 use denote.RawPtr.{Ptr, in_a_block}
@@ -46,8 +46,16 @@ put_spec 𝓤 𝓛 𝓜 𝓡 wired T laws =
     let by_value = plain {n = 2} (λ _. First E) in let number = plain {n = 2} (λ _. usize) in let item = plain {n = 2} (λ _. R E) in
     let stays : Stays params ended.kept = (stay_ref (0 ∷ []) tt (plain (λ _. Row E)), (stay_dropped by_value ended.kept.1.0, (stay_dropped number ended.kept.1.1.0, (stay_dropped item ended.kept.1.1.1.0, tt)))) in
     let C = (tables 𝓤 𝓛.H 𝓜 𝓡 𝓡.env).C in let Λ = (tables 𝓤 𝓛.H 𝓜 𝓡 𝓡.env).Λ in
-    proved_at 𝓛 ended stays c 𝓜 𝓡 (Goes-ref 𝓛 2 0 tt (plain (λ _. Row E)), (Goes-dropped 𝓛 2 by_value ended.kept.1.0 (λ κs x w. refl), (Goes-dropped 𝓛 2 number ended.kept.1.1.0 (λ κs x w. refl),
-    (Goes-dropped 𝓛 2 item ended.kept.1.1.1.0 (λ κs x w. refl), tt))))
+    proved_at 𝓛 ended stays c 𝓜 𝓡 (
+      Goes-ref 𝓛 2 0 tt (plain (λ _. Row E)),
+      (
+        Goes-dropped 𝓛 2 by_value ended.kept.1.0 (λ κs x w. refl),
+        (
+          Goes-dropped 𝓛 2 number ended.kept.1.1.0 (λ κs x w. refl),
+          (Goes-dropped 𝓛 2 item ended.kept.1.1.1.0 (λ κs x w. refl), tt),
+        ),
+      ),
+    )
     (f.Key.name (args E)) fn (code.unfolded 𝓤 𝓛.H 𝓜 𝓡 wired (T, tt)) (λ y are.
     let Post = (walk_of 𝓛 ended stays c).post y in
     let κ : Lft = y.0.0.0 in let κ₁ : Lft = y.0.0.1.0 in let q = y.0.1.0 in let q₁ = y.0.1.1.0 in let a = y.0.3 in let vss = y.0.4 in

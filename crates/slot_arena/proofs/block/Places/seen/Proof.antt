@@ -1,25 +1,24 @@
 -- `seen` shows the value in one place, through what a `&` to the row shows.
 use mathlib.Core.Path.{◌≡◌, refl, ◌∙◌}
-use Prim.Native.Nat.{ℕ, ◌+◌, ◌*◌, ◌<◌, ◌^◌}
+use Prim.Native.Nat.{◌+◌, ◌*◌, ◌<◌, ◌^◌}
 use native.Mathlib.Omega.{arith}
 use mathlib.Core.List.{List, [], ◌∷◌, ◌++◌}
 use lib.ListN.{length, get_or}
 use base.Fraction.{full_share}
 use base.Logic.{id⊢, never, emp}
 use base.Fml.{Lft, ftrue, fat, flft}
-use mir.Syntax.{Fn, w64}
+use mir.Syntax.{Fn}
 use mir.MapTy.{inst_fn}
-use mir.Val.{Val, vptr, vint}
+use mir.Val.{Val, vptr}
 use prog.Wp.{WpFn}
 use contract.BorrowLft.{◌⊑◌}
 use contract.Monad.{fact, fact_i}
 use contract.Running.{tables}
-use types.Kit.{Item, ‵, raw, prop, ◌⊛◌, at_ret, ◌$◌, ◌∵◌, !, qed, by, move, keep, drop, use0, use1, split, join, rewrite, regoal, fsplit, fjoin, feq_i, feq_l, flt_l}
+use types.Kit.{‵, raw, prop, ◌⊛◌, at_ret, ◌$◌, ◌∵◌, !, qed, by, move, drop, use0, use1, split, join, rewrite, regoal, fsplit, fjoin, feq_i, feq_l, flt_l}
 use types.Part.{whole, sub}
 use types.Run.{stop, fld, of_opd, addr, bin, size_lit, first, blocks, exec, returns, enter}
 use types.ByLocal.{alloc_all, pass_all, free_all, look_at, get, get_in, take_at, give_at, through, sets, sets_last, env}
 use denote.RattleType.{owns}
-use denote.Memory.{hidden_shr}
 use denote.Opens.{hide, unhide}
 use denote.Param.{layout}
 use denote.RawPtr.{Ptr, in_a_block}
