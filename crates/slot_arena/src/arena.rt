@@ -1,4 +1,4 @@
-ghost use Rattle.std.specs.Prelude.{◌≡◌, ◌-◌, ◌<◌, ◌≤◌, ◌↔◌, Some, None, length, replicate, slice_set, IfOk, IfErr, OnErr, IsTrue};
+ghost use Rattle.std.specs.Prelude.{◌≡◌, ◌-◌, ◌<◌, ◌≤◌, ◌↔◌, Some, None, length, replicate, slice_set, IfOk, IfErr, IsErr, OnErr, IsTrue};
 ghost use Rattle.std.specs.Borrow.{sem};
 ghost use Rattle.slot_arena.specs.Arena.{value_at, IsHeld, held_count, IsFull};
 
@@ -12,7 +12,8 @@ use std_alloc::room::may_hold;
 /// The most slots that an arena may have.
 pub const MAX_SLOTS: u32 = 65_536;
 
-/// A fixed number of slots in one block. Contracts see an arena as a list with an `Option` for each id.
+/// A fixed number of slots in one block. Contracts see an arena as a list with an `Option` for each
+/// id.
 pub struct SlotArena<T> {
     start: Start<Slot<T>>,
     places: Places<Slot<T>>,
@@ -38,8 +39,8 @@ impl<T> Model for SlotArena<T> {
 impl<T> SlotArena<T> {
     ghost use Rattle.slot_arena.specs.LentValue.{lends_value};
 
-    /// An arena of `n` free slots, at most [`MAX_SLOTS`], by one request for memory. The error says that the allocator
-    /// refused it, or that the block would have 2^63 bytes or more.
+    /// An arena of `n` free slots, at most [`MAX_SLOTS`], by one request for memory. The error says
+    /// that the allocator refused it, or that the block would have 2^63 bytes or more.
     pub fn with_capacity(alloc: Global, n: u32) -> Result<Self, AllocError>
         requires { n ≤ MAX_SLOTS }
         ensures { IfOk result (λ a. a ≡ replicate n None) }
@@ -60,12 +61,12 @@ impl<T> SlotArena<T> {
         })
     }
 
-    /// Puts a value at an id that stood for none, and answers the id; where every id stands for a value, hands the
-    /// value back.
+    /// Puts a value at an id that stood for none, and answers the id; where every id stands for a
+    /// value, hands this one back.
     pub fn take(&mut self, value: T) -> Result<SlotId, T>
         ensures was_free { IfOk result (λ id. (id < length self.old) × (value_at self.old id ≡ None)) }
         ensures taken { IfOk result (λ id. self.new ≡ slice_set self.old id (Some value)) }
-        ensures full { OnErr result (IsFull self.old) }
+        ensures full { IsErr result ↔ IsFull self.old }
         ensures given_back { IfErr result (λ v. v ≡ value) }
         ensures unchanged { OnErr result (self.new ≡ self.old) }
     {
