@@ -1,0 +1,2 @@
+mod Belonging
+mod Orders
