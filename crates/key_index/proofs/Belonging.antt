@@ -120,7 +120,7 @@ begun_less key (leaf ∷ leaves) (suc at) lt great = elim (cases_lt key (first_k
 ]
 
 -- The entries of a rising leaf that begins after the key are above it.
-leaf_above : (key : ℕ) (leaf : List Entry) → AreRising leaf → key < first_key leaf → AreAbove key leaf
+pub leaf_above : (key : ℕ) (leaf : List Entry) → AreRising leaf → key < first_key leaf → AreAbove key leaf
 leaf_above key [] rising great = tt
 leaf_above key (e ∷ leaf) rising great = (great, above_less key e.0 leaf (omega arith) rising.0)
 

@@ -6,3 +6,7 @@ use Rattle.key_index.specs.Entries.{Entry}
 pub record Index : Type 0 where
   pub entries : List Entry
   pub capacity : ℕ
+
+-- An index of these entries.
+abbrev pub index : List Entry → ℕ → Index
+index entries capacity = record { entries = entries; capacity = capacity }

@@ -1,5 +1,5 @@
 -- An index in leaves, each a run of entries.
-use Rattle.std.specs.Prelude.{◌≡◌, ℕ, suc, ◌+◌, ◌*◌, ◌<◌, ◌≤◌, List, [], ◌∷◌, ◌++◌, length, take, drop, get_or, nat_le, if◌then◌else◌}
+use Rattle.std.specs.Prelude.{◌≡◌, ℕ, suc, ◌+◌, ◌/◌, ◌<◌, ◌≤◌, List, [], ◌∷◌, ◌++◌, length, take, drop, get_or, nat_le, if◌then◌else◌}
 use Rattle.std.specs.Vec.{vec_len, vec_capacity}
 use Rattle.std.specs.declared.vec.Vec.{Vec}
 use Rattle.key_index.specs.Entries.{Entry, AreAbove, AreRising}
@@ -46,13 +46,28 @@ NoneFit [] = Unit {0}
 NoneFit (leaf ∷ []) = Unit {0}
 NoneFit (leaf ∷ next ∷ leaves) = (256 < length leaf + length next) × NoneFit (next ∷ leaves)
 
--- Leaves in use and leaves to spare: the first hold rising entries, the others none, and all together are many enough.
+-- Leaves in use and leaves to spare: the first hold rising entries, the others none.
 pub record IsKept (leaves spare : List (List Entry)) : Type 0 where
   pub filled : AreFilled leaves
   pub rising : AreRising (all_of leaves)
   pub empty : AreEmpty spare
-  pub enough : 2 * length (all_of leaves) + 256 < 256 * (length leaves + length spare)
+
+-- The same entries, with room in the leaf where a key belongs; the other leaves are filled.
+pub record IsReady (old leaves : List (List Entry)) (key at : ℕ) : Type 0 where
+  pub same : all_of leaves ≡ all_of old
+  pub belongs : Belongs key leaves at
+  pub room : length (get_or leaves at []) < 256
+  pub front : AreFilled (take at leaves)
+  pub back : AreFilled (drop (suc at) leaves)
 
 -- Each of two vectors has room for the elements of both.
 abbrev pub HaveRoom : {X Z : Type 0} → Vec X Z → Vec X Z → Type 0
 HaveRoom v w = (vec_len v + vec_len w ≤ vec_capacity v) × (vec_len v + vec_len w ≤ vec_capacity w)
+
+-- What an index keeps: its leaves, as many in all as its capacity wants, and the count of its entries.
+pub record IsIndex {Z : Type 0} (leaves spare : Vec (List Entry) Z) (len capacity : ℕ) : Type 0 where
+  pub kept : IsKept leaves.items spare.items
+  pub room : HaveRoom leaves spare
+  pub total : length leaves.items + length spare.items ≡ capacity / 128 + 2
+  pub count : len ≡ length (all_of leaves.items)
+  pub few : len ≤ capacity

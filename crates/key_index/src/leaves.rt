@@ -1,9 +1,9 @@
 //! The leaves of an index: where a key belongs, and how a leaf is split and two are joined.
-ghost use Rattle.std.specs.Prelude.{◌≡◌, ◌+◌, ◌-◌, ◌<◌, ◌≤◌, suc, [], ◌∷◌, ◌++◌, length, take, drop, get_or, slice_set, IfSome, IfNone};
+ghost use Rattle.std.specs.Prelude.{◌≡◌, ◌+◌, ◌*◌, ◌<◌, ◌≤◌, suc, [], ◌∷◌, ◌++◌, length, take, drop, get_or, slice_set, IfSome, IfNone};
 ghost use Rattle.std.specs.List.{insert, remove};
 ghost use Rattle.std.specs.Vec.{vec_len, vec_capacity};
 ghost use Rattle.key_index.specs.Entries.{below, first_of, last_of, AreRising};
-ghost use Rattle.key_index.specs.Leaves.{all_of, AreFilled, Belongs, NoneFit, IsKept, HaveRoom};
+ghost use Rattle.key_index.specs.Leaves.{all_of, AreFilled, AreEmpty, Belongs, NoneFit, IsKept, IsReady, HaveRoom};
 
 use crate::key::IndexKey;
 use crate::leaf::{LEAF_SIZE, Leaf};
@@ -105,4 +105,95 @@ pub(crate) fn pair_that_fits(leaves: &Vec<Leaf>) -> Option<usize>
         at += 1;
     }
     None
+}
+
+/// Takes an empty leaf from those to spare.
+fn taken(spare: &mut Vec<Leaf>) -> Leaf
+    requires { AreEmpty spare.old.items × (0 < length spare.old.items) }
+    ensures empty { result ≡ [] }
+    ensures others { AreEmpty spare.new.items × (length spare.new.items + 1 ≡ length spare.old.items) }
+    ensures capacity { vec_capacity spare.new ≡ vec_capacity spare.old }
+{
+    match spare.pop() {
+        Some(leaf) => leaf,
+        None => unreachable!(),
+    }
+}
+
+/// Sees that there is a leaf to spare, by joining two that fit one where there is none.
+pub(crate) fn reclaim(leaves: &mut Vec<Leaf>, spare: &mut Vec<Leaf>)
+    requires kept { IsKept leaves.old.items spare.old.items }
+    requires room { HaveRoom leaves.old spare.old }
+    requires enough { 2 * length (all_of leaves.old.items) + 256 < 256 * (length leaves.old.items + length spare.old.items) }
+    ensures kept { IsKept leaves.new.items spare.new.items }
+    ensures same { all_of leaves.new.items ≡ all_of leaves.old.items }
+    ensures some { 0 < length spare.new.items }
+    ensures total { length leaves.new.items + length spare.new.items ≡ length leaves.old.items + length spare.old.items }
+    ensures capacity { (vec_capacity leaves.new ≡ vec_capacity leaves.old) × (vec_capacity spare.new ≡ vec_capacity spare.old) }
+{
+    if !spare.is_empty() {
+        return;
+    }
+    match pair_that_fits(leaves) {
+        Some(at) => {
+            let empty = join(leaves, at);
+            spare.push_reserved(empty);
+        }
+        None => unreachable!(),
+    }
+}
+
+/// Sees that the leaf where a key belongs has room, and answers it.
+pub(crate) fn make_room(leaves: &mut Vec<Leaf>, spare: &mut Vec<Leaf>, key: IndexKey) -> usize
+    requires kept { IsKept leaves.old.items spare.old.items }
+    requires room { HaveRoom leaves.old spare.old }
+    requires some { 0 < length spare.old.items }
+    ensures ready { IsReady leaves.old.items leaves.new.items key result }
+    ensures empty { AreEmpty spare.new.items }
+    ensures total { length leaves.new.items + length spare.new.items ≡ length leaves.old.items + length spare.old.items }
+    ensures capacity { (vec_capacity leaves.new ≡ vec_capacity leaves.old) × (vec_capacity spare.new ≡ vec_capacity spare.old) }
+{
+    if leaves.is_empty() {
+        leaves.push_reserved(taken(spare));
+        return 0;
+    }
+    let at = leaf_of(leaves, key);
+    if leaves[at].len() < LEAF_SIZE {
+        return at;
+    }
+    split(leaves, at, taken(spare));
+    if key.is_before(leaves[at + 1].entry(0).0) {
+        return at;
+    }
+    at + 1
+}
+
+/// Takes the entry of a key out of its leaf.
+pub(crate) fn take_out(leaves: &mut Vec<Leaf>, at: usize, key: IndexKey)
+    requires { (at < length leaves.old.items) × AreRising (get_or leaves.old.items at []) × (length (below key (get_or leaves.old.items at [])) < length (get_or leaves.old.items at [])) }
+    ensures items { let leaf = get_or leaves.old.items at [] in leaves.new.items ≡ slice_set leaves.old.items at (remove leaf (length (below key leaf))) }
+    ensures capacity { vec_capacity leaves.new ≡ vec_capacity leaves.old }
+{
+    let leaf = &mut leaves[at];
+    let place = leaf.place_of(key);
+    leaf.remove(place);
+}
+
+/// Puts a leaf that is empty to those to spare.
+pub(crate) fn release_empty(leaves: &mut Vec<Leaf>, spare: &mut Vec<Leaf>, at: usize)
+    requires within { at < length leaves.old.items }
+    requires filled { AreFilled (take at leaves.old.items) × AreFilled (drop (suc at) leaves.old.items) }
+    requires empty { AreEmpty spare.old.items }
+    requires room { HaveRoom leaves.old spare.old }
+    ensures filled { AreFilled leaves.new.items }
+    ensures empty { AreEmpty spare.new.items }
+    ensures same { all_of leaves.new.items ≡ all_of leaves.old.items }
+    ensures total { length leaves.new.items + length spare.new.items ≡ length leaves.old.items + length spare.old.items }
+    ensures capacity { (vec_capacity leaves.new ≡ vec_capacity leaves.old) × (vec_capacity spare.new ≡ vec_capacity spare.old) }
+{
+    if leaves[at].len() > 0 {
+        return;
+    }
+    let leaf = leaves.remove(at);
+    spare.push_reserved(leaf);
 }
