@@ -1,5 +1,5 @@
 -- Entries in leaves: where a key belongs, and what is in front of it and behind.
-use Rattle.std.proofs.Common.{◌≡◌, ℕ, zero, suc, ◌+◌, ◌-◌, ◌*◌, ◌<◌, ◌≤◌, true, false, nat_le, List, [], ◌∷◌, ◌++◌, length, take, drop, get_or, Option, Some, None, slice_get, ◌⊎◌, refl, sym, ap, ◌∙◌, subst, arith, inl, inr, append_assoc, length-append}
+use Rattle.std.proofs.Common.{◌≡◌, ℕ, zero, suc, ◌+◌, ◌-◌, ◌*◌, ◌<◌, ◌≤◌, List, [], ◌∷◌, ◌++◌, length, take, drop, get_or, Some, slice_get, refl, sym, ap, ◌∙◌, subst, arith, inl, inr, append_assoc, length-append}
 use Rattle.std.proofs.Math.Seq.{drop-nil}
 use Rattle.std.proofs.lemmas.Bool.{cases_lt}
 use Rattle.std.proofs.lemmas.Bool.Decides.{nat_tests}
@@ -207,9 +207,12 @@ read_leaf leaves at leaf lt is = is ∙ get_or_default leaves at leaf [] lt
 pub none_from : (leaves : List (List Entry)) → ((k : ℕ) → k + 1 < length leaves → 256 < length (get_or leaves k []) + length (get_or leaves (k + 1) [])) → NoneFit leaves
 none_from [] all = tt
 none_from (leaf ∷ []) all = tt
-none_from (leaf ∷ next ∷ leaves) all = (all 0 (omega arith), none_from (next ∷ leaves) (λ k lt. let up : k + 1 ≡ suc k = omega arith in
-    let on : suc k + 1 ≡ suc (k + 1) = omega arith in
-    subst (λ n. 256 < length (get_or (next ∷ leaves) k []) + length (get_or (leaf ∷ next ∷ leaves) n [])) on (all (suc k) (omega arith))))
+none_from (leaf ∷ next ∷ leaves) all = (
+  all 0 (omega arith),
+  none_from (next ∷ leaves) (λ k lt. let up : k + 1 ≡ suc k = omega arith in
+      let on : suc k + 1 ≡ suc (k + 1) = omega arith in
+      subst (λ n. 256 < length (get_or (next ∷ leaves) k []) + length (get_or (leaf ∷ next ∷ leaves) n [])) on (all (suc k) (omega arith))),
+)
 
 -- Where none fit, the leaves are few for their entries.
 few_after : (leaf : List Entry) (leaves : List (List Entry)) → NoneFit (leaf ∷ leaves) → 256 * length (leaf ∷ leaves) + length leaf ≤ 2 * length (all_of (leaf ∷ leaves)) + 256

@@ -1,10 +1,10 @@
 -- The entries of an index, cut at the leaf where a key belongs; an entry put in, or taken out.
-use Rattle.std.proofs.Common.{◌≡◌, ℕ, zero, suc, ◌+◌, ◌-◌, ◌<◌, ◌≤◌, true, false, nat_eq, List, [], ◌∷◌, ◌++◌, length, take, drop, get_or, set, Option, Some, None, is_some, ◌⊎◌, refl, sym, ap, ◌∙◌, subst, arith, inl, inr, append_assoc, length-append, length-drop}
+use Rattle.std.proofs.Common.{◌≡◌, ℕ, zero, suc, ◌+◌, ◌<◌, ◌≤◌, true, List, [], ◌∷◌, ◌++◌, length, take, drop, get_or, set, Some, None, is_some, refl, sym, ap, ◌∙◌, subst, arith, inl, inr, append_assoc, length-append, length-drop}
 use Rattle.std.specs.List.{insert, remove}
 use Rattle.std.proofs.lemmas.Bool.{cases_lt}
 use Rattle.std.proofs.lemmas.Bool.Decides.{nat_tests}
 use Rattle.key_index.specs.Entries.{Entry, below, from, slot_at, AreAbove, AreRising}
-use Rattle.key_index.specs.Leaves.{all_of, AreFilled, AreBelow, Belongs}
+use Rattle.key_index.specs.Leaves.{all_of, Belongs}
 use Rattle.key_index.proofs.Orders.{below_on, below_end, from_on, from_end, take_below, drop_below, cut_whole}
 use Rattle.key_index.proofs.Belonging.{all_at, rising_parts, leaf_above, cut_front, cut_back}
 use Rattle.key_index.proofs.Edits.{all_set}

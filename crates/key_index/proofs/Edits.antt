@@ -1,13 +1,10 @@
 -- The edits of leaves: an entry put in or taken out, a leaf split, two joined, one that is empty left out.
-use Rattle.std.proofs.Common.{◌≡◌, ◌≢◌, ℕ, zero, suc, ◌+◌, ◌-◌, ◌<◌, ◌≤◌, true, false, nat_eq, List, [], ◌∷◌, ◌++◌, length, take, drop, get_or, set, Option, Some, None, is_some, slice_get, ◌⊎◌, refl, sym, ap, ◌∙◌, subst, arith, inl, inr, append_assoc, length-append, length-set, length-take, length-drop, take-append-drop}
+use Rattle.std.proofs.Common.{◌≡◌, ℕ, zero, suc, ◌+◌, ◌<◌, ◌≤◌, List, [], ◌∷◌, ◌++◌, length, take, drop, get_or, set, refl, sym, ap, ◌∙◌, subst, arith, append_assoc, length-append, length-set, length-take, length-drop, take-append-drop}
 use Rattle.std.specs.List.{insert, remove}
 use Rattle.std.proofs.lemmas.List.Edits.{length-insert}
-use Rattle.std.proofs.lemmas.Bool.{cases_lt}
-use Rattle.std.proofs.lemmas.Bool.Decides.{nat_tests}
-use Rattle.key_index.specs.Entries.{Entry, below, from, slot_at, first_of, AreAbove, AreRising}
+use Rattle.key_index.specs.Entries.{Entry, AreAbove, AreRising}
 use Rattle.key_index.specs.Leaves.{all_of, AreFilled, AreEmpty, first_key, AreBelow, Belongs, IsReady}
-use Rattle.key_index.proofs.Orders.{below_on, below_end, from_on, from_end, take_below, drop_below, below_within}
-use Rattle.key_index.proofs.Belonging.{read_leaf, all_at, rising_parts, rising_front, below_both, below_more, above_both, leaf_above, cut_front, cut_back}
+use Rattle.key_index.proofs.Belonging.{read_leaf, all_at, rising_parts, rising_front, below_both, below_more, above_both, leaf_above}
 
 -- A leaf written over another.
 pub all_set : (leaves : List (List Entry)) (at : ℕ) (leaf : List Entry) → at < length leaves → all_of (set leaves at leaf) ≡ all_of (take at leaves) ++ (leaf ++ all_of (drop (suc at) leaves))
@@ -47,6 +44,7 @@ joined_same_at leaves at i up lt =
     let P : ℕ → Type 0 = λ n. all_of (set (remove leaves n) at (get_or leaves at [] ++ get_or leaves n [])) ≡ all_of leaves in
     subst P (sym up) (joined_same leaves at (omega (arith, up, lt)))
 
+-- They stay filled, told so too.
 pub joined_filled_at : (leaves : List (List Entry)) (at i : ℕ) → i ≡ suc at → i < length leaves → AreFilled leaves → AreFilled (set (remove leaves i) at (get_or leaves at [] ++ get_or leaves i []))
 joined_filled_at leaves at i up lt filled =
     let P : ℕ → Type 0 = λ n. AreFilled (set (remove leaves n) at (get_or leaves at [] ++ get_or leaves n [])) in
@@ -61,6 +59,7 @@ pub record IsSplit (leaves new : List (List Entry)) (at : ℕ) (a b : List Entry
   pub second : get_or new (suc at) [] ≡ b
   pub back : drop (suc (suc at)) new ≡ drop (suc at) leaves
 
+-- That is what a split leaves.
 pub split_is : (leaves : List (List Entry)) (at : ℕ) (a b : List Entry) → at < length leaves → IsSplit leaves (insert (set leaves at a) (suc at) b) at a b
 split_is [] at a b lt = absurd (omega arith)
 split_is (l ∷ leaves) zero a b lt = record { front = refl; first = refl; behind = refl; front_more = refl; second = refl; back = refl }
@@ -117,36 +116,47 @@ under key a (y ∷ b) rising some le = below_more y.0 key a le (rising_front a y
 -- A full leaf that was split, with the key in one half or the other.
 module _ (old new : List (List Entry)) (key at : ℕ) (belongs : Belongs key old at) (filled : AreFilled old) (rising : AreRising (all_of old)) (full : length (get_or old at []) ≡ 256)
     (is : new ≡ insert (set old at (take 128 (get_or old at []))) (suc at) (drop 128 (get_or old at []))) where
+  -- The leaf that was full.
   abbrev whole : List Entry
   whole = get_or old at []
 
+  -- Its first half.
   abbrev lower : List Entry
   lower = take 128 whole
 
+  -- Its second half.
   abbrev upper : List Entry
   upper = drop 128 whole
 
+  -- The split, seen from both halves.
   parts : IsSplit old new at lower upper
   parts = subst (λ ls. IsSplit old ls at lower upper) (sym is) (split_is old at lower upper belongs.within)
 
+  -- There is one leaf more.
   long : length new ≡ length old + 1
   long = ap length is ∙ length-insert (set old at lower) (suc at) upper (omega (arith, length-set old at lower, belongs.within)) ∙ ap (λ n. n + 1) (length-set old at lower)
 
+  -- The lower half is half.
   half : length lower ≡ 128
   half = omega (arith, length-take 128 whole, full)
 
+  -- So is the upper one.
   pub other_half : length upper ≡ 128
   other_half = omega (arith, length-drop 128 whole, full)
 
+  -- Both are the whole.
   halves : lower ++ upper ≡ whole
   halves = take-append-drop 128 whole
 
+  -- The leaf rises.
   rising_whole : AreRising whole
   rising_whole = (rising_parts whole (all_of (drop (suc at) old)) (rising_parts (all_of (take at old)) (whole ++ all_of (drop (suc at) old)) (subst AreRising (all_at old at belongs.within) rising)).1).0
 
+  -- So do its halves.
   rising_halves : AreRising (lower ++ upper)
   rising_halves = subst AreRising (sym halves) rising_whole
 
+  -- The entries are the same.
   split_same : all_of new ≡ all_of old
   split_same =
       let back = all_of (drop (suc at) old) in
@@ -179,7 +189,7 @@ module _ (old new : List (List Entry)) (key at : ℕ) (belongs : Belongs key old
     belongs = record {
       within = omega (arith, long, belongs.within);
       front = subst (λ ls. AreBelow key (all_of ls)) (sym parts.front_more) (subst (λ l. AreBelow key l) (sym (all_both (take at old) (lower ∷ [])))
-        (below_both key (all_of (take at old)) (lower ++ []) belongs.front (below_both key lower [] (under key lower upper rising_halves (omega (arith, other_half)) le) tt)));
+          (below_both key (all_of (take at old)) (lower ++ []) belongs.front (below_both key lower [] (under key lower upper rising_halves (omega (arith, other_half)) le) tt)));
       back = subst (λ ls. AreAbove key (all_of ls)) (sym parts.back) belongs.back;
     };
     room = subst (λ l. length l < 256) (sym parts.second) (omega (arith, other_half));

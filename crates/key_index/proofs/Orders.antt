@@ -1,9 +1,8 @@
 -- Entries in rising order, cut at a key.
-use Rattle.std.proofs.Common.{◌≡◌, ℕ, zero, suc, ◌+◌, ◌-◌, ◌<◌, ◌≤◌, true, false, nat_lt, nat_eq, List, [], ◌∷◌, ◌++◌, length, take, drop, get_or, Option, Some, None, slice_get, ◌⊎◌, refl, sym, ap, ◌∙◌, subst, arith, inl, inr, append_assoc, length-append}
+use Rattle.std.proofs.Common.{◌≡◌, ℕ, zero, suc, ◌<◌, ◌≤◌, List, [], ◌∷◌, ◌++◌, length, take, drop, get_or, refl, ap, arith, inl, inr, length-append}
 use Rattle.std.proofs.lemmas.Bool.{cases_lt}
 use Rattle.std.proofs.lemmas.Bool.Decides.{nat_tests}
-use Rattle.std.proofs.lemmas.Grind.{common_steps}
-use Rattle.key_index.specs.Entries.{Entry, below, from, slot_at, first_of, last_of, AreAbove, AreRising}
+use Rattle.key_index.specs.Entries.{Entry, below, from, AreAbove, AreRising}
 
 -- An entry before the key stands in front.
 pub below_on : (key : ℕ) (e : Entry) (es : List Entry) → e.0 < key → below key (e ∷ es) ≡ e ∷ below key es

@@ -1,5 +1,5 @@
 -- Entries of an index: keys, each with a slot number, in rising order.
-use Rattle.std.specs.Prelude.{◌≡◌, ℕ, ◌<◌, ◌≤◌, List, [], ◌∷◌, Option, Some, None, length, nat_lt, nat_eq, if◌then◌else◌, slice_get, ◌-◌}
+use Rattle.std.specs.Prelude.{ℕ, ◌<◌, List, [], ◌∷◌, Option, Some, None, length, nat_lt, nat_eq, if◌then◌else◌, slice_get, ◌-◌}
 
 -- A key and its slot number.
 abbrev pub Entry : Type 0

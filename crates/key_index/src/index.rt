@@ -4,7 +4,9 @@ ghost use Rattle.key_index.specs.Index.{index};
 
 use crate::key::IndexKey;
 use crate::leaf::Leaf;
-use crate::leaves::{first_from, last_before, leaf_of, make_room, put, reclaim, release_empty, take_out};
+use crate::leaves::{
+    first_from, last_before, leaf_of, make_room, put, reclaim, release_empty, take_out,
+};
 use std::alloc::{AllocError, Global};
 use std::marker::Model;
 

@@ -33,7 +33,10 @@ fn keys_go_by_transaction_then_number(rt: HostRuntime) -> Result<(), Fail> {
     assert!(rt; put(&mut index, key(1, 9), 19));
     assert!(rt; put(&mut index, key(2, 1), 21));
     assert_eq!(rt; index.len(), 3);
-    assert_eq!(rt; (index.get(key(1, 9)), index.get(key(2, 9))), (Some(19), None));
+    assert_eq!(rt;
+        (index.get(key(1, 9)), index.get(key(2, 9))),
+        (Some(19), None)
+    );
     assert_eq!(rt; index.before(key(2, 5)), Some((key(2, 1), 21)));
     assert_eq!(rt; index.before(key(1, 9)), None);
     assert_eq!(rt; index.at_or_after(key(1, 10)), Some((key(2, 1), 21)));

@@ -48,6 +48,7 @@ module _ (E : El) where
   abbrev pub step_of : ℕ
   step_of = type_size (R E)
 
+  -- What one place holds.
   abbrev pub Place : Type 0
   Place = Option (el_x E)
 
@@ -55,6 +56,7 @@ module _ (E : El) where
 abbrev one_pointer : Shape
 one_pointer = record { name = []; args = []; types = []; fields = RawPtr ∷ [] }
 
+-- Its type, as the logic sees it.
 abbrev pub Word : RattleType
 Word = Struct one_pointer
 
@@ -120,18 +122,22 @@ module _ (E : El) (block : ℕ) where
 one_on : (i s at : ℕ) → i * s + (at + s) ≡ suc i * s + at
 one_on i s at = omega (arith, suc-mul i s)
 
+-- The first place lies where the row begins.
 no_on : (s at : ℕ) → at ≡ 0 * s + at
 no_on s at = omega (arith, zero-mul s)
 
 module _ (E : El) {M : Type 1} {𝓤 : Ura M} (𝓛 : Logic 𝓤) (block : ℕ) where
   open 𝓛 use {H}
 
+  -- The bytes from one place to the next.
   abbrev s : ℕ
   s = step_of E
 
+  -- One place.
   abbrev One : ℕ → Place E → Fml
   One = place_at (R E) block
 
+  -- A row of them.
   abbrev All : ℕ → List (Place E) → Fml
   All = places_at (R E) block
 

@@ -1,4 +1,4 @@
-use Rattle.std.proofs.Common.{◌-◌, ◌<◌, ◌≤◌, ◌≡◌, suc, zero, [], ◌++◌, Some, length, take, get_or, slice_get, ap, subst, ◌∙◌, sym, arith}
+use Rattle.std.proofs.Common.{◌-◌, ◌<◌, ◌≡◌, suc, [], ◌++◌, Some, length, take, get_or, slice_get, ap, subst, ◌∙◌, sym, arith}
 use Rattle.std.proofs.lemmas.List.{append-nil}
 use Rattle.key_index.specs.Entries.{last_of}
 use Rattle.key_index.specs.Leaves.{all_of}

@@ -1,4 +1,4 @@
-use Rattle.std.proofs.Common.{◌≡◌, ◌<◌, ◌≤◌, [], length, get_or, subst, sym, ap, ◌∙◌, arith}
+use Rattle.std.proofs.Common.{◌<◌, ◌≤◌, [], length, get_or, subst, sym, ap, ◌∙◌, arith}
 use Rattle.key_index.specs.Leaves.{all_of, AreFilled, AreEmpty}
 use Rattle.key_index.proofs.Belonging.{read_leaf}
 use Rattle.key_index.proofs.Edits.{filled_whole, left_out_filled, left_out_same, empty_more, none_is}

@@ -1,4 +1,4 @@
-use Rattle.std.proofs.Common.{◌≡◌, suc, [], ◌++◌, length, drop, get_or, subst, sym, ap, ◌∙◌}
+use Rattle.std.proofs.Common.{suc, [], ◌++◌, length, drop, get_or, subst, sym, ap, ◌∙◌}
 use Rattle.key_index.specs.Entries.{below, from, first_of, AreRising}
 use Rattle.key_index.specs.Leaves.{all_of}
 use Rattle.key_index.proofs.Orders.{drop_below}

@@ -1,4 +1,4 @@
-use Rattle.std.proofs.Common.{◌≡◌, ◌+◌, ◌<◌, ◌≤◌, ◌++◌, ◌∷◌, [], None, length, get_or, set, subst, sym, ap, ◌∙◌, arith, length-set}
+use Rattle.std.proofs.Common.{◌≡◌, ◌<◌, ◌++◌, ◌∷◌, [], None, length, get_or, subst, sym, ap, ◌∙◌, arith, length-set}
 use Rattle.std.proofs.lemmas.List.Edits.{length-insert}
 use Rattle.std.specs.List.{insert}
 use Rattle.key_index.specs.Entries.{below, from, slot_at, AreRising}
@@ -36,8 +36,20 @@ invariant_of-self c =
         rising = subst AreRising (sym all) (rising_put key slot es was.kept.rising absent);
         empty = room.ensures.empty;
       };
-      room = omega (arith, was.room, as_many, room.ensures.total, room.ensures.capacity, c.reclaim.ensures.total, c.reclaim.ensures.capacity, c.put.ensures.capacity,
-        c.put.new.leaves.ok.0, room.new.spare.ok.0, c.self.inside.leaves.ok.0, c.self.inside.spare.ok.0);
+      room = omega (
+        arith,
+        was.room,
+        as_many,
+        room.ensures.total,
+        room.ensures.capacity,
+        c.reclaim.ensures.total,
+        c.reclaim.ensures.capacity,
+        c.put.ensures.capacity,
+        c.put.new.leaves.ok.0,
+        room.new.spare.ok.0,
+        c.self.inside.leaves.ok.0,
+        c.self.inside.spare.ok.0,
+      );
       total = omega (arith, was.total, as_many, room.ensures.total, c.reclaim.ensures.total);
       count = omega (arith, was.count, ap length all, length_put key slot es);
       few = omega (arith, was.count, entries, limit, c.requires.room);
