@@ -1,0 +1,4 @@
+mod Belonging
+mod Cuts
+mod Edits
+mod Orders

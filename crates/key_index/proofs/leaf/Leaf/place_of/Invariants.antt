@@ -1,0 +1,13 @@
+use Rattle.std.proofs.Common.{◌≤◌, ◌-◌, length}
+use Rattle.key_index.specs.Entries.{below}
+use Rattle.key_index.proofs.leaf.Leaf.place_of.Given as goal
+
+abbrev pub invariant-loop-low : goal.invariant-loop-low
+invariant-loop-low l = record {
+  lower : l.low ≤ length (below l.key l.self-inside.entries.items);
+  upper : length (below l.key l.self-inside.entries.items) ≤ l.high;
+  within : l.high ≤ length l.self-inside.entries.items;
+}
+
+abbrev pub decreases-loop-low : goal.decreases-loop-low
+decreases-loop-low l = l.high - l.low

@@ -1,0 +1,55 @@
+use Rattle.std.proofs.Common.{◌≡◌, ℕ, ◌+◌, ◌<◌, ◌≤◌, List, suc, [], length, take, drop, get_or, set, subst, sym, ap, refl, ◌∙◌, arith}
+use Rattle.std.proofs.lemmas.Bool.Decides.{nat_tests}
+use Rattle.std.specs.List.{insert}
+use Rattle.key_index.specs.Entries.{Entry}
+use Rattle.key_index.specs.Leaves.{first_key, IsReady}
+use Rattle.key_index.proofs.Belonging.{read_leaf, first_is}
+use Rattle.key_index.proofs.Edits.{filled_round, upper_read, other_half, ready_lower, ready_upper}
+use Rattle.key_index.proofs.leaves.make_room.Goals as goal
+
+-- A split told with the next number is one told with the successor.
+split_told : (old new : List (List Entry)) (at i : ℕ) → i ≡ suc at → new ≡ insert (set old at (take 128 (get_or old at []))) i (drop 128 (get_or old at []))
+    → new ≡ insert (set old at (take 128 (get_or old at []))) (suc at) (drop 128 (get_or old at []))
+split_told old new at i up is = is ∙ ap (λ n. insert (set old at (take 128 (get_or old at []))) n (drop 128 (get_or old at []))) up
+
+pub returns-then-len-lt-LEAF_SIZE-clause-ready : goal.returns-then-len-lt-LEAF_SIZE-clause-ready
+returns-then-len-lt-LEAF_SIZE-clause-ready c =
+    let ls = c.args.leaves.now.items in let at = c.leaf_of-at.result in let belongs = c.leaf_of-at.ensures in let round = filled_round ls at belongs.within c.requires.kept.filled in
+    let here = read_leaf ls at c.index.result.now belongs.within c.index.ensures in
+    record {
+      same = refl;
+      belongs = belongs;
+      room = subst (λ l. length l < 256) here (omega (arith, c.len.ensures.len, c.if-len-lt-LEAF_SIZE.true));
+      front = round.0;
+      back = round.1;
+    }
+
+pub entry-requires : goal.entry-requires
+entry-requires c =
+    let ls = c.args.leaves.now.items in let new = c.split.new.leaves.items in let at = c.leaf_of-at.result in let belongs = c.leaf_of-at.ensures in
+    let here = read_leaf ls at c.index.result.now belongs.within c.index.ensures in let leaf = c.index-2.result.now in
+    let full : length (get_or ls at []) ≡ 256 = subst (λ l. length l ≡ 256) here (omega (arith, c.len.ensures.len, c.len.ensures.within, c.if-len-lt-LEAF_SIZE.false)) in
+    let is = split_told ls new at (at + 1) (omega arith) c.split.ensures.items in let key = c.args.key in
+    let read = upper_read ls new key at belongs c.requires.kept.filled c.requires.kept.rising full is (at + 1) leaf (omega arith) c.index-2.ensures in
+    subst (λ l. 0 < length l) (sym read) (omega (arith, other_half ls new key at belongs c.requires.kept.filled c.requires.kept.rising full is))
+
+pub returns-then-is_before-clause-ready : goal.returns-then-is_before-clause-ready
+returns-then-is_before-clause-ready c =
+    let ls = c.args.leaves.now.items in let new = c.split.new.leaves.items in let at = c.leaf_of-at.result in let belongs = c.leaf_of-at.ensures in
+    let here = read_leaf ls at c.index.result.now belongs.within c.index.ensures in let leaf = c.index-2.result.now in
+    let full : length (get_or ls at []) ≡ 256 = subst (λ l. length l ≡ 256) here (omega (arith, c.len.ensures.len, c.len.ensures.within, c.if-len-lt-LEAF_SIZE.false)) in
+    let is = split_told ls new at (at + 1) (omega arith) c.split.ensures.items in let key = c.args.key in let e = c.entry.result in
+    let read = upper_read ls new key at belongs c.requires.kept.filled c.requires.kept.rising full is (at + 1) leaf (omega arith) c.index-2.ensures in
+    let first = first_is leaf e c.entry.ensures in let great : key < e.0 = grind (arith, nat_tests, c.is_before.ensures, c.if-is_before.true) in
+    ready_lower ls new key at belongs c.requires.kept.filled c.requires.kept.rising full is (subst (λ l. key < first_key l) read (omega (arith, first, great)))
+
+pub returns-clause-ready : goal.returns-clause-ready
+returns-clause-ready c =
+    let ls = c.args.leaves.now.items in let new = c.split.new.leaves.items in let at = c.leaf_of-at.result in let belongs = c.leaf_of-at.ensures in
+    let here = read_leaf ls at c.index.result.now belongs.within c.index.ensures in let leaf = c.index-2.result.now in
+    let full : length (get_or ls at []) ≡ 256 = subst (λ l. length l ≡ 256) here (omega (arith, c.len.ensures.len, c.len.ensures.within, c.if-len-lt-LEAF_SIZE.false)) in
+    let is = split_told ls new at (at + 1) (omega arith) c.split.ensures.items in let key = c.args.key in let e = c.entry.result in
+    let read = upper_read ls new key at belongs c.requires.kept.filled c.requires.kept.rising full is (at + 1) leaf (omega arith) c.index-2.ensures in
+    let first = first_is leaf e c.entry.ensures in let small : e.0 ≤ key = grind (arith, nat_tests, c.is_before.ensures, c.if-is_before.false) in
+    let up : suc at ≡ at + 1 = omega arith in
+    subst (λ n. IsReady ls new key n) up (ready_upper ls new key at belongs c.requires.kept.filled c.requires.kept.rising full is (subst (λ l. first_key l ≤ key) read (omega (arith, first, small))))

@@ -1,0 +1,65 @@
+ghost use Rattle.std.specs.Prelude.{◌≡◌, ◌<◌, ◌/◌, ◌%◌, ◌^◌, nat_lt};
+ghost use Rattle.key_index.specs.Key.{rank};
+
+use std::marker::Model;
+
+/// A transaction's slot and a sequence number below 2^31. Contracts see a key as its rank, the slot
+/// times 2^31 and the number, so keys go by transaction first.
+#[derive(Clone, Copy, Debug, PartialEq, Eq)]
+pub struct IndexKey {
+    transaction: u32,
+    number: u32,
+}
+
+impl Model for IndexKey {
+    ghost use Rattle.std.specs.Prelude.{ℕ, ◌/◌, ◌%◌, ◌^◌, ◌<◌};
+    ghost use Rattle.key_index.specs.Key.{rank, slot_back, number_back};
+
+    ghost Value = { ℕ };
+
+    ghost view = { λ k. rank k.transaction k.number };
+
+    ghost invariant = { λ k. k.number < 2 ^ 31 };
+
+    ghost inverse = { λ r. record { transaction = r / 2 ^ 31; number = r % 2 ^ 31 } };
+
+    ghost inverse_ok = { λ k h i. record { transaction = slot_back k.transaction k.number h i; number = number_back k.transaction k.number h i } };
+}
+
+impl IndexKey {
+    /// The key of a transaction's slot and a sequence number below 2^31.
+    pub fn new(transaction: u32, number: u32) -> Self
+        requires { number < 2 ^ 31 }
+        ensures { result ≡ rank transaction number }
+    {
+        IndexKey {
+            transaction,
+            number,
+        }
+    }
+
+    /// The transaction's slot.
+    pub fn transaction(self) -> u32
+        ensures { result ≡ self / 2 ^ 31 }
+    {
+        self.transaction
+    }
+
+    /// The sequence number.
+    pub fn number(self) -> u32
+        ensures { result ≡ self % 2 ^ 31 }
+    {
+        self.number
+    }
+
+    /// Tells whether this key stands before the other.
+    pub fn is_before(self, other: IndexKey) -> bool
+        ensures { result ≡ nat_lt self other }
+    {
+        if self.transaction == other.transaction {
+            self.number < other.number
+        } else {
+            self.transaction < other.transaction
+        }
+    }
+}

@@ -1,0 +1,199 @@
+//! The leaves of an index: where a key belongs, and how a leaf is split and two are joined.
+ghost use Rattle.std.specs.Prelude.{◌≡◌, ◌+◌, ◌*◌, ◌<◌, ◌≤◌, suc, [], ◌∷◌, ◌++◌, length, take, drop, get_or, slice_set, IfSome, IfNone};
+ghost use Rattle.std.specs.List.{insert, remove};
+ghost use Rattle.std.specs.Vec.{vec_len, vec_capacity};
+ghost use Rattle.key_index.specs.Entries.{below, first_of, last_of, AreRising};
+ghost use Rattle.key_index.specs.Leaves.{all_of, AreFilled, AreEmpty, Belongs, NoneFit, IsKept, IsReady, HaveRoom};
+
+use crate::key::IndexKey;
+use crate::leaf::{LEAF_SIZE, Leaf};
+
+/// The leaf in which a key stands or belongs: the last one that begins at the key or before it, or
+/// the first leaf.
+pub(crate) fn leaf_of(leaves: &Vec<Leaf>, key: IndexKey) -> usize
+    requires { (0 < length leaves.now.items) × AreFilled leaves.now.items × AreRising (all_of leaves.now.items) }
+    ensures { Belongs key leaves.now.items result }
+{
+    let mut low = 0;
+    let mut high = leaves.len();
+    while low < high {
+        let middle = low + (high - low) / 2;
+        if key.is_before(leaves[middle].entry(0).0) {
+            high = middle;
+        } else {
+            low = middle + 1;
+        }
+    }
+    low.saturating_sub(1)
+}
+
+/// The first entry from a place of a leaf on.
+pub(crate) fn first_from(leaves: &Vec<Leaf>, at: usize, place: usize) -> Option<(IndexKey, u32)>
+    requires { (at < length leaves.now.items) × AreFilled leaves.now.items }
+    ensures { result ≡ first_of (drop place (get_or leaves.now.items at []) ++ all_of (drop (suc at) leaves.now.items)) }
+{
+    if place < leaves[at].len() {
+        return Some(leaves[at].entry(place));
+    }
+    if at + 1 < leaves.len() {
+        return Some(leaves[at + 1].entry(0));
+    }
+    None
+}
+
+/// The last entry before a place of a leaf.
+pub(crate) fn last_before(leaves: &Vec<Leaf>, at: usize, place: usize) -> Option<(IndexKey, u32)>
+    requires { (at < length leaves.now.items) × AreFilled leaves.now.items × (place ≤ length (get_or leaves.now.items at [])) }
+    ensures { result ≡ last_of (all_of (take at leaves.now.items) ++ take place (get_or leaves.now.items at [])) }
+{
+    if place > 0 {
+        return Some(leaves[at].entry(place - 1));
+    }
+    if at > 0 {
+        let leaf = &leaves[at - 1];
+        return Some(leaf.entry(leaf.len() - 1));
+    }
+    None
+}
+
+/// Puts an entry into a leaf that is not full, where its key belongs.
+pub(crate) fn put(leaves: &mut Vec<Leaf>, at: usize, key: IndexKey, slot: u32)
+    requires { (at < length leaves.old.items) × (length (get_or leaves.old.items at []) < 256) × AreRising (get_or leaves.old.items at []) }
+    ensures items { let leaf = get_or leaves.old.items at [] in leaves.new.items ≡ slice_set leaves.old.items at (insert leaf (length (below key leaf)) (key, slot)) }
+    ensures capacity { vec_capacity leaves.new ≡ vec_capacity leaves.old }
+{
+    let leaf = &mut leaves[at];
+    let place = leaf.place_of(key);
+    leaf.insert(place, key, slot);
+}
+
+/// Moves the upper half of a full leaf into an empty one behind it.
+pub(crate) fn split(leaves: &mut Vec<Leaf>, at: usize, mut empty: Leaf)
+    requires { (at < length leaves.old.items) × (length (get_or leaves.old.items at []) ≡ 256) × (empty ≡ []) × (vec_len leaves.old < vec_capacity leaves.old) }
+    ensures items { let leaf = get_or leaves.old.items at [] in leaves.new.items ≡ insert (slice_set leaves.old.items at (take 128 leaf)) (at + 1) (drop 128 leaf) }
+    ensures capacity { vec_capacity leaves.new ≡ vec_capacity leaves.old }
+{
+    leaves[at].split_at(LEAF_SIZE / 2, &mut empty);
+    match leaves.insert(at + 1, empty) {
+        Ok(()) => (),
+        Err(_) => unreachable!(),
+    }
+}
+
+/// Moves the entries of a leaf behind those of the one in front of it, and answers it, empty.
+pub(crate) fn join(leaves: &mut Vec<Leaf>, at: usize) -> Leaf
+    requires { (at + 1 < length leaves.old.items) × (length (get_or leaves.old.items at []) + length (get_or leaves.old.items (at + 1) []) ≤ 256) }
+    ensures empty { result ≡ [] }
+    ensures items { leaves.new.items ≡ slice_set (remove leaves.old.items (at + 1)) at (get_or leaves.old.items at [] ++ get_or leaves.old.items (at + 1) []) }
+    ensures capacity { vec_capacity leaves.new ≡ vec_capacity leaves.old }
+{
+    let mut next = leaves.remove(at + 1);
+    leaves[at].append(&mut next);
+    next
+}
+
+/// The first of two leaves side by side that fit one.
+pub(crate) fn pair_that_fits(leaves: &Vec<Leaf>) -> Option<usize>
+    ensures fits { IfSome result (λ at. (at + 1 < length leaves.now.items) × (length (get_or leaves.now.items at []) + length (get_or leaves.now.items (at + 1) []) ≤ 256)) }
+    ensures none { IfNone result (NoneFit leaves.now.items) }
+{
+    let mut at = 0;
+    while at + 1 < leaves.len() {
+        if leaves[at].len() + leaves[at + 1].len() <= LEAF_SIZE {
+            return Some(at);
+        }
+        at += 1;
+    }
+    None
+}
+
+/// Takes an empty leaf from those to spare.
+fn taken(spare: &mut Vec<Leaf>) -> Leaf
+    requires { AreEmpty spare.old.items × (0 < length spare.old.items) }
+    ensures empty { result ≡ [] }
+    ensures others { AreEmpty spare.new.items × (length spare.new.items + 1 ≡ length spare.old.items) }
+    ensures capacity { vec_capacity spare.new ≡ vec_capacity spare.old }
+{
+    match spare.pop() {
+        Some(leaf) => leaf,
+        None => unreachable!(),
+    }
+}
+
+/// Sees that there is a leaf to spare, by joining two that fit one where there is none.
+pub(crate) fn reclaim(leaves: &mut Vec<Leaf>, spare: &mut Vec<Leaf>)
+    requires kept { IsKept leaves.old.items spare.old.items }
+    requires room { HaveRoom leaves.old spare.old }
+    requires enough { 2 * length (all_of leaves.old.items) + 256 < 256 * (length leaves.old.items + length spare.old.items) }
+    ensures kept { IsKept leaves.new.items spare.new.items }
+    ensures same { all_of leaves.new.items ≡ all_of leaves.old.items }
+    ensures some { 0 < length spare.new.items }
+    ensures total { length leaves.new.items + length spare.new.items ≡ length leaves.old.items + length spare.old.items }
+    ensures capacity { (vec_capacity leaves.new ≡ vec_capacity leaves.old) × (vec_capacity spare.new ≡ vec_capacity spare.old) }
+{
+    if !spare.is_empty() {
+        return;
+    }
+    match pair_that_fits(leaves) {
+        Some(at) => {
+            let empty = join(leaves, at);
+            spare.push_reserved(empty);
+        }
+        None => unreachable!(),
+    }
+}
+
+/// Sees that the leaf where a key belongs has room, and answers it.
+pub(crate) fn make_room(leaves: &mut Vec<Leaf>, spare: &mut Vec<Leaf>, key: IndexKey) -> usize
+    requires kept { IsKept leaves.old.items spare.old.items }
+    requires room { HaveRoom leaves.old spare.old }
+    requires some { 0 < length spare.old.items }
+    ensures ready { IsReady leaves.old.items leaves.new.items key result }
+    ensures empty { AreEmpty spare.new.items }
+    ensures total { length leaves.new.items + length spare.new.items ≡ length leaves.old.items + length spare.old.items }
+    ensures capacity { (vec_capacity leaves.new ≡ vec_capacity leaves.old) × (vec_capacity spare.new ≡ vec_capacity spare.old) }
+{
+    if leaves.is_empty() {
+        leaves.push_reserved(taken(spare));
+        return 0;
+    }
+    let at = leaf_of(leaves, key);
+    if leaves[at].len() < LEAF_SIZE {
+        return at;
+    }
+    split(leaves, at, taken(spare));
+    if key.is_before(leaves[at + 1].entry(0).0) {
+        return at;
+    }
+    at + 1
+}
+
+/// Takes the entry of a key out of its leaf.
+pub(crate) fn take_out(leaves: &mut Vec<Leaf>, at: usize, key: IndexKey)
+    requires { (at < length leaves.old.items) × AreRising (get_or leaves.old.items at []) × (length (below key (get_or leaves.old.items at [])) < length (get_or leaves.old.items at [])) }
+    ensures items { let leaf = get_or leaves.old.items at [] in leaves.new.items ≡ slice_set leaves.old.items at (remove leaf (length (below key leaf))) }
+    ensures capacity { vec_capacity leaves.new ≡ vec_capacity leaves.old }
+{
+    let leaf = &mut leaves[at];
+    let place = leaf.place_of(key);
+    leaf.remove(place);
+}
+
+/// Puts a leaf that is empty to those to spare.
+pub(crate) fn release_empty(leaves: &mut Vec<Leaf>, spare: &mut Vec<Leaf>, at: usize)
+    requires within { at < length leaves.old.items }
+    requires filled { AreFilled (take at leaves.old.items) × AreFilled (drop (suc at) leaves.old.items) }
+    requires empty { AreEmpty spare.old.items }
+    requires room { HaveRoom leaves.old spare.old }
+    ensures filled { AreFilled leaves.new.items }
+    ensures empty { AreEmpty spare.new.items }
+    ensures same { all_of leaves.new.items ≡ all_of leaves.old.items }
+    ensures total { length leaves.new.items + length spare.new.items ≡ length leaves.old.items + length spare.old.items }
+    ensures capacity { (vec_capacity leaves.new ≡ vec_capacity leaves.old) × (vec_capacity spare.new ≡ vec_capacity spare.old) }
+{
+    if leaves[at].len() > 0 {
+        return;
+    }
+    let leaf = leaves.remove(at);
+    spare.push_reserved(leaf);
+}

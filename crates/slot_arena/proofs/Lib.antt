@@ -1,0 +1,5 @@
+mod Crossing
+mod Fresh
+mod Rooms
+mod Sharing
+mod Threads

@@ -1,0 +1,76 @@
+-- `seen` shows the value in one place, through what a `&` to the row shows.
+use mathlib.Core.Path.{◌≡◌, refl, ◌∙◌}
+use Prim.Native.Nat.{◌+◌, ◌*◌, ◌<◌, ◌^◌}
+use native.Mathlib.Omega.{arith}
+use mathlib.Core.List.{List, [], ◌∷◌, ◌++◌}
+use lib.ListN.{length, get_or}
+use base.Fraction.{full_share}
+use base.Logic.{id⊢, never, emp}
+use base.Fml.{Lft, ftrue, fat, flft}
+use mir.Syntax.{Fn}
+use mir.MapTy.{inst_fn}
+use mir.Val.{Val, vptr}
+use prog.Wp.{WpFn}
+use contract.BorrowLft.{◌⊑◌}
+use contract.Monad.{fact, fact_i}
+use contract.Running.{tables}
+use types.Kit.{‵, raw, prop, ◌⊛◌, at_ret, ◌$◌, ◌∵◌, !, qed, by, move, drop, use0, use1, split, join, rewrite, regoal, fsplit, fjoin, feq_i, feq_l, flt_l}
+use types.Part.{whole, sub}
+use types.Run.{stop, fld, of_opd, addr, bin, size_lit, first, blocks, exec, returns, enter}
+use types.ByLocal.{alloc_all, pass_all, free_all, look_at, get, get_in, take_at, give_at, through, sets, sets_last, env}
+use denote.RattleType.{owns}
+use denote.Opens.{hide, unhide}
+use denote.Param.{layout}
+use denote.RawPtr.{Ptr, in_a_block}
+use denote.Builtin.{RefOf, usize}
+use denote.Signature.{plain, types_at}
+use denote.Steps.{nothing, heard}
+use denote.Triple.Walked.{Stays, stay_dropped, walk_of, Goes-dropped}
+use Rattle.core.proofs.mem.Param.{El, R, args}
+use Rattle.core.proofs.ptr.Rows.{times_below, one_below}
+use Rattle.std.proofs.raw_atomic.Walks.{proved_at, leaves}
+use Rattle.std.specs.Prelude.{Some, None}
+use Rattle.std_alloc.proofs.RcSteps.{word, word-Good}
+use Rattle.std_alloc.proofs.VecSteps.Shapes.{after}
+use Rattle.slot_arena.specs.Place.{Holds}
+use Rattle.slot_arena.specs.Owned.{place_lent, lent_places}
+use Rattle.slot_arena.specs.contracts.block.Places.seen as f
+use Rattle.slot_arena.proofs.Rooms.{Row, First, Place, step_of, word_told, holding_within, place_shown}
+use Rattle.slot_arena.proofs.block.Places.seen.Statement.{statement}
+use Rattle.slot_arena.proofs.block.Places.seen.Code as code
+
+pub seen_spec : {M : Type 1} → statement M
+seen_spec 𝓤 𝓛 𝓜 𝓡 wired T laws =
+    let E : El = record { row = T; laws = laws } in let fn : Fn = inst_fn (args E) code.function in
+    let ended = f.ended T in let params = ended.signature.params in let c = f.clauses T 𝓛 𝓜.mem 𝓡.returns in
+    let borrowed = RefOf {n = 2} (0 ∷ []) tt (plain (λ _. Row E)) (λ _. tt) in let by_value = plain {n = 2} (λ _. First E) in let number = plain {n = 2} (λ _. usize) in
+    let stays : Stays params ended.kept = (stay_dropped borrowed ended.kept.0, (stay_dropped by_value ended.kept.1.0, (stay_dropped number ended.kept.1.1.0, tt))) in
+    let C = (tables 𝓤 𝓛.H 𝓜 𝓡 𝓡.env).C in let Λ = (tables 𝓤 𝓛.H 𝓜 𝓡 𝓡.env).Λ in
+    proved_at 𝓛 ended stays c 𝓜 𝓡 (Goes-dropped 𝓛 2 borrowed ended.kept.0 (λ κs x w. refl), (Goes-dropped 𝓛 2 by_value ended.kept.1.0 (λ κs x w. refl), (Goes-dropped 𝓛 2 number ended.kept.1.1.0 (λ κs x w. refl), tt)))
+    (f.Key.name (args E)) fn (code.unfolded 𝓤 𝓛.H 𝓜 𝓡 wired (T, tt)) (λ y are.
+    let Post = (walk_of 𝓛 ended stays c).post y in
+    let κ : Lft = y.0.0.0 in let κ₁ : Lft = y.0.0.1.0 in let q = y.0.1.0 in let q₁ = y.0.1.1.0 in let a = y.0.3 in let vss = y.0.4 in
+    let self = a.0 in let start = a.1.0 in let index = a.1.1.0 in let p = self.now in let s = step_of E in
+    let tokens = ‵ (flft κ₁ q₁) ⊛ ‵ ftrue in
+    qed 𝓛 (((‵ (flft κ q) ⊛ tokens) ⊛ ‵ (owns (types_at params y.0.0) a vss)) ∷ (raw (fact 𝓤 (κ₁ ⊑ T.lives)) ⊛ raw (fact 𝓤 ((start.ptr ≡ p.at) × Holds p.row index))) ∷ []) ∵
+    move ! (1 ∷ []) $ split ! $ drop ! $ heard ! _ (λ asked. split ! $ split ! $ move ! (2 ∷ []) $
+    -- [what the parameters own; the borrow's token; the other tokens]
+    fsplit ! $ fsplit ! $ feq_l ! (λ e0. move ! (1 ∷ []) $ fsplit ! $ word_told ! start.ptr vss.1.0 (λ e1. fsplit ! $ fsplit ! $ feq_l ! (λ e2. flt_l ! (λ index_fits. drop ! $
+    regoal ! (λ (us : List Val × List Val × List Val). prop (WpFn 𝓤 𝓛.H C Λ fn (us.0 ++ (us.1 ++ (us.2 ++ []))) Post)) (λ j. (e0 j, e1 j, e2 j)) refl $
+    -- [what the `&` shows; the borrow's token; the other tokens]
+    enter ! C Λ fn _ Post $ alloc_all ! (λ l. pass_all ! refl ((tt, tt), (word-Good [] start.ptr, ((tt, record { fits = index_fits }), tt))) $
+    unhide ! $ fsplit ! $ drop ! $ in_a_block ! p.at (λ at. lent_places (R E) at p.row κ) (id⊢ 𝓤 (never 𝓤)) (λ b o at_block. fsplit ! $ flt_l ! (λ row_fits.
+    let x = asked.1.0 in let within = holding_within p.row index x asked.1.1 in let place = index * s + o in
+    let size_fits : s < 2 ^ 64 = omega (arith, one_below (length p.row) s (2 ^ 63) (omega arith) row_fits) in
+    let far_fits : index * s < 2 ^ 64 = omega (arith, times_below index (length p.row) s (2 ^ 63) (omega arith) row_fits) in
+    take_at ! 2 $ rewrite ! 0 (λ (at : Ptr). ‵ (fat full_share (layout (First E)) (l 2) 0 (word at))) (asked.0 ∙ at_block) refl $ give_at ! 2 $
+    first ! $ blocks ! $ sets ! (bin ! (get ! refl) (size_lit ! (record { fits = size_fits })) (record { fits = far_fits })) refl (tt, record { fits = far_fits }) $
+    sets ! (bin ! (get_in ! (fld ! refl (stop !)) (sub ! 0 refl (whole !))) (get ! refl) tt) refl (tt, tt) $
+    use1 𝓛 (‵ (place_lent (R E) b place (get_or p.row index None) κ)) (place_shown E 𝓛 b κ p.row index o within) $
+    rewrite ! 0 (λ (held : Place E). ‵ (place_lent (R E) b place held κ)) asked.1.1 refl $ hide ! $
+    sets_last ! (addr ! (through ! refl (stop !))) refl (tt, tt) $ exec ! C Λ (env fn.locals l) (after 1 fn.body) (at_ret (env fn.locals l) Post) $ sets ! (of_opd ! (get ! refl)) refl (tt, tt) $
+    feq_i ! (List Val) (vptr b place ∷ []) (vptr b place ∷ []) refl $ fjoin ! $ returns ! (look_at ! 0 refl) $ free_all ! refl $
+    -- [the value's own; the borrow's token; the other tokens]
+    use0 𝓛 (raw (fact 𝓤 (get_or p.row index None ≡ Some x))) (fact_i 𝓤 (get_or p.row index None ≡ Some x) (emp 𝓤) asked.1.1) $ move ! (1 ∷ 0 ∷ []) $ join ! $
+    nothing ! $ nothing ! $ fjoin ! $ nothing ! $ fjoin ! $ nothing ! $ fjoin ! $ join ! $ move ! (1 ∷ 2 ∷ 0 ∷ []) $ join ! $ join ! $
+    by ! (leaves 𝓛 ended stays c y (vptr b place) (record { ref_ptr = (b, place); now = x }) (tt, (tt, (tt, tt))) (tt, (tt, (tt, tt)))))))))))))

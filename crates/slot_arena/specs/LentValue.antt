@@ -1,0 +1,8 @@
+-- What an arena ends as, once a `&mut` to one of its values has ended.
+use Rattle.std.specs.Prelude.{ℕ, List, slice_set, Option, Some}
+use Rattle.std.specs.Borrow.{Fml, RattleType, MutBor, Lends}
+use Rattle.slot_arena.specs.contracts.arena.SlotArena.{the_row}
+
+-- The id stands for the last value written through r, and all else stays.
+abbrev pub lends_value : (R : RattleType) → MutBor (List (Option R.Denot)) → ℕ → MutBor R.Denot → Fml
+lends_value R arena id r = Lends (the_row R) R arena r (λ w. slice_set arena.now id (Some w))

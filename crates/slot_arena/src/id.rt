@@ -1,0 +1,36 @@
+ghost use Rattle.std.specs.Prelude.{◌≡◌};
+
+use std::marker::Model;
+
+/// Which slot of an arena; contracts see its number, which is below the arena's capacity. An id may be
+/// handed out again once it was given back, so whoever keeps one knows for which value it stands.
+#[derive(Clone, Copy, Debug, PartialEq, Eq, PartialOrd, Ord, Hash)]
+pub struct SlotId {
+    number: u32,
+}
+
+impl Model for SlotId {
+    ghost use Rattle.std.specs.Prelude.{ℕ};
+
+    ghost Value = { ℕ };
+
+    ghost view = { λ i. i.number };
+
+    ghost inverse = { λ n. record { number = n } };
+}
+
+impl SlotId {
+    /// The id of that number, whether an arena holds it or not.
+    pub fn new(number: u32) -> Self
+        ensures { result ≡ number }
+    {
+        SlotId { number }
+    }
+
+    /// The id's number.
+    pub fn number(self) -> u32
+        ensures { result ≡ self }
+    {
+        self.number
+    }
+}
