@@ -5,6 +5,7 @@ use Rattle.ledger_model.specs.declared.answer.Answer.{Answer}
 use Rattle.ledger_model.specs.declared.answer.Answer.TheVariants.{Accepted, Repeat, Refused}
 use Rattle.ledger_model.specs.declared.command.Command.{Command}
 use Rattle.ledger_model.specs.declared.command.Command.TheVariants.{Deliver}
+use Rattle.ledger_model.specs.Admissible.{IsAdmissible}
 use Rattle.ledger_model.specs.Content.{Content}
 use Rattle.ledger_model.specs.Laws.{IsAccepted}
 use Rattle.ledger_model.specs.Limits.{Bounds}
@@ -12,6 +13,8 @@ use Rattle.ledger_model.specs.Step.{Reached, answer, content_after, step}
 use Rattle.ledger_model.specs.World.{Station, World, station_after, world_after}
 use Rattle.ledger_model.proofs.ReachedContents.{is_counted}
 use Rattle.transaction_event.specs.Message.{Meaning, Event, Ready, Silence, message}
+use Rattle.transaction_event.specs.Request.{Request}
+use Rattle.transaction_event.proofs.AdmissibleRequests.{each_delivery_is_admissible}
 use Rattle.ocpp_board.specs.Laws.{script_after, StationsAreReached, EnergyIsFromScratch, UnacceptedChangesNothing}
 use Rattle.ocpp_board.specs.Lines.{Line}
 use Rattle.ocpp_board.specs.Script.{Script, start, declared_to, fault_line, by_meaning, sent_to, step_by, line_step, station_named, energy_answer}
@@ -20,21 +23,21 @@ use Rattle.ocpp_board.specs.declared.script_line.LineFault.TheVariants.{Declared
 
 -- ---- one ledger
 
-reached_by : (limits : Bounds) (c : Content) (command : Command) (a : Answer) → a ≡ answer limits c command → Reached limits c.changes c
+reached_by : (limits : Bounds) (c : Content) (command : Command) (a : Answer) → a ≡ answer limits c command → IsAdmissible command → Reached limits c.changes c
     → Reached limits (content_after c command a).changes (content_after c command a)
-reached_by limits c command (Accepted n) e reached =
+reached_by limits c command (Accepted n) e is reached =
     let counted = is_counted limits c command (subst IsAccepted e tt) in
     let next : n ≡ suc c.changes = accepted_number n c.changes (e ∙ counted.next) in
     subst (λ k. Reached limits k (content_after c command (Accepted n))) (sym next)
-    (c, command, (reached, ap (λ x. (content_after c command x, x)) (sym e) ∙ ap (λ k. (content_after c command (Accepted n), Accepted k)) next))
+    (c, command, (is, reached, ap (λ x. (content_after c command x, x)) (sym e) ∙ ap (λ k. (content_after c command (Accepted n), Accepted k)) next))
   where
     accepted_number : (m k : ℕ) → Accepted m ≡ Accepted (k + 1) → m ≡ suc k
     accepted_number m k same = let numbers : m ≡ k + 1 = cc in omega arith
-reached_by limits c command Repeat e reached = reached
-reached_by limits c command (Refused why) e reached = reached
+reached_by limits c command Repeat e is reached = reached
+reached_by limits c command (Refused why) e is reached = reached
 
-reached_after : (limits : Bounds) (c : Content) (command : Command) → Reached limits c.changes c → Reached limits (step limits c command).0.changes (step limits c command).0
-reached_after limits c command reached = reached_by limits c command (answer limits c command) refl reached
+reached_after : (limits : Bounds) (c : Content) (command : Command) → IsAdmissible command → Reached limits c.changes c → Reached limits (step limits c command).0.changes (step limits c command).0
+reached_after limits c command is reached = reached_by limits c command (answer limits c command) refl is reached
 
 -- ---- a world
 
@@ -52,12 +55,12 @@ named_is_reached (s ∷ ss) name station all e = at (bytes_eq name s.name) (λ f
     at true later f = let same : s ≡ station = cc f in subst (λ x. Reached x.limits x.content.changes x.content) same all.0
     at false later f = later f
 
-reached_world : (w : World) (name : List ℕ) (command : Command) → AreReached w → AreReached (world_after w (name, command))
-reached_world [] name command all = tt
-reached_world (s ∷ ss) name command all = (at (bytes_eq name s.name), reached_world ss name command all.1)
+reached_world : (w : World) (name : List ℕ) (command : Command) → IsAdmissible command → AreReached w → AreReached (world_after w (name, command))
+reached_world [] name command is all = tt
+reached_world (s ∷ ss) name command is all = (at (bytes_eq name s.name), reached_world ss name command is all.1)
   where
     at : (b : Bool) → let x = cond b (station_after s command) s in Reached x.limits x.content.changes x.content
-    at true = reached_after s.limits s.content command all.0
+    at true = reached_after s.limits s.content command is all.0
     at false = all.0
 
 one_world : (w : World) (name : List ℕ) (command : Command) → length w ≤ 1 → length (world_after w (name, command)) ≤ 1
@@ -79,15 +82,16 @@ kept_late : (late : Bool) (s : Script) (site name : List ℕ) → Kept s.world �
 kept_late true s site name kept = kept
 kept_late false s site name kept = kept_declared s.world s site name kept
 
-kept_meaning : (meaning : Meaning) (station : Station) (s : Script) → Kept s.world → Kept (by_meaning meaning station s).0.world
-kept_meaning (Event id request) station s kept =
-    (reached_world s.world station.name (Deliver request.key request.event) kept.0, one_world s.world station.name (Deliver request.key request.event) kept.1)
-kept_meaning (Ready reply) station s kept = kept
-kept_meaning Silence station s kept = kept
+kept_meaning : (meaning : Meaning) (station : Station) (s : Script) → ((id : List ℕ) (request : Request) → meaning ≡ Event id request → IsAdmissible (Deliver request.key request.event))
+    → Kept s.world → Kept (by_meaning meaning station s).0.world
+kept_meaning (Event id request) station s is kept =
+    (reached_world s.world station.name (Deliver request.key request.event) (is id request refl) kept.0, one_world s.world station.name (Deliver request.key request.event) kept.1)
+kept_meaning (Ready reply) station s is kept = kept
+kept_meaning Silence station s is kept = kept
 
 kept_sent : (station : Option Station) (s : Script) (text : List ℕ) → Kept s.world → Kept (sent_to station s text).0.world
 kept_sent None s text kept = kept
-kept_sent (Some station) s text kept = kept_meaning (message text s.moment) station s kept
+kept_sent (Some station) s text kept = kept_meaning (message text s.moment) station s (each_delivery_is_admissible text s.moment) kept
 
 kept_step : (s : Script) (meaning : LineMeaning) → Kept s.world → Kept (step_by s meaning).0.world
 kept_step s nothing kept = kept

@@ -27,7 +27,7 @@ abbrev pub FaultsChangeNothing : Type 0
 FaultsChangeNothing = (s : Script) (line : Line) (fault : LineFault) → (line_step s line).1 ≡ fault_line fault
     → ((line_step s line).0.world ≡ s.world) × ((line_step s line).0.moment ≡ s.moment)
 
--- after any lines, the content of a station is one that so many accepted commands as it counts leave of the empty one
+-- after any lines, the content of a station is one that so many admissible commands as it counts, each accepted, leave of the empty one
 abbrev pub StationsAreReached : Type 0
 StationsAreReached = (lines : List Line) (name : List ℕ) (station : Station) → station_named name (script_after start lines).world ≡ Some station
     → Reached station.limits station.content.changes station.content

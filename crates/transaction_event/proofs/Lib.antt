@@ -2,3 +2,4 @@ pub mod Growing
 pub mod Integers
 pub mod Replies
 pub mod Deliveries
+pub mod AdmissibleRequests

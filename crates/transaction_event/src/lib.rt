@@ -36,7 +36,7 @@ mod tests;
 mod timestamp;
 
 pub use fault::PayloadFault;
-pub use laws::deliveries_are_answered;
+pub use laws::{deliveries_are_admissible, deliveries_are_answered};
 pub use message::{Message, message_of};
 pub use reply::event_reply;
 pub use request::event_of;

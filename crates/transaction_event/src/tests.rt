@@ -245,6 +245,7 @@ fn always_out_of_memory(rt: HostRuntime) -> Result<(), Fail> {
     }
     assert!(rt; matches!(message_of(rt.alloc(), EVENT, ten()?), Message::Event { .. }));
     assert!(rt; matches!(message_of(rt.alloc(), "[4]", ten()?), Message::Silent));
+    deliveries_are_admissible();
     deliveries_are_answered();
     Ok(())
 }
