@@ -8,6 +8,7 @@ ghost use Rattle.station_ledger.specs.New.{answer_to_new, is_transaction_too_man
 ghost use Rattle.station_ledger.specs.Spent.{IsSpent};
 
 use crate::flows::{evaluate, sum};
+use crate::pair::PairFlow;
 use crate::row::Row;
 use crate::rows;
 use energy_flow::{Flow, Work};
@@ -21,7 +22,7 @@ use std::marker::Model;
 pub struct StationLedger {
     limits: Limits,
     rows: Vec<Row>,
-    flows: Vec<Flow>,
+    pairs: Vec<PairFlow>,
     readings: usize,
     changes: u64,
 }
@@ -37,8 +38,8 @@ impl Model for StationLedger {
 
     ghost view = { λ l. record { limits = l.limits; content = content_of l.rows.items l.changes } };
 
-    ghost invariant = { λ l. IsKept l.limits l.rows.items l.flows.items l.readings l.changes
-        × IsRoom l.limits (vec_capacity l.rows) (vec_capacity l.flows) };
+    ghost invariant = { λ l. IsKept l.limits l.rows.items l.pairs.items l.readings l.changes
+        × IsRoom l.limits (vec_capacity l.rows) (vec_capacity l.pairs) };
 }
 
 impl StationLedger {
@@ -49,11 +50,11 @@ impl StationLedger {
         ensures empty { IfOk result (λ l. l.content ≡ empty_content) }
     {
         let rows = Vec::with_capacity(alloc, limits.events() as usize)?;
-        let flows = Vec::with_capacity(alloc, limits.readings() as usize)?;
+        let pairs = Vec::with_capacity(alloc, limits.readings() as usize)?;
         Ok(StationLedger {
             limits,
             rows,
-            flows,
+            pairs,
             readings: 0,
             changes: 0,
         })
@@ -183,7 +184,7 @@ impl StationLedger {
             rows::carry_out(&mut self.rows, command);
             self.readings = rows::readings_stored(&self.rows);
             self.changes = changes;
-            evaluate(&self.rows, &mut self.flows, work);
+            evaluate(&self.rows, &mut self.pairs, work);
         }
         answer
     }
@@ -193,7 +194,7 @@ impl StationLedger {
     pub fn energy(&self) -> Flow
         ensures { result ≡ energy (entries self.now.content) }
     {
-        sum(&self.flows)
+        sum(&self.pairs)
     }
 
     /// How many commands were accepted so far, at most 2^63.

@@ -25,6 +25,7 @@
 
 mod flows;
 mod ledger;
+mod pair;
 mod row;
 mod rows;
 
