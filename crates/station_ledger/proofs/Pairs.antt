@@ -10,7 +10,7 @@ use Rattle.station_ledger.specs.declared.pair.PairFlow.{PairFlow}
 use Rattle.station_ledger.specs.Flows.{pair_at, pairs_after, level_after, group_pairs, pair_flows}
 use Rattle.station_ledger.proofs.Walk.{pairs_along}
 use Rattle.ledger_model.proofs.Callers.{live_rising}
-use Rattle.station_ledger.proofs.Transactions.{Absent, IsFirst, IsGrouped, ids, others, grouped, same_text, differ_back, others_lack, distinct_again, distinct_absent}
+use Rattle.station_ledger.proofs.Grouped.{Absent, IsFirst, IsGrouped, ids, others, grouped, same_text, differ_back, others_lack, distinct_again, distinct_absent}
 
 -- the readings of a transaction among live entries
 abbrev readings_in : List ℕ → List Entry → List MeterReading

@@ -1,7 +1,8 @@
 -- What a walk along entries finds: the transactions that begin, and the pairs.
-use Rattle.std.proofs.Common.{◌≡◌, ℕ, ◌+◌, ◌<◌, Bool, true, false, not, cond, if◌then◌else◌, List, [], ◌∷◌, ◌++◌, length, get_or, drop, Option, Some, None, sym, ap, ◌∙◌, append_assoc}
+use Rattle.std.proofs.Common.{◌≡◌, ℕ, ◌+◌, ◌<◌, Bool, true, false, not, cond, if◌then◌else◌, List, [], ◌∷◌, ◌++◌, length, get_or, drop, Option, Some, None, refl, sym, ap, ◌∙◌, append_assoc}
 use Rattle.std.proofs.lemmas.List.{at_drop_more}
 use Rattle.ledger_model.specs.Event.{MeterReading}
+use Rattle.ledger_model.specs.Board.{last_or_none}
 use Rattle.ledger_model.specs.Content.{Entry, live}
 use Rattle.station_ledger.specs.declared.pair.PairFlow.{PairFlow}
 use Rattle.station_ledger.specs.Flows.{pair_at, pairs_after, level_after, goes_on}
@@ -33,16 +34,15 @@ pairs_added tx ps qs before level rs i x lt is same added = sym (
     ∙ ap (λ (l : ℕ). (ps ++ pair_at tx before x) ++ pairs_after tx (Some l) (drop (i + 1) rs)) (sym same)
     ∙ ap (λ ys. ys ++ pairs_after tx (Some level) (drop (i + 1) rs)) (sym added))
 
--- the walk over a voided row
-pub walk_voided : (before : Option Entry) (level : Option ℕ) (es : List Entry) (i : ℕ) (x : Entry) → i < length es → x ≡ get_or es i x → x.1.voided ≡ true → pairs_along before level (live (drop i es)) ≡ pairs_along before level (live (drop (i + 1) es))
-walk_voided before level es i x lt is voided =
-    at_drop_more (λ ys. pairs_along before level (live ys)) es i x lt
-    ∙ ap (λ (y : Entry). pairs_along before level (live (y ∷ drop (i + 1) es))) (sym is)
-    ∙ ap (λ (b : Bool). pairs_along before level (cond (not b) (x ∷ live (drop (i + 1) es)) (live (drop (i + 1) es)))) voided
+-- the last number, where one came before
+abbrev pub last_after : ℕ → List ℕ → ℕ
+last_after n [] = n
+last_after n (m ∷ ms) = last_after m ms
 
--- the walk over a live row
-pub walk_live : (before : Option Entry) (level : Option ℕ) (es : List Entry) (i : ℕ) (x : Entry) → i < length es → x ≡ get_or es i x → x.1.voided ≡ false → pairs_along before level (live (drop i es)) ≡ pairs_along before level (x ∷ live (drop (i + 1) es))
-walk_live before level es i x lt is voided =
-    at_drop_more (λ ys. pairs_along before level (live ys)) es i x lt
-    ∙ ap (λ (y : Entry). pairs_along before level (live (y ∷ drop (i + 1) es))) (sym is)
-    ∙ ap (λ (b : Bool). pairs_along before level (cond (not b) (x ∷ live (drop (i + 1) es)) (live (drop (i + 1) es)))) voided
+pub last_after-none : (ns : List ℕ) → last_after 0 ns ≡ last_or_none ns
+last_after-none [] = refl
+last_after-none (n ∷ ns) = last_from n ns
+  where
+    last_from : (n : ℕ) (ns : List ℕ) → last_after n ns ≡ last_or_none (n ∷ ns)
+    last_from n [] = refl
+    last_from n (m ∷ ns) = last_from m ns

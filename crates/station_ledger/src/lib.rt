@@ -25,9 +25,12 @@
 
 mod flows;
 mod ledger;
+mod lines;
 mod pair;
 mod row;
 mod rows;
+mod transaction;
+mod transactions;
 
 pub use ledger::StationLedger;
 

@@ -1,4 +1,5 @@
-ghost use Rattle.std.specs.Prelude.{◌≡◌};
+ghost use Rattle.std.specs.Prelude.{◌≡◌, length};
+ghost use Rattle.std.specs.List.{take_while};
 ghost use Rattle.std.specs.Str.{bytes_eq};
 
 use energy_flow::Flow;
@@ -20,4 +21,11 @@ impl PairFlow {
     {
         tx == &self.tx
     }
+}
+
+// How many pairs at the front are of this transaction.
+pub(crate) fn pairs_of(pairs: &[PairFlow], tx: &TxId) -> usize
+    ensures { result ≡ length (take_while (λ p. bytes_eq tx.now p.tx) pairs.now) }
+{
+    pairs.iter().take_while(|pair| pair.is_of(tx)).count()
 }
