@@ -10,3 +10,5 @@ pub mod Judged
 pub mod LineLemmas
 pub mod Sums
 pub mod Accepted
+pub mod Figured
+pub mod RisingLines

@@ -1,23 +1,23 @@
 -- Lines of numbers with their energies.
 use Rattle.std.proofs.Common.{◌≡◌, ℕ, zero, suc, ◌+◌, ◌<◌, ◌≤◌, ◌^◌, ◌==◌, nat_lt, Bool, true, false, cond, ◌⊎◌, inl, inr, List, [], ◌∷◌, ◌++◌, length, map, get_or, set, refl, sym, ap, subst, ◌∙◌, arith, eqb, ⊎_elim}
-use Rattle.std.specs.List.{filter, sum_by, take_while, insert}
+use Rattle.std.specs.List.{All, filter, sum_by, take_while, insert}
 use Rattle.std.proofs.lemmas.Bool.{eq-eqb, ne_eqb, lt-ltb, le-ltb, cases_order, cases_lt}
 use Rattle.std.proofs.lemmas.List.{get_or_default}
-use Rattle.std.proofs.lemmas.List.Sums.{take_while-cons, sum_by-cons}
+use Rattle.std.proofs.lemmas.List.Sums.{take_while-cons, sum_by-cons, sum_by-append, get_or-le-sum_by}
 use Rattle.energy_flow.specs.Flow.{Energy, plus, no_energy}
 use Rattle.ledger_model.specs.Board.{Flowed}
 use Rattle.ledger_model.specs.Energy.{put_in, rising}
 use Rattle.ledger_model.specs.BoardLaws.{AreRising, IsIn}
-use Rattle.station_ledger.specs.Lines.{put_line, lines_of, lines_total, HasRoom}
+use Rattle.station_ledger.specs.Lines.{put_line, lines_of, lines_total, HasRoom, IsStationFlow}
 
 -- the three cases of a line
-put_same : (n : ℕ) (f : Energy) (l : Flowed) (ls : List Flowed) → n ≡ l.0 → put_line n f (l ∷ ls) ≡ (l.0, plus f l.1) ∷ ls
+pub put_same : (n : ℕ) (f : Energy) (l : Flowed) (ls : List Flowed) → n ≡ l.0 → put_line n f (l ∷ ls) ≡ (l.0, plus f l.1) ∷ ls
 put_same n f l ls e = rw (eq-eqb n l.0 e)
 
-put_below : (n : ℕ) (f : Energy) (l : Flowed) (ls : List Flowed) → n < l.0 → put_line n f (l ∷ ls) ≡ (n, f) ∷ l ∷ ls
+pub put_below : (n : ℕ) (f : Energy) (l : Flowed) (ls : List Flowed) → n < l.0 → put_line n f (l ∷ ls) ≡ (n, f) ∷ l ∷ ls
 put_below n f l ls h = rw (ne_eqb n l.0 (λ e. absurd (omega arith)), lt-ltb n l.0 h)
 
-put_above : (n : ℕ) (f : Energy) (l : Flowed) (ls : List Flowed) → l.0 < n → put_line n f (l ∷ ls) ≡ l ∷ put_line n f ls
+pub put_above : (n : ℕ) (f : Energy) (l : Flowed) (ls : List Flowed) → l.0 < n → put_line n f (l ∷ ls) ≡ l ∷ put_line n f ls
 put_above n f l ls h = rw (ne_eqb n l.0 (λ e. absurd (omega arith)), le-ltb n l.0 (omega arith))
 
 abbrev pub place : ℕ → List Flowed → ℕ
@@ -90,6 +90,58 @@ total_of_lines xs =
     let down = total-lines (λ e. e.down) (λ a b. refl) xs in
     λ i. record { up = up i; down = down i }
 
--- one number after the next from the back
-pub lines_more : (xs : List Flowed) (x : Flowed) (ys : List Flowed) → ys ≡ x ∷ xs → lines_of ys ≡ put_line x.0 x.1 (lines_of xs)
-lines_more xs x ys e = ap lines_of e
+-- one energy more of what is left fits
+pub next_fits : (left after all : List Flowed) (i : ℕ) (x : Flowed) → left ++ after ≡ all → IsStationFlow (lines_total all) → i < length left → x ≡ get_or left i x → HasRoom (lines_of after) x.1
+next_fits left after all i x parts fits within is =
+    let totals = total_of_lines after in
+    let one_up = get_or-le-sum_by (λ (l : Flowed). l.1.up) left i x within in
+    let one_down = get_or-le-sum_by (λ (l : Flowed). l.1.down) left i x within in
+    let up_is = ap (λ (l : Flowed). l.1.up) is in
+    let down_is = ap (λ (l : Flowed). l.1.down) is in
+    record {
+      up = omega (arith, ap (λ (e : Energy). e.up) totals, ap (sum_by (λ (l : Flowed). l.1.up)) parts, sum_by-append (λ (l : Flowed). l.1.up) left after, fits.up);
+      down = omega (arith, ap (λ (e : Energy). e.down) totals, ap (sum_by (λ (l : Flowed). l.1.down)) parts, sum_by-append (λ (l : Flowed). l.1.down) left after, fits.down);
+    }
+
+-- lines have the numbers that were put in
+abbrev Numbers : (ℕ → Type 0) → List Flowed → Type 0
+Numbers P [] = Unit {0}
+Numbers P (l ∷ ls) = P l.0 × Numbers P ls
+
+numbers-put : (P : ℕ → Type 0) (n : ℕ) (f : Energy) (ls : List Flowed) → P n → Numbers P ls → Numbers P (put_line n f ls)
+numbers-put P n f [] p h = (p, tt)
+numbers-put P n f (l ∷ ls) p h = ⊎_elim
+    (λ (e : n ≡ l.0). subst (Numbers P) (sym (put_same n f l ls e)) (h.0, h.1))
+    (λ (o : (n < l.0) ⊎ (l.0 < n)). ⊎_elim
+    (λ (below : n < l.0). subst (Numbers P) (sym (put_below n f l ls below)) (p, h))
+    (λ (above : l.0 < n). subst (Numbers P) (sym (put_above n f l ls above)) (h.0, numbers-put P n f ls p h.1))
+    o)
+    (cases_order n l.0)
+
+numbers-lines : (P : ℕ → Type 0) (xs : List Flowed) → Numbers P xs → Numbers P (lines_of xs)
+numbers-lines P [] h = tt
+numbers-lines P (x ∷ xs) h = numbers-put P x.0 x.1 (lines_of xs) h.0 (numbers-lines P xs h.1)
+
+numbers-from_all : (P : ℕ → Type 0) (xs : List Flowed) → All (λ x. P x.0) xs → Numbers P xs
+numbers-from_all P [] h = tt
+numbers-from_all P (x ∷ xs) h = (h 0 x (omega arith), numbers-from_all P xs (λ k d lt. h (suc k) d (omega arith)))
+
+all-cons : (P : ℕ → Type 0) (x : Flowed) (xs : List Flowed) → P x.0 → All (λ y. P y.0) xs → (k : ℕ) (d : Flowed) → k < length (x ∷ xs) → P (get_or (x ∷ xs) k d).0
+all-cons P x xs h rest zero d lt = h
+all-cons P x xs h rest (suc k) d lt = rest k d (omega arith)
+
+all-from_numbers : (P : ℕ → Type 0) (xs : List Flowed) → Numbers P xs → All (λ x. P x.0) xs
+all-from_numbers P [] h = λ k d lt. absurd (omega arith)
+all-from_numbers P (x ∷ xs) h = all-cons P x xs h.0 (all-from_numbers P xs h.1)
+
+pub all-lines : (P : ℕ → Type 0) (xs : List Flowed) → All (λ x. P x.0) xs → All (λ x. P x.0) (lines_of xs)
+all-lines P xs h = all-from_numbers P (lines_of xs) (numbers-lines P xs (numbers-from_all P xs h))
+
+-- each line has no more than all
+pub flows-lines : (xs : List Flowed) → IsStationFlow (lines_total xs) → All (λ l. IsStationFlow l.1) (lines_of xs)
+flows-lines xs fits = λ k d lt.
+    let totals = total_of_lines xs in
+    record {
+      up = omega (arith, get_or-le-sum_by (λ (l : Flowed). l.1.up) (lines_of xs) k d lt, ap (λ (e : Energy). e.up) totals, fits.up);
+      down = omega (arith, get_or-le-sum_by (λ (l : Flowed). l.1.down) (lines_of xs) k d lt, ap (λ (e : Energy). e.down) totals, fits.down);
+    }

@@ -13,25 +13,16 @@ use Rattle.ledger_model.specs.Energy.{Pair, difference, followed, pairs, pairs_o
 use Rattle.ledger_model.proofs.Callers.{sum_by-map}
 use Rattle.station_ledger.specs.declared.pair.PairFlow.{PairFlow}
 use Rattle.station_ledger.specs.Kept.{IsSmall}
+use Rattle.station_ledger.specs.Lines.{IsStationFlow}
 use Rattle.station_ledger.specs.Flows.{pairs_after, group_pairs, groups_of, Group, pair_flows, total}
 use Rattle.station_ledger.proofs.Pairs.{flat_map-map}
 
--- as many pairs as readings may be stored, each no more than a reading can show, add up within 64 bits
-pub sum_fits : (f : PairFlow → ℕ) (pairs : List PairFlow) → All (λ x. f x ≤ greatest_reading) pairs → length pairs ≤ most_readings → sum_by f pairs < 2 ^ 64
-sum_fits f pairs small few =
-    let most = sum_by-le f greatest_reading pairs small in
-    omega arith
-
--- the pairs add up within 64 bits
-pub record IsFitting (e : Energy) : Type 0 where
-  pub up : e.up < 2 ^ 64
-  pub down : e.down < 2 ^ 64
-
-pub total_fits : (pairs : List PairFlow) → All IsSmall pairs → length pairs ≤ most_readings → IsFitting (total pairs)
-total_fits pairs small few = record {
-  up = sum_fits (λ p. p.flow.up) pairs (λ k d h. (small k d h).up) few;
-  down = sum_fits (λ p. p.flow.down) pairs (λ k d h. (small k d h).down) few;
-}
+-- as many pairs as readings may be stored, each no more than a reading can show, add up to what all readings can
+pub total_fits : (pairs : List PairFlow) → All IsSmall pairs → length pairs ≤ most_readings → IsStationFlow (total pairs)
+total_fits pairs small few =
+    let up = sum_by-le (λ (p : PairFlow). p.flow.up) greatest_reading pairs (λ k d h. (small k d h).up) in
+    let down = sum_by-le (λ (p : PairFlow). p.flow.down) greatest_reading pairs (λ k d h. (small k d h).down) in
+    record { up = omega arith; down = omega arith }
 
 -- one pair more fits
 pub next_fits : (pairs : List PairFlow) (i : ℕ) (x : PairFlow) → All IsSmall pairs → length pairs ≤ most_readings → i < length pairs → x ≡ get_or pairs i x → CanPlus (total (take i pairs)) x.flow

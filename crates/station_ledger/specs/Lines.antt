@@ -1,6 +1,7 @@
-use Rattle.std.specs.Prelude.{ℕ, ◌+◌, ◌<◌, ◌^◌, ◌==◌, nat_lt, if◌then◌else◌, List, [], ◌∷◌, filter, map, sum_by}
+use Rattle.std.specs.Prelude.{ℕ, ◌+◌, ◌*◌, ◌<◌, ◌≤◌, ◌==◌, nat_lt, if◌then◌else◌, List, [], ◌∷◌, sum_by}
 use Rattle.energy_flow.specs.Flow.{Energy, plus}
 use Rattle.ledger_model.specs.Board.{Flowed}
+use Rattle.ledger_model.specs.Ranges.{greatest_reading, most_readings, sequence_end}
 
 -- Energy added to the line of a number among rising lines, which is put in its place where there is none.
 abbrev pub put_line : ℕ → Energy → List Flowed → List Flowed
@@ -18,7 +19,18 @@ lines_of (one ∷ rest) = put_line one.0 one.1 (lines_of rest)
 abbrev pub lines_total : List Flowed → Energy
 lines_total lines = record { up = sum_by (λ l. l.1.up) lines; down = sum_by (λ l. l.1.down) lines }
 
--- Lines and one energy more add up within 64 bits.
+-- Energy that the readings of one station can show.
+pub record IsStationFlow (flow : Energy) : Type 0 where
+  pub up : flow.up ≤ greatest_reading * most_readings
+  pub down : flow.down ≤ greatest_reading * most_readings
+
+-- Lines and one energy more add up to what the readings of one station can show.
 pub record HasRoom (lines : List Flowed) (flow : Energy) : Type 0 where
-  pub up : (lines_total lines).up + flow.up < 2 ^ 64
-  pub down : (lines_total lines).down + flow.down < 2 ^ 64
+  pub up : (lines_total lines).up + flow.up ≤ greatest_reading * most_readings
+  pub down : (lines_total lines).down + flow.down ≤ greatest_reading * most_readings
+
+-- What a board shows of a transaction is in range: its lowest and highest number, and its energy.
+pub record IsShown (first last : ℕ) (flow : Energy) : Type 0 where
+  pub first_number : first < sequence_end
+  pub last_number : last < sequence_end
+  pub flow_in_range : IsStationFlow flow

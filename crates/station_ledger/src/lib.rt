@@ -23,6 +23,8 @@
 //! ```
 #![tactic(auto)]
 
+mod board;
+mod counts;
 mod flows;
 mod ledger;
 mod lines;
@@ -32,6 +34,7 @@ mod rows;
 mod transaction;
 mod transactions;
 
+pub use board::{EvseLine, QuarterLine, StationBoard, TxLine};
 pub use ledger::StationLedger;
 
 #[cfg(test)]

@@ -1,20 +1,22 @@
-ghost use Rattle.std.specs.Prelude.{◌≡◌, ◌<◌, ◌≤◌, length, map, IfOk, IsTrue};
+ghost use Rattle.std.specs.Prelude.{◌≡◌, ◌<◌, length, map, IfOk};
 ghost use Rattle.ledger_model.specs.Board.{last_or_none};
 ghost use Rattle.ledger_model.specs.Complete.{goes_on_and_ends, starts_and_ends};
 ghost use Rattle.ledger_model.specs.Content.{live};
 ghost use Rattle.ledger_model.specs.Evse.{first_or_none};
 ghost use Rattle.ledger_model.specs.Gaps.{gaps, missing};
-ghost use Rattle.ledger_model.specs.Ranges.{greatest_evse, sequence_end};
+ghost use Rattle.ledger_model.specs.Ranges.{sequence_end};
 ghost use Rattle.std.specs.List.{filter_map};
-ghost use Rattle.station_ledger.specs.Groups.{group_numbers, group_evse, is_group_complete, group_energy};
+ghost use Rattle.station_ledger.specs.Groups.{group_numbers, group_evse, is_group_complete, group_energy, shown_group};
+ghost use Rattle.station_ledger.specs.Lines.{IsStationFlow};
 
+use crate::board::TxLine;
 use crate::flows::sum;
 use crate::pair::PairFlow;
 use crate::row::Row;
 use crate::rows::{from_first_live, live_rows};
 use energy_flow::Flow;
 use gap_list::{Gaps, NumberWalk, missing_count};
-use ledger_model::{EvseId, Kind, TxId};
+use ledger_model::{EvseId, Kind, Listed, TxId};
 use std::alloc::{AllocError, Global};
 use std::marker::Model;
 
@@ -150,7 +152,8 @@ impl<'a> LiveTransaction<'a> {
 
     // Its energy.
     pub(crate) fn flow(&self) -> Flow
-        ensures { result ≡ group_energy self.now }
+        ensures value { result ≡ group_energy self.now }
+        ensures range { IsStationFlow result }
     {
         sum(self.pairs)
     }
@@ -160,6 +163,23 @@ impl<'a> LiveTransaction<'a> {
         ensures { IfOk result (λ list. list.items ≡ gaps (group_numbers self.now)) }
     {
         Gaps::over(self).collect(alloc)
+    }
+
+    // What a board shows of it.
+    pub(crate) fn line(&self, alloc: Global) -> Result<TxLine, AllocError>
+        ensures { IfOk result (λ line. line ≡ shown_group self.now) }
+    {
+        Ok(TxLine {
+            tx: self.tx().copied(),
+            evse: self.evse(),
+            events: self.events() as u64,
+            first: self.first(),
+            last: self.last(),
+            complete: self.is_complete(),
+            missing: self.missing(),
+            flow: self.flow(),
+            gaps: Listed::of(self.gaps(alloc)?),
+        })
     }
 }
 

@@ -1,0 +1,9 @@
+use Rattle.std.proofs.Common.{arith}
+use Rattle.station_ledger.proofs.LineLemmas.{next_fits}
+use Rattle.station_ledger.proofs.lines.lines.Goals as goal
+
+-- the last of what is left fits
+pub add_to_line-requires : goal.add_to_line-requires
+add_to_line-requires c =
+    let k = c.loop-left.invariant in
+    rw k.1.1 (next_fits c.loop-left.left.now k.0 c.args.flowed.now _ c.last-item.result k.1.0 c.requires (omega (arith, c.in-len1-up.len_at_least)) c.last-item.is)
