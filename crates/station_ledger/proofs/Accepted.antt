@@ -1,28 +1,24 @@
 -- What an accepted command asks, and what it leaves.
-use Rattle.std.proofs.Common.{◌≡◌, ℕ, suc, ◌+◌, ◌<◌, ◌≤◌, Bool, true, false, nat_le, nat_lt, cond, List, length, map, Option, Some, None, is_some, refl, sym, ap, subst, ◌∙◌, arith}
+use Rattle.std.proofs.Common.{◌≡◌, ℕ, suc, ◌+◌, ◌<◌, ◌≤◌, nat_le, List, length, Some, None, sym, ap, subst, ◌∙◌, arith}
 use Rattle.std.specs.List.{All}
 use Rattle.std.specs.FinMap as finite
-use Rattle.std.specs.FinMap.{find, put}
-use Rattle.std.specs.FinMap.Entries.{length-put}
-use Rattle.std.proofs.lemmas.Bool.{leb-false, ltb-false}
+use Rattle.std.proofs.lemmas.Bool.{leb-false}
 use Rattle.ledger_model.specs.declared.answer.Answer.{Answer}
 use Rattle.ledger_model.specs.declared.answer.Answer.TheVariants.{Accepted}
 use Rattle.ledger_model.specs.declared.command.Command.{Command}
 use Rattle.ledger_model.specs.declared.command.Command.TheVariants.{Deliver, Void, Restore, Erase}
-use Rattle.ledger_model.specs.Event.{EventContent}
-use Rattle.ledger_model.specs.Key.{KeyName, key_cmp}
 use Rattle.ledger_model.specs.Limits.{Bounds}
 use Rattle.ledger_model.specs.Content.{Entry, Stored}
 use Rattle.ledger_model.specs.Admissible.{IsAdmissible}
 use Rattle.ledger_model.specs.Step.{answer, readings_stored, step, content_after, Reached}
 use Rattle.station_ledger.specs.Ledger.{content_of}
-use Rattle.ledger_model.specs.Entries.{IsRising, entries_marked_at, entries_after}
+use Rattle.ledger_model.specs.Entries.{IsRising, entries_after}
 use Rattle.station_ledger.specs.Ready.{IsReady}
 use Rattle.station_ledger.specs.declared.pair.PairFlow.{PairFlow}
 use Rattle.station_ledger.specs.Flows.{pair_flows}
 use Rattle.station_ledger.specs.Kept.{IsKept, IsSmall}
 use Rattle.ledger_model.specs.Laws.{IsAccepted}
-use Rattle.ledger_model.proofs.Callers.{key_total, room, found_voided, is_counted}
+use Rattle.ledger_model.proofs.Callers.{room, found_voided, is_counted}
 use Rattle.station_ledger.proofs.Views.{entries_of, get_of, map_after, rising_after, AreKept-entries}
 
 -- an answer that tells of a change

@@ -1,13 +1,12 @@
 -- Figures and energies of a station by its transactions.
-use Rattle.std.proofs.Common.{◌≡◌, ℕ, ◌+◌, ◌≤◌, ◌*◌, ◌==◌, Bool, true, false, cond, eqb, List, [], ◌∷◌, length, map, refl, sym, ap, ◌∙◌, arith}
+use Rattle.std.proofs.Common.{◌≡◌, ℕ, ◌+◌, ◌≤◌, ◌==◌, Bool, true, false, cond, eqb, List, [], ◌∷◌, length, map, refl, sym, ap, ◌∙◌, arith}
 use Rattle.std.specs.Prelude.{count_by, sum_by}
-use Rattle.std.specs.List.{filter, flat_map}
+use Rattle.std.specs.List.{filter}
 use Rattle.std.proofs.lemmas.List.{length-map}
 use Rattle.std.proofs.lemmas.List.Sums.{sum_by-cons}
 use Rattle.energy_flow.specs.Flow.{Energy, plus, CanPlus}
-use Rattle.ledger_model.specs.Ranges.{greatest_reading, most_readings}
 use Rattle.ledger_model.specs.Content.{Entry, live, live_of, transactions_of}
-use Rattle.ledger_model.specs.Energy.{difference, followed, pairs_of, energy}
+use Rattle.ledger_model.specs.Energy.{difference, pairs_of, energy}
 use Rattle.ledger_model.specs.Evse.{evse_of, energy_at}
 use Rattle.ledger_model.specs.Gaps.{missing}
 use Rattle.ledger_model.specs.Board.{figures}

@@ -1,5 +1,5 @@
 -- The first transaction of rising entries, and its pairs.
-use Rattle.std.proofs.Common.{◌≡◌, ◌≢◌, ℕ, suc, Bool, true, false, not, cond, List, [], ◌∷◌, ◌++◌, length, map, take, drop, Option, Some, None, inl, inr, refl, sym, ap, subst, ◌∙◌, arith, ⊎_elim}
+use Rattle.std.proofs.Common.{◌≡◌, ◌≢◌, ℕ, Bool, true, false, not, cond, List, [], ◌∷◌, ◌++◌, length, map, take, drop, Option, Some, None, refl, sym, ap, subst, ◌∙◌, arith, ⊎_elim}
 use Rattle.std.specs.List.{All, filter, flat_map, take_while, slice_get}
 use Rattle.std.specs.Str.{bytes_eq}
 use Rattle.std.proofs.lemmas.Bool.{true≢false}
@@ -14,10 +14,10 @@ use Rattle.ledger_model.specs.BoardLaws.{AreRising}
 use Rattle.ledger_model.specs.Entries.{IsRising}
 use Rattle.ledger_model.proofs.Callers.{second, rising_from_sorted}
 use Rattle.station_ledger.specs.declared.pair.PairFlow.{PairFlow}
-use Rattle.station_ledger.specs.Flows.{Group, groups_of, pair_at, pairs_after, group_pairs, pair_flows}
+use Rattle.station_ledger.specs.Flows.{Group, groups_of, pairs_after, group_pairs, pair_flows}
 use Rattle.station_ledger.specs.Kept.{IsSmall}
 use Rattle.station_ledger.specs.Groups.{first_tx, BeginLive, IsTransaction, AreTransactions}
-use Rattle.station_ledger.proofs.Grouped.{Absent, IsFirst, IsGrouped, ids, others, grouped, same_text, differ_back, distinct_again, distinct_absent, absent_distinct}
+use Rattle.station_ledger.proofs.Grouped.{Absent, IsGrouped, ids, others, grouped, same_text, differ_back, distinct_again, distinct_absent, absent_distinct}
 
 -- each element passes a test; each fails it; the first fails it
 abbrev pub Passes : {X : Type 0} → (X → Bool) → List X → Type 0

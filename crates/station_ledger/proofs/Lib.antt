@@ -12,3 +12,4 @@ pub mod Sums
 pub mod Accepted
 pub mod Figured
 pub mod RisingLines
+pub mod BoardLemmas

@@ -1,13 +1,11 @@
 -- Lines of numbers with their energies.
-use Rattle.std.proofs.Common.{◌≡◌, ℕ, zero, suc, ◌+◌, ◌<◌, ◌≤◌, ◌^◌, ◌==◌, nat_lt, Bool, true, false, cond, ◌⊎◌, inl, inr, List, [], ◌∷◌, ◌++◌, length, map, get_or, set, refl, sym, ap, subst, ◌∙◌, arith, eqb, ⊎_elim}
-use Rattle.std.specs.List.{All, filter, sum_by, take_while, insert}
+use Rattle.std.proofs.Common.{◌≡◌, ℕ, zero, suc, ◌+◌, ◌<◌, ◌≤◌, nat_lt, cond, ◌⊎◌, List, [], ◌∷◌, ◌++◌, length, get_or, set, refl, sym, ap, subst, ◌∙◌, arith, ⊎_elim}
+use Rattle.std.specs.List.{All, sum_by, take_while, insert}
 use Rattle.std.proofs.lemmas.Bool.{eq-eqb, ne_eqb, lt-ltb, le-ltb, cases_order, cases_lt}
 use Rattle.std.proofs.lemmas.List.{get_or_default}
 use Rattle.std.proofs.lemmas.List.Sums.{take_while-cons, sum_by-cons, sum_by-append, get_or-le-sum_by}
-use Rattle.energy_flow.specs.Flow.{Energy, plus, no_energy}
+use Rattle.energy_flow.specs.Flow.{Energy, plus}
 use Rattle.ledger_model.specs.Board.{Flowed}
-use Rattle.ledger_model.specs.Energy.{put_in, rising}
-use Rattle.ledger_model.specs.BoardLaws.{AreRising, IsIn}
 use Rattle.station_ledger.specs.Lines.{put_line, lines_of, lines_total, HasRoom, IsStationFlow}
 
 -- the three cases of a line

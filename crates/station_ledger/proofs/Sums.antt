@@ -1,9 +1,8 @@
 -- Sums over pairs.
-use Rattle.std.proofs.Common.{◌≡◌, ℕ, ◌+◌, ◌*◌, ◌<◌, ◌≤◌, ◌^◌, List, [], ◌∷◌, ◌++◌, length, map, get_or, take, Option, Some, None, refl, sym, ap, ◌∙◌, arith}
-use Rattle.std.specs.List.{sum_by, All, flat_map, filter, zip}
-use Rattle.std.specs.Str.{bytes_eq}
+use Rattle.std.proofs.Common.{◌≡◌, ℕ, ◌<◌, ◌≤◌, List, [], ◌∷◌, ◌++◌, length, map, get_or, take, Some, None, refl, sym, ap, ◌∙◌, arith}
+use Rattle.std.specs.List.{sum_by, All, flat_map, zip}
 use Rattle.std.proofs.lemmas.List.{map-append}
-use Rattle.std.proofs.lemmas.List.Sums.{sum_by-cons, sum_by-le, sum_by_more_le}
+use Rattle.std.proofs.lemmas.List.Sums.{sum_by-le, sum_by_more_le}
 use Rattle.energy_flow.specs.Flow.{Energy, CanPlus}
 use Rattle.ledger_model.specs.Ranges.{greatest_reading, most_readings}
 use Rattle.ledger_model.specs.Event.{MeterReading}
@@ -13,8 +12,9 @@ use Rattle.ledger_model.specs.Energy.{Pair, difference, followed, pairs, pairs_o
 use Rattle.ledger_model.proofs.Callers.{sum_by-map}
 use Rattle.station_ledger.specs.declared.pair.PairFlow.{PairFlow}
 use Rattle.station_ledger.specs.Kept.{IsSmall}
-use Rattle.station_ledger.specs.Lines.{IsStationFlow}
-use Rattle.station_ledger.specs.Flows.{pairs_after, group_pairs, groups_of, Group, pair_flows, total}
+use Rattle.ledger_model.specs.Board.{Flowed}
+use Rattle.station_ledger.specs.Lines.{IsStationFlow, lines_total}
+use Rattle.station_ledger.specs.Flows.{pairs_after, group_pairs, Group, pair_flows, total}
 use Rattle.station_ledger.proofs.Pairs.{flat_map-map}
 
 -- as many pairs as readings may be stored, each no more than a reading can show, add up to what all readings can
@@ -75,3 +75,10 @@ total_of_pairs es = total_bare (pair_flows es) (pairs es) (bare_pairs es)
 -- the energy of one transaction
 pub total_of_group : (g : Group) → total (group_pairs g) ≡ energy_over (followed (flat_map (λ e. e.1.event.readings) g.1))
 total_of_group g = let rs = flat_map (λ e. e.1.event.readings) g.1 in total_bare (group_pairs g) (followed rs) (bare_followed g.0 rs)
+
+-- pairs as lines add up to the same
+pub total_of_bare : (pairs : List PairFlow) → lines_total (map bare pairs) ≡ total pairs
+total_of_bare pairs =
+    let up = sum_by-map (λ (l : Flowed). l.1.up) bare pairs in
+    let down = sum_by-map (λ (l : Flowed). l.1.down) bare pairs in
+    λ i. record { up = up i; down = down i }

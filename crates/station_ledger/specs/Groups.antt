@@ -1,4 +1,4 @@
-use Rattle.std.specs.Prelude.{◌≡◌, ◌≢◌, ℕ, ◌≤◌, ◌&&◌, ◌==◌, false, Bool, List, [], ◌∷◌, Option, None, Some, map, filter, length, sum_by}
+use Rattle.std.specs.Prelude.{◌≡◌, ◌≢◌, ℕ, ◌≤◌, ◌&&◌, ◌==◌, false, Bool, List, [], ◌∷◌, Option, None, Some, map, length}
 use Rattle.std.specs.List.{All, flat_map, filter_map}
 use Rattle.energy_flow.specs.Flow.{Energy}
 use Rattle.ledger_model.specs.Ranges.{most_readings}
@@ -11,7 +11,7 @@ use Rattle.ledger_model.specs.Board.{Shown, last_or_none}
 use Rattle.ledger_model.specs.BoardLaws.{AreRising}
 use Rattle.ledger_model.specs.Entries.{IsRising}
 use Rattle.station_ledger.specs.declared.pair.PairFlow.{PairFlow}
-use Rattle.station_ledger.specs.Flows.{Group, groups_of, group_pairs, pair_flows}
+use Rattle.station_ledger.specs.Flows.{Group, group_pairs, pair_flows}
 use Rattle.station_ledger.specs.Kept.{IsSmall}
 
 -- The numbers of a transaction's live events, rising.

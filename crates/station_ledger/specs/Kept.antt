@@ -1,6 +1,5 @@
 use Rattle.std.specs.Prelude.{◌≡◌, ℕ, ◌≤◌, List, length}
 use Rattle.std.specs.List.{All}
-use Rattle.energy_flow.specs.Flow.{Energy}
 use Rattle.ledger_model.specs.Ranges.{greatest_reading, most_events, most_readings}
 use Rattle.ledger_model.specs.Limits.{Bounds}
 use Rattle.ledger_model.specs.Content.{Entry}

@@ -12,12 +12,11 @@ ghost use Rattle.station_ledger.specs.New.{answer_to_new, is_transaction_too_man
 ghost use Rattle.station_ledger.specs.Spent.{IsSpent};
 
 use crate::board::StationBoard;
-use crate::counts;
 use crate::flows::{evaluate, sum};
 use crate::lines::{evse_lines, quarter_lines, transaction_lines};
 use crate::pair::PairFlow;
 use crate::row::Row;
-use crate::rows;
+use crate::{counts, rows};
 use energy_flow::{Flow, Work};
 use ledger_model::{Answer, Command, Event, EvseId, Figures, Key, Limits, Listed, Refusal, TxId};
 use std::alloc::{AllocError, Global};

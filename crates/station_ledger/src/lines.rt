@@ -76,10 +76,7 @@ fn evse_flows(alloc: Global, lines: &[TxLine]) -> Result<Vec<(u32, Flow)>, Alloc
 }
 
 // Lines of numbers that are all quarters, as lines of quarters.
-fn typed_quarters(
-    alloc: Global,
-    found: &[(u32, Flow)],
-) -> Result<Vec<QuarterLine>, AllocError>
+fn typed_quarters(alloc: Global, found: &[(u32, Flow)]) -> Result<Vec<QuarterLine>, AllocError>
     requires quarters { All (λ line. IsQuarter line.0) found.now }
     requires flows { All (λ line. IsStationFlow line.1) found.now }
     ensures { IfOk result (λ lines. lines.items ≡ found.now) }

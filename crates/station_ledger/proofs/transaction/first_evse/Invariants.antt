@@ -1,7 +1,6 @@
 use Rattle.std.proofs.Common.{◌≡◌, length}
 use Rattle.std.specs.List.{filter_map}
 use Rattle.ledger_model.specs.Content.{live}
-use Rattle.ledger_model.specs.Evse.{first_or_none}
 use Rattle.station_ledger.proofs.transaction.first_evse.Given as goal
 
 -- the rows that were passed name none

@@ -1,4 +1,4 @@
-use Rattle.std.proofs.Common.{◌≡◌, List, map, sym, ap, ◌∙◌, arith}
+use Rattle.std.proofs.Common.{◌≡◌, List, sym, ap, ◌∙◌, arith}
 use Rattle.ledger_model.specs.Content.{Entry}
 use Rattle.station_ledger.specs.Flows.{pair_flows}
 use Rattle.ledger_model.specs.Step.{answer, content_after, readings_stored}

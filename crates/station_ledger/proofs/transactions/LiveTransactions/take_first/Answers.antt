@@ -1,5 +1,4 @@
 use Rattle.std.proofs.Common.{ap, sym, ◌∙◌}
-use Rattle.ledger_model.specs.Content.{Entry, live}
 use Rattle.station_ledger.specs.Flows.{groups_of}
 use Rattle.station_ledger.proofs.Groups.{first_group, pairs_of_live}
 use Rattle.station_ledger.proofs.transactions.LiveTransactions.take_first.Goals as goal
