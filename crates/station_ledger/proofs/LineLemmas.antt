@@ -143,3 +143,8 @@ flows-lines xs fits = λ k d lt.
       up = omega (arith, get_or-le-sum_by (λ (l : Flowed). l.1.up) (lines_of xs) k d lt, ap (λ (e : Energy). e.up) totals, fits.up);
       down = omega (arith, get_or-le-sum_by (λ (l : Flowed). l.1.down) (lines_of xs) k d lt, ap (λ (e : Energy). e.down) totals, fits.down);
     }
+
+-- where nothing is left, what came after it is all
+pub nothing_left : (left after all : List Flowed) → length left < 1 → left ++ after ≡ all → after ≡ all
+nothing_left [] after all few e = e
+nothing_left (l ∷ left) after all few e = absurd (omega arith)

@@ -1,4 +1,4 @@
-use Rattle.std.specs.Prelude.{ℕ, ◌+◌, ◌*◌, ◌<◌, ◌≤◌, ◌==◌, nat_lt, if◌then◌else◌, List, [], ◌∷◌, sum_by}
+use Rattle.std.specs.Prelude.{ℕ, ◌+◌, ◌*◌, ◌<◌, ◌≤◌, ◌==◌, nat_lt, if◌then◌else◌, List, [], ◌∷◌, All, sum_by}
 use Rattle.energy_flow.specs.Flow.{Energy, plus}
 use Rattle.ledger_model.specs.Board.{Flowed}
 use Rattle.ledger_model.specs.Ranges.{greatest_reading, most_readings, sequence_end}
@@ -34,3 +34,8 @@ pub record IsShown (first last : ℕ) (flow : Energy) : Type 0 where
   pub first_number : first < sequence_end
   pub last_number : last < sequence_end
   pub flow_in_range : IsStationFlow flow
+
+-- No line has more energy than the readings of one station can show.
+pub record AreStationLines (evses quarters : List Flowed) : Type 0 where
+  pub evse_flows : All (λ line. IsStationFlow line.1) evses
+  pub quarter_flows : All (λ line. IsStationFlow line.1) quarters

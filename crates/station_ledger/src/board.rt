@@ -1,4 +1,4 @@
-ghost use Rattle.std.specs.Prelude.{◌≡◌, ◌<◌};
+ghost use Rattle.std.specs.Prelude.{◌≡◌, ◌<◌, All};
 ghost use Rattle.ledger_model.specs.Ranges.{sequence_end};
 ghost use Rattle.station_ledger.specs.Lines.{IsStationFlow};
 
@@ -9,24 +9,29 @@ use std::marker::Model;
 /// An EVSE of a station, 0 where none was named, with the energy of its transactions.
 #[derive(Clone, Copy, Debug, PartialEq, Eq)]
 pub struct EvseLine {
-    pub(crate) evse: EvseId,
-    pub(crate) flow: Flow,
+    evse: EvseId,
+    flow: Flow,
 }
 
 impl Model for EvseLine {
     ghost use Rattle.ledger_model.specs.Board.{Flowed};
-    ghost use Rattle.station_ledger.specs.Lines.{IsStationFlow};
 
     ghost Value = { Flowed };
 
     ghost view = { λ l. (l.evse, l.flow) };
 
-    ghost invariant = { λ l. IsStationFlow l.flow };
-
     ghost inverse = { λ f. record { evse = f.0; flow = f.1 } };
 }
 
 impl EvseLine {
+    /// The line of this EVSE and this energy.
+    pub fn new(evse: EvseId, flow: Flow) -> Self
+        ensures evse { result.0 ≡ evse }
+        ensures flow { result.1 ≡ flow }
+    {
+        EvseLine { evse, flow }
+    }
+
     /// The EVSE.
     pub fn evse(self) -> EvseId
         ensures { result ≡ self.0 }
@@ -36,8 +41,7 @@ impl EvseLine {
 
     /// Its energy, in milliwatt-hours.
     pub fn flow(self) -> Flow
-        ensures value { result ≡ self.1 }
-        ensures range { IsStationFlow result }
+        ensures { result ≡ self.1 }
     {
         self.flow
     }
@@ -46,24 +50,29 @@ impl EvseLine {
 /// A quarter of a station that has a pair of readings, with its energy.
 #[derive(Clone, Copy, Debug, PartialEq, Eq)]
 pub struct QuarterLine {
-    pub(crate) quarter: Quarter,
-    pub(crate) flow: Flow,
+    quarter: Quarter,
+    flow: Flow,
 }
 
 impl Model for QuarterLine {
     ghost use Rattle.ledger_model.specs.Board.{Flowed};
-    ghost use Rattle.station_ledger.specs.Lines.{IsStationFlow};
 
     ghost Value = { Flowed };
 
     ghost view = { λ l. (l.quarter, l.flow) };
 
-    ghost invariant = { λ l. IsStationFlow l.flow };
-
     ghost inverse = { λ f. record { quarter = f.0; flow = f.1 } };
 }
 
 impl QuarterLine {
+    /// The line of this quarter and this energy.
+    pub fn new(quarter: Quarter, flow: Flow) -> Self
+        ensures quarter { result.0 ≡ quarter }
+        ensures flow { result.1 ≡ flow }
+    {
+        QuarterLine { quarter, flow }
+    }
+
     /// The quarter.
     pub fn quarter(self) -> Quarter
         ensures { result ≡ self.0 }
@@ -73,8 +82,7 @@ impl QuarterLine {
 
     /// Its energy, in milliwatt-hours.
     pub fn flow(self) -> Flow
-        ensures value { result ≡ self.1 }
-        ensures range { IsStationFlow result }
+        ensures { result ≡ self.1 }
     {
         self.flow
     }
@@ -186,10 +194,13 @@ pub struct StationBoard {
 
 impl Model for StationBoard {
     ghost use Rattle.ledger_model.specs.Board.{Board};
+    ghost use Rattle.station_ledger.specs.Lines.{AreStationLines};
 
     ghost Value = { Board };
 
     ghost view = { λ b. record { figures = b.figures; evses = b.evses; quarters = b.quarters; transactions = b.transactions } };
+
+    ghost invariant = { λ b. AreStationLines b.evses b.quarters };
 }
 
 impl StationBoard {
@@ -200,16 +211,20 @@ impl StationBoard {
         self.figures
     }
 
-    /// The EVSEs that have a transaction with a live event, rising.
+    /// The EVSEs that have a transaction with a live event, rising. None has more energy than the
+    /// readings of one station can show.
     pub fn evses(&self) -> &[EvseLine]
-        ensures { result.now ≡ self.now.evses }
+        ensures value { result.now ≡ self.now.evses }
+        ensures range { All (λ line. IsStationFlow line.1) result.now }
     {
         self.evses.as_slice()
     }
 
-    /// The quarters that have a pair of readings, rising.
+    /// The quarters that have a pair of readings, rising. None has more energy than the readings of
+    /// one station can show.
     pub fn quarters(&self) -> &[QuarterLine]
-        ensures { result.now ≡ self.now.quarters }
+        ensures value { result.now ≡ self.now.quarters }
+        ensures range { All (λ line. IsStationFlow line.1) result.now }
     {
         self.quarters.as_slice()
     }

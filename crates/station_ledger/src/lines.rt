@@ -40,7 +40,8 @@ fn add_to_line(lines: &mut Vec<(u32, Flow)>, number: u32, flow: Flow) -> Result<
 // The lines of numbers with their energies: each number once, rising, with the sum of its energies.
 pub(crate) fn lines(alloc: Global, flowed: &[(u32, Flow)]) -> Result<Vec<(u32, Flow)>, AllocError>
     requires { IsStationFlow (lines_total flowed.now) }
-    ensures { IfOk result (λ lines. lines.items ≡ lines_of flowed.now) }
+    ensures lines { IfOk result (λ lines. lines.items ≡ lines_of flowed.now) }
+    ensures flows { IfOk result (λ lines. All (λ line. IsStationFlow line.1) lines.items) }
 {
     let mut lines = Vec::new(alloc);
     let mut left = flowed;
@@ -77,30 +78,26 @@ fn evse_flows(alloc: Global, lines: &[TxLine]) -> Result<Vec<(u32, Flow)>, Alloc
 
 // Lines of numbers that are all quarters, as lines of quarters.
 fn typed_quarters(alloc: Global, found: &[(u32, Flow)]) -> Result<Vec<QuarterLine>, AllocError>
-    requires quarters { All (λ line. IsQuarter line.0) found.now }
-    requires flows { All (λ line. IsStationFlow line.1) found.now }
+    requires { All (λ line. IsQuarter line.0) found.now }
     ensures { IfOk result (λ lines. lines.items ≡ found.now) }
 {
     let mut lines = Vec::new(alloc);
     for line in found {
         let quarter = Quarter::new(line.0).unwrap();
-        let flow = line.1;
-        lines.push(QuarterLine { quarter, flow })?;
+        lines.push(QuarterLine::new(quarter, line.1))?;
     }
     Ok(lines)
 }
 
 // Lines of numbers that are all EVSEs, as lines of EVSEs.
 fn typed_evses(alloc: Global, found: &[(u32, Flow)]) -> Result<Vec<EvseLine>, AllocError>
-    requires evses { All (λ line. line.0 ≤ greatest_evse) found.now }
-    requires flows { All (λ line. IsStationFlow line.1) found.now }
+    requires { All (λ line. line.0 ≤ greatest_evse) found.now }
     ensures { IfOk result (λ lines. lines.items ≡ found.now) }
 {
     let mut lines = Vec::new(alloc);
     for line in found {
         let evse = EvseId::new(line.0 as u8).unwrap();
-        let flow = line.1;
-        lines.push(EvseLine { evse, flow })?;
+        lines.push(EvseLine::new(evse, line.1))?;
     }
     Ok(lines)
 }
@@ -111,7 +108,8 @@ pub(crate) fn quarter_lines(
     pairs: &[PairFlow],
 ) -> Result<Vec<QuarterLine>, AllocError>
     requires { IsStationFlow (total pairs.now) }
-    ensures { IfOk result (λ lines. lines.items ≡ lines_of (map (λ p. (p.quarter, p.flow)) pairs.now)) }
+    ensures lines { IfOk result (λ lines. lines.items ≡ lines_of (map (λ p. (p.quarter, p.flow)) pairs.now)) }
+    ensures flows { IfOk result (λ lines. All (λ line. IsStationFlow line.1) lines.items) }
 {
     let flows = quarter_flows(alloc, pairs)?;
     let found = lines(alloc, &flows)?;
@@ -124,7 +122,8 @@ pub(crate) fn evse_lines(
     transactions: &[TxLine],
 ) -> Result<Vec<EvseLine>, AllocError>
     requires { IsStationFlow (lines_total (map (λ line. (line.evse, line.flow)) transactions.now)) }
-    ensures { IfOk result (λ lines. lines.items ≡ lines_of (map (λ line. (line.evse, line.flow)) transactions.now)) }
+    ensures lines { IfOk result (λ lines. lines.items ≡ lines_of (map (λ line. (line.evse, line.flow)) transactions.now)) }
+    ensures flows { IfOk result (λ lines. All (λ line. IsStationFlow line.1) lines.items) }
 {
     let flows = evse_flows(alloc, transactions)?;
     let found = lines(alloc, &flows)?;

@@ -3,14 +3,9 @@ use Rattle.std.specs.List.{All}
 use Rattle.ledger_model.specs.Quarter.{IsQuarter}
 use Rattle.station_ledger.specs.Lines.{lines_of, lines_total, IsStationFlow}
 use Rattle.station_ledger.proofs.Sums.{total_of_bare}
-use Rattle.station_ledger.proofs.LineLemmas.{all-lines, flows-lines}
+use Rattle.station_ledger.proofs.LineLemmas.{all-lines}
 use Rattle.station_ledger.proofs.lines.quarter_lines.Goals as goal
 
-pub typed_quarters-requires-clause-quarters : goal.typed_quarters-requires-clause-quarters
-typed_quarters-requires-clause-quarters c =
-    subst (All (λ line. IsQuarter line.0)) (sym (c.deref-2.ensures.value ∙ c.in_ok-found.ensures ∙ ap lines_of c.deref.ensures.value)) (all-lines IsQuarter c.in_ok-flows.flows.items c.in_ok-flows.ensures.quarters)
-
-pub typed_quarters-requires-clause-flows : goal.typed_quarters-requires-clause-flows
-typed_quarters-requires-clause-flows c =
-    let fits = subst IsStationFlow (sym (ap lines_total c.in_ok-flows.ensures.flows ∙ total_of_bare c.args.pairs.now)) c.requires in
-    subst (All (λ line. IsStationFlow line.1)) (sym (c.deref-2.ensures.value ∙ c.in_ok-found.ensures ∙ ap lines_of c.deref.ensures.value)) (flows-lines c.in_ok-flows.flows.items fits)
+pub typed_quarters-requires : goal.typed_quarters-requires
+typed_quarters-requires c =
+    subst (All (λ line. IsQuarter line.0)) (sym (c.deref-2.ensures.value ∙ c.in_ok-found.ensures.lines ∙ ap lines_of c.deref.ensures.value)) (all-lines IsQuarter c.in_ok-flows.flows.items c.in_ok-flows.ensures.quarters)

@@ -34,8 +34,8 @@ returns-clause-board c =
     let listed = entries_seen _ _ _ _ c.self.view_is kept.rising in
     let told = c.in_ok-transactions.ensures ∙ ap (λ (fs : List Entry). map shown_group (groups_of (live fs))) c.deref.ensures.value in
     let figured = c.figures.ensures.value ∙ ap figures listed in
-    let evses = c.of.ensures ∙ c.in_ok-evses.ensures ∙ ap (λ ls. lines_of (map by_evse ls)) (c.deref-3.ensures.value ∙ told) ∙ shown_evses es in
-    let quarters = c.of-2.ensures ∙ c.in_ok-quarters.ensures ∙ ap (λ ps. lines_of (map bare ps)) (c.deref-4.ensures.value ∙ kept.pairs_are) ∙ shown_quarters es in
+    let evses = c.of.ensures ∙ c.in_ok-evses.ensures.lines ∙ ap (λ ls. lines_of (map by_evse ls)) (c.deref-3.ensures.value ∙ told) ∙ shown_evses es in
+    let quarters = c.of-2.ensures ∙ c.in_ok-quarters.ensures.lines ∙ ap (λ ps. lines_of (map bare ps)) (c.deref-4.ensures.value ∙ kept.pairs_are) ∙ shown_quarters es in
     let transactions = c.of-3.ensures ∙ told ∙ shown_transactions es in
     (λ i. record { figures = figured i; evses = evses i; quarters = quarters i; transactions = transactions i })
     ∙ ap (board quarter_seconds) (sym listed)
