@@ -1,8 +1,7 @@
 use Rattle.std.proofs.Common.{ap, sym, subst, ◌∙◌}
 use Rattle.std.specs.List.{All}
 use Rattle.ledger_model.specs.Quarter.{IsQuarter}
-use Rattle.station_ledger.specs.Lines.{lines_of, lines_total, IsStationFlow}
-use Rattle.station_ledger.proofs.Sums.{total_of_bare}
+use Rattle.station_ledger.specs.Lines.{lines_of}
 use Rattle.station_ledger.proofs.LineLemmas.{all-lines}
 use Rattle.station_ledger.proofs.lines.quarter_lines.Goals as goal
 
