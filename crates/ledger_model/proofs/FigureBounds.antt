@@ -4,8 +4,8 @@ use Rattle.std.specs.Prelude.{sum_by, count_by}
 use Rattle.std.specs.List.{All, filter, flat_map}
 use Rattle.std.specs.FinMap.{entries_sorted}
 use Rattle.std.proofs.Math.Nat.{mul-le-mul_left}
-use Rattle.std.proofs.lemmas.List.{length-append}
-use Rattle.std.proofs.lemmas.List.Sums.{sum_by-cons, sum_by-le-sum_by, count_by-le-length}
+use Rattle.std.proofs.lemmas.List.{length-append, length-map}
+use Rattle.std.proofs.lemmas.List.Sums.{sum_by-cons, sum_by-le-sum_by, count_by-le-length, length-filter}
 use Rattle.std.proofs.lemmas.Slice.Eq.{bytes_eq-Decides}
 use Rattle.ledger_model.specs.Ranges.{greatest_reading, sequence_end}
 use Rattle.ledger_model.specs.Event.{MeterReading, IsMeterReading}
@@ -16,6 +16,7 @@ use Rattle.ledger_model.specs.Gaps.{numbers_of, missing}
 use Rattle.ledger_model.specs.Complete.{is_complete}
 use Rattle.ledger_model.specs.Board.{figures, last_or_none}
 use Rattle.ledger_model.specs.BoardLaws.{AreRising}
+use Rattle.ledger_model.specs.Entries.{IsRising}
 use Rattle.ledger_model.specs.Figures.{AreWithin}
 use Rattle.ledger_model.specs.Step.{Reached, readings_stored}
 use Rattle.ledger_model.proofs.GapLemmas.{missing-fills}
@@ -201,9 +202,30 @@ parted_step : (b : Bool) (e : Entry) (ls : List Entry) (n m : ℕ) → length ls
 parted_step true e ls n m h = omega arith
 parted_step false e ls n m h = omega arith
 
-parted : (es : List Entry) → length (live es) + count_by (λ e. e.1.voided) es ≡ length es
-parted [] = refl
-parted (e ∷ es) = ap (λ k. length (live (e ∷ es)) + k) (sum_by-cons (λ f. cond f.1.voided 1 0) e es) ∙ parted_step e.1.voided e (live es) _ _ (parted es)
+pub live_and_voided : (es : List Entry) → length (live es) + count_by (λ e. e.1.voided) es ≡ length es
+live_and_voided [] = refl
+live_and_voided (e ∷ es) = ap (λ k. length (live (e ∷ es)) + k) (sum_by-cons (λ f. cond f.1.voided 1 0) e es) ∙ parted_step e.1.voided e (live es) _ _ (live_and_voided es)
+
+-- what the transactions miss, each no more than there are sequence numbers
+few_missing : (es : List Entry) → IsRising es → AreEntries es → (figures es).missing ≤ sequence_end * length (transactions_of (live es))
+few_missing es rising range =
+    let ts = transactions_of (live es) in
+    let bound = sum_by-le-sum_by (λ t. missing (numbers_of t es)) (λ t. sequence_end) ts (λ t. missing_of_one t es (rising_from_sorted t es rising) range) in
+    omega (arith, bound, sum_by_const sequence_end ts)
+
+fewer_texts : (xs : List (List ℕ)) → length (distinct xs) ≤ length xs
+fewer_texts [] = omega arith
+fewer_texts (x ∷ xs) =
+    let p : List ℕ → Bool = λ y. not (bytes_eq x y) in
+    omega (arith, fewer_texts xs, length-filter p (distinct xs), count_by-le-length p (distinct xs))
+
+-- no more transactions than entries
+pub transactions_by_entries : (es : List Entry) → length (transactions_of (live es)) ≤ length es
+transactions_by_entries es = omega (arith, transactions-filter (λ e. not e.1.voided) es, fewer_texts (ids es), length-map es (λ (e : Entry). e.0.tx))
+
+pub missing_by_entries : (es : List Entry) → IsRising es → AreEntries es → (figures es).missing ≤ sequence_end * length es
+missing_by_entries es rising range =
+    omega (arith, few_missing es rising range, mul-le-mul_left sequence_end (transactions_by_entries es))
 
 -- the figures of a reached content are such as its limits allow
 pub figures_within : (limits : Bounds) (n : ℕ) (c : Content) → Reached limits n c → AreWithin limits (figures (entries c))
@@ -212,13 +234,11 @@ figures_within limits n c reached =
     let kept = AreKept-reached limits n c reached in
     let ts = transactions_of (live es) in
     let few : length ts ≤ limits.transactions = omega (arith, transactions-filter (λ e. not e.1.voided) es, kept.transactions) in
-    let one : (t : List ℕ) → missing (numbers_of t es) ≤ sequence_end = λ t. missing_of_one t es (rising_from_sorted t es (entries_sorted c.events)) kept.in_range in
-    let gaps_bound = sum_by-le-sum_by (λ t. missing (numbers_of t es)) (λ t. sequence_end) ts one in
     record {
-      events = omega (arith, parted es, kept.events);
+      events = omega (arith, live_and_voided es, kept.events);
       transactions = few;
       complete = omega (arith, count_by-le-length (λ t. is_complete t es) ts);
-      missing = omega (arith, gaps_bound, sum_by_const sequence_end ts, mul-le-mul_left sequence_end few);
+      missing = omega (arith, few_missing es (entries_sorted c.events) kept.in_range, mul-le-mul_left sequence_end few);
       up = omega (arith, energy_bound (λ p. (difference p).up) es rises kept.in_range, mul-le-mul_left greatest_reading kept.readings);
       down = omega (arith, energy_bound (λ p. (difference p).down) es falls kept.in_range, mul-le-mul_left greatest_reading kept.readings);
     }

@@ -86,13 +86,13 @@ sum_by_keys f key ks (x ∷ xs) once =
     one_times n = omega arith
 
 -- what put_in does, by where the number stands
-put_in-same : (n m : ℕ) (ms : List ℕ) → n ≡ m → put_in n (m ∷ ms) ≡ m ∷ ms
+pub put_in-same : (n m : ℕ) (ms : List ℕ) → n ≡ m → put_in n (m ∷ ms) ≡ m ∷ ms
 put_in-same n m ms e = rw (eq-eqb n m e)
 
-put_in-below : (n m : ℕ) (ms : List ℕ) → n < m → put_in n (m ∷ ms) ≡ n ∷ m ∷ ms
+pub put_in-below : (n m : ℕ) (ms : List ℕ) → n < m → put_in n (m ∷ ms) ≡ n ∷ m ∷ ms
 put_in-below n m ms less = rw (ne_eqb n m (λ e. absurd (omega arith)), lt-ltb n m less)
 
-put_in-above : (n m : ℕ) (ms : List ℕ) → m < n → put_in n (m ∷ ms) ≡ m ∷ put_in n ms
+pub put_in-above : (n m : ℕ) (ms : List ℕ) → m < n → put_in n (m ∷ ms) ≡ m ∷ put_in n ms
 put_in-above n m ms less = rw (ne_eqb n m (λ e. absurd (omega arith)), le-ltb n m (omega arith))
 
 -- put_in keeps a list rising
@@ -196,7 +196,7 @@ rising-IsIn n (m ∷ ns) = (
 )
 
 -- elements of a key, or none and no sum
-key_or_none : {X : Type 0} (f key : X → ℕ) (k : ℕ) (xs : List X) → IsIn k (map key xs) ⊎ (sum_by f (filter (λ x. eqb (key x) k) xs) ≡ 0)
+pub key_or_none : {X : Type 0} (f key : X → ℕ) (k : ℕ) (xs : List X) → IsIn k (map key xs) ⊎ (sum_by f (filter (λ x. eqb (key x) k) xs) ≡ 0)
 key_or_none f key k [] = inr refl
 key_or_none f key k (x ∷ xs) = ⊎_elim {C = IsIn k (map key (x ∷ xs)) ⊎ (sum_by f (filter (λ y. eqb (key y) k) (x ∷ xs)) ≡ 0)}
     (λ (e : k ≡ key x). inl (inl e))

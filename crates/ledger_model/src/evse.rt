@@ -39,6 +39,13 @@ impl EvseId {
         }
     }
 
+    /// What stands for no EVSE: number 0.
+    pub fn unnamed() -> Self
+        ensures { result ≡ 0 }
+    {
+        EvseId { number: 0 }
+    }
+
     /// The number, 0 to 64.
     pub fn number(self) -> u8
         ensures value { result ≡ self }

@@ -1,28 +1,24 @@
 -- What an accepted command asks, and what it leaves.
-use Rattle.std.proofs.Common.{◌≡◌, ℕ, suc, ◌+◌, ◌<◌, ◌≤◌, Bool, true, false, nat_le, nat_lt, cond, List, length, map, Option, Some, None, is_some, refl, sym, ap, subst, ◌∙◌, arith}
+use Rattle.std.proofs.Common.{◌≡◌, ℕ, suc, ◌+◌, ◌<◌, ◌≤◌, nat_le, List, length, Some, None, sym, ap, subst, ◌∙◌, arith}
 use Rattle.std.specs.List.{All}
 use Rattle.std.specs.FinMap as finite
-use Rattle.std.specs.FinMap.{find, put}
-use Rattle.std.specs.FinMap.Entries.{length-put}
-use Rattle.std.proofs.lemmas.Bool.{leb-false, ltb-false}
-use Rattle.energy_flow.specs.Flow.{Energy}
+use Rattle.std.proofs.lemmas.Bool.{leb-false}
 use Rattle.ledger_model.specs.declared.answer.Answer.{Answer}
 use Rattle.ledger_model.specs.declared.answer.Answer.TheVariants.{Accepted}
 use Rattle.ledger_model.specs.declared.command.Command.{Command}
 use Rattle.ledger_model.specs.declared.command.Command.TheVariants.{Deliver, Void, Restore, Erase}
-use Rattle.ledger_model.specs.Event.{EventContent}
-use Rattle.ledger_model.specs.Key.{KeyName, key_cmp}
 use Rattle.ledger_model.specs.Limits.{Bounds}
 use Rattle.ledger_model.specs.Content.{Entry, Stored}
-use Rattle.ledger_model.specs.Energy.{difference, pairs}
 use Rattle.ledger_model.specs.Admissible.{IsAdmissible}
 use Rattle.ledger_model.specs.Step.{answer, readings_stored, step, content_after, Reached}
 use Rattle.station_ledger.specs.Ledger.{content_of}
-use Rattle.ledger_model.specs.Entries.{IsRising, entries_marked_at, entries_after}
+use Rattle.ledger_model.specs.Entries.{IsRising, entries_after}
 use Rattle.station_ledger.specs.Ready.{IsReady}
+use Rattle.station_ledger.specs.declared.pair.PairFlow.{PairFlow}
+use Rattle.station_ledger.specs.Flows.{pair_flows}
 use Rattle.station_ledger.specs.Kept.{IsKept, IsSmall}
 use Rattle.ledger_model.specs.Laws.{IsAccepted}
-use Rattle.ledger_model.proofs.Callers.{key_total, room, found_voided, is_counted}
+use Rattle.ledger_model.proofs.Callers.{room, found_voided, is_counted}
 use Rattle.station_ledger.proofs.Views.{entries_of, get_of, map_after, rising_after, AreKept-entries}
 
 -- an answer that tells of a change
@@ -76,23 +72,23 @@ reached_next limits es n m command rising next may reached a =
     subst P (sym next) (c, command, (may, reached, taken_step))
 
 -- no more readings are stored than the limits allow
-pub few_after : (limits : Bounds) (es : List Entry) (flows : List Energy) (readings n m : ℕ) (command : Command) → IsKept limits es flows readings n → IsAdmissible command → answer limits (content_of es n) command ≡ Accepted m → readings_stored (entries_after es command) ≤ limits.readings
-few_after limits es flows readings n m command kept may a =
+pub few_after : (limits : Bounds) (es : List Entry) (pairs : List PairFlow) (readings n m : ℕ) (command : Command) → IsKept limits es pairs readings n → IsAdmissible command → answer limits (content_of es n) command ≡ Accepted m → readings_stored (entries_after es command) ≤ limits.readings
+few_after limits es pairs readings n m command kept may a =
     let next = (taken limits es n m kept.rising command a).next in
     (AreKept-entries limits (entries_after es command) m (rising_after es command kept.rising) (reached_next limits es n m command kept.rising next may kept.reached a)).readings
 
 -- what a ledger keeps after an accepted command
-pub IsKept-after : (limits : Bounds) (es : List Entry) (flows : List Energy) (readings n m : ℕ) (command : Command) (news : List Energy) (stored : ℕ) → IsKept limits es flows readings n → IsAdmissible command → answer limits (content_of es n) command ≡ Accepted m → news ≡ map difference (pairs (entries_after es command)) → All IsSmall news → length news ≤ stored → stored ≡ readings_stored (entries_after es command) → IsKept limits (entries_after es command) news stored m
-IsKept-after limits es flows readings n m command news stored kept may a flows_are small few_flows stored_are =
+pub IsKept-after : (limits : Bounds) (es : List Entry) (pairs : List PairFlow) (readings n m : ℕ) (command : Command) (news : List PairFlow) (stored : ℕ) → IsKept limits es pairs readings n → IsAdmissible command → answer limits (content_of es n) command ≡ Accepted m → news ≡ pair_flows (entries_after es command) → All IsSmall news → length news ≤ stored → stored ≡ readings_stored (entries_after es command) → IsKept limits (entries_after es command) news stored m
+IsKept-after limits es pairs readings n m command news stored kept may a pairs_are small few_pairs stored_are =
     let t = taken limits es n m kept.rising command a in
     record {
       rising = rising_after es command kept.rising;
       reached = reached_next limits es n m command kept.rising t.next may kept.reached a;
-      flows_are = flows_are;
+      pairs_are = pairs_are;
       small = small;
-      few_flows = few_flows;
+      few_pairs = few_pairs;
       readings_are = stored_are;
-      few_readings = omega (arith, few_after limits es flows readings n m command kept may a);
+      few_readings = omega (arith, few_after limits es pairs readings n m command kept may a);
       most_events = kept.most_events;
       most_readings = kept.most_readings;
     }

@@ -3,8 +3,13 @@ pub mod Places
 pub mod Edits
 pub mod Views
 pub mod Walk
-pub mod Transactions
+pub mod Grouped
 pub mod Pairs
+pub mod Groups
 pub mod Judged
+pub mod LineLemmas
 pub mod Sums
 pub mod Accepted
+pub mod Figured
+pub mod RisingLines
+pub mod BoardLemmas

@@ -35,9 +35,9 @@ pub IsKept-empty : (limits : Bounds) → limits.events ≤ most_events → limit
 IsKept-empty limits events readings = record {
   rising = tt;
   reached = content_empty;
-  flows_are = refl;
+  pairs_are = refl;
   small = λ k d lt. absurd (omega arith);
-  few_flows = omega arith;
+  few_pairs = omega arith;
   readings_are = refl;
   few_readings = omega arith;
   most_events = events;

@@ -1,5 +1,5 @@
 use Rattle.std.specs.Prelude.{ℕ, Bool, List, refl}
-use Rattle.std.specs.Coded.{Coded, code_by, coded×, coded_bool, coded_ℕ}
+use Rattle.std.specs.Coded.{Coded, code_by, coded×, coded_bool, coded_list, coded_ℕ}
 use Rattle.std.specs.FinMap as finite
 use Rattle.std.specs.FinMap.{FinMap}
 use Rattle.ledger_model.specs.contracts.event.Event.{the_row}
@@ -20,6 +20,10 @@ stored_code = code_by (EventContent × Bool) (coded× the_row.coded coded_bool) 
 -- An entry is kept as the pair of its parts.
 abbrev pub entry_code : Coded Entry
 entry_code = coded× key_code stored_code
+
+-- A transaction with its live events is kept as the pair of its parts.
+abbrev pub group_code : Coded (List ℕ × List Entry)
+group_code = coded× (coded_list coded_ℕ) (coded_list entry_code)
 
 -- A content is kept as the pair of its parts.
 abbrev pub content_code : Coded Content

@@ -3,5 +3,7 @@ pub mod Places
 pub mod Ready
 pub mod Flows
 pub mod Kept
+pub mod Groups
+pub mod Lines
 pub mod Spent
 pub mod New

@@ -3,15 +3,22 @@ ghost use Rattle.std.specs.FinMap as finite;
 ghost use Rattle.ledger_model.specs.Ranges.{most_event_readings};
 ghost use Rattle.ledger_model.specs.Content.{empty_content, entries};
 ghost use Rattle.ledger_model.specs.Energy.{energy};
+ghost use Rattle.ledger_model.specs.Evse.{energy_at};
+ghost use Rattle.ledger_model.specs.Figures.{AreWithin};
+ghost use Rattle.ledger_model.specs.Board.{board, figures};
+ghost use Rattle.ledger_model.specs.Quarter.{quarter_seconds};
 ghost use Rattle.ledger_model.specs.Step.{Reached, answer, answer_to_deliver, answer_to_void, answer_to_voided, accepted_within_limit, step};
 ghost use Rattle.station_ledger.specs.New.{answer_to_new, is_transaction_too_many, is_full, are_readings_too_many};
 ghost use Rattle.station_ledger.specs.Spent.{IsSpent};
 
+use crate::board::StationBoard;
 use crate::flows::{evaluate, sum};
+use crate::lines::{evse_lines, quarter_lines, transaction_lines};
+use crate::pair::PairFlow;
 use crate::row::Row;
-use crate::rows;
+use crate::{counts, rows};
 use energy_flow::{Flow, Work};
-use ledger_model::{Answer, Command, Event, Key, Limits, Refusal, TxId};
+use ledger_model::{Answer, Command, Event, EvseId, Figures, Key, Limits, Listed, Refusal, TxId};
 use std::alloc::{AllocError, Global};
 use std::marker::Model;
 
@@ -21,7 +28,7 @@ use std::marker::Model;
 pub struct StationLedger {
     limits: Limits,
     rows: Vec<Row>,
-    flows: Vec<Flow>,
+    pairs: Vec<PairFlow>,
     readings: usize,
     changes: u64,
 }
@@ -37,8 +44,8 @@ impl Model for StationLedger {
 
     ghost view = { λ l. record { limits = l.limits; content = content_of l.rows.items l.changes } };
 
-    ghost invariant = { λ l. IsKept l.limits l.rows.items l.flows.items l.readings l.changes
-        × IsRoom l.limits (vec_capacity l.rows) (vec_capacity l.flows) };
+    ghost invariant = { λ l. IsKept l.limits l.rows.items l.pairs.items l.readings l.changes
+        × IsRoom l.limits (vec_capacity l.rows) (vec_capacity l.pairs) };
 }
 
 impl StationLedger {
@@ -49,11 +56,11 @@ impl StationLedger {
         ensures empty { IfOk result (λ l. l.content ≡ empty_content) }
     {
         let rows = Vec::with_capacity(alloc, limits.events() as usize)?;
-        let flows = Vec::with_capacity(alloc, limits.readings() as usize)?;
+        let pairs = Vec::with_capacity(alloc, limits.readings() as usize)?;
         Ok(StationLedger {
             limits,
             rows,
-            flows,
+            pairs,
             readings: 0,
             changes: 0,
         })
@@ -183,7 +190,7 @@ impl StationLedger {
             rows::carry_out(&mut self.rows, command);
             self.readings = rows::readings_stored(&self.rows);
             self.changes = changes;
-            evaluate(&self.rows, &mut self.flows, work);
+            evaluate(&self.rows, &mut self.pairs, work);
         }
         answer
     }
@@ -193,7 +200,41 @@ impl StationLedger {
     pub fn energy(&self) -> Flow
         ensures { result ≡ energy (entries self.now.content) }
     {
-        sum(&self.flows)
+        sum(&self.pairs)
+    }
+
+    /// The figures: live and voided events; transactions with a live event, how many of these are
+    /// complete and how many numbers they miss; and the energy.
+    pub fn figures(&self) -> Figures
+        ensures value { result ≡ figures (entries self.now.content) }
+        ensures within { AreWithin self.now.limits result }
+    {
+        counts::figures(&self.rows, &self.pairs)
+    }
+
+    /// What the register rose and fell by over the transactions of an EVSE, in milliwatt-hours. EVSE 0
+    /// has the transactions of which no live event names one.
+    pub fn evse(&self, evse: EvseId) -> Flow
+        ensures { result ≡ energy_at evse (entries self.now.content) }
+    {
+        counts::energy_at(&self.rows, &self.pairs, evse)
+    }
+
+    /// The board: the figures; the EVSEs and the quarters with their energy; and the transactions with
+    /// a live event, with their gaps. It alone of the calls on an open ledger takes memory.
+    pub fn board(&self, alloc: Global) -> Result<StationBoard, AllocError>
+        ensures board { IfOk result (λ b. b ≡ board quarter_seconds (entries self.now.content)) }
+        ensures within { IfOk result (λ b. AreWithin self.now.limits b.figures) }
+    {
+        let transactions = transaction_lines(alloc, &self.rows, &self.pairs)?;
+        let evses = evse_lines(alloc, &transactions)?;
+        let quarters = quarter_lines(alloc, &self.pairs)?;
+        Ok(StationBoard {
+            figures: self.figures(),
+            evses: Listed::of(evses),
+            quarters: Listed::of(quarters),
+            transactions: Listed::of(transactions),
+        })
     }
 
     /// How many commands were accepted so far, at most 2^63.

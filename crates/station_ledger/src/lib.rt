@@ -1,33 +1,46 @@
-//! One station's transaction ledger.
+//! One station's transaction ledger, its figures and its board.
 //!
 //! A [`StationLedger`] keeps the transaction events of one station, each under its key and each voided
 //! or not, within the limits that it was opened with. [`StationLedger::apply`] takes one command and
 //! answers it: the change is accepted and counted, the very event is there already, or one of eight
 //! refusals tells the first rule that stands against it. A repeat and a refusal change nothing.
 //! [`StationLedger::energy`] adds up what the register rose and fell by between each counted reading
-//! and the next one of its transaction, in the order of sequence numbers; it is lent no `Work`, so it
-//! compares no readings.
+//! and the next one of its transaction, in the order of sequence numbers, and [`StationLedger::evse`]
+//! does so for the transactions of one EVSE. [`StationLedger::figures`] sums up the station in seven
+//! numbers, and a [`StationBoard`] shows it: the figures, the EVSEs and the quarters with their energy,
+//! and each transaction that has a live event, with the numbers that are missing. None of these is lent
+//! a `Work`, so none compares readings.
 //!
 //! The crate's one contract: contracts see a ledger as its limits and its content, and know nothing of
 //! how these are kept. `apply` gives the answer of the ledger's step and leaves the step's content;
-//! whatever a ledger holds was left by as many accepted commands as it counts. `open` takes all the
-//! memory that the ledger will ever take, so no command meets want of it.
+//! whatever a ledger holds was left by as many accepted commands as it counts. `energy`, `evse`,
+//! `figures` and `board` are those that the definitions make, from scratch, of the present content.
+//! `open` takes all the memory that the ledger will ever take, so no command meets want of it; `board`
+//! alone takes memory of its own.
 //!
-//! This body is the plain one: rows sorted by key, and the flows of all pairs, evaluated anew at each
-//! accepted command.
+//! This body is the plain one: rows sorted by key, and the energy of each pair with its transaction and
+//! its quarter, evaluated anew at each accepted command.
 //!
 //! ```text
 //! let mut ledger = StationLedger::open(alloc, limits)?;
 //! ledger.apply(Command::Deliver(key, event), &mut work); // Accepted(1)
 //! ledger.energy().up(); // milliwatt-hours
+//! for line in ledger.board(alloc)?.transactions() { .. } // line.tx(), line.missing(), line.gaps()
 //! ```
 #![tactic(auto)]
 
+mod board;
+mod counts;
 mod flows;
 mod ledger;
+mod lines;
+mod pair;
 mod row;
 mod rows;
+mod transaction;
+mod transactions;
 
+pub use board::{EvseLine, QuarterLine, StationBoard, TxLine};
 pub use ledger::StationLedger;
 
 #[cfg(test)]

@@ -1,12 +1,15 @@
 ghost use Rattle.std.specs.Prelude.{◌≡◌, ◌≢◌, ◌<◌, ◌≤◌, length, None, IfOk, IfErr, vec_len, vec_capacity};
 ghost use Rattle.std.specs.FinMap.{find, put};
+ghost use Rattle.std.specs.List.{take_while};
+ghost use Rattle.std.specs.Str.{bytes_eq};
 ghost use Rattle.ledger_model.specs.Ranges.{most_readings};
 ghost use Rattle.ledger_model.specs.Key.{key_cmp};
-ghost use Rattle.ledger_model.specs.Content.{transactions_of, has_transaction};
+ghost use Rattle.ledger_model.specs.Content.{transactions_of, has_transaction, live};
 ghost use Rattle.ledger_model.specs.Step.{readings_stored};
 ghost use Rattle.ledger_model.specs.Entries.{IsRising, entries_marked, entries_without, entries_after};
 ghost use Rattle.station_ledger.specs.Places.{IsAt, IsGap};
 ghost use Rattle.station_ledger.specs.Ready.{IsReady};
+ghost use Rattle.station_ledger.specs.Groups.{BeginLive};
 
 use crate::row::Row;
 use ledger_model::{Command, Key, TxId};
@@ -101,4 +104,35 @@ pub(crate) fn carry_out(rows: &mut Vec<Row>, command: Command)
         Command::Restore(key) => mark(rows, &key, false),
         Command::Erase(key) => remove(rows, &key),
     }
+}
+
+// The rows from the first live one on.
+pub(crate) fn from_first_live(rows: &[Row]) -> &[Row]
+    ensures live { live result.now ≡ live rows.now }
+    ensures begins { BeginLive result.now }
+    ensures rising { IsRising rows.now → IsRising result.now }
+    ensures few { length result.now ≤ length rows.now }
+{
+    let mut left = rows;
+    while let [first, rest @ ..] = left {
+        if !first.is_voided() {
+            return left;
+        }
+        left = rest;
+    }
+    left
+}
+
+// How many rows are live.
+pub(crate) fn live_rows(rows: &[Row]) -> usize
+    ensures { result ≡ length (live rows.now) }
+{
+    rows.iter().filter(|row| !row.is_voided()).count()
+}
+
+// How many rows at the front are of this transaction.
+pub(crate) fn rows_of(rows: &[Row], tx: &TxId) -> usize
+    ensures { result ≡ length (take_while (λ e. bytes_eq tx.now e.0.tx) rows.now) }
+{
+    rows.iter().take_while(|row| row.is_of(tx)).count()
 }

@@ -1,3 +1,5 @@
+mod board;
+
 use crate::StationLedger;
 use energy_flow::Work;
 use ledger_model::{Answer, Command, Event, Key, Kind, Limits, Moment, Reading, Refusal, TxId};

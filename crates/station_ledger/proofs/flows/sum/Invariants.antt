@@ -3,5 +3,5 @@ use Rattle.station_ledger.specs.Flows.{total}
 use Rattle.station_ledger.proofs.flows.sum.Given as goal
 
 -- the sum so far
-abbrev pub invariant-loop-flow : goal.invariant-loop-flow
-invariant-loop-flow l = l.total ≡ total (take l.flow-index l.flows)
+abbrev pub invariant-loop-pair : goal.invariant-loop-pair
+invariant-loop-pair l = l.total ≡ total (take l.pair-index l.pairs)

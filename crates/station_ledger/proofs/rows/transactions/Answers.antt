@@ -2,7 +2,7 @@ use Rattle.std.proofs.Common.{◌+◌, sym, ◌∙◌, add-zero, arith}
 use Rattle.std.specs.Option.{option_map}
 use Rattle.std.proofs.lemmas.List.{at_drop_all}
 use Rattle.station_ledger.proofs.Walk.{beginnings}
-use Rattle.station_ledger.proofs.Transactions.{beginnings_all}
+use Rattle.station_ledger.proofs.Grouped.{beginnings_all}
 use Rattle.station_ledger.proofs.rows.transactions.Goals as goal
 
 -- no row is left

@@ -1,6 +1,6 @@
-use Rattle.std.proofs.Common.{◌≡◌, List, map, sym, ap, ◌∙◌, arith}
+use Rattle.std.proofs.Common.{◌≡◌, List, sym, ap, ◌∙◌, arith}
 use Rattle.ledger_model.specs.Content.{Entry}
-use Rattle.ledger_model.specs.Energy.{difference, pairs}
+use Rattle.station_ledger.specs.Flows.{pair_flows}
 use Rattle.ledger_model.specs.Step.{answer, content_after, readings_stored}
 use Rattle.station_ledger.specs.Ledger.{Ledger, content_of}
 use Rattle.station_ledger.proofs.Accepted.{taken, few_after, content_left, IsKept-after}
@@ -30,7 +30,7 @@ evaluate-requires-clause-room c =
     let a = ap (λ (l : Ledger). answer l.limits l.content c.args.command) c.self.view_is ∙ sym c.in-Accepted.ensures in
     let few = few_after _ _ _ _ _ _ c.args.command kept c.key.ensures.admissible a in
     let same = ap readings_stored (c.deref-in-Accepted.ensures.value ∙ c.carry_out.ensures.items) in
-    omega (arith, few, same, c.self.invariant.1.for_flows)
+    omega (arith, few, same, c.self.invariant.1.for_pairs)
 
 -- the entries are those that the command leaves, and the flows those of their pairs
 pub invariant_of-self : goal.invariant_of-self
@@ -41,10 +41,10 @@ invariant_of-self c =
     let a = ap (λ (l : Ledger). answer l.limits l.content c.args.command) c.self.view_is ∙ sym c.in-Accepted.ensures in
     let seen = c.deref-in-Accepted.ensures.value ∙ c.carry_out.ensures.items in
     let stored = c.readings_stored-self-inside.ensures ∙ ap readings_stored (c.deref.ensures.value ∙ c.carry_out.ensures.items) in
-    let flows = e.flows ∙ ap (λ (es : List Entry). map difference (pairs es)) seen in
+    let pairs = e.pairs ∙ ap pair_flows seen in
     let same = ap readings_stored seen in (
-      rw c.carry_out.ensures.items (IsKept-after _ _ _ _ _ _ c.args.command _ _ kept c.key.ensures.admissible a flows e.small (omega (arith, e.few, same, stored, c.evaluate.new.flows.ok)) stored),
-      record { for_events = omega (arith, room.for_events, c.carry_out.ensures.capacity); for_flows = omega (arith, room.for_flows, e.capacity) },
+      rw c.carry_out.ensures.items (IsKept-after _ _ _ _ _ _ c.args.command _ _ kept c.key.ensures.admissible a pairs e.small (omega (arith, e.few, same, stored, c.evaluate.new.pairs.ok)) stored),
+      record { for_events = omega (arith, room.for_events, c.carry_out.ensures.capacity); for_pairs = omega (arith, room.for_pairs, e.capacity) },
     )
 
 pub returns-in-Accepted-clause-content : goal.returns-in-Accepted-clause-content

@@ -4,8 +4,8 @@ use Rattle.station_ledger.proofs.ledger.StationLedger.open.Goals as goal
 
 pub invariant_of-result : goal.invariant_of-result
 invariant_of-result c = (
-  rw (c.in_ok-rows.ensures.items, c.in_ok-flows.ensures.items) (IsKept-empty c.args.limits (omega arith) (omega arith)),
-  record { for_events = omega (arith, c.in_ok-rows.ensures.capacity); for_flows = omega (arith, c.in_ok-flows.ensures.capacity) },
+  rw (c.in_ok-rows.ensures.items, c.in_ok-pairs.ensures.items) (IsKept-empty c.args.limits (omega arith) (omega arith)),
+  record { for_events = omega (arith, c.in_ok-rows.ensures.capacity); for_pairs = omega (arith, c.in_ok-pairs.ensures.capacity) },
 )
 
 pub returns-clause-empty : goal.returns-clause-empty

@@ -2,17 +2,17 @@ use Rattle.std.proofs.Common.{◌≡◌, ◌≤◌, ◌+◌, ◌++◌, drop, IfS
 use Rattle.std.specs.List.{All}
 use Rattle.ledger_model.specs.Ranges.{greatest_reading}
 use Rattle.station_ledger.specs.Kept.{IsSmall}
-use Rattle.station_ledger.specs.Flows.{differences, level_after}
-use Rattle.station_ledger.proofs.flows.add_differences.Given as goal
+use Rattle.station_ledger.specs.Flows.{pairs_after, level_after}
+use Rattle.station_ledger.proofs.flows.add_pairs.Given as goal
 
--- the differences so far, and those of the readings that are left
+-- the pairs so far, and those of the readings that are left
 abbrev pub invariant-loop-reading : goal.invariant-loop-reading
 invariant-loop-reading l = record {
-  flows : l.flows.items ++ differences l.last (drop l.reading-index l.readings) ≡ l.fn.flows.items ++ differences l.fn.before l.readings;
+  pairs : l.pairs.items ++ pairs_after l.tx l.last (drop l.reading-index l.readings) ≡ l.fn.pairs.items ++ pairs_after l.tx l.fn.before l.readings;
   level : level_after l.last (drop l.reading-index l.readings) ≡ level_after l.fn.before l.readings;
   low : IfSome l.last (λ level. level ≤ greatest_reading);
-  small : All IsSmall l.fn.flows.items → All IsSmall l.flows.items;
-  few : vec_len l.flows ≤ vec_len l.fn.flows + l.reading-index;
-  capacity : vec_capacity l.flows ≡ vec_capacity l.fn.flows;
+  small : All IsSmall l.fn.pairs.items → All IsSmall l.pairs.items;
+  few : vec_len l.pairs ≤ vec_len l.fn.pairs + l.reading-index;
+  capacity : vec_capacity l.pairs ≡ vec_capacity l.fn.pairs;
   work : l.fn.work ≤ l.work;
 }

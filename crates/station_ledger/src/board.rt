@@ -1,0 +1,238 @@
+ghost use Rattle.std.specs.Prelude.{◌≡◌, ◌<◌, All};
+ghost use Rattle.ledger_model.specs.Ranges.{sequence_end};
+ghost use Rattle.station_ledger.specs.Lines.{IsStationFlow};
+
+use energy_flow::Flow;
+use ledger_model::{EvseId, Figures, Listed, Quarter, TxId};
+use std::marker::Model;
+
+/// An EVSE of a station, 0 where none was named, with the energy of its transactions.
+#[derive(Clone, Copy, Debug, PartialEq, Eq)]
+pub struct EvseLine {
+    evse: EvseId,
+    flow: Flow,
+}
+
+impl Model for EvseLine {
+    ghost use Rattle.ledger_model.specs.Board.{Flowed};
+
+    ghost Value = { Flowed };
+
+    ghost view = { λ l. (l.evse, l.flow) };
+
+    ghost inverse = { λ f. record { evse = f.0; flow = f.1 } };
+}
+
+impl EvseLine {
+    /// The line of this EVSE and this energy.
+    pub fn new(evse: EvseId, flow: Flow) -> Self
+        ensures evse { result.0 ≡ evse }
+        ensures flow { result.1 ≡ flow }
+    {
+        EvseLine { evse, flow }
+    }
+
+    /// The EVSE.
+    pub fn evse(self) -> EvseId
+        ensures { result ≡ self.0 }
+    {
+        self.evse
+    }
+
+    /// Its energy, in milliwatt-hours.
+    pub fn flow(self) -> Flow
+        ensures { result ≡ self.1 }
+    {
+        self.flow
+    }
+}
+
+/// A quarter of a station that has a pair of readings, with its energy.
+#[derive(Clone, Copy, Debug, PartialEq, Eq)]
+pub struct QuarterLine {
+    quarter: Quarter,
+    flow: Flow,
+}
+
+impl Model for QuarterLine {
+    ghost use Rattle.ledger_model.specs.Board.{Flowed};
+
+    ghost Value = { Flowed };
+
+    ghost view = { λ l. (l.quarter, l.flow) };
+
+    ghost inverse = { λ f. record { quarter = f.0; flow = f.1 } };
+}
+
+impl QuarterLine {
+    /// The line of this quarter and this energy.
+    pub fn new(quarter: Quarter, flow: Flow) -> Self
+        ensures quarter { result.0 ≡ quarter }
+        ensures flow { result.1 ≡ flow }
+    {
+        QuarterLine { quarter, flow }
+    }
+
+    /// The quarter.
+    pub fn quarter(self) -> Quarter
+        ensures { result ≡ self.0 }
+    {
+        self.quarter
+    }
+
+    /// Its energy, in milliwatt-hours.
+    pub fn flow(self) -> Flow
+        ensures { result ≡ self.1 }
+    {
+        self.flow
+    }
+}
+
+/// What a board shows of a transaction with a live event.
+#[derive(Debug, Drop)]
+pub struct TxLine {
+    pub(crate) tx: TxId,
+    pub(crate) evse: EvseId,
+    pub(crate) events: u64,
+    pub(crate) first: u32,
+    pub(crate) last: u32,
+    pub(crate) complete: bool,
+    pub(crate) missing: u64,
+    pub(crate) flow: Flow,
+    pub(crate) gaps: Listed<(u32, u32)>,
+}
+
+impl Model for TxLine {
+    ghost use Rattle.ledger_model.specs.Board.{Shown};
+    ghost use Rattle.station_ledger.specs.Lines.{IsShown};
+
+    ghost Value = { Shown };
+
+    ghost view = { λ l. record { tx = l.tx; evse = l.evse; events = l.events; first = l.first; last = l.last; complete = l.complete; missing = l.missing; flow = l.flow; gaps = l.gaps } };
+
+    ghost invariant = { λ l. IsShown l.first l.last l.flow };
+}
+
+impl TxLine {
+    /// The transaction's id.
+    pub fn tx(&self) -> &TxId
+        ensures { result.now ≡ self.now.tx }
+    {
+        &self.tx
+    }
+
+    /// Its EVSE, 0 where no live event names one.
+    pub fn evse(&self) -> EvseId
+        ensures { result ≡ self.now.evse }
+    {
+        self.evse
+    }
+
+    /// How many live events it has.
+    pub fn events(&self) -> u64
+        ensures { result ≡ self.now.events }
+    {
+        self.events
+    }
+
+    /// The lowest sequence number of a live event, 0 to 2,147,483,647.
+    pub fn first(&self) -> u32
+        ensures value { result ≡ self.now.first }
+        ensures range { result < sequence_end }
+    {
+        self.first
+    }
+
+    /// The highest sequence number of a live event, 0 to 2,147,483,647.
+    pub fn last(&self) -> u32
+        ensures value { result ≡ self.now.last }
+        ensures range { result < sequence_end }
+    {
+        self.last
+    }
+
+    /// Tells whether it is complete: its lowest live event alone is Started, its highest alone Ended,
+    /// and no number is missing.
+    pub fn is_complete(&self) -> bool
+        ensures { result ≡ self.now.complete }
+    {
+        self.complete
+    }
+
+    /// How many sequence numbers are missing.
+    pub fn missing(&self) -> u64
+        ensures { result ≡ self.now.missing }
+    {
+        self.missing
+    }
+
+    /// Its energy, in milliwatt-hours.
+    pub fn flow(&self) -> Flow
+        ensures value { result ≡ self.now.flow }
+        ensures range { IsStationFlow result }
+    {
+        self.flow
+    }
+
+    /// The ranges of missing sequence numbers, each with its first and its last, rising.
+    pub fn gaps(&self) -> &[(u32, u32)]
+        ensures { result.now ≡ self.now.gaps }
+    {
+        self.gaps.as_slice()
+    }
+}
+
+/// The board of a station: its figures; its EVSEs and its quarters with their energy, rising; and its
+/// transactions with a live event, by the bytes of their ids.
+#[derive(Debug, Drop)]
+pub struct StationBoard {
+    pub(crate) figures: Figures,
+    pub(crate) evses: Listed<EvseLine>,
+    pub(crate) quarters: Listed<QuarterLine>,
+    pub(crate) transactions: Listed<TxLine>,
+}
+
+impl Model for StationBoard {
+    ghost use Rattle.ledger_model.specs.Board.{Board};
+    ghost use Rattle.station_ledger.specs.Lines.{AreStationLines};
+
+    ghost Value = { Board };
+
+    ghost view = { λ b. record { figures = b.figures; evses = b.evses; quarters = b.quarters; transactions = b.transactions } };
+
+    ghost invariant = { λ b. AreStationLines b.evses b.quarters };
+}
+
+impl StationBoard {
+    /// The seven figures.
+    pub fn figures(&self) -> Figures
+        ensures { result ≡ self.now.figures }
+    {
+        self.figures
+    }
+
+    /// The EVSEs that have a transaction with a live event, rising. None has more energy than the
+    /// readings of one station can show.
+    pub fn evses(&self) -> &[EvseLine]
+        ensures value { result.now ≡ self.now.evses }
+        ensures range { All (λ line. IsStationFlow line.1) result.now }
+    {
+        self.evses.as_slice()
+    }
+
+    /// The quarters that have a pair of readings, rising. None has more energy than the readings of
+    /// one station can show.
+    pub fn quarters(&self) -> &[QuarterLine]
+        ensures value { result.now ≡ self.now.quarters }
+        ensures range { All (λ line. IsStationFlow line.1) result.now }
+    {
+        self.quarters.as_slice()
+    }
+
+    /// The transactions that have a live event, by the bytes of their ids.
+    pub fn transactions(&self) -> &[TxLine]
+        ensures { result.now ≡ self.now.transactions }
+    {
+        self.transactions.as_slice()
+    }
+}
