@@ -1,11 +1,12 @@
 -- Lines of numbers with their energies.
-use Rattle.std.proofs.Common.{◌≡◌, ℕ, zero, suc, ◌+◌, ◌<◌, ◌≤◌, nat_lt, cond, ◌⊎◌, List, [], ◌∷◌, ◌++◌, length, get_or, set, refl, sym, ap, subst, ◌∙◌, arith, ⊎_elim}
+use Rattle.std.proofs.Common.{◌≡◌, ℕ, zero, suc, ◌+◌, ◌<◌, ◌≤◌, nat_lt, cond, ◌⊎◌, List, [], ◌∷◌, ◌++◌, length, get_or, set, map, refl, sym, ap, subst, ◌∙◌, arith, ⊎_elim}
 use Rattle.std.specs.List.{All, sum_by, take_while, insert}
 use Rattle.std.proofs.lemmas.Bool.{eq-eqb, ne_eqb, lt-ltb, le-ltb, cases_order, cases_lt}
 use Rattle.std.proofs.lemmas.List.{get_or_default}
 use Rattle.std.proofs.lemmas.List.Sums.{take_while-cons, sum_by-cons, sum_by-append, get_or-le-sum_by}
 use Rattle.energy_flow.specs.Flow.{Energy, plus}
 use Rattle.ledger_model.specs.Board.{Flowed}
+use Rattle.ledger_model.specs.BoardLaws.{AreRising}
 use Rattle.station_ledger.specs.Lines.{put_line, lines_of, lines_total, HasRoom, IsStationFlow}
 
 -- the three cases of a line
@@ -26,6 +27,44 @@ place_on n l ls h = ap length (take_while-cons (λ (l : Flowed). nat_lt l.0 n) l
 
 place_here : (n : ℕ) (l : Flowed) (ls : List Flowed) → n ≤ l.0 → place n (l ∷ ls) ≡ 0
 place_here n l ls h = ap length (take_while-cons (λ (l : Flowed). nat_lt l.0 n) l ls ∙ ap (λ b. cond b (l ∷ take_while (λ (l : Flowed). nat_lt l.0 n) ls) []) (le-ltb l.0 n h))
+
+pub place_within : (n : ℕ) (ls : List Flowed) → place n ls ≤ length ls
+place_within n [] = omega arith
+place_within n (l ∷ ls) = ⊎_elim
+    (λ (above : l.0 < n). omega (arith, place_on n l ls above, place_within n ls))
+    (λ (low : n ≤ l.0). omega (arith, place_here n l ls low))
+    (cases_lt l.0 n)
+
+-- the first of rising lines is below the others
+first_below : (l : Flowed) (ls : List Flowed) (at : ℕ) (d : Flowed) → AreRising (map (λ k. k.0) (l ∷ ls)) → at < length ls → l.0 < (get_or ls at d).0
+first_below l [] at d up within = absurd (omega arith)
+first_below l (m ∷ ms) zero d up within = up.0
+first_below l (m ∷ ms) (suc at) d up within =
+    let next : m.0 < (get_or ms at d).0 = first_below m ms at d up.1 (omega arith) in
+    let first : l.0 < m.0 = up.0 in
+    omega (arith, next, first)
+
+later_rise : (l : Flowed) (ls : List Flowed) → AreRising (map (λ k. k.0) (l ∷ ls)) → AreRising (map (λ k. k.0) ls)
+later_rise l [] up = tt
+later_rise l (m ∷ ms) up = up.1
+
+-- a smaller line is in front of the place
+pub place_more : (n : ℕ) (ls : List Flowed) (at : ℕ) (d : Flowed) → AreRising (map (λ k. k.0) ls) → at < length ls → (get_or ls at d).0 < n → at < place n ls
+place_more n [] at d up within small = absurd (omega arith)
+place_more n (l ∷ ls) zero d up within small = omega (arith, place_on n l ls small)
+place_more n (l ∷ ls) (suc at) d up within small =
+    let first : l.0 < (get_or ls at d).0 = first_below l ls at d up (omega arith) in
+    let more : at < place n ls = place_more n ls at d (later_rise l ls up) (omega arith) small in
+    omega (arith, place_on n l ls (omega (arith, first, small)), more)
+
+-- no smaller line is behind the place
+pub place_less : (n : ℕ) (ls : List Flowed) (at : ℕ) (d : Flowed) → at < length ls → n ≤ (get_or ls at d).0 → place n ls ≤ at
+place_less n [] at d within great = absurd (omega arith)
+place_less n (l ∷ ls) zero d within great = omega (arith, place_here n l ls great)
+place_less n (l ∷ ls) (suc at) d within great = ⊎_elim
+    (λ (above : l.0 < n). omega (arith, place_on n l ls above, place_less n ls at d (omega arith) great))
+    (λ (low : n ≤ l.0). omega (arith, place_here n l ls low))
+    (cases_lt l.0 n)
 
 -- the line of the number stands at its place
 pub put_found : (n : ℕ) (f : Energy) (ls : List Flowed) (d : Flowed) → place n ls < length ls → (get_or ls (place n ls) d).0 ≡ n → put_line n f ls ≡ set ls (place n ls) ((get_or ls (place n ls) d).0, plus f (get_or ls (place n ls) d).1)

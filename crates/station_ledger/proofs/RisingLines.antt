@@ -1,5 +1,5 @@
 -- The lines of elements by a key: its rising numbers, each with the sum of its energies.
-use Rattle.std.proofs.Common.{◌≡◌, ℕ, ◌+◌, ◌<◌, ◌≤◌, ◌⊎◌, Bool, true, cond, inl, inr, List, [], ◌∷◌, map, refl, sym, ap, ◌∙◌, arith, eqb, ⊎_elim}
+use Rattle.std.proofs.Common.{◌≡◌, ℕ, ◌+◌, ◌<◌, ◌≤◌, ◌⊎◌, Bool, true, cond, inl, inr, List, [], ◌∷◌, map, refl, sym, ap, subst, ◌∙◌, arith, eqb, ⊎_elim}
 use Rattle.std.specs.List.{filter, sum_by}
 use Rattle.std.proofs.lemmas.Bool.{eq-eqb, ne_eqb, cases_order}
 use Rattle.energy_flow.specs.Flow.{Energy, plus, no_energy}
@@ -92,3 +92,21 @@ module _ {X : Type 0} (key : X → ℕ) (flow : X → Energy) where
       ap (put_line (key x) (flow x)) (lines_by xs)
       ∙ put_rising (key x) (flow x) (λ k. sum_at k xs) (λ k. sum_at k (x ∷ xs)) (sum-other x xs) (sum-own x xs) ks (rising-AreRising (map key xs))
       (λ no. sum-none (key x) xs (λ h. no ((rising-IsIn (key x) (map key xs)).1 h)))
+
+same_lines : (xs : List Flowed) → map (λ x. (x.0, x.1)) xs ≡ xs
+same_lines [] = refl
+same_lines (x ∷ xs) = ap (λ ys. x ∷ ys) (same_lines xs)
+
+numbers_of_lines : (e : ℕ → Energy) (ks : List ℕ) → map (λ (l : Flowed). l.0) (map (λ k. (k, e k)) ks) ≡ ks
+numbers_of_lines e [] = refl
+numbers_of_lines e (k ∷ ks) = ap (λ ms. k ∷ ms) (numbers_of_lines e ks)
+
+-- the lines of numbers rise
+pub lines_rise : (xs : List Flowed) → AreRising (map (λ (l : Flowed). l.0) (lines_of xs))
+lines_rise xs =
+    let key : Flowed → ℕ = λ x. x.0 in
+    let flow : Flowed → Energy = λ x. x.1 in
+    let ks = rising (map key xs) in
+    let e : ℕ → Energy = λ k. sum_at key flow k xs in
+    let are : lines_of xs ≡ map (λ k. (k, e k)) ks = ap lines_of (sym (same_lines xs)) ∙ lines_by key flow xs in
+    subst AreRising (sym (ap (map key) are ∙ numbers_of_lines e ks)) (rising-AreRising (map key xs))

@@ -1,5 +1,6 @@
 ghost use Rattle.std.specs.Prelude.{◌≡◌, ◌≤◌, IfOk, length, map, nat_lt};
 ghost use Rattle.std.specs.List.{All, take_while};
+ghost use Rattle.ledger_model.specs.BoardLaws.{AreRising};
 ghost use Rattle.ledger_model.specs.Content.{live};
 ghost use Rattle.ledger_model.specs.Quarter.{IsQuarter};
 ghost use Rattle.ledger_model.specs.Ranges.{greatest_evse};
@@ -17,14 +18,26 @@ use std::alloc::{AllocError, Global};
 
 // Where the line of a number stands among rising lines, or else where it belongs.
 fn line_place(lines: &[(u32, Flow)], number: u32) -> usize
+    requires { AreRising (map (λ line. line.0) lines.now) }
     ensures { result ≡ length (take_while (λ line. nat_lt line.0 number) lines.now) }
 {
-    lines.iter().take_while(|line| line.0 < number).count()
+    let mut low = 0;
+    let mut high = lines.len();
+    while low < high {
+        let middle = low + (high - low) / 2;
+        if lines[middle].0 < number {
+            low = middle + 1;
+        } else {
+            high = middle;
+        }
+    }
+    low
 }
 
 // Adds energy to the line of a number, which is put in its place where there is none.
 fn add_to_line(lines: &mut Vec<(u32, Flow)>, number: u32, flow: Flow) -> Result<(), AllocError>
-    requires { HasRoom lines.old.items flow }
+    requires room { HasRoom lines.old.items flow }
+    requires rising { AreRising (map (λ line. line.0) lines.old.items) }
     ensures { IfOk result (λ _. lines.new.items ≡ put_line number flow lines.old.items) }
 {
     let place = line_place(lines, number);
