@@ -1,5 +1,5 @@
 -- How many events, readings and transactions are stored after an accepted command.
-use Rattle.std.proofs.Common.{◌≡◌, ℕ, ◌+◌, ◌≤◌, Bool, true, false, not, ◌&&◌, cond, List, [], ◌∷◌, length, map, Some, None, refl, sym, ap, ◌∙◌, arith, bytes_eq}
+use Rattle.std.proofs.Common.{◌≡◌, ℕ, ◌+◌, ◌≤◌, Bool, true, false, not, ◌&&◌, cond, List, [], ◌∷◌, length, map, Some, refl, ap, arith, bytes_eq}
 use Rattle.std.specs.List.{filter, list_any}
 use Rattle.std.specs.Ordering.{is_eq, eq_by_cmp}
 use Rattle.std.specs.declared.cmp.Ordering.{Ordering}
@@ -12,7 +12,6 @@ use Rattle.ledger_model.specs.Content.{Entry, Stored, transactions_of}
 use Rattle.ledger_model.specs.Entries.{IsRising, entries_without}
 use Rattle.ledger_model.specs.Step.{readings_stored}
 use Rattle.ledger_model.proofs.Rising.{first, second, below_less, find_below}
-use Rattle.ledger_model.proofs.Deliveries.{put_between, sum_between}
 use Rattle.ledger_model.proofs.Transactions.{how_many, counted, split_by}
 
 -- the readings of an entry
@@ -21,12 +20,6 @@ size e = length e.1.event.readings
 
 cons : (e : Entry) (es : List Entry) → readings_stored (e ∷ es) ≡ size e + readings_stored es
 cons e es = sum_by-cons size e es
-
--- a new event brings its readings
-pub readings_put_new : (key : KeyName) (v : Stored) (es : List Entry) → find key_cmp key es ≡ None → readings_stored (put key_cmp key v es) ≡ readings_stored es + length v.event.readings
-readings_put_new key v es none =
-    let p = put_between key v es none in
-    ap readings_stored p.after ∙ sum_between size p.front p.back (key, v) ∙ ap (λ (fs : List Entry). readings_stored fs + length v.event.readings) (sym p.before)
 
 some_is : (a b : Stored) → Some a ≡ Some b → length a.event.readings ≡ length b.event.readings
 some_is a b h = let e : a ≡ b = cc in ap (λ (s : Stored). length s.event.readings) e

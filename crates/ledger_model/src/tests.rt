@@ -90,6 +90,7 @@ fn numbers_have_their_ranges(rt: HostRuntime) -> Result<(), Fail> {
         assert_eq!(rt; Quarter::new(number).is_some(), is_quarter, "{number}");
     }
     assert!(rt; EvseId::new(65).is_none());
+    assert_eq!(rt; EvseId::unnamed().number(), 0);
     let limits = Limits::new(4_096, 65_536, 65_536, 1 << 63).ok_or("limits")?;
     let numbers = (
         limits.transactions(),

@@ -114,10 +114,6 @@ module _ (t : List ℕ) (rest : List Entry) (absent : Absent t (ids rest)) where
       ap (map {B = Group} (λ u. (u, filter (is_of u) all))) ts
       ∙ (λ i. (t, own_events (e ∷ own) h i) ∷ groups_others (e ∷ own) h (transactions_of rest) (absent_distinct t (ids rest) absent) i)
 
-passes-append : (p : PairFlow → Bool) (xs ys : List PairFlow) → Passes p xs → Passes p ys → Passes p (xs ++ ys)
-passes-append p [] ys h k = k
-passes-append p (x ∷ xs) ys h k = (h.0, passes-append p xs ys h.1 k)
-
 fails-append : (p : PairFlow → Bool) (xs ys : List PairFlow) → Fails p xs → Fails p ys → Fails p (xs ++ ys)
 fails-append p [] ys h k = k
 fails-append p (x ∷ xs) ys h k = (h.0, fails-append p xs ys h.1 k)

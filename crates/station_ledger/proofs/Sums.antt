@@ -12,8 +12,7 @@ use Rattle.ledger_model.specs.Energy.{Pair, difference, followed, pairs, pairs_o
 use Rattle.ledger_model.proofs.Callers.{sum_by-map}
 use Rattle.station_ledger.specs.declared.pair.PairFlow.{PairFlow}
 use Rattle.station_ledger.specs.Kept.{IsSmall}
-use Rattle.ledger_model.specs.Board.{Flowed}
-use Rattle.station_ledger.specs.Lines.{IsStationFlow, lines_total}
+use Rattle.station_ledger.specs.Lines.{IsStationFlow}
 use Rattle.station_ledger.specs.Flows.{pairs_after, group_pairs, Group, pair_flows, total}
 use Rattle.station_ledger.proofs.Pairs.{flat_map-map}
 
@@ -75,10 +74,3 @@ total_of_pairs es = total_bare (pair_flows es) (pairs es) (bare_pairs es)
 -- the energy of one transaction
 pub total_of_group : (g : Group) → total (group_pairs g) ≡ energy_over (followed (flat_map (λ e. e.1.event.readings) g.1))
 total_of_group g = let rs = flat_map (λ e. e.1.event.readings) g.1 in total_bare (group_pairs g) (followed rs) (bare_followed g.0 rs)
-
--- pairs as lines add up to the same
-pub total_of_bare : (pairs : List PairFlow) → lines_total (map bare pairs) ≡ total pairs
-total_of_bare pairs =
-    let up = sum_by-map (λ (l : Flowed). l.1.up) bare pairs in
-    let down = sum_by-map (λ (l : Flowed). l.1.down) bare pairs in
-    λ i. record { up = up i; down = down i }
