@@ -4,7 +4,7 @@ use Rattle.std.specs.Float.Numeral.{Parts}
 use Rattle.reading_decimal.specs.declared.decimal.Unit.{Unit as EnergyUnit}
 use Rattle.ledger_model.specs.Moment.{IsMoment}
 use Rattle.ledger_model.specs.Quarter.{IsQuarter, quarter_seconds}
-use Rattle.reading_decimal.specs.Decimal.{IsMwh, is_decimal, is_negative, mwh, parts}
+use Rattle.reading_decimal.specs.Decimal.{IsMwh, is_decimal, mwh, parts}
 use Rattle.reading_decimal.specs.Grammar.{IsNumber, frac_digits, exp_digits, is_negative_exp}
 use Rattle.reading_decimal.specs.Moment.{moment_reading}
 use Rattle.reading_decimal.specs.MomentText.{text_of, whole_second}

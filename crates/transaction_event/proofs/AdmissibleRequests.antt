@@ -1,5 +1,5 @@
 -- What a message means can be asked of a ledger: the parts of a request lie in their ranges.
-use Rattle.std.proofs.Common.{◌≡◌, ℕ, ◌+◌, ◌-◌, ◌<◌, ◌≤◌, Bool, true, false, List, [], ◌∷◌, ◌++◌, length, Result, Option, Ok, Err, Some, None, IfSome, ℤ, pos, negsuc, refl, sym, ap, subst, ◌∙◌, arith, leb-true, ltb-true, length-append}
+use Rattle.std.proofs.Common.{◌≡◌, ℕ, ◌-◌, ◌<◌, ◌≤◌, Bool, true, false, List, [], ◌∷◌, ◌++◌, length, Result, Option, Ok, Err, Some, None, IfSome, ℤ, pos, negsuc, refl, ap, subst, arith, leb-true, ltb-true, length-append}
 use Rattle.std.specs.Prelude.{◌≢◌, ◌&&◌, not, All, nat_le, nat_lt, unsigned_abs, if◌then◌else◌, codes}
 use Rattle.std.specs.Int.Signed.{le_z}
 use Rattle.std.specs.Option.{ok_or}
@@ -15,7 +15,7 @@ use Rattle.reading_decimal.specs.declared.moment.MomentFault.{MomentFault}
 use Rattle.std.specs.Float.Numeral.{numeral_digits}
 use Rattle.std.specs.Str.Parse.{digits_value}
 use Rattle.reading_decimal.specs.Decimal.{mwh_reading, within_register, mwh, parts, is_decimal, is_negative, longest_decimal, greatest_exponent}
-use Rattle.reading_decimal.specs.Moment.{moment_at, moment_within, moment_reading}
+use Rattle.reading_decimal.specs.Moment.{moment_within, moment_reading}
 use Rattle.ledger_model.specs.declared.command.Command.TheVariants.{Deliver}
 use Rattle.ledger_model.specs.Admissible.{IsAdmissible}
 use Rattle.ledger_model.specs.Event.{MeterReading, IsMeterReading, IsEventContent}
@@ -34,7 +34,7 @@ use Rattle.transaction_event.specs.Integer.{integer_of, within, required_integer
 use Rattle.transaction_event.specs.Timestamp.{moment, moment_named, timestamp}
 use Rattle.transaction_event.specs.Readings.{one_more}
 use Rattle.transaction_event.specs.Sampled.{decimal, counts, sampled_mwh, if_counted, sample}
-use Rattle.transaction_event.specs.Scale.{Scaling, scale_of}
+use Rattle.transaction_event.specs.Scale.{scale_of}
 use Rattle.transaction_event.specs.MeterValues.{meter_value, meter_values}
 use Rattle.transaction_event.specs.Request.{Request, kind_of, tx_named, key_of, evse_number, evse_of, has_token, request_of, event_reading}
 use Rattle.transaction_event.specs.Message as meaning
