@@ -1,5 +1,5 @@
 -- A replay whose last flush failed.
-use Rattle.std.proofs.Common.{◌≡◌, ℕ, List, [], ◌++◌, Result, Ok, Err, OnOk, sym, subst, ◌∙◌, inr, append-nil}
+use Rattle.std.proofs.Common.{◌≡◌, ℕ, List, [], Result, Ok, Err, OnOk, sym, subst, ◌∙◌, inr, append-nil}
 use Rattle.std.specs.Result.{result_and}
 use Rattle.ocpp_board.specs.declared.fault.ReplayFault.{ReplayFault}
 use Rattle.ocpp_board.specs.declared.fault.ReplayFault.TheVariants.{WriteFault}

@@ -1,4 +1,4 @@
-use Rattle.std.proofs.Common.{◌+◌, ◌<◌, ◌≤◌, ◌-◌, length, take, arith, subst, refl, length-take, length-take-le}
+use Rattle.std.proofs.Common.{◌+◌, ◌<◌, ◌≤◌, length, take, arith, subst, refl, length-take, length-take-le}
 use Rattle.std.specs.Io.KnownBytes.{Consumes}
 use Rattle.std.specs.Io.BufRead.{FillKeeps}
 use Rattle.std.proofs.BufReadLemmas.{Consumes_shown}
