@@ -127,7 +127,7 @@ fn errors(rt: HostRuntime) -> Result<(), Fail> {
 }
 
 #[test]
-fn each_check(rt: HostRuntime) {
+fn texts_that_are_no_calls(rt: HostRuntime) {
     for (text, answer) in [
         ("", r#"[4,"-1","RpcFrameworkError","NotJson",{}]"#),
         (
@@ -158,6 +158,14 @@ fn each_check(rt: HostRuntime) {
             "[5]",
             r#"[4,"-1","MessageTypeNotSupported","MessageType",{}]"#,
         ),
+    ] {
+        assert_eq!(rt; shown(&read_frame(rt.alloc(), text)), answer, "at {text}");
+    }
+}
+
+#[test]
+fn checks_of_calls(rt: HostRuntime) {
+    for (text, answer) in [
         ("[2]", r#"[4,"-1","RpcFrameworkError","NotACall",{}]"#),
         (
             r#"[2,"a","Heartbeat"]"#,

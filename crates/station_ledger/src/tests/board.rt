@@ -196,19 +196,24 @@ const EVSE_MOVES: Want = Want {
     line: Some((2, 3, 0, 2, true, 0, 250_000, 0, &[])),
 };
 
+fn expect_run(
+    rt: &impl Abort,
+    alloc: Global,
+    work: &mut Work,
+    label: &str,
+    asked: &[Asked],
+    want: &Want,
+) -> Result<(), Fail> {
+    let ledger = told(rt, alloc, work, asked)?;
+    let board = ledger.board(alloc)?;
+    expect_board(rt, label, &board, want);
+    expect_figures(rt, label, ledger.figures(), want.figures);
+    Ok(())
+}
+
 #[test]
 fn boards_of_short_runs(rt: HostRuntime) -> Result<(), Fail> {
-    let mut work = Work::open(&rt);
-    let again: Asked = Asked::Tell(
-        Kind::Ended,
-        3,
-        45,
-        None,
-        &[(0, 1_000), (14, 1_200), (31, 1_600), (45, 1_700)],
-    );
-    let boundary = Asked::Tell(Kind::Updated, 1, 15, None, &[(15, 1_100)]);
-    let still = Asked::Tell(Kind::Updated, 2, 30, None, &[(30, 1_100)]);
-    let rows: [(&str, &[Asked], Want); 14] = [
+    let rows: [(&str, &[Asked], Want); 7] = [
         ("no event", &[], NOTHING),
         (
             "a voided event alone",
@@ -243,6 +248,26 @@ fn boards_of_short_runs(rt: HostRuntime) -> Result<(), Fail> {
             &[START, LATER, MIDDLE, Asked::Void(1), Asked::Restore(1)],
             LATE_EVENT,
         ),
+    ];
+    let mut work = Work::open(&rt);
+    for (label, asked, want) in &rows {
+        expect_run(&rt, rt.alloc(), &mut work, label, asked, want)?;
+    }
+    Ok(())
+}
+
+#[test]
+fn boards_by_quarter(rt: HostRuntime) -> Result<(), Fail> {
+    let again = Asked::Tell(
+        Kind::Ended,
+        3,
+        45,
+        None,
+        &[(0, 1_000), (14, 1_200), (31, 1_600), (45, 1_700)],
+    );
+    let boundary = Asked::Tell(Kind::Updated, 1, 15, None, &[(15, 1_100)]);
+    let still = Asked::Tell(Kind::Updated, 2, 30, None, &[(30, 1_100)]);
+    let rows: [(&str, &[Asked], Want); 2] = [
         (
             "quarter_boundary, and a quarter without energy",
             &[START, boundary, still],
@@ -267,6 +292,17 @@ fn boards_of_short_runs(rt: HostRuntime) -> Result<(), Fail> {
                 line: Some((0, 4, 0, 3, true, 0, 1_300_000, 600_000, &[])),
             },
         ),
+    ];
+    let mut work = Work::open(&rt);
+    for (label, asked, want) in &rows {
+        expect_run(&rt, rt.alloc(), &mut work, label, asked, want)?;
+    }
+    Ok(())
+}
+
+#[test]
+fn boards_of_moving_evses(rt: HostRuntime) -> Result<(), Fail> {
+    let rows: [(&str, &[Asked], Want); 4] = [
         ("evse_moves", &[START, EVSE_TWO, EVSE_END], EVSE_MOVES),
         (
             "evse_moves, the event that names one voided",
@@ -293,37 +329,38 @@ fn boards_of_short_runs(rt: HostRuntime) -> Result<(), Fail> {
                 line: Some((2, 2, 1, 2, false, 0, 150_000, 0, &[])),
             },
         ),
-        (
-            "widest_gap",
-            &[
-                Asked::Tell(Kind::Started, 0, 0, None, &[(0, 10_000_000_000)]),
-                Asked::Tell(Kind::Ended, 2_147_483_647, 5, None, &[(5, 0)]),
-            ],
-            Want {
-                figures: [2, 0, 1, 0, 2_147_483_646, 0, 10_000_000_000_000],
-                evses: &[(0, 0, 10_000_000_000_000)],
-                quarters: &[(TEN, 0, 10_000_000_000_000)],
-                line: Some((
-                    0,
-                    2,
-                    0,
-                    2_147_483_647,
-                    false,
-                    2_147_483_646,
-                    0,
-                    10_000_000_000_000,
-                    &[(1, 2_147_483_646)],
-                )),
-            },
-        ),
     ];
+    let mut work = Work::open(&rt);
     for (label, asked, want) in &rows {
-        let ledger = told(&rt, rt.alloc(), &mut work, asked)?;
-        let board = ledger.board(rt.alloc())?;
-        expect_board(&rt, label, &board, want);
-        expect_figures(&rt, label, ledger.figures(), want.figures);
+        expect_run(&rt, rt.alloc(), &mut work, label, asked, want)?;
     }
     Ok(())
+}
+
+#[test]
+fn widest_gap(rt: HostRuntime) -> Result<(), Fail> {
+    let asked = [
+        Asked::Tell(Kind::Started, 0, 0, None, &[(0, 10_000_000_000)]),
+        Asked::Tell(Kind::Ended, 2_147_483_647, 5, None, &[(5, 0)]),
+    ];
+    let want = Want {
+        figures: [2, 0, 1, 0, 2_147_483_646, 0, 10_000_000_000_000],
+        evses: &[(0, 0, 10_000_000_000_000)],
+        quarters: &[(TEN, 0, 10_000_000_000_000)],
+        line: Some((
+            0,
+            2,
+            0,
+            2_147_483_647,
+            false,
+            2_147_483_646,
+            0,
+            10_000_000_000_000,
+            &[(1, 2_147_483_646)],
+        )),
+    };
+    let mut work = Work::open(&rt);
+    expect_run(&rt, rt.alloc(), &mut work, "widest_gap", &asked, &want)
 }
 
 // Run with each allocation refused in turn: a board that finds no memory leaves the ledger as it was.
