@@ -1,0 +1,13 @@
+//! The boards of sites as text.
+//!
+//! A [`SiteBoard`] is the board of a site under its name: its figures, its quarters with their energy,
+//! and the boards of its stations by name.
+#![tactic(auto)]
+
+mod board;
+mod fixed;
+mod write;
+
+pub use board::SiteBoard;
+pub use fixed::{energy_text, total_text};
+pub use write::write_board;
