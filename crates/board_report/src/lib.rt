@@ -6,8 +6,9 @@
 
 mod board;
 mod fixed;
+mod sums;
 mod write;
 
-pub use board::SiteBoard;
+pub use board::{SiteBoard, site_board};
 pub use fixed::{energy_text, total_text};
 pub use write::write_board;
