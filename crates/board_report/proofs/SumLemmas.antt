@@ -19,18 +19,18 @@ plus_none : (f : Energy) → plus f no_energy ≡ f
 plus_none f = same_energy (plus f no_energy) f (omega arith) (omega arith)
 
 -- the quarters of lines
-abbrev numbers : List Flowed → List ℕ
+abbrev pub numbers : List Flowed → List ℕ
 numbers lines = map (λ (line : Flowed). line.0) lines
 
 -- the energy of a quarter, with one line more
-under-own : (x : Flowed) (xs : List Flowed) (q : ℕ) → x.0 ≡ q → energy_under q (x ∷ xs) ≡ plus x.1 (energy_under q xs)
+pub under-own : (x : Flowed) (xs : List Flowed) (q : ℕ) → x.0 ≡ q → energy_under q (x ∷ xs) ≡ plus x.1 (energy_under q xs)
 under-own x xs q e = rw (eq-eqb x.0 q e) refl
 
-under-other : (x : Flowed) (xs : List Flowed) (q : ℕ) → (x.0 ≡ q → ⊥) → energy_under q (x ∷ xs) ≡ energy_under q xs
+pub under-other : (x : Flowed) (xs : List Flowed) (q : ℕ) → (x.0 ≡ q → ⊥) → energy_under q (x ∷ xs) ≡ energy_under q xs
 under-other x xs q apart = rw (ne_eqb x.0 q apart) refl
 
 -- a quarter that no line is of has no energy
-under-none : (q : ℕ) (xs : List Flowed) → (IsIn q (numbers xs) → ⊥) → energy_under q xs ≡ no_energy
+pub under-none : (q : ℕ) (xs : List Flowed) → (IsIn q (numbers xs) → ⊥) → energy_under q xs ≡ no_energy
 under-none q [] none = refl
 under-none q (x ∷ xs) none = under-other x xs q (λ e. none (inl (sym e))) ∙ under-none q xs (λ h. none (inr h))
 
@@ -215,7 +215,7 @@ first_is_lowest n [] up k (inr h) = absurd h
 first_is_lowest n (m ∷ ns) up k (inl e) = omega arith
 first_is_lowest n (m ∷ ns) up k (inr h) = let above : n < m = up.0 in let low : m ≤ k = first_is_lowest m ns up.1 k h in omega arith
 
-above_first : (n : ℕ) (ns : List ℕ) → AreRising (n ∷ ns) → (k : ℕ) → IsIn k ns → n < k
+pub above_first : (n : ℕ) (ns : List ℕ) → AreRising (n ∷ ns) → (k : ℕ) → IsIn k ns → n < k
 above_first n [] up k h = absurd h
 above_first n (m ∷ ns) up k h = let above : n < m = up.0 in let low : m ≤ k = first_is_lowest m ns up.1 k h in omega arith
 

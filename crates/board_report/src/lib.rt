@@ -6,9 +6,11 @@
 
 mod board;
 mod fixed;
+mod laws;
 mod sums;
 mod write;
 
 pub use board::{SiteBoard, site_board};
 pub use fixed::{energy_text, total_text};
+pub use laws::plans_fit;
 pub use write::write_board;
