@@ -1,5 +1,5 @@
 -- The quarters of a plan's boards have no more energy than its readings can show.
-use Rattle.std.proofs.Common.{◌≡◌, ℕ, ◌+◌, ◌*◌, ◌<◌, ◌≤◌, ◌^◌, ◌⊎◌, inl, inr, Bool, true, false, cond, List, [], ◌∷◌, ◌++◌, map, refl, sym, ap, subst, ◌∙◌, arith, eqb, ⊎_elim}
+use Rattle.std.proofs.Common.{◌≡◌, ℕ, ◌+◌, ◌*◌, ◌<◌, ◌≤◌, inl, inr, Bool, true, false, cond, List, [], ◌∷◌, ◌++◌, map, sym, ap, arith, eqb, ⊎_elim}
 use Rattle.std.specs.List.{sum_by, filter}
 use Rattle.std.proofs.lemmas.Bool.{cases_eq}
 use Rattle.std.proofs.lemmas.List.Sums.{sum_by-cons}
@@ -61,9 +61,10 @@ sum-filter f p (x ∷ xs) = omega (arith, sum_by-filter_cons f p x xs, sum_by-co
     part false n = omega arith
 
 in_quarter : (q : ℕ) (es : List Entry) → IsNoMore (energy_in quarter_seconds q es) (energy es)
-in_quarter q es =
-    (sum-filter (λ p. (difference p).up) (λ p. eqb (quarter_of quarter_seconds p) q) (pairs es),
-    sum-filter (λ p. (difference p).down) (λ p. eqb (quarter_of quarter_seconds p) q) (pairs es))
+in_quarter q es = (
+  sum-filter (λ p. (difference p).up) (λ p. eqb (quarter_of quarter_seconds p) q) (pairs es),
+  sum-filter (λ p. (difference p).down) (λ p. eqb (quarter_of quarter_seconds p) q) (pairs es),
+)
 
 -- a board shows no more for a quarter than its figures say
 under-board : (q : ℕ) (es : List Entry) → IsNoMore (energy_under q (board quarter_seconds es).quarters) (energy es)
@@ -80,9 +81,10 @@ under-limits : (q : ℕ) (limits : Bounds) (b : Board) → IsBoardWithin limits 
 under-limits q limits b h =
     let shown = under-board q h.entries in
     let same = ap (λ (c : Board). energy_under q c.quarters) h.is in
-    let figures = ap (λ (c : Board). c.figures) h.is in
-    (omega (arith, ap (λ (f : Energy). f.up) same, shown.0, ap {B = ℕ} (λ f. f.up) figures, h.within.up),
-    omega (arith, ap (λ (f : Energy). f.down) same, shown.1, ap {B = ℕ} (λ f. f.down) figures, h.within.down))
+    let figures = ap (λ (c : Board). c.figures) h.is in (
+      omega (arith, ap (λ (f : Energy). f.up) same, shown.0, ap {B = ℕ} (λ f. f.up) figures, h.within.up),
+      omega (arith, ap (λ (f : Energy). f.down) same, shown.1, ap {B = ℕ} (λ f. f.down) figures, h.within.down),
+    )
 
 -- the energy of a quarter over two lists
 under-append : (q : ℕ) (xs ys : List Flowed) → ((energy_under q (xs ++ ys)).up ≡ (energy_under q xs).up + (energy_under q ys).up) × ((energy_under q (xs ++ ys)).down ≡ (energy_under q xs).down + (energy_under q ys).down)
@@ -120,3 +122,10 @@ plans_fit plan stations few h = record {
   up = λ q. omega (arith, few, (under-plan q plan stations h).0);
   down = λ q. omega (arith, few, (under-plan q plan stations h).1);
 }
+
+-- one board more, within one more limits
+pub AreBoardsWithin-more : (plan : List Bounds) (stations : List (List ℕ × Board)) (limits : Bounds) (s : List ℕ × Board) → AreBoardsWithin plan stations → IsBoardWithin limits s.1 → AreBoardsWithin (plan ++ limits ∷ []) (stations ++ s ∷ [])
+AreBoardsWithin-more [] [] limits s h one = (one, tt)
+AreBoardsWithin-more [] (t ∷ stations) limits s h one = absurd h
+AreBoardsWithin-more (l ∷ plan) [] limits s h one = absurd h
+AreBoardsWithin-more (l ∷ plan) (t ∷ stations) limits s h one = (h.0, AreBoardsWithin-more plan stations limits s h.1 one)

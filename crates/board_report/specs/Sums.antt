@@ -1,7 +1,7 @@
 -- The quarters of a site: each quarter that a station shows, with the sum of its energies.
 use Rattle.std.specs.Prelude.{ℕ, ◌<◌, ◌≤◌, ◌≡◌, ◌==◌, nat_lt, if◌then◌else◌, List, [], ◌∷◌, ◌^◌, map}
 use Rattle.std.specs.List.{flat_map}
-use Rattle.energy_flow.specs.Flow.{Energy, plus, CanPlus}
+use Rattle.energy_flow.specs.Flow.{plus, CanPlus}
 use Rattle.ledger_model.specs.Board.{Board, Flowed, energy_under}
 use Rattle.ledger_model.specs.Energy.{rising}
 

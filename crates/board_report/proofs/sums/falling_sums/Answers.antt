@@ -1,4 +1,4 @@
-use Rattle.std.proofs.Common.{◌≡◌, ◌∷◌, ◌++◌, ◌∙◌, sym, ap, subst, reverse, length, take, ◌-◌, arith}
+use Rattle.std.proofs.Common.{◌∷◌, ◌∙◌, sym, ap, subst, length, take, ◌-◌, arith}
 use Rattle.board_report.specs.Sums.{put_line, CanLead}
 use Rattle.board_report.proofs.SumLemmas.{can_lead, last_apart, sums_more}
 use Rattle.board_report.proofs.sums.falling_sums.Goals as goal
@@ -15,7 +15,10 @@ add_line-requires c =
 pub loop-left-preserved : goal.loop-left-preserved
 loop-left-preserved c =
     let k = c.loop-left.invariant in
-    let left = c.loop-left.left.now in
-    (c.last-item.result ∷ k.0,
-    (last_apart left c.last-item.result k.0 (omega (arith, c.in-len1-up.len_at_least)) c.last-item.is ∙ k.1.0,
-    c.in_ok-add_line.ensures ∙ ap (put_line c.last-item.result) k.1.1 ∙ sums_more c.last-item.result k.0))
+    let left = c.loop-left.left.now in (
+      c.last-item.result ∷ k.0,
+      (
+        last_apart left c.last-item.result k.0 (omega (arith, c.in-len1-up.len_at_least)) c.last-item.is ∙ k.1.0,
+        c.in_ok-add_line.ensures ∙ ap (put_line c.last-item.result) k.1.1 ∙ sums_more c.last-item.result k.0,
+      ),
+    )
