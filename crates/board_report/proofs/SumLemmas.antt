@@ -1,0 +1,259 @@
+-- The sums of lines by quarter.
+use Rattle.std.proofs.Common.{◌≡◌, ℕ, zero, suc, ◌+◌, ◌-◌, ◌<◌, ◌≤◌, ◌^◌, ◌⊎◌, inl, inr, cond, eqb, List, [], ◌∷◌, ◌++◌, map, length, take, get_or, refl, sym, ap, subst, ◌∙◌, arith, ⊎_elim}
+use Rattle.std.specs.List.{sum_by}
+use Rattle.std.specs.List.Sorted.{IsPermutation, IsNonDecreasingBy}
+use Rattle.std.proofs.lemmas.Bool.{eq-eqb, ne_eqb, lt-ltb, le-ltb, cases_order, cases_eq}
+use Rattle.std.proofs.lemmas.List.Sums.{sum_by-cons}
+use Rattle.std.proofs.lemmas.List.Sorted.{sum_by-IsPermutation, IsPermutation-sym}
+use Rattle.energy_flow.specs.Flow.{Energy, plus, no_energy, CanPlus}
+use Rattle.ledger_model.specs.Board.{Flowed, energy_under}
+use Rattle.ledger_model.specs.Energy.{put_in, rising}
+use Rattle.ledger_model.specs.BoardLaws.{AreRising, IsIn}
+use Rattle.ledger_model.proofs.Callers.{put_in-same, put_in-below, put_in-above, rising-AreRising, rising-IsIn}
+use Rattle.board_report.specs.Sums.{quarter_sums, QuartersFit, AreInOrder, put_line, CanLead}
+
+same_energy : (a b : Energy) → a.up ≡ b.up → a.down ≡ b.down → a ≡ b
+same_energy a b up down = λ i. record { up = up i; down = down i }
+
+plus_none : (f : Energy) → plus f no_energy ≡ f
+plus_none f = same_energy (plus f no_energy) f (omega arith) (omega arith)
+
+-- the quarters of lines
+abbrev pub numbers : List Flowed → List ℕ
+numbers lines = map (λ (line : Flowed). line.0) lines
+
+-- the energy of a quarter, with one line more
+pub under-own : (x : Flowed) (xs : List Flowed) (q : ℕ) → x.0 ≡ q → energy_under q (x ∷ xs) ≡ plus x.1 (energy_under q xs)
+under-own x xs q e = rw (eq-eqb x.0 q e) refl
+
+pub under-other : (x : Flowed) (xs : List Flowed) (q : ℕ) → (x.0 ≡ q → ⊥) → energy_under q (x ∷ xs) ≡ energy_under q xs
+under-other x xs q apart = rw (ne_eqb x.0 q apart) refl
+
+-- a quarter that no line is of has no energy
+pub under-none : (q : ℕ) (xs : List Flowed) → (IsIn q (numbers xs) → ⊥) → energy_under q xs ≡ no_energy
+under-none q [] none = refl
+under-none q (x ∷ xs) none = under-other x xs q (λ e. none (inl (sym e))) ∙ under-none q xs (λ h. none (inr h))
+
+-- the three cases of a line that is put in
+put_same : (x l : Flowed) (ls : List Flowed) → x.0 ≡ l.0 → put_line x (l ∷ ls) ≡ (l.0, plus x.1 l.1) ∷ ls
+put_same x l ls e = rw (eq-eqb x.0 l.0 e) refl
+
+put_below : (x l : Flowed) (ls : List Flowed) → x.0 < l.0 → put_line x (l ∷ ls) ≡ x ∷ l ∷ ls
+put_below x l ls h = rw (ne_eqb x.0 l.0 (λ e. absurd (omega arith)), lt-ltb x.0 l.0 h) refl
+
+put_above : (x l : Flowed) (ls : List Flowed) → l.0 < x.0 → put_line x (l ∷ ls) ≡ l ∷ put_line x ls
+put_above x l ls h = rw (ne_eqb x.0 l.0 (λ e. absurd (omega arith)), le-ltb x.0 l.0 (omega arith)) refl
+
+-- a number below rising ones is none of them
+below_not_in : (n m : ℕ) (ms : List ℕ) → n < m → AreRising (m ∷ ms) → IsIn n (m ∷ ms) → ⊥
+below_not_in n m [] less up (inl e) = absurd (omega arith)
+below_not_in n m [] less up (inr h) = h
+below_not_in n m (k ∷ ms) less up (inl e) = absurd (omega arith)
+below_not_in n m (k ∷ ms) less up (inr h) = below_not_in n k ms (let a : m < k = up.0 in omega arith) up.1 h
+
+tail_rises : (m : ℕ) (ms : List ℕ) → AreRising (m ∷ ms) → AreRising ms
+tail_rises m [] up = tt
+tail_rises m (k ∷ ms) up = up.1
+
+module _ (x : Flowed) (was is : ℕ → Energy) (agree : (k : ℕ) → (x.0 ≡ k → ⊥) → is k ≡ was k) (here : is x.0 ≡ plus x.1 (was x.0)) where
+  abbrev lines : (ℕ → Energy) → List ℕ → List Flowed
+  lines e ks = map (λ k. (k, e k)) ks
+
+  -- what is above the number keeps its energy
+  above_same : (low : ℕ) (ms : List ℕ) → x.0 ≤ low → AreRising (low ∷ ms) → lines was ms ≡ lines is ms
+  above_same low [] le up = refl
+  above_same low (k ∷ ms) le up =
+      let above : low < k = up.0 in
+      let same : was k ≡ is k = sym (agree k (λ e. absurd (omega arith))) in
+      λ i. (k, same i) ∷ above_same k ms (omega arith) up.1 i
+
+  put_rising : (ks : List ℕ) → AreRising ks → ((IsIn x.0 ks → ⊥) → was x.0 ≡ no_energy) → put_line x (lines was ks) ≡ lines is (put_in x.0 ks)
+  put_rising [] up none =
+      let one : x.1 ≡ is x.0 = sym (here ∙ ap (plus x.1) (none (λ h. h)) ∙ plus_none x.1) in
+      λ i. (x.0, one i) ∷ []
+  put_rising (m ∷ ms) up none = ⊎_elim
+      (λ (e : x.0 ≡ m).
+      let at : plus x.1 (was m) ≡ is m = ap (λ k. plus x.1 (was k)) (sym e) ∙ sym here ∙ ap is e in
+      put_same x (m, was m) (lines was ms) e
+      ∙ (λ i. (m, at i) ∷ above_same m ms (omega arith) up i)
+      ∙ ap (lines is) (sym (put_in-same x.0 m ms e)))
+      (λ (o : (x.0 < m) ⊎ (m < x.0)). ⊎_elim
+      (λ (below : x.0 < m).
+      let one : x.1 ≡ is x.0 = sym (here ∙ ap (plus x.1) (none (below_not_in x.0 m ms below up)) ∙ plus_none x.1) in
+      put_below x (m, was m) (lines was ms) below
+      ∙ (λ i. (x.0, one i) ∷ above_same x.0 (m ∷ ms) (omega arith) (below, up) i)
+      ∙ ap (lines is) (sym (put_in-below x.0 m ms below)))
+      (λ (above : m < x.0).
+      let apart : x.0 ≡ m → ⊥ = λ e. absurd (omega arith) in
+      let first : was m ≡ is m = sym (agree m apart) in
+      put_above x (m, was m) (lines was ms) above
+      ∙ (λ i. (m, first i) ∷ put_rising ms (tail_rises m ms up) (λ no. none (λ h. ⊎_elim (λ (e : x.0 ≡ m). apart e) (λ (there : IsIn x.0 ms). no there) h)) i)
+      ∙ ap (lines is) (sym (put_in-above x.0 m ms above)))
+      o)
+      (cases_order x.0 m)
+
+-- a line put into the sums of lines gives the sums of one line more
+pub sums_more : (x : Flowed) (xs : List Flowed) → put_line x (quarter_sums xs) ≡ quarter_sums (x ∷ xs)
+sums_more x xs = put_rising x (λ k. energy_under k xs) (λ k. energy_under k (x ∷ xs)) (λ k apart. under-other x xs k apart) (under-own x xs x.0 refl)
+    (rising (numbers xs)) (rising-AreRising (numbers xs)) (λ no. under-none x.0 xs (λ h. no ((rising-IsIn x.0 (numbers xs)).1 h)))
+
+-- lines at the end have no more energy than all
+under-more : (q : ℕ) (x : Flowed) (xs : List Flowed) → ((energy_under q xs).up ≤ (energy_under q (x ∷ xs)).up) × ((energy_under q xs).down ≤ (energy_under q (x ∷ xs)).down)
+under-more q x xs = ⊎_elim
+    (λ (e : x.0 ≡ q). let own = under-own x xs q e in (omega (arith, ap (λ (f : Energy). f.up) own), omega (arith, ap (λ (f : Energy). f.down) own)))
+    (λ (o : x.0 ≡ q → ⊥). let other = under-other x xs q o in (omega (arith, ap (λ (f : Energy). f.up) other), omega (arith, ap (λ (f : Energy). f.down) other)))
+    (cases_eq x.0 q)
+
+under-end : (q : ℕ) (front xs : List Flowed) → ((energy_under q xs).up ≤ (energy_under q (front ++ xs)).up) × ((energy_under q xs).down ≤ (energy_under q (front ++ xs)).down)
+under-end q [] xs = (omega arith, omega arith)
+under-end q (y ∷ front) xs =
+    let rest = under-end q front xs in
+    let more = under-more q y (front ++ xs) in
+    (omega (arith, rest.0, more.0), omega (arith, rest.1, more.1))
+
+-- lines at the end of lines in order are in order
+order-tail : (x : Flowed) (xs : List Flowed) → AreInOrder (x ∷ xs) → AreInOrder xs
+order-tail x [] order = tt
+order-tail x (y ∷ xs) order = order.1
+
+order-end : (front xs : List Flowed) → AreInOrder (front ++ xs) → AreInOrder xs
+order-end [] xs order = order
+order-end (y ∷ front) xs order = order-end front xs (order-tail y (front ++ xs) order)
+
+-- no line is before the first
+order-first : (x : Flowed) (xs : List Flowed) (k : ℕ) → AreInOrder (x ∷ xs) → IsIn k (numbers xs) → x.0 ≤ k
+order-first x [] k order h = absurd h
+order-first x (y ∷ xs) k order (inl e) = let low : x.0 ≤ y.0 = order.0 in omega arith
+order-first x (y ∷ xs) k order (inr h) = let low : x.0 ≤ y.0 = order.0 in let rest : y.0 ≤ k = order-first y xs k order.1 h in omega arith
+
+leads : (x : Flowed) (xs : List Flowed) (ks : List ℕ) → ((k : ℕ) → IsIn k ks → x.0 ≤ k) → ((k : ℕ) → x.0 ≡ k → CanPlus x.1 (energy_under k xs)) → CanLead x (map (λ k. (k, energy_under k xs)) ks)
+leads x xs [] low room = tt
+leads x xs (k ∷ ks) low room = (low k (inl refl), room k)
+
+-- the line before the last ones of lines in order can be added to their sums
+pub can_lead : (front : List Flowed) (x : Flowed) (xs all : List Flowed) → front ++ (x ∷ xs) ≡ all → AreInOrder all → QuartersFit all → CanLead x (quarter_sums xs)
+can_lead front x xs all parts order fit =
+    let here : AreInOrder (x ∷ xs) = order-end front (x ∷ xs) (subst AreInOrder (sym parts) order) in
+    leads x xs (rising (numbers xs))
+    (λ k h. order-first x xs k here ((rising-IsIn k (numbers xs)).0 h))
+    (λ k e.
+    let own = under-own x xs k e in
+    let few = under-end k front (x ∷ xs) in
+    record {
+      up = omega (arith, ap (λ (f : Energy). f.up) own, few.0, ap (λ (ls : List Flowed). (energy_under k ls).up) parts, fit.up k);
+      down = omega (arith, ap (λ (f : Energy). f.down) own, few.1, ap (λ (ls : List Flowed). (energy_under k ls).down) parts, fit.down k);
+    })
+
+-- the last line, and what stands before it
+parted : (left : List Flowed) (k : ℕ) (x : Flowed) (after : List Flowed) → k + 1 ≡ length left → x ≡ get_or left k x → take k left ++ (x ∷ after) ≡ left ++ after
+parted [] k x after some is = absurd (omega arith)
+parted (y ∷ []) zero x after some is = ap (λ (z : Flowed). z ∷ after) is
+parted (y ∷ z ∷ left) zero x after some is = absurd (omega arith)
+parted (y ∷ left) (suc k) x after some is = ap (λ (ls : List Flowed). y ∷ ls) (parted left k x after (omega arith) is)
+
+pub last_apart : (left : List Flowed) (x : Flowed) (after : List Flowed) → 0 < length left → x ≡ get_or left (length left - 1) x → take (length left - 1) left ++ (x ∷ after) ≡ left ++ after
+last_apart left x after some is = parted left (length left - 1) x after (omega arith) is
+
+-- lines that do not fall by number are in order
+pub order_from_sort : (xs : List Flowed) → IsNonDecreasingBy (λ (line : Flowed). line.0) xs → AreInOrder xs
+order_from_sort [] up = tt
+order_from_sort (x ∷ []) up = tt
+order_from_sort (x ∷ y ∷ xs) up = (up 0 1 x (omega arith) (omega arith), order_from_sort (y ∷ xs) (λ i j d le lt. up (suc i) (suc j) d (omega arith) (omega arith)))
+
+-- how often a number stands among those of lines
+hit : ℕ → Flowed → ℕ
+hit k line = cond (eqb line.0 k) 1 0
+
+hits_if_in : (k : ℕ) (xs : List Flowed) → IsIn k (numbers xs) → 0 < sum_by (hit k) xs
+unfolding hit
+hits_if_in k [] h = absurd h
+hits_if_in k (x ∷ xs) (inl e) = omega (arith, sum_by-cons (hit k) x xs, ap {B = ℕ} (λ b. cond b 1 0) (eq-eqb x.0 k (sym e)))
+hits_if_in k (x ∷ xs) (inr h) = omega (arith, sum_by-cons (hit k) x xs, hits_if_in k xs h)
+
+in_if_hits : (k : ℕ) (xs : List Flowed) → 0 < sum_by (hit k) xs → IsIn k (numbers xs)
+unfolding hit
+in_if_hits k [] h = absurd (omega arith)
+in_if_hits k (x ∷ xs) h = ⊎_elim
+    (λ (e : x.0 ≡ k). inl (sym e))
+    (λ (o : x.0 ≡ k → ⊥). inr (in_if_hits k xs (omega (arith, sum_by-cons (hit k) x xs, ap {B = ℕ} (λ b. cond b 1 0) (ne_eqb x.0 k o)))))
+    (cases_eq x.0 k)
+
+in_permuted : (k : ℕ) (xs ys : List Flowed) → IsPermutation xs ys → IsIn k (numbers xs) → IsIn k (numbers ys)
+in_permuted k xs ys same h = in_if_hits k ys (omega (arith, sum_by-IsPermutation (hit k) xs ys same, hits_if_in k xs h))
+
+-- the energy of a quarter as a sum
+at : (Energy → ℕ) → ℕ → Flowed → ℕ
+at part q line = cond (eqb line.0 q) (part line.1) 0
+
+under_is : (q : ℕ) (xs : List Flowed) → energy_under q xs ≡ record { up = sum_by (at (λ e. e.up) q) xs; down = sum_by (at (λ e. e.down) q) xs }
+unfolding at
+under_is q [] = refl
+under_is q (x ∷ xs) =
+    let rest = under_is q xs in
+    let up_more = sum_by-cons (at (λ e. e.up) q) x xs in
+    let down_more = sum_by-cons (at (λ e. e.down) q) x xs in
+    ⊎_elim
+    (λ (e : x.0 ≡ q). same_energy _ _
+    (omega (arith, ap (λ (f : Energy). f.up) (under-own x xs q e), ap (λ (f : Energy). f.up) rest, up_more, ap {B = ℕ} (λ b. cond b x.1.up 0) (eq-eqb x.0 q e)))
+    (omega (arith, ap (λ (f : Energy). f.down) (under-own x xs q e), ap (λ (f : Energy). f.down) rest, down_more, ap {B = ℕ} (λ b. cond b x.1.down 0) (eq-eqb x.0 q e))))
+    (λ (o : x.0 ≡ q → ⊥). same_energy _ _
+    (omega (arith, ap (λ (f : Energy). f.up) (under-other x xs q o), ap (λ (f : Energy). f.up) rest, up_more, ap {B = ℕ} (λ b. cond b x.1.up 0) (ne_eqb x.0 q o)))
+    (omega (arith, ap (λ (f : Energy). f.down) (under-other x xs q o), ap (λ (f : Energy). f.down) rest, down_more, ap {B = ℕ} (λ b. cond b x.1.down 0) (ne_eqb x.0 q o))))
+    (cases_eq x.0 q)
+
+-- the energy of a quarter does not depend on the order of lines
+under_permuted : (q : ℕ) (xs ys : List Flowed) → IsPermutation xs ys → energy_under q ys ≡ energy_under q xs
+under_permuted q xs ys same =
+    let up : sum_by (at (λ e. e.up) q) ys ≡ sum_by (at (λ e. e.up) q) xs = sum_by-IsPermutation (at (λ e. e.up) q) xs ys same in
+    let down : sum_by (at (λ e. e.down) q) ys ≡ sum_by (at (λ e. e.down) q) xs = sum_by-IsPermutation (at (λ e. e.down) q) xs ys same in
+    under_is q ys ∙ (λ i. record { up = up i; down = down i }) ∙ sym (under_is q xs)
+
+-- no rising number is below the first
+first_is_lowest : (n : ℕ) (ns : List ℕ) → AreRising (n ∷ ns) → (k : ℕ) → IsIn k (n ∷ ns) → n ≤ k
+first_is_lowest n [] up k (inl e) = omega arith
+first_is_lowest n [] up k (inr h) = absurd h
+first_is_lowest n (m ∷ ns) up k (inl e) = omega arith
+first_is_lowest n (m ∷ ns) up k (inr h) = let above : n < m = up.0 in let low : m ≤ k = first_is_lowest m ns up.1 k h in omega arith
+
+pub above_first : (n : ℕ) (ns : List ℕ) → AreRising (n ∷ ns) → (k : ℕ) → IsIn k ns → n < k
+above_first n [] up k h = absurd h
+above_first n (m ∷ ns) up k h = let above : n < m = up.0 in let low : m ≤ k = first_is_lowest m ns up.1 k h in omega arith
+
+behind_first : (n : ℕ) (ns : List ℕ) (k : ℕ) → n < k → IsIn k (n ∷ ns) → IsIn k ns
+behind_first n ns k above (inl e) = absurd (omega arith)
+behind_first n ns k above (inr h) = h
+
+-- rising lists of the same numbers are the same
+same_rising : (ms ns : List ℕ) → AreRising ms → AreRising ns → ((k : ℕ) → IsIn k ms → IsIn k ns) → ((k : ℕ) → IsIn k ns → IsIn k ms) → ms ≡ ns
+same_rising [] [] up other to from = refl
+same_rising [] (n ∷ ns) up other to from = absurd (from n (inl refl))
+same_rising (m ∷ ms) [] up other to from = absurd (to m (inl refl))
+same_rising (m ∷ ms) (n ∷ ns) up other to from =
+    let not_below : n ≤ m = first_is_lowest n ns other m (to m (inl refl)) in
+    let not_above : m ≤ n = first_is_lowest m ms up n (from n (inl refl)) in
+    let first : m ≡ n = omega arith in
+    let rest : ms ≡ ns = same_rising ms ns (tail_rises m ms up) (tail_rises n ns other)
+    (λ k h. let above : m < k = above_first m ms up k h in behind_first n ns k (omega arith) (to k (inr h)))
+    (λ k h. let above : n < k = above_first n ns other k h in behind_first m ms k (omega arith) (from k (inr h))) in
+    λ i. first i ∷ rest i
+
+same_energies : (e f : ℕ → Energy) → ((k : ℕ) → e k ≡ f k) → (ks : List ℕ) → map {B = Flowed} (λ k. (k, e k)) ks ≡ map {B = Flowed} (λ k. (k, f k)) ks
+same_energies e f same [] = refl
+same_energies e f same (k ∷ ks) = λ i. (k, same k i) ∷ same_energies e f same ks i
+
+-- sums do not depend on the order of lines
+pub sums_permuted : (xs ys : List Flowed) → IsPermutation xs ys → quarter_sums ys ≡ quarter_sums xs
+sums_permuted xs ys same =
+    let back = IsPermutation-sym xs ys same in
+    let keys : rising (numbers ys) ≡ rising (numbers xs) = same_rising (rising (numbers ys)) (rising (numbers xs)) (rising-AreRising (numbers ys)) (rising-AreRising (numbers xs))
+    (λ k h. (rising-IsIn k (numbers xs)).1 (in_permuted k ys xs back ((rising-IsIn k (numbers ys)).0 h)))
+    (λ k h. (rising-IsIn k (numbers ys)).1 (in_permuted k xs ys same ((rising-IsIn k (numbers xs)).0 h))) in
+    same_energies (λ k. energy_under k ys) (λ k. energy_under k xs) (λ k. under_permuted k xs ys same) (rising (numbers ys))
+    ∙ ap (λ (ks : List ℕ). map {B = Flowed} (λ k. (k, energy_under k xs)) ks) keys
+
+-- nor does the condition on them
+pub fit_permuted : (xs ys : List Flowed) → IsPermutation xs ys → QuartersFit xs → QuartersFit ys
+fit_permuted xs ys same fit = record {
+  up = λ q. subst (λ (e : Energy). e.up < 2 ^ 64) (sym (under_permuted q xs ys same)) (fit.up q);
+  down = λ q. subst (λ (e : Energy). e.down < 2 ^ 64) (sym (under_permuted q xs ys same)) (fit.down q);
+}

@@ -1,0 +1,7 @@
+use Rattle.std.proofs.Common.{◌≡◌, take}
+use Rattle.board_report.specs.Sums.{station_quarters}
+use Rattle.board_report.proofs.sums.station_quarters.Given as goal
+
+-- the lines of the stations so far
+abbrev pub invariant-loop-station : goal.invariant-loop-station
+invariant-loop-station l = l.lines.items ≡ station_quarters (take l.station-index l.stations)

@@ -1,0 +1,4 @@
+pub mod Named
+pub mod Plans
+pub mod Sums
+pub mod Texts

@@ -1,0 +1,29 @@
+-- The boards of one plan: what their quarters add up to.
+use Rattle.std.specs.Prelude.{◌≡◌, ◌≤◌, ℕ, List, [], ◌∷◌, sum_by}
+use Rattle.ledger_model.specs.Board.{Board, board}
+use Rattle.ledger_model.specs.Content.{Entry}
+use Rattle.ledger_model.specs.Figures.{AreWithin}
+use Rattle.ledger_model.specs.Limits.{Bounds}
+use Rattle.ledger_model.specs.Quarter.{quarter_seconds}
+use Rattle.board_report.specs.Sums.{station_quarters, QuartersFit}
+
+-- How many readings the stations of one plan may store in all (this product's profile).
+abbrev pub most_plan_readings : ℕ
+most_plan_readings = 1_048_576
+
+-- A board is that of a station's events, and its figures are such as the station's limits allow.
+pub record IsBoardWithin (limits : Bounds) (shown : Board) : Type 0 where
+  pub entries : List Entry
+  pub is : shown ≡ board quarter_seconds entries
+  pub within : AreWithin limits shown.figures
+
+-- As many boards as limits, each within those in its place.
+abbrev pub AreBoardsWithin : List Bounds → List (List ℕ × Board) → Type 0
+AreBoardsWithin [] [] = Unit {0}
+AreBoardsWithin [] (s ∷ stations) = ⊥
+AreBoardsWithin (limits ∷ plan) [] = ⊥
+AreBoardsWithin (limits ∷ plan) (s ∷ stations) = IsBoardWithin limits s.1 × AreBoardsWithin plan stations
+
+-- The sums by quarter fit for the boards of each plan whose stations store no more readings in all than one may.
+abbrev pub PlansFit : Type 0
+PlansFit = (plan : List Bounds) (stations : List (List ℕ × Board)) → sum_by (λ limits. limits.readings) plan ≤ most_plan_readings → AreBoardsWithin plan stations → QuartersFit (station_quarters stations)

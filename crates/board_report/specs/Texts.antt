@@ -1,0 +1,85 @@
+-- The text of a board (this product's profile). Numbers are plain decimals, and energies are milliwatt-hours.
+use Rattle.std.specs.Prelude.{ℕ, Bool, List, [], ◌∷◌, ◌++◌, codes, if◌then◌else◌}
+use Rattle.std.specs.List.{flat_map}
+use Rattle.std.specs.Fmt.{decimal}
+use Rattle.energy_flow.specs.Flow.{Energy}
+use Rattle.ledger_model.specs.declared.figures.Figures.{Figures}
+use Rattle.ledger_model.specs.Board.{Board, Flowed, Shown}
+use Rattle.ledger_model.specs.Gaps.{Gap}
+use Rattle.ledger_model.specs.Quarter.{quarter_seconds}
+use Rattle.reading_decimal.specs.MomentText.{text_of}
+use Rattle.reading_decimal.specs.Quarter.{quarter_start}
+use Rattle.board_report.specs.Named.{NamedBoard}
+
+-- A label, and a number behind it.
+unfoldable pub field : List ℕ → ℕ → List ℕ
+field label number = label ++ decimal number
+
+-- A text, and a line feed behind it.
+abbrev pub line : List ℕ → List ℕ
+line text = text ++ 10 ∷ []
+
+-- ` up=<n> down=<n>`
+abbrev pub flow_fields : ℕ → ℕ → List ℕ
+flow_fields up down = field (codes " up=") up ++ field (codes " down=") down
+
+-- `energy up=<n> down=<n>`
+abbrev pub energy_text : Energy → List ℕ
+energy_text flow = codes "energy" ++ flow_fields flow.up flow.down
+
+-- `total events=<n> voided=<n> transactions=<n> complete=<n> missing=<n> up=<n> down=<n>`
+unfoldable pub total_text : Figures → List ℕ
+total_text f =
+    field (codes "total events=") f.events ++ (field (codes " voided=") f.voided
+    ++ (field (codes " transactions=") f.transactions ++ (field (codes " complete=") f.complete
+    ++ (field (codes " missing=") f.missing ++ flow_fields f.up f.down))))
+
+-- The text of a quarter's first moment.
+unfoldable pub start_text : ℕ → List ℕ
+start_text quarter = text_of (quarter_start quarter_seconds quarter)
+
+-- `quarter <start> up=<n> down=<n>`
+unfoldable pub quarter_line : Flowed → List ℕ
+quarter_line q = line (codes "quarter " ++ (start_text q.0 ++ flow_fields q.1.up q.1.down))
+
+-- `evse <n> up=<n> down=<n>`
+unfoldable pub evse_line : Flowed → List ℕ
+evse_line e = line (field (codes "evse ") e.0 ++ flow_fields e.1.up e.1.down)
+
+-- `yes` or `no`
+abbrev pub yes_or_no : Bool → List ℕ
+yes_or_no is = if is then codes "yes" else codes "no"
+
+-- ` evse=<n> events=<n> first=<n> last=<n>`
+unfoldable pub events_fields : Shown → List ℕ
+events_fields t =
+    field (codes " evse=") t.evse ++ (field (codes " events=") t.events
+    ++ (field (codes " first=") t.first ++ field (codes " last=") t.last))
+
+-- ` complete=<yes or no> missing=<n>`
+unfoldable pub completeness_fields : Shown → List ℕ
+completeness_fields t = codes " complete=" ++ (yes_or_no t.complete ++ field (codes " missing=") t.missing)
+
+-- `tx <id> evse=<n> events=<n> first=<n> last=<n> complete=<yes or no> missing=<n> up=<n> down=<n>`
+unfoldable pub transaction_line : Shown → List ℕ
+transaction_line t = line (codes "tx " ++ (t.tx ++ (events_fields t ++ (completeness_fields t ++ flow_fields t.flow.up t.flow.down))))
+
+-- `gap <from>..<to>`
+unfoldable pub gap_line : Gap → List ℕ
+gap_line gap = line (field (codes "gap ") gap.0 ++ field (codes "..") gap.1)
+
+-- A transaction's line, and those of its gaps.
+unfoldable pub transaction_text : Shown → List ℕ
+transaction_text t = transaction_line t ++ flat_map gap_line t.gaps
+
+-- The lines of a station: its name, its total, its EVSEs, its quarters, and its transactions, each with its gaps.
+unfoldable pub station_text : List ℕ × Board → List ℕ
+station_text s =
+    line (codes "station " ++ s.0) ++ (line (total_text s.1.figures) ++ (flat_map evse_line s.1.evses
+    ++ (flat_map quarter_line s.1.quarters ++ flat_map transaction_text s.1.transactions)))
+
+-- The text of a site's board: its name, its total, its quarters, its stations, and `end`.
+abbrev pub board_text : NamedBoard → List ℕ
+board_text b =
+    line (codes "board " ++ b.name) ++ (line (total_text b.figures) ++ (flat_map quarter_line b.quarters
+    ++ (flat_map station_text b.stations ++ line (codes "end"))))

@@ -1,0 +1,81 @@
+ghost use Rattle.std.specs.Prelude.{◌≡◌, IfOk};
+ghost use Rattle.ledger_model.specs.Board.{site_board as site_board_of};
+ghost use Rattle.board_report.specs.Sums.{station_quarters, QuartersFit};
+
+use crate::sums::site_quarters;
+use ledger_model::{Figures, Listed, Name};
+use station_ledger::{QuarterLine, StationBoard};
+use std::alloc::{AllocError, Global};
+use std::marker::Model;
+
+/// The board of a site: its name, its figures, its quarters with their energy, rising, and its
+/// stations' boards by name, in the order of declaration.
+#[derive(Debug, Drop)]
+pub struct SiteBoard {
+    pub(crate) name: Name,
+    pub(crate) figures: Figures,
+    pub(crate) quarters: Listed<QuarterLine>,
+    pub(crate) stations: Listed<(Name, StationBoard)>,
+}
+
+impl Model for SiteBoard {
+    ghost use Rattle.board_report.specs.Named.{NamedBoard};
+
+    ghost Value = { NamedBoard };
+
+    ghost view = { λ b. record { name = b.name; figures = b.figures; quarters = b.quarters; stations = b.stations } };
+}
+
+impl SiteBoard {
+    /// The name of the site.
+    pub fn name(&self) -> &Name
+        ensures { result.now ≡ self.now.name }
+    {
+        &self.name
+    }
+
+    /// The seven figures of the site.
+    pub fn figures(&self) -> Figures
+        ensures { result ≡ self.now.figures }
+    {
+        self.figures
+    }
+
+    /// The quarters that a station of the site shows, rising, each with its energy over all stations.
+    pub fn quarters(&self) -> &[QuarterLine]
+        ensures { result.now ≡ self.now.quarters }
+    {
+        self.quarters.as_slice()
+    }
+
+    /// The stations' boards, each with the station's name, in the order of declaration.
+    pub fn stations(&self) -> &[(Name, StationBoard)]
+        ensures { result.now ≡ self.now.stations }
+    {
+        self.stations.as_slice()
+    }
+}
+
+/// The board of a site of this name, with these figures and these stations' boards: it adds up the
+/// stations' energies quarter by quarter, in milliwatt-hours. The sums of each quarter have to stay
+/// below 2^64.
+pub fn site_board(
+    alloc: Global,
+    name: &Name,
+    figures: Figures,
+    stations: Vec<(Name, StationBoard)>,
+) -> Result<SiteBoard, AllocError>
+    requires { QuartersFit (station_quarters stations.items) }
+    ensures name { IfOk result (λ board. board.name ≡ name.now) }
+    ensures figures { IfOk result (λ board. board.figures ≡ figures) }
+    ensures quarters { IfOk result (λ board. board.quarters ≡ (site_board_of stations.items).quarters) }
+    ensures stations { IfOk result (λ board. board.stations ≡ stations.items) }
+{
+    let quarters = site_quarters(alloc, &stations)?;
+    Ok(SiteBoard {
+        name: name.copied(),
+        figures,
+        quarters: Listed::of(quarters),
+        stations: Listed::of(stations),
+    })
+}

@@ -1,0 +1,39 @@
+//! The boards of sites, and their text.
+//!
+//! [`site_board`] puts the boards of a site's stations together under the site's name: it adds up
+//! their energies quarter by quarter, and keeps the figures and the stations' boards as they are handed
+//! in. [`write_board`] writes such a [`SiteBoard`] as lines of plain text, for people and for programs.
+//! [`total_text`] and [`energy_text`] write the seven figures and an energy alone, without memory, so a
+//! live total and the total line of a board are one text.
+//!
+//! The crate's one contract: each text has exactly the bytes that a short definition gives for the
+//! values, one definition for each kind of line; and a site's board shows each quarter that one of its
+//! stations shows, once and rising, with the sum over these stations. A caller of `site_board` sees to
+//! it that the sums of each quarter stay below 2^64, which the boards of one plan always do
+//! ([`plans_fit`]). `site_board` and `write_board` take memory, and tell the want of it.
+//!
+//! ```text
+//! let board = site_board(alloc, &name, figures, stations)?;
+//! write_board(alloc, &board)?   // board north
+//!                               // total events=2 voided=0 transactions=1 complete=0 ..
+//!                               // quarter 2026-03-01T10:30:00Z up=600000 down=0
+//!                               // station A
+//!                               // ..
+//!                               // end
+//! energy_text(flow)             // energy up=600000 down=0
+//! ```
+#![tactic(auto)]
+
+mod board;
+mod fixed;
+mod laws;
+mod sums;
+mod write;
+
+pub use board::{SiteBoard, site_board};
+pub use fixed::{energy_text, total_text};
+pub use laws::plans_fit;
+pub use write::write_board;
+
+#[cfg(test)]
+mod tests;

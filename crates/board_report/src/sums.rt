@@ -1,0 +1,79 @@
+// The sums of a site by quarter.
+ghost use Rattle.std.specs.Prelude.{◌≡◌, reverse, IfOk, OnOk};
+ghost use Rattle.std.specs.List.Sorted.{IsPermutation};
+ghost use Rattle.board_report.specs.Sums.{station_quarters, quarter_sums, QuartersFit, AreInOrder, put_line, CanLead};
+
+use ledger_model::Name;
+use station_ledger::{QuarterLine, StationBoard};
+use std::alloc::{AllocError, Global};
+
+// The lines of quarters that stations show, as the stations stand.
+fn station_quarters(
+    alloc: Global,
+    stations: &[(Name, StationBoard)],
+) -> Result<Vec<QuarterLine>, AllocError>
+    ensures { IfOk result (λ lines. lines.items ≡ station_quarters stations.now) }
+{
+    let mut lines = Vec::new(alloc);
+    for station in stations {
+        lines.extend_from_slice(station.1.quarters())?;
+    }
+    Ok(lines)
+}
+
+// Puts lines in the order of their quarters.
+fn put_in_order(lines: &mut Vec<QuarterLine>)
+    ensures same { IsPermutation lines.old.items lines.new.items }
+    ensures order { AreInOrder lines.new.items }
+{
+    lines.sort_unstable_by_key(|line| line.quarter().number());
+}
+
+// Adds a line to falling ones, of which none is of an earlier quarter.
+fn add_line(falling: &mut Vec<QuarterLine>, added: QuarterLine) -> Result<(), AllocError>
+    requires { CanLead added (reverse falling.old.items) }
+    ensures { OnOk result (reverse falling.new.items ≡ put_line added (reverse falling.old.items)) }
+{
+    let Some(last) = falling.pop() else {
+        falling.push(added)?;
+        return Ok(());
+    };
+    if last.quarter() == added.quarter() {
+        let flow = added.flow().plus(last.flow());
+        falling.push(QuarterLine::new(last.quarter(), flow))?;
+    } else {
+        falling.push(last)?;
+        falling.push(added)?;
+    }
+    Ok(())
+}
+
+// The sums of lines that are in order, the last quarter first.
+fn falling_sums(alloc: Global, lines: &[QuarterLine]) -> Result<Vec<QuarterLine>, AllocError>
+    requires order { AreInOrder lines.now }
+    requires fit { QuartersFit lines.now }
+    ensures { IfOk result (λ sums. reverse sums.items ≡ quarter_sums lines.now) }
+{
+    let mut falling = Vec::new(alloc);
+    let mut left = lines;
+    while let [rest @ .., last] = left {
+        add_line(&mut falling, *last)?;
+        left = rest;
+    }
+    Ok(falling)
+}
+
+// The quarters that stations show, rising, each with the sum of its energies.
+pub(crate) fn site_quarters(
+    alloc: Global,
+    stations: &[(Name, StationBoard)],
+) -> Result<Vec<QuarterLine>, AllocError>
+    requires { QuartersFit (station_quarters stations.now) }
+    ensures { IfOk result (λ quarters. quarters.items ≡ quarter_sums (station_quarters stations.now)) }
+{
+    let mut lines = station_quarters(alloc, stations)?;
+    put_in_order(&mut lines);
+    let mut quarters = falling_sums(alloc, &lines)?;
+    quarters.reverse();
+    Ok(quarters)
+}

@@ -1,0 +1,215 @@
+// The text of a board, line by line.
+ghost use Rattle.std.specs.Prelude.{◌≡◌, ◌++◌, OnOk, IfOk};
+ghost use Rattle.std.specs.List.{flat_map};
+ghost use Rattle.board_report.specs.Texts.{field, line, flow_fields, start_text, events_fields, completeness_fields, total_text as total_text_of, quarter_line, evse_line, yes_or_no, transaction_line, gap_line, transaction_text, station_text, board_text};
+
+use crate::board::SiteBoard;
+use crate::fixed::total_text;
+use arrayvec::ArrayString;
+use energy_flow::Flow;
+use itoa::Buffer;
+use ledger_model::{Figures, Name, Quarter};
+use reading_decimal::{moment_text, quarter_start};
+use station_ledger::{EvseLine, QuarterLine, StationBoard, TxLine};
+use std::alloc::{AllocError, Global};
+
+// Appends a label and a number.
+#[tactic(auto, unfolding(crate::specs::Texts::field))]
+fn put_field(text: &mut Vec<u8>, label: &str, number: u64) -> Result<(), AllocError>
+    ensures { OnOk result (text.new.items ≡ text.old.items ++ field label.now number) }
+{
+    text.extend_from_slice(label.as_bytes())?;
+    text.extend_from_slice(Buffer::new().format(number).as_bytes())
+}
+
+// Appends a word, a text and a line feed.
+fn put_text(text: &mut Vec<u8>, word: &str, shown: &str) -> Result<(), AllocError>
+    ensures { OnOk result (text.new.items ≡ text.old.items ++ line (word.now ++ shown.now)) }
+{
+    text.extend_from_slice(word.as_bytes())?;
+    text.extend_from_slice(shown.as_bytes())?;
+    text.push(b'\n')?;
+    Ok(())
+}
+
+// Appends ` up=<n> down=<n>` and a line feed.
+fn put_flow(text: &mut Vec<u8>, flow: Flow) -> Result<(), AllocError>
+    ensures { OnOk result (text.new.items ≡ text.old.items ++ line (flow_fields flow.up flow.down)) }
+{
+    put_field(text, " up=", flow.up())?;
+    put_field(text, " down=", flow.down())?;
+    text.push(b'\n')?;
+    Ok(())
+}
+
+// Appends the total line.
+fn put_total(text: &mut Vec<u8>, figures: &Figures) -> Result<(), AllocError>
+    ensures { OnOk result (text.new.items ≡ text.old.items ++ line (total_text_of figures.now)) }
+{
+    put_text(text, "", total_text(figures).as_str())
+}
+
+// The first moment of a quarter.
+#[tactic(auto, unfolding(crate::specs::Texts::start_text))]
+fn start_text(quarter: Quarter) -> ArrayString<20>
+    ensures { result.bytes ≡ start_text quarter }
+{
+    moment_text(quarter_start(quarter))
+}
+
+// Appends the line of a quarter.
+#[tactic(auto, unfolding(crate::specs::Texts::quarter_line))]
+fn put_quarter(text: &mut Vec<u8>, shown: &QuarterLine) -> Result<(), AllocError>
+    ensures { OnOk result (text.new.items ≡ text.old.items ++ quarter_line shown.now) }
+{
+    text.extend_from_slice(b"quarter ")?;
+    text.extend_from_slice(start_text(shown.quarter()).as_str().as_bytes())?;
+    put_flow(text, shown.flow())
+}
+
+// Appends the line of an EVSE.
+#[tactic(auto, unfolding(crate::specs::Texts::evse_line))]
+fn put_evse(text: &mut Vec<u8>, shown: &EvseLine) -> Result<(), AllocError>
+    ensures { OnOk result (text.new.items ≡ text.old.items ++ evse_line shown.now) }
+{
+    put_field(text, "evse ", u64::from(shown.evse().number()))?;
+    put_flow(text, shown.flow())
+}
+
+// Appends the line of a gap.
+#[tactic(auto, unfolding(crate::specs::Texts::gap_line))]
+fn put_gap(text: &mut Vec<u8>, gap: (u32, u32)) -> Result<(), AllocError>
+    ensures { OnOk result (text.new.items ≡ text.old.items ++ gap_line gap) }
+{
+    put_field(text, "gap ", u64::from(gap.0))?;
+    put_field(text, "..", u64::from(gap.1))?;
+    text.push(b'\n')?;
+    Ok(())
+}
+
+// `yes` or `no`.
+fn yes_or_no(is: bool) -> &'static str
+    ensures { result.now ≡ yes_or_no is }
+{
+    if is { "yes" } else { "no" }
+}
+
+// Appends the EVSE, the events and the first and last number of a transaction.
+#[tactic(auto, unfolding(crate::specs::Texts::events_fields))]
+fn put_events(text: &mut Vec<u8>, shown: &TxLine) -> Result<(), AllocError>
+    ensures { OnOk result (text.new.items ≡ text.old.items ++ events_fields shown.now) }
+{
+    put_field(text, " evse=", u64::from(shown.evse().number()))?;
+    put_field(text, " events=", shown.events())?;
+    put_field(text, " first=", u64::from(shown.first()))?;
+    put_field(text, " last=", u64::from(shown.last()))
+}
+
+// Appends whether a transaction is complete, and what it misses.
+#[tactic(auto, unfolding(crate::specs::Texts::completeness_fields))]
+fn put_completeness(text: &mut Vec<u8>, shown: &TxLine) -> Result<(), AllocError>
+    ensures { OnOk result (text.new.items ≡ text.old.items ++ completeness_fields shown.now) }
+{
+    text.extend_from_slice(b" complete=")?;
+    text.extend_from_slice(yes_or_no(shown.is_complete()).as_bytes())?;
+    put_field(text, " missing=", shown.missing())
+}
+
+// Appends the line of a transaction.
+#[tactic(auto, unfolding(crate::specs::Texts::transaction_line))]
+fn put_transaction(text: &mut Vec<u8>, shown: &TxLine) -> Result<(), AllocError>
+    ensures { OnOk result (text.new.items ≡ text.old.items ++ transaction_line shown.now) }
+{
+    text.extend_from_slice(b"tx ")?;
+    text.extend_from_slice(shown.tx().text().as_bytes())?;
+    put_events(text, shown)?;
+    put_completeness(text, shown)?;
+    put_flow(text, shown.flow())
+}
+
+// Appends the lines of gaps.
+fn put_gaps(text: &mut Vec<u8>, gaps: &[(u32, u32)]) -> Result<(), AllocError>
+    ensures { OnOk result (text.new.items ≡ text.old.items ++ flat_map gap_line gaps.now) }
+{
+    for gap in gaps {
+        put_gap(text, *gap)?;
+    }
+    Ok(())
+}
+
+// Appends the line of a transaction and those of its gaps.
+#[tactic(auto, unfolding(crate::specs::Texts::transaction_text))]
+fn put_with_gaps(text: &mut Vec<u8>, shown: &TxLine) -> Result<(), AllocError>
+    ensures { OnOk result (text.new.items ≡ text.old.items ++ transaction_text shown.now) }
+{
+    put_transaction(text, shown)?;
+    put_gaps(text, shown.gaps())
+}
+
+// Appends the lines of quarters.
+fn put_quarters(text: &mut Vec<u8>, quarters: &[QuarterLine]) -> Result<(), AllocError>
+    ensures { OnOk result (text.new.items ≡ text.old.items ++ flat_map quarter_line quarters.now) }
+{
+    for quarter in quarters {
+        put_quarter(text, quarter)?;
+    }
+    Ok(())
+}
+
+// Appends the lines of EVSEs.
+fn put_evses(text: &mut Vec<u8>, evses: &[EvseLine]) -> Result<(), AllocError>
+    ensures { OnOk result (text.new.items ≡ text.old.items ++ flat_map evse_line evses.now) }
+{
+    for evse in evses {
+        put_evse(text, evse)?;
+    }
+    Ok(())
+}
+
+// Appends the lines of transactions, each with its gaps.
+fn put_transactions(text: &mut Vec<u8>, transactions: &[TxLine]) -> Result<(), AllocError>
+    ensures { OnOk result (text.new.items ≡ text.old.items ++ flat_map transaction_text transactions.now) }
+{
+    for transaction in transactions {
+        put_with_gaps(text, transaction)?;
+    }
+    Ok(())
+}
+
+// Appends the lines of a station.
+#[tactic(auto, unfolding(crate::specs::Texts::station_text))]
+fn put_station(text: &mut Vec<u8>, station: &(Name, StationBoard)) -> Result<(), AllocError>
+    ensures { OnOk result (text.new.items ≡ text.old.items ++ station_text station.now) }
+{
+    let board = &station.1;
+    put_text(text, "station ", station.0.text())?;
+    put_total(text, &board.figures())?;
+    put_evses(text, board.evses())?;
+    put_quarters(text, board.quarters())?;
+    put_transactions(text, board.transactions())
+}
+
+// Appends the lines of stations.
+fn put_stations(text: &mut Vec<u8>, stations: &[(Name, StationBoard)]) -> Result<(), AllocError>
+    ensures { OnOk result (text.new.items ≡ text.old.items ++ flat_map station_text stations.now) }
+{
+    for station in stations {
+        put_station(text, station)?;
+    }
+    Ok(())
+}
+
+/// The text of a site's board: its name, its total and its quarters, then each station with its name,
+/// its total, its EVSEs, its quarters and its transactions, each of these with its gaps, and `end`.
+/// Each line ends with a line feed.
+pub fn write_board(alloc: Global, board: &SiteBoard) -> Result<Vec<u8>, AllocError>
+    ensures { IfOk result (λ text. text.items ≡ board_text board.now) }
+{
+    let mut text = Vec::new(alloc);
+    put_text(&mut text, "board ", board.name().text())?;
+    put_total(&mut text, &board.figures())?;
+    put_quarters(&mut text, board.quarters())?;
+    put_stations(&mut text, board.stations())?;
+    text.extend_from_slice(b"end\n")?;
+    Ok(text)
+}
