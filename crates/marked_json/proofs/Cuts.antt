@@ -1,12 +1,11 @@
 -- Where the steps of the marking cut a text, it may be cut.
-use Rattle.std.proofs.Common.{zero, add-one, ◌≡◌, ◌<◌, ◌≤◌, ℕ, suc, Bool, true, false, cond, eqb, List, [], ◌∷◌, length, get_or, refl, ap, sym, arith, subst, inl, inr, ◌⊎◌}
+use Rattle.std.proofs.Common.{zero, add-one, ◌≡◌, ◌<◌, ℕ, suc, true, List, length, get_or, arith}
 use Rattle.std.specs.List.{prefix_len}
 use Rattle.std.specs.Str.{IsUtf8, IsCharBoundary}
 use Rattle.std.proofs.lemmas.Bool.Decides.{nat_tests}
-use Rattle.std.proofs.lemmas.Str.{IsCharBoundary-start, IsCharBoundary-end, IsCharBoundary-before_ascii, IsCharBoundary-after_ascii}
-use Rattle.std.proofs.lemmas.List.Sums.{prefix_len_passes, prefix_len_stops, prefix_len-le-length}
+use Rattle.std.proofs.lemmas.Str.{IsCharBoundary-start, IsCharBoundary-after_ascii}
+use Rattle.std.proofs.lemmas.List.Sums.{prefix_len_passes, prefix_len-le-length}
 use Rattle.marked_json.specs.Marking.{begins_number, goes_on_number}
-use Rattle.marked_json.specs.Steps.{string_len}
 
 token_ascii : (c : ℕ) → goes_on_number c ≡ true → c < 128
 token_ascii c h = grind (arith, nat_tests)

@@ -1,6 +1,6 @@
 -- What the steps of the marking compute.
-use Rattle.std.specs.Prelude.{◌&&◌, ◌==◌, ℕ, suc, List, [], ◌∷◌, ◌++◌, take, drop, Bool, true, false, not, if◌then◌else◌}
-use Rattle.marked_json.specs.Marking.{Marks, with_front, begins_number, marked, outside}
+use Rattle.std.specs.Prelude.{◌==◌, ℕ, suc, List, [], ◌∷◌, ◌++◌, take, drop, Bool, true, false, if◌then◌else◌}
+use Rattle.marked_json.specs.Marking.{Marks, with_front, marked, outside}
 
 -- how many bytes a string has from here on, its closing quote included
 unfoldable pub string_len : Bool → List ℕ → ℕ

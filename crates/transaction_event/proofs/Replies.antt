@@ -1,5 +1,5 @@
 -- Which replies tell OutOfMemory.
-use Rattle.std.proofs.Common.{◌≡◌, ◌≢◌, Bool, true, false, inl, inr, ◌∙◌, ◌++◌, ℕ, length, List, [], ◌∷◌, sym, ap, append_assoc, arith, length-append, codes, refl, drop}
+use Rattle.std.proofs.Common.{◌≡◌, ◌≢◌, Bool, true, false, inl, inr, ◌∙◌, ℕ, List, sym, ap, arith, codes, refl}
 use Rattle.std.specs.Prelude.{IsTrue, ◌↔◌, Err}
 use Rattle.serde_json.specs.Data.{Data}
 use Rattle.ocppj_frame.specs.declared.action.Action.TheVariants.{BootNotification, Heartbeat, StatusNotification, MeterValues, TransactionEvent}

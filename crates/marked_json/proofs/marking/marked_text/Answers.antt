@@ -1,4 +1,4 @@
-use Rattle.std.proofs.Common.{◌≡◌, ◌++◌, ◌∙◌, ap, sym, length, string_bytes, arith}
+use Rattle.std.proofs.Common.{◌≡◌, ◌∙◌, sym, length, string_bytes, arith}
 use Rattle.std.proofs.lemmas.Bool.Decides.{nat_tests}
 use Rattle.marked_json.proofs.Marks.{ahead-end}
 use Rattle.marked_json.proofs.marking.marked_text.Goals as goal

@@ -1,5 +1,4 @@
-use Rattle.std.proofs.Common.{◌≡◌, get_or, arith, sym, subst, ◌∙◌}
-use Rattle.std.proofs.lemmas.Bool.Decides.{nat_tests}
+use Rattle.std.proofs.Common.{◌≡◌, get_or}
 use Rattle.marked_json.proofs.Places.{marked_key}
 use Rattle.marked_json.proofs.node.is_marked.Goals as goal
 
