@@ -1,12 +1,16 @@
 -- What each step of the marking adds is what the definition says.
-use Rattle.std.proofs.Common.{◌≤◌, ◌&&◌, ◌≡◌, ◌<◌, ◌+◌, ℕ, suc, Bool, true, false, cond, eqb, not, List, [], ◌∷◌, ◌++◌, take, drop, get_or, length, Ok, Err, refl, ap, sym, ◌∙◌, append_assoc, append-nil, arith}
+use Rattle.std.proofs.Common.{◌≤◌, ◌||◌, ◌≡◌, ◌<◌, ◌+◌, ℕ, zero, suc, Bool, true, false, cond, eqb, not, List, [], ◌∷◌, ◌++◌, take, drop, get_or, length, Ok, Err, refl, ap, sym, ◌∙◌, append_assoc, append-nil, arith, ◌-◌, zero-le, subst, min, ◌⊎◌, inl, inr}
 use Rattle.std.specs.List.{prefix_len, take_while}
 use Rattle.std.proofs.lemmas.Bool.Decides.{nat_tests}
 use Rattle.marked_json.specs.Marking.{Place, outside, in_number, in_string, after_backslash, Marks, with_front, marked, marked_token, marked_outside, is_before_colon, begins_number, goes_on_number}
 use Rattle.marked_json.specs.Number.{is_number}
 use Rattle.marked_json.specs.declared.fault.JsonFault.TheVariants.{BadNumber, NumberAsKey}
-use Rattle.std.proofs.lemmas.List.{at_drop_more, at_drop_all}
-use Rattle.marked_json.specs.Steps.{is_plain, string_len, completed}
+use Rattle.std.proofs.lemmas.List.{at_drop_more, at_drop_all, take_more, take_all, length-drop, get_or-drop, drop-drop}
+use Rattle.std.proofs.Math.Seq.{drop-length}
+use Rattle.std.proofs.lemmas.Bool.{false_from_ne_true, cases_lt}
+use Rattle.std.proofs.lemmas.Grind.{common_steps}
+use Rattle.memchr.specs.Find.{Nowhere, NoneBefore, Passes, is_byte2}
+use Rattle.marked_json.specs.Steps.{string_len, completed, ahead}
 
 -- one front before another
 pub with_front-with_front : (xs ys : List ℕ) (m : Marks) → with_front xs (with_front ys m) ≡ with_front (xs ++ ys) m
@@ -54,39 +58,23 @@ marked-number (c ∷ cs) = by_test (goes_on_number c) (marked-number cs) where
   by_test true more = more ∙ sym (ap (marked outside) (one_more-drop (prefix_len goes_on_number cs) c cs))
   by_test false more = refl
 
-no_branch : (q b : Bool) (string token plain : Marks) → not q && not b ≡ true → cond q string (cond b token plain) ≡ plain
-no_branch true b string token plain h = cc
-no_branch false true string token plain h = cc
-no_branch false false string token plain h = refl
+no_branch : (q b : Bool) (string token plain : Marks) → q ≡ false → b ≡ false → cond q string (cond b token plain) ≡ plain
+no_branch true b string token plain e h = cc
+no_branch false true string token plain e h = cc
+no_branch false false string token plain e h = refl
 
-marked_outside-plain : (c : ℕ) (cs : List ℕ) (more : Place → Marks) → is_plain c ≡ true → marked_outside c cs more ≡ with_front (c ∷ []) (more outside)
-marked_outside-plain c cs more h = no_branch (eqb c 34) (begins_number c) _ _ _ h
-
--- what stands for itself is copied
-pub marked-plain : (cs : List ℕ) → marked outside cs ≡ with_front (take (prefix_len is_plain cs) cs) (marked outside (drop (prefix_len is_plain cs) cs))
+marked-plain : (c : ℕ) (cs : List ℕ) → eqb c 34 ≡ false → begins_number c ≡ false → marked outside (c ∷ cs) ≡ with_front (c ∷ []) (marked outside cs)
 unfolding marked
-marked-plain [] = refl
-marked-plain (c ∷ cs) = by_test (is_plain c) refl (marked-plain cs) where
-  by_test : (b : Bool) → is_plain c ≡ b → marked outside cs ≡ with_front (take (prefix_len is_plain cs) cs) (marked outside (drop (prefix_len is_plain cs) cs)) → marked outside (c ∷ cs) ≡ with_front (take (cond b (1 + prefix_len is_plain cs) 0) (c ∷ cs)) (marked outside (drop (cond b (1 + prefix_len is_plain cs) 0) (c ∷ cs)))
-  by_test true h more =
-      rw (one_more-take (prefix_len is_plain cs) c cs, one_more-drop (prefix_len is_plain cs) c cs)
-      (marked_outside-plain c cs (λ next. marked next cs) h ∙ ap (with_front (c ∷ [])) more ∙ with_front-with_front (c ∷ []) _ _)
-  by_test false h more = sym (with_front-nil (marked outside (c ∷ cs)))
+marked-plain c cs no_quote no_number = no_branch (eqb c 34) (begins_number c) _ _ _ no_quote no_number
 
-quote_branch : (b : Bool) (string other : Marks) → b ≡ true → cond b string other ≡ string
-quote_branch true string other h = refl
-quote_branch false string other h = cc
+marked-at_quote : (cs : List ℕ) → marked outside (34 ∷ cs) ≡ with_front (34 ∷ 36 ∷ []) (marked in_string cs)
+unfolding marked
+marked-at_quote cs = refl
 
 number_branch : (q b : Bool) (string token plain : Marks) → q ≡ false → b ≡ true → cond q string (cond b token plain) ≡ token
 number_branch true b string token plain e h = cc
 number_branch false true string token plain e h = refl
 number_branch false false string token plain e h = cc
-
--- `$` stands behind an opening quote
-pub marked-at_quote : (rest : List ℕ) → 0 < length rest → get_or rest 0 0 ≡ 34 → marked outside rest ≡ with_front (34 ∷ 36 ∷ []) (marked in_string (drop 1 rest))
-unfolding marked
-marked-at_quote [] some first = absurd (omega arith)
-marked-at_quote (c ∷ cs) some first = let e : eqb c 34 ≡ true = grind (arith, nat_tests) in quote_branch (eqb c 34) _ _ e
 
 past_first : (b : Bool) (n c : ℕ) (cs : List ℕ) → b ≡ true → drop n cs ≡ drop (cond b (1 + n) 0) (c ∷ cs)
 past_first true n c cs h = sym (one_more-drop n c cs)
@@ -106,18 +94,31 @@ marked-at_number (c ∷ cs) some first =
 
 -- the steps, on what was written and what is left
 
-pub completed-plain : (old new rest left : List ℕ) (n : ℕ) → n ≡ prefix_len is_plain rest → new ≡ old ++ take n rest → left ≡ drop n rest → completed new left ≡ completed old rest
-completed-plain old new rest left n len added kept =
-    rw (added, kept, len) (sym (with_front-with_front old (take (prefix_len is_plain rest) rest) (marked outside (drop (prefix_len is_plain rest) rest))) ∙ ap (with_front old) (sym (marked-plain rest)))
+-- a byte that stands for itself needs no mark
+pub ahead-plain : (written rest : List ℕ) (seen : ℕ) → seen < length rest → eqb (get_or rest seen 0) 34 ≡ false → begins_number (get_or rest seen 0) ≡ false → ahead written rest (seen + 1) ≡ ahead written rest seen
+ahead-plain written rest seen within no_quote no_number =
+    let c = get_or rest seen 0 in
+    let left = drop (seen + 1) rest in
+    let front : written ++ take (seen + 1) rest ≡ (written ++ take seen rest) ++ c ∷ [] = ap (λ xs. written ++ xs) (take_more rest seen 0 within) ∙ sym (append_assoc written (take seen rest) (c ∷ [])) in
+    ap (λ xs. with_front xs (marked outside left)) front
+    ∙ sym (with_front-with_front (written ++ take seen rest) (c ∷ []) (marked outside left))
+    ∙ ap (with_front (written ++ take seen rest)) (sym (marked-plain c left no_quote no_number) ∙ sym (at_drop_more (marked outside) rest seen 0 within))
 
-pub completed-string : (old new rest left : List ℕ) (n : ℕ) → 0 < length rest → get_or rest 0 0 ≡ 34 → n ≡ string_len false (drop 1 rest) → new ≡ (old ++ 34 ∷ 36 ∷ []) ++ take n (drop 1 rest) → left ≡ drop n (drop 1 rest) → completed new left ≡ completed old rest
-completed-string old new rest left n some quote len added kept =
-    let inside = drop 1 rest in
-    rw (added, kept, len)
-    (sym (with_front-with_front (old ++ 34 ∷ 36 ∷ []) (take (string_len false inside) inside) (marked outside (drop (string_len false inside) inside)))
-    ∙ ap (with_front (old ++ 34 ∷ 36 ∷ [])) (sym (marked-string false inside))
-    ∙ sym (with_front-with_front old (34 ∷ 36 ∷ []) (marked in_string inside))
-    ∙ ap (with_front old) (sym (marked-at_quote rest some quote)))
+-- `$` behind an opening quote, and the string needs no more marks
+pub ahead-string : (old new rest inside : List ℕ) (seen n : ℕ) → seen < length rest → get_or rest seen 0 ≡ 34 → inside ≡ drop (seen + 1) rest → n ≡ string_len false inside → new ≡ (old ++ take (seen + 1) rest) ++ 36 ∷ [] → ahead new inside n ≡ ahead old rest seen
+ahead-string old new rest inside seen n within quote left len added =
+    let front = old ++ take seen rest in
+    let count = string_len false inside in
+    let segment : take (seen + 1) rest ≡ take seen rest ++ 34 ∷ [] = take_more rest seen 0 within ∙ ap (λ c. take seen rest ++ c ∷ []) quote in
+    let joined : (old ++ (take seen rest ++ 34 ∷ [])) ++ 36 ∷ [] ≡ front ++ 34 ∷ 36 ∷ [] = simp append_assoc in
+    let copied : new ≡ front ++ 34 ∷ 36 ∷ [] = added ∙ ap (λ xs. (old ++ xs) ++ 36 ∷ []) segment ∙ joined in
+    let first : marked outside (drop seen rest) ≡ marked outside (34 ∷ inside) = at_drop_more (marked outside) rest seen 0 within ∙ ap (λ c. marked outside (c ∷ drop (seen + 1) rest)) quote ∙ ap (λ cs. marked outside (34 ∷ cs)) (sym left) in
+    ap (λ k. ahead new inside k) len
+    ∙ ap (λ xs. ahead xs inside count) copied
+    ∙ sym (with_front-with_front (front ++ 34 ∷ 36 ∷ []) (take count inside) (marked outside (drop count inside)))
+    ∙ ap (with_front (front ++ 34 ∷ 36 ∷ [])) (sym (marked-string false inside))
+    ∙ sym (with_front-with_front front (34 ∷ 36 ∷ []) (marked in_string inside))
+    ∙ ap (with_front front) (sym (marked-at_quote inside) ∙ sym first)
 
 -- what a token at the front of the rest does
 pub completed-token : (old rest token left : List ℕ) (n : ℕ) → 0 < length rest → begins_number (get_or rest 0 0) ≡ true → n ≡ prefix_len goes_on_number rest → token ≡ take n rest → left ≡ drop n rest → completed old rest ≡ with_front old (marked_token token left (marked outside left))
@@ -151,18 +152,124 @@ marked_token-good old new token left more good no_key added =
     (sym (with_front-with_front old (34 ∷ 35 ∷ (token ++ 34 ∷ [])) more)
     ∙ ap (with_front old) (sym (good_branch (is_number token) (is_before_colon left) (Err BadNumber) (Err NumberAsKey) (with_front (34 ∷ 35 ∷ (token ++ 34 ∷ [])) more) good no_key)))
 
--- one byte more of a string
-pub string_len-drop : (escaped : Bool) (bs : List ℕ) (i : ℕ) → i < length bs → string_len escaped (drop i bs) ≡ cond escaped (suc (string_len false (drop (i + 1) bs))) (cond (eqb (get_or bs i 0) 34) 1 (suc (string_len (eqb (get_or bs i 0) 92) (drop (i + 1) bs))))
+-- bytes that are neither quotes nor backslashes go on a string
+pub string_len-skip : (cs : List ℕ) (k : ℕ) → k ≤ length cs → ((j : ℕ) → j < k → (eqb (get_or cs j 0) 34 || eqb (get_or cs j 0) 92) ≡ false) → string_len false cs ≡ k + string_len false (drop k cs)
 unfolding string_len
-string_len-drop true bs i within = at_drop_more (string_len true) bs i 0 within
-string_len-drop false bs i within = at_drop_more (string_len false) bs i 0 within
+string_len-skip cs zero within none = let e : 0 + string_len false cs ≡ string_len false cs = omega arith in sym e
+string_len-skip [] (suc k) within none = absurd (omega arith)
+string_len-skip (c ∷ cs) (suc k) within none =
+    let here : (eqb c 34 || eqb c 92) ≡ false = none 0 (omega arith) in
+    let no_quote : eqb c 34 ≡ false = grind (arith, nat_tests) in
+    let no_backslash : eqb c 92 ≡ false = grind (arith, nat_tests) in
+    let more = string_len-skip cs k (omega arith) (λ j low. none (suc j) (omega arith)) in
+    let step : cond (eqb c 34) 1 (suc (string_len (eqb c 92) cs)) ≡ suc (string_len false cs) = ap (λ q. cond q 1 (suc (string_len (eqb c 92) cs))) no_quote ∙ ap (λ s. suc (string_len s cs)) no_backslash in
+    step ∙ omega (arith, more)
 
-pub string_len-past : (escaped : Bool) (bs : List ℕ) (i : ℕ) → length bs ≤ i → string_len escaped (drop i bs) ≡ 0
+pub string_len-nil : (cs : List ℕ) → length cs ≡ 0 → string_len false cs ≡ 0
 unfolding string_len
-string_len-past escaped bs i past = at_drop_all (string_len escaped) bs i past
+string_len-nil [] none = refl
+string_len-nil (c ∷ cs) none = absurd (omega arith)
 
--- with nothing left the marked text is what was written
-pub completed-end : (written rest : List ℕ) → length rest ≡ 0 → completed written rest ≡ Ok written
+-- a quote ends a string
+pub string_len-quote : (cs : List ℕ) (k : ℕ) → k < length cs → get_or cs k 0 ≡ 34 → string_len false (drop k cs) ≡ 1
+unfolding string_len
+string_len-quote cs k within quote = at_drop_more (string_len false) cs k 0 within ∙ ap (λ c. cond (eqb c 34) 1 (suc (string_len (eqb c 92) (drop (k + 1) cs)))) quote
+
+-- the byte behind a backslash goes on a string
+pub string_len-backslash : (cs : List ℕ) (k : ℕ) → k + 1 < length cs → get_or cs k 0 ≡ 92 → string_len false (drop k cs) ≡ 2 + string_len false (drop (k + 2) cs)
+unfolding string_len
+string_len-backslash cs k within backslash =
+    let second : string_len true (drop (k + 1) cs) ≡ suc (string_len false (drop ((k + 1) + 1) cs)) = at_drop_more (string_len true) cs (k + 1) 0 within in
+    let place : (k + 1) + 1 ≡ k + 2 = omega arith in
+    let past : string_len false (drop ((k + 1) + 1) cs) ≡ string_len false (drop (k + 2) cs) = ap (λ i. string_len false (drop i cs)) place in
+    let first : string_len false (drop k cs) ≡ suc (string_len true (drop (k + 1) cs)) = at_drop_more (string_len false) cs k 0 (omega arith) ∙ ap (λ c. cond (eqb c 34) 1 (suc (string_len (eqb c 92) (drop (k + 1) cs)))) backslash in
+    first ∙ omega (arith, second, past)
+
+-- a backslash with nothing behind it ends a string
+pub string_len-last_backslash : (cs : List ℕ) (k : ℕ) → k + 1 ≡ length cs → get_or cs k 0 ≡ 92 → string_len false (drop k cs) ≡ 1
+unfolding string_len
+string_len-last_backslash cs k last backslash =
+    let second : string_len true (drop (k + 1) cs) ≡ 0 = at_drop_all (string_len true) cs (k + 1) (omega arith) in
+    let first : string_len false (drop k cs) ≡ suc (string_len true (drop (k + 1) cs)) = at_drop_more (string_len false) cs k 0 (omega arith) ∙ ap (λ c. cond (eqb c 34) 1 (suc (string_len (eqb c 92) (drop (k + 1) cs)))) backslash in
+    first ∙ omega (arith, second)
+
+-- where the whole rest needs no mark it is copied
+pub ahead-end : (written new rest : List ℕ) (seen : ℕ) → length rest ≡ seen → new ≡ written ++ rest → ahead written rest seen ≡ Ok new
 unfolding marked
-completed-end written [] none = ap Ok (append-nil written)
-completed-end written (c ∷ cs) none = absurd (omega arith)
+ahead-end written new rest seen all added =
+    let front : take seen rest ≡ rest = take_all seen rest (omega arith) in
+    let end : marked outside (drop seen rest) ≡ Ok [] = at_drop_all (marked outside) rest seen (omega arith) in
+    ap (with_front (written ++ take seen rest)) end ∙ ap Ok (append-nil (written ++ take seen rest) ∙ ap (λ xs. written ++ xs) front ∙ sym added)
+
+-- what a search for a quote or a backslash tells of a string
+
+neither : (cs : List ℕ) (j : ℕ) → (is_byte2 34 92 (get_or cs j 0) ≡ true → ⊥) → (eqb (get_or cs j 0) 34 || eqb (get_or cs j 0) 92) ≡ false
+neither cs j none = false_from_ne_true _ none
+
+-- a search that found none
+string_len-none : (cs : List ℕ) → Nowhere (Passes (is_byte2 34 92) cs) 0 (length cs) → string_len false cs ≡ length cs
+string_len-none cs nowhere =
+    let skip = string_len-skip cs (length cs) (omega arith) (λ j low. neither cs j (nowhere j zero-le low)) in
+    let end : string_len false (drop (length cs) cs) ≡ 0 = ap (string_len false) (drop-length cs) ∙ string_len-nil [] refl in
+    omega (arith, skip, end)
+
+-- a search that found one
+string_len-some : (cs : List ℕ) (k : ℕ) → NoneBefore (Passes (is_byte2 34 92) cs) 0 (length cs) k → string_len false cs ≡ k + string_len false (drop k cs)
+string_len-some cs k first =
+    let high = first.high in
+    string_len-skip cs k (omega arith) (λ j low. neither cs j (first.before j zero-le low))
+
+window : (bs : List ℕ) (at : ℕ) → take (length bs - at) (drop at bs) ≡ drop at bs
+window bs at = take_all (length bs - at) (drop at bs) (omega (arith, length-drop at bs))
+
+pub string_len-none_ahead : (bs : List ℕ) (at : ℕ) → at ≤ length bs → Nowhere (Passes (is_byte2 34 92) (take (length bs - at) (drop at bs))) 0 (length (take (length bs - at) (drop at bs))) → at + string_len false (drop at bs) ≡ length bs
+string_len-none_ahead bs at within nowhere =
+    let none = string_len-none (drop at bs) (subst (λ cs. Nowhere (Passes (is_byte2 34 92) cs) 0 (length cs)) (window bs at) nowhere) in
+    omega (arith, none, length-drop at bs)
+
+pub record FoundAhead (bs : List ℕ) (at k : ℕ) : Type 0 where
+  pub within : at + k < length bs
+  pub len : at + string_len false (drop at bs) ≡ (at + k) + string_len false (drop (at + k) bs)
+  pub byte : (eqb (get_or bs (at + k) 0) 34 || eqb (get_or bs (at + k) 0) 92) ≡ true
+
+pub found_ahead : (bs : List ℕ) (at k : ℕ) → at ≤ length bs → NoneBefore (Passes (is_byte2 34 92) (take (length bs - at) (drop at bs))) 0 (length (take (length bs - at) (drop at bs))) k → Passes (is_byte2 34 92) (take (length bs - at) (drop at bs)) k → FoundAhead bs at k
+found_ahead bs at k within first passes =
+    let first : NoneBefore (Passes (is_byte2 34 92) (drop at bs)) 0 (length (drop at bs)) k = subst (λ cs. NoneBefore (Passes (is_byte2 34 92) cs) 0 (length cs) k) (window bs at) first in
+    let high = first.high in
+    let byte : is_byte2 34 92 (get_or (drop at bs) k 0) ≡ true = subst (λ cs. Passes (is_byte2 34 92) cs k) (window bs at) passes in
+    let len = string_len-some (drop at bs) k first in
+    let rest : string_len false (drop k (drop at bs)) ≡ string_len false (drop (at + k) bs) = ap (string_len false) (drop-drop k at bs) in
+    record {
+      within = omega (arith, length-drop at bs);
+      len = omega (arith, len, rest);
+      byte = ap (is_byte2 34 92) (sym (get_or-drop at bs k 0)) ∙ byte;
+    }
+
+-- what the string has behind a place where the search stopped
+pub found_quote : (bs : List ℕ) (at k : ℕ) → FoundAhead bs at k → get_or bs (at + k) 0 ≡ 34 → at + string_len false (drop at bs) ≡ at + k + 1
+found_quote bs at k found quote =
+    let quoted = string_len-quote bs (at + k) found.within quote in
+    let len = found.len in
+    omega (arith, quoted, len)
+
+pub found_backslash : (bs : List ℕ) (at k : ℕ) → FoundAhead bs at k → (get_or bs (at + k) 0 ≡ 34 → ⊥) → min (at + k + 2) (length bs) + string_len false (drop (min (at + k + 2) (length bs)) bs) ≡ at + string_len false (drop at bs)
+found_backslash bs at k found no_quote = by_end (cases_lt (at + k + 1) (length bs)) where
+  byte : (eqb (get_or bs (at + k) 0) 34 || eqb (get_or bs (at + k) 0) 92) ≡ true
+  byte = found.byte
+
+  backslash : get_or bs (at + k) 0 ≡ 92
+  backslash = grind (arith, nat_tests)
+
+  by_end : (at + k + 1 < length bs) ⊎ (length bs ≤ at + k + 1) → min (at + k + 2) (length bs) + string_len false (drop (min (at + k + 2) (length bs)) bs) ≡ at + string_len false (drop at bs)
+  by_end (inl more) =
+      let place : min (at + k + 2) (length bs) ≡ at + k + 2 = grind (arith, common_steps) in
+      let len = found.len in
+      let step = string_len-backslash bs (at + k) more backslash in
+      ap (λ i. i + string_len false (drop i bs)) place ∙ omega (arith, len, step)
+  by_end (inr past) =
+      let within = found.within in
+      let place : min (at + k + 2) (length bs) ≡ length bs = grind (arith, common_steps) in
+      let len = found.len in
+      let step = string_len-last_backslash bs (at + k) (omega arith) backslash in
+      let end : string_len false (drop (length bs) bs) ≡ 0 = ap (string_len false) (drop-length bs) ∙ string_len-nil [] refl in
+      ap (λ i. i + string_len false (drop i bs)) place ∙ omega (arith, len, step, end, within)

@@ -1,5 +1,5 @@
 //! The marking of a text, which is what `serde_json` reads in its place.
-ghost use Rattle.std.specs.Prelude.{◌≡◌, ◌≢◌, not, ◌<◌, ℕ, length, slice_index, string_bytes, ◌≤◌, true, false, Ok, Err, IfOk, IfErr};
+ghost use Rattle.std.specs.Prelude.{◌≡◌, ◌≢◌, not, ◌<◌, ◌+◌, ℕ, length, slice_index, string_bytes, ◌≤◌, true, false, Ok, Err, IfOk, IfErr};
 ghost use Rattle.std.specs.List.{prefix_len, find};
 ghost use Rattle.marked_json.specs.Marking as spec;
 ghost use Rattle.marked_json.specs.Steps as steps;
@@ -7,6 +7,7 @@ ghost use Rattle.marked_json.specs.declared.fault.JsonFault.TheVariants.{OutOfMe
 
 use crate::fault::JsonFault;
 use crate::number::is_number;
+use memchr::memchr2;
 use std::alloc::Global;
 
 /// The marked text of `text`, in one buffer that is reserved once.
@@ -16,12 +17,17 @@ pub(crate) fn marked_text(alloc: Global, text: &str) -> Result<String, JsonFault
 {
     let mut out = String::with_capacity(alloc, longest_marked(text.len()))?;
     let mut rest = text;
-    while !rest.is_empty() {
-        match mark_next(&mut out, rest) {
-            Ok(left) => rest = left,
+    let mut seen = 0;
+    while seen < rest.len() {
+        match mark_next(&mut out, rest, seen) {
+            Ok((left, next)) => {
+                rest = left;
+                seen = next;
+            }
             Err(fault) => return Err(fault),
         }
     }
+    out.push_str(rest)?;
     Ok(out)
 }
 
@@ -31,37 +37,69 @@ fn longest_marked(text_len: usize) -> usize {
     text_len.saturating_add(3).saturating_mul(5) / 2
 }
 
-fn mark_next<'a>(out: &mut String, rest: &'a str) -> Result<&'a str, JsonFault>
-    requires { 0 < length rest.now }
-    ensures ok { IfOk result (λ left. steps.completed (string_bytes out.new) left.now ≡ steps.completed (string_bytes out.old) rest.now) }
-    ensures shorter { IfOk result (λ left. length left.now < length rest.now) }
-    ensures err { IfErr result (λ fault. fault ≢ OutOfMemory → steps.completed (string_bytes out.old) rest.now ≡ Err fault) }
+// One step outside strings, at the byte behind the `seen` bytes that need no mark. What it gives is what is to be
+// copied still, and how much of that needs no mark.
+fn mark_next<'a>(
+    out: &mut String,
+    rest: &'a str,
+    seen: usize,
+) -> Result<(&'a str, usize), JsonFault>
+    requires { seen < length rest.now }
+    ensures ok { IfOk result (λ left. steps.ahead (string_bytes out.new) left.0.now left.1 ≡ steps.ahead (string_bytes out.old) rest.now seen) }
+    ensures within { IfOk result (λ left. left.1 ≤ length left.0.now) }
+    ensures shorter { IfOk result (λ left. length left.0.now + seen < length rest.now + left.1) }
+    ensures err { IfErr result (λ fault. fault ≢ OutOfMemory → steps.ahead (string_bytes out.old) rest.now seen ≡ Err fault) }
 {
-    let first = rest.as_bytes()[0];
+    let first = rest.as_bytes()[seen];
     if first == b'"' {
-        mark_string(out, rest)
+        mark_string(out, rest, seen)
     } else if begins_number(first) {
-        mark_number(out, rest)
+        mark_number(out, rest, seen)
     } else {
-        copy_plain(out, rest)
+        Ok((rest, seen + 1))
     }
 }
 
-fn mark_string<'a>(out: &mut String, rest: &'a str) -> Result<&'a str, JsonFault>
-    requires some { 0 < length rest.now }
-    requires quote { slice_index rest.now 0 ≡ 34 }
-    ensures ok { IfOk result (λ left. steps.completed (string_bytes out.new) left.now ≡ steps.completed (string_bytes out.old) rest.now) }
-    ensures shorter { IfOk result (λ left. length left.now < length rest.now) }
+fn mark_string<'a>(
+    out: &mut String,
+    rest: &'a str,
+    seen: usize,
+) -> Result<(&'a str, usize), JsonFault>
+    requires some { seen < length rest.now }
+    requires quote { slice_index rest.now seen ≡ 34 }
+    ensures ok { IfOk result (λ left. steps.ahead (string_bytes out.new) left.0.now left.1 ≡ steps.ahead (string_bytes out.old) rest.now seen) }
+    ensures within { IfOk result (λ left. left.1 ≤ length left.0.now) }
+    ensures shorter { IfOk result (λ left. length left.0.now + seen < length rest.now + left.1) }
     ensures err { IfErr result (λ fault. fault ≡ OutOfMemory) }
 {
-    let inside = &rest[1..];
-    let (content, left) = inside.split_at(string_len(inside.as_bytes()));
-    out.push_str("\"$")?;
-    out.push_str(content)?;
-    Ok(left)
+    let (segment, inside) = rest.split_at(seen + 1);
+    out.push_str(segment)?;
+    out.push_str("$")?;
+    Ok((inside, string_len(inside.as_bytes())))
 }
 
-fn mark_number<'a>(out: &mut String, rest: &'a str) -> Result<&'a str, JsonFault>
+fn mark_number<'a>(
+    out: &mut String,
+    rest: &'a str,
+    seen: usize,
+) -> Result<(&'a str, usize), JsonFault>
+    requires some { seen < length rest.now }
+    requires begins { spec.begins_number (slice_index rest.now seen) ≡ true }
+    ensures ok { IfOk result (λ left. steps.ahead (string_bytes out.new) left.0.now left.1 ≡ steps.ahead (string_bytes out.old) rest.now seen) }
+    ensures within { IfOk result (λ left. left.1 ≤ length left.0.now) }
+    ensures shorter { IfOk result (λ left. length left.0.now + seen < length rest.now + left.1) }
+    ensures err { IfErr result (λ fault. fault ≢ OutOfMemory → steps.ahead (string_bytes out.old) rest.now seen ≡ Err fault) }
+{
+    let (segment, number) = rest.split_at(seen);
+    out.push_str(segment)?;
+    match put_number(out, number) {
+        Ok(left) => Ok((left, 0)),
+        Err(fault) => Err(fault),
+    }
+}
+
+// Puts the number that the text begins with, as a marked string.
+fn put_number<'a>(out: &mut String, rest: &'a str) -> Result<&'a str, JsonFault>
     requires some { 0 < length rest.now }
     requires begins { spec.begins_number (slice_index rest.now 0) ≡ true }
     ensures ok { IfOk result (λ left. steps.completed (string_bytes out.new) left.now ≡ steps.completed (string_bytes out.old) rest.now) }
@@ -81,18 +119,6 @@ fn mark_number<'a>(out: &mut String, rest: &'a str) -> Result<&'a str, JsonFault
     Ok(left)
 }
 
-fn copy_plain<'a>(out: &mut String, rest: &'a str) -> Result<&'a str, JsonFault>
-    requires some { 0 < length rest.now }
-    requires plain { steps.is_plain (slice_index rest.now 0) ≡ true }
-    ensures ok { IfOk result (λ left. steps.completed (string_bytes out.new) left.now ≡ steps.completed (string_bytes out.old) rest.now) }
-    ensures shorter { IfOk result (λ left. length left.now < length rest.now) }
-    ensures err { IfErr result (λ fault. fault ≡ OutOfMemory) }
-{
-    let (plain, left) = rest.split_at(plain_len(rest.as_bytes()));
-    out.push_str(plain)?;
-    Ok(left)
-}
-
 fn begins_number(byte: u8) -> bool
     ensures { result ≡ spec.begins_number byte }
 {
@@ -103,12 +129,6 @@ fn goes_on_number(byte: u8) -> bool
     ensures { result ≡ spec.goes_on_number byte }
 {
     begins_number(byte) || byte == b'+' || byte == b'.' || byte == b'e' || byte == b'E'
-}
-
-fn is_plain(byte: u8) -> bool
-    ensures { result ≡ steps.is_plain byte }
-{
-    byte != b'"' && !begins_number(byte)
 }
 
 fn is_blank(byte: u8) -> bool
@@ -125,13 +145,6 @@ fn token_len(bytes: &[u8]) -> usize
         .iter()
         .take_while(|byte| goes_on_number(**byte))
         .count()
-}
-
-fn plain_len(bytes: &[u8]) -> usize
-    ensures value { result ≡ prefix_len steps.is_plain bytes.now }
-    ensures within { result ≤ length bytes.now }
-{
-    bytes.iter().take_while(|byte| is_plain(**byte)).count()
 }
 
 fn is_before_colon(bytes: &[u8]) -> bool
@@ -154,15 +167,13 @@ fn string_len(bytes: &[u8]) -> usize
     ensures value { result ≡ steps.string_len false bytes.now }
     ensures within { result ≤ length bytes.now }
 {
-    let mut escaped = false;
-    for (at, byte) in bytes.iter().enumerate() {
-        if escaped {
-            escaped = false;
-        } else if *byte == b'\\' {
-            escaped = true;
-        } else if *byte == b'"' {
-            return at + 1;
+    let mut at = 0;
+    while let Some(ahead) = memchr2(b'"', b'\\', &bytes[at..]) {
+        let found = at + ahead;
+        if bytes[found] == b'"' {
+            return found + 1;
         }
+        at = (found + 2).min(bytes.len());
     }
     bytes.len()
 }

@@ -1,10 +1,11 @@
 //! Places in a marked text, with the marks taken off.
-ghost use Rattle.std.specs.Prelude.{◌≡◌, ◌≤◌, length, option_map};
+ghost use Rattle.std.specs.Prelude.{◌≡◌, ◌≤◌, ◌↔◌, ◌∷◌, length, option_map, IsTrue};
 ghost use Rattle.std.specs.Iterator.{YieldsFirstBy, item_count};
+ghost use Rattle.serde_json.specs.Find.{get_member};
+ghost use Rattle.serde_json.specs.View.{view, members_view};
 ghost use Rattle.marked_json.specs.Reading as spec;
 
-use arrayvec::ArrayString;
-use serde_json::Value;
+use serde_json::{Map, Value};
 
 /// One value of a text that was read.
 #[derive(Clone, Copy)]
@@ -49,13 +50,32 @@ impl<'a> Node<'a> {
         requires { length name.now ≤ 63 }
         ensures { option_map spec.node result ≡ spec.field_of name.now (spec.node self.entry) }
     {
-        let mut key = ArrayString::<64>::new();
-        key.push('$');
-        key.push_str(name);
-        match self.value.get(key.as_str()) {
+        match member_named(self.value.as_object()?, name) {
             Some(value) if !value.is_null() => Some(Node { value }),
             _ => None,
         }
+    }
+}
+
+// The member whose name stands behind a mark.
+fn member_named<'a>(members: &'a Map<String, Value>, name: &str) -> Option<&'a Value>
+    ensures { option_map (λ v. view v.now) result ≡ get_member (36 ∷ name.now) (members_view members.now.entries) }
+{
+    for (key, value) in members.iter() {
+        if is_marked(key.as_str(), name) {
+            return Some(value);
+        }
+    }
+    None
+}
+
+// Whether a key is the name behind a mark.
+fn is_marked(key: &str, name: &str) -> bool
+    ensures { IsTrue result ↔ (key.now ≡ 36 ∷ name.now) }
+{
+    match key.as_bytes() {
+        [b'$', rest @ ..] => rest == name.as_bytes(),
+        _ => false,
     }
 }
 

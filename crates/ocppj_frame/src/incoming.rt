@@ -8,7 +8,7 @@ ghost use Rattle.ocppj_frame.specs.Ranges.{longest_message};
 use crate::call::Call;
 use crate::error_code::ErrorCode;
 use crate::frame_fault::FrameFault;
-use crate::message_id::MessageId;
+use crate::message_id::{FrameId, MessageId};
 use crate::reply::error_text;
 use crate::verdict::{Verdict, verdict_on};
 use arrayvec::ArrayString;
@@ -63,23 +63,26 @@ fn read_tree(marked: Marked) -> Incoming
     ensures read { ¬ IsOutOfMemory result }
 {
     match verdict_on(marked.root()) {
-        Verdict::Call { id, action } => Incoming::Call(Call {
-            id,
-            action,
-            frame: marked,
-        }),
+        Verdict::Call { id, action } => {
+            let id = MessageId::new(id.as_str());
+            Incoming::Call(Call {
+                id,
+                action,
+                frame: marked,
+            })
+        }
         Verdict::Silent => Incoming::Silent,
         Verdict::Refused { id, fault } => refusal(id, fault),
     }
 }
 
 // The reply that tells of a fault.
-fn refusal(id: Option<MessageId>, fault: FrameFault) -> Incoming
-    ensures meaning { Reads (refused id fault) result }
+fn refusal(id: Option<FrameId<'_>>, fault: FrameFault) -> Incoming
+    ensures meaning { Reads (refused id.entry fault) result }
     ensures memory { IsMemoryTold result }
     ensures ready { ¬ IsOutOfMemory result }
 {
-    let id = id.unwrap_or(MessageId::unknown());
+    let id = id.unwrap_or(FrameId::unknown());
     Incoming::Reply {
         text: error_text(id.as_str(), fault.code(), fault.name()),
         memory: false,
@@ -90,6 +93,6 @@ fn refusal(id: Option<MessageId>, fault: FrameFault) -> Incoming
 fn memory_text() -> ArrayString<512>
     ensures { result.bytes ≡ memory_bytes }
 {
-    let id = MessageId::unknown();
+    let id = FrameId::unknown();
     error_text(id.as_str(), ErrorCode::InternalError, "OutOfMemory")
 }

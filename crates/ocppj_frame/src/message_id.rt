@@ -25,6 +25,51 @@ fn character_count(text: &str) -> usize
     text.chars().count()
 }
 
+// The id of a message where it stands in a frame: a text of at most 36 characters.
+#[derive(Drop)]
+pub(crate) struct FrameId<'a> {
+    text: &'a str,
+}
+
+impl<'a> Model for FrameId<'a> {
+    ghost use Rattle.std.specs.Prelude.{List, ℕ, ◌≤◌};
+    ghost use Rattle.ocppj_frame.specs.Ranges.{longest_message_id};
+    ghost use Rattle.ocppj_frame.specs.Reply.{character_count};
+
+    ghost Value = { List ℕ };
+
+    ghost view = { λ id. id.text.now };
+
+    ghost invariant = { λ id. character_count id.text.now ≤ longest_message_id };
+}
+
+impl<'a> FrameId<'a> {
+    // The id of this text; `None` where it has more than 36 characters.
+    pub(crate) fn new(text: &'a str) -> Option<Self>
+        ensures { result ≡ message_id text.now }
+    {
+        if character_count(text) > MAX_MESSAGE_ID {
+            return None;
+        }
+        Some(FrameId { text })
+    }
+
+    // The id of a reply to a text that names none.
+    pub(crate) fn unknown() -> Self
+        ensures { result ≡ codes "-1" }
+    {
+        FrameId { text: "-1" }
+    }
+
+    // The text.
+    pub(crate) fn as_str(&self) -> &'a str
+        ensures value { result.now ≡ self.now }
+        ensures short { count_of result.now ≤ longest_message_id }
+    {
+        self.text
+    }
+}
+
 // The id of a message: a text of at most 36 characters, each of at most four bytes.
 #[derive(Drop)]
 pub(crate) struct MessageId {
@@ -44,25 +89,14 @@ impl Model for MessageId {
 }
 
 impl MessageId {
-    // The id of this text; `None` where it has more than 36 characters.
-    pub(crate) fn new(text: &str) -> Option<Self>
-        ensures { result ≡ message_id text.now }
+    // A copy of this text.
+    pub(crate) fn new(text: &str) -> Self
+        requires { count_of text.now ≤ longest_message_id }
+        ensures { result ≡ text.now }
     {
-        if character_count(text) > MAX_MESSAGE_ID {
-            return None;
-        }
         let mut kept = ArrayString::new();
         kept.push_str(text);
-        Some(MessageId { text: kept })
-    }
-
-    // The id of a reply to a text that names none.
-    pub(crate) fn unknown() -> Self
-        ensures { result ≡ codes "-1" }
-    {
-        let mut text = ArrayString::new();
-        text.push_str("-1");
-        MessageId { text }
+        MessageId { text: kept }
     }
 
     // The text.

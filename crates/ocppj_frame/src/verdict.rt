@@ -5,28 +5,28 @@ ghost use Rattle.ocppj_frame.specs.Verdict.{Says};
 
 use crate::action::Action;
 use crate::frame_fault::FrameFault;
-use crate::message_id::MessageId;
+use crate::message_id::FrameId;
 use marked_json::{Items, Node};
 
 // What the elements of a frame ask for.
 #[derive(Drop)]
-pub(crate) enum Verdict {
+pub(crate) enum Verdict<'a> {
     // An action is asked for by a call of this id.
     Call {
-        id: MessageId,
+        id: FrameId<'a>,
         action: Action,
     },
     // An answer gets none.
     Silent,
     // The first check that failed, and the id, where there is one.
     Refused {
-        id: Option<MessageId>,
+        id: Option<FrameId<'a>>,
         fault: FrameFault,
     },
 }
 
 // What a tree asks for.
-pub(crate) fn verdict_on(root: Node<'_>) -> Verdict
+pub(crate) fn verdict_on<'a>(root: Node<'a>) -> Verdict<'a>
     ensures { Says (frame_of (elements_of (node root.entry))) result }
 {
     let Some(mut elements) = root.items() else {
@@ -46,8 +46,8 @@ pub(crate) fn verdict_on(root: Node<'_>) -> Verdict
 }
 
 // The verdict on a text that is no call.
-fn not_a_call(id: Option<MessageId>) -> Verdict
-    ensures { result ≡ Verdict.Refused id FrameFault.NotACall }
+fn not_a_call<'a>(id: Option<FrameId<'a>>) -> Verdict<'a>
+    ensures { result ≡ Verdict.Refused id.entry FrameFault.NotACall }
 {
     Verdict::Refused {
         id,
@@ -56,18 +56,18 @@ fn not_a_call(id: Option<MessageId>) -> Verdict
 }
 
 // An element as an id.
-fn message_id(element: Node<'_>) -> Option<MessageId>
+fn message_id<'a>(element: Node<'a>) -> Option<FrameId<'a>>
     ensures { result ≡ id_of (node element.entry) }
 {
     match element.text() {
-        Some(text) => MessageId::new(text),
+        Some(text) => FrameId::new(text),
         None => None,
     }
 }
 
 // The verdict by the type of a frame; 3 and 4 are answers, 2 is a call.
-fn by_type(token: &str, id: Option<MessageId>, rest: Items<'_>) -> Verdict
-    ensures { Says (with_type (Some token.now) id (left_of rest.entry)) result }
+fn by_type<'a>(token: &str, id: Option<FrameId<'a>>, rest: Items<'a>) -> Verdict<'a>
+    ensures { Says (with_type (Some token.now) id.entry (left_of rest.entry)) result }
 {
     match token {
         "3" | "4" => Verdict::Silent,
@@ -80,8 +80,8 @@ fn by_type(token: &str, id: Option<MessageId>, rest: Items<'_>) -> Verdict
 }
 
 // The verdict on a call, by its id and the elements behind it.
-fn by_rest(id: Option<MessageId>, mut rest: Items<'_>) -> Verdict
-    ensures { Says (with_id id (left_of rest.entry)) result }
+fn by_rest<'a>(id: Option<FrameId<'a>>, mut rest: Items<'a>) -> Verdict<'a>
+    ensures { Says (with_id id.entry (left_of rest.entry)) result }
 {
     let Some(id) = id else {
         return not_a_call(None);
@@ -102,8 +102,8 @@ fn by_rest(id: Option<MessageId>, mut rest: Items<'_>) -> Verdict
 }
 
 // The verdict on a call, by its action and its payload.
-fn by_action(id: MessageId, name: &str, payload: Node<'_>) -> Verdict
-    ensures { Says (with_name id (Some name.now) (node payload.entry)) result }
+fn by_action<'a>(id: FrameId<'a>, name: &str, payload: Node<'a>) -> Verdict<'a>
+    ensures { Says (with_name id.entry (Some name.now) (node payload.entry)) result }
 {
     let Some(action) = Action::of(name) else {
         return Verdict::Refused {

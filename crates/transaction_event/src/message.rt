@@ -1,5 +1,5 @@
 //! A station's text, as what it asks of the ledger.
-ghost use Rattle.std.specs.Prelude.{◌≡◌, ◌≤◌, ℕ, false, length};
+ghost use Rattle.std.specs.Prelude.{◌≡◌, ◌≢◌, ◌≤◌, ℕ, false, length};
 ghost use Rattle.transaction_event.specs.MessageMeaning.{IsMeaningOf, IsMeaningOfFrame, IsMemoryTold, IsMemoryToldOfFrame, HasShortId, IsOutOfMemory};
 ghost use Rattle.ocppj_frame.specs.Ranges.{longest_message};
 ghost use Rattle.ocppj_frame.specs.Frame.{Called};
@@ -76,8 +76,9 @@ fn event_message(alloc: Global, call: &Call) -> Message
     }
 }
 
-// What a call means.
-fn answered(alloc: Global, call: &Call, now: Moment) -> Message
+// What a call of another action means.
+fn other_message(call: &Call, now: Moment) -> Message
+    requires { action_of call.now ≢ TransactionEvent }
     ensures meaning { IsMeaningOfFrame now (Called (id_of call.now) (action_of call.now) (payload_of call.now)) result }
     ensures memory { IsMemoryToldOfFrame (Called (id_of call.now) (action_of call.now) (payload_of call.now)) result }
     ensures short { HasShortId result }
@@ -87,7 +88,7 @@ fn answered(alloc: Global, call: &Call, now: Moment) -> Message
         Action::BootNotification => ready(result_text(id, Body::Boot(moment_text(now)))),
         Action::Heartbeat => ready(result_text(id, Body::Now(moment_text(now)))),
         Action::StatusNotification | Action::MeterValues => ready(result_text(id, Body::Empty)),
-        Action::TransactionEvent => event_message(alloc, call),
+        Action::TransactionEvent => unreachable!(),
     }
 }
 
@@ -100,7 +101,10 @@ pub fn message_of(alloc: Global, text: &str, now: Moment) -> Message
     ensures short { HasShortId result }
 {
     match read_frame(alloc, text) {
-        Incoming::Call(call) => answered(alloc, &call, now),
+        Incoming::Call(call) => match call.action() {
+            Action::TransactionEvent => event_message(alloc, &call),
+            _ => other_message(&call, now),
+        },
         Incoming::Silent => Message::Silent,
         Incoming::Reply { text, memory } => Message::Reply { text, memory },
     }

@@ -1,19 +1,18 @@
-use Rattle.std.proofs.Common.{arith}
-use Rattle.std.proofs.lemmas.Bool.Decides.{nat_tests}
-use Rattle.marked_json.proofs.Marks.{string_len-drop, string_len-past}
+use Rattle.std.proofs.Common.{◌∙◌, sym, arith}
+use Rattle.marked_json.proofs.Marks.{string_len-none_ahead, found_ahead, found_quote, found_backslash}
 use Rattle.marked_json.proofs.marking.string_len.Goals as goal
 
-pub returns-then-byte-eq34-clause-value : goal.returns-then-byte-eq34-clause-value
-returns-then-byte-eq34-clause-value c =
-    let step = string_len-drop c.loop-at.escaped c.args.bytes.now c.loop-at.at (omega arith) in
-    grind (arith, nat_tests)
+pub returns-then-bytes-found-eq34-clause-value : goal.returns-then-bytes-found-eq34-clause-value
+returns-then-bytes-found-eq34-clause-value c =
+    let found = found_ahead c.args.bytes.now c.loop-ahead.at c.in-Some.ahead c.loop-ahead.invariant.0 c.in-Some.ensures.0 c.in-Some.ensures.1 in
+    sym (found_quote c.args.bytes.now c.loop-ahead.at c.in-Some.ahead found c.if-bytes-found-eq34.true) ∙ c.loop-ahead.invariant.1
 
-pub loop-at-preserved : goal.loop-at-preserved
-loop-at-preserved c =
-    let step = string_len-drop c.loop-at.escaped c.args.bytes.now c.loop-at.at (omega arith) in
-    grind (arith, nat_tests)
+pub loop-ahead-preserved : goal.loop-ahead-preserved
+loop-ahead-preserved c =
+    let found = found_ahead c.args.bytes.now c.loop-ahead.at c.in-Some.ahead c.loop-ahead.invariant.0 c.in-Some.ensures.0 c.in-Some.ensures.1 in
+    let step = found_backslash c.args.bytes.now c.loop-ahead.at c.in-Some.ahead found c.if-bytes-found-eq34.false in
+    (omega arith, rw c.min-at.ensures (step ∙ c.loop-ahead.invariant.1))
 
 pub returns-clause-value : goal.returns-clause-value
 returns-clause-value c =
-    let past = string_len-past c.loop-at.escaped c.args.bytes.now c.loop-at.at (omega arith) in
-    grind (arith, nat_tests)
+    sym (string_len-none_ahead c.args.bytes.now c.loop-ahead.at c.loop-ahead.invariant.0 c.in_default.ensures) ∙ c.loop-ahead.invariant.1

@@ -1,6 +1,8 @@
-use Rattle.std.proofs.Common.{◌≡◌, true, subst}
+use Rattle.std.proofs.Common.{◌≡◌, ◌≤◌, true, subst, sym}
 use Rattle.marked_json.specs.Reading.{node, tree, is_object}
 use Rattle.ocppj_frame.specs.Frame.{elements_of}
+use Rattle.ocppj_frame.specs.Reply.{character_count}
+use Rattle.ocppj_frame.specs.Ranges.{longest_message_id}
 use Rattle.ocppj_frame.proofs.Frames.{Calls, frame_of-Called, Calls-four, Calls-payload}
 use Rattle.ocppj_frame.proofs.incoming.read_tree.Goals as goal
 
@@ -11,7 +13,7 @@ invariant_of-result c =
     let calls : Calls (elements_of (tree c.args.marked)) c.in-Call.id c.in-Call.action said.0 =
     subst (λ shown. Calls (elements_of shown) c.in-Call.id c.in-Call.action said.0) c.root.ensures at_node in
     record {
-      short = calls.short_id;
+      short = subst (λ id. character_count id ≤ longest_message_id) (sym c.new-id.ensures) c.as_str.ensures.short;
       four = Calls-four _ _ _ _ calls;
       object = subst (λ payload. is_object payload ≡ true) (Calls-payload _ _ _ _ calls) calls.has_object;
     }
