@@ -1,6 +1,5 @@
 -- The text of a script: a fold over its lines (this product's profile).
 use Rattle.std.specs.Prelude.{ℕ, Bool, true, false, List, [], ◌∷◌, ◌++◌, codes, if◌then◌else◌, Option, None, Some}
-use Rattle.std.specs.Fmt.{decimal}
 use Rattle.std.specs.Str.{bytes_eq}
 use Rattle.energy_flow.specs.Flow.{Energy}
 use Rattle.ledger_model.specs.Content.{empty_content, entries}
@@ -10,6 +9,7 @@ use Rattle.ledger_model.specs.Moment.{first_moment}
 use Rattle.ledger_model.specs.declared.command.Command.TheVariants.{Deliver}
 use Rattle.ledger_model.specs.Step.{answer}
 use Rattle.ledger_model.specs.World.{Station, World, world_after}
+use Rattle.board_report.specs.Texts.{energy_text}
 use Rattle.transaction_event.specs.Message.{Meaning, Event, Ready, Silence, message}
 use Rattle.transaction_event.specs.Reply.{event_reply_bytes}
 use Rattle.ocpp_board.specs.declared.script_line.LineFault.{LineFault}
@@ -36,13 +36,17 @@ abbrev pub station_named : List ℕ → World → Option Station
 station_named name [] = None
 station_named name (s ∷ ss) = if bytes_eq name s.name then Some s else station_named name ss
 
+-- a line with this text
+abbrev pub ended_line : List ℕ → List ℕ
+ended_line text = text ++ 10 ∷ []
+
 -- `fault <name>`
 abbrev pub fault_line : LineFault → List ℕ
 fault_line fault = codes "fault " ++ (fault_name fault ++ 10 ∷ [])
 
 -- `energy up=<n> down=<n>`, in milliwatt-hours
 abbrev pub energy_line : Energy → List ℕ
-energy_line flow = codes "energy up=" ++ (decimal flow.up ++ (codes " down=" ++ (decimal flow.down ++ 10 ∷ [])))
+energy_line flow = ended_line (energy_text flow)
 
 -- a declaration after a station was declared: the plan has one station
 abbrev pub declared_again : Option Station → List ℕ
@@ -58,10 +62,6 @@ declared_to (_ ∷ _) s site name = (s, declared_again (station_named name s.wor
 abbrev pub energy_answer : Option Station → List ℕ
 energy_answer None = fault_line UnknownStation
 energy_answer (Some station) = energy_line (energy (entries station.content))
-
--- a line with this text
-abbrev pub ended_line : List ℕ → List ℕ
-ended_line text = text ++ 10 ∷ []
 
 -- a message of a station: an event is delivered, and all else is answered as it stands
 abbrev pub by_meaning : Meaning → Station → Script → Script × List ℕ

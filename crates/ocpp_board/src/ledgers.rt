@@ -8,7 +8,8 @@ ghost use Rattle.ocpp_board.specs.Script.{line_step, script_text, energy_answer,
 use crate::machine::Machine;
 use crate::plan::{Plan, PlannedStation};
 use crate::script_line::{LineFault, ScriptLine, read_line};
-use crate::text::{put_energy, put_fault, put_line};
+use crate::text::{put_fault, put_line};
+use board_report::energy_text;
 use energy_flow::Work;
 use ledger_model::{Command, Limits, Moment, Name};
 use station_ledger::StationLedger;
@@ -97,7 +98,7 @@ impl Ledgers {
     {
         match &self.station {
             Some(station) if *name == station.name => {
-                put_energy(self.alloc, reply, station.ledger.energy())
+                put_line(reply, energy_text(station.ledger.energy()).as_str())
             }
             _ => put_fault(reply, LineFault::UnknownStation),
         }

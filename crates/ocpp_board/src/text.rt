@@ -1,9 +1,8 @@
 ghost use Rattle.std.specs.Prelude.{◌≡◌, ◌++◌, OnOk};
-ghost use Rattle.ocpp_board.specs.Script.{fault_line, energy_line, ended_line};
+ghost use Rattle.ocpp_board.specs.Script.{fault_line, ended_line};
 
 use crate::script_line::LineFault;
-use energy_flow::Flow;
-use std::alloc::{AllocError, Global};
+use std::alloc::AllocError;
 
 /// Appends a text and a line feed.
 pub fn put_line(reply: &mut Vec<u8>, text: &str) -> Result<(), AllocError>
@@ -22,13 +21,4 @@ pub fn put_fault(reply: &mut Vec<u8>, fault: LineFault) -> Result<(), AllocError
     reply.extend_from_slice(fault.name().as_bytes())?;
     reply.extend_from_slice(b"\n")?;
     Ok(())
-}
-
-/// Appends `energy up=<n> down=<n>`, in milliwatt-hours, and a line feed.
-pub fn put_energy(alloc: Global, reply: &mut Vec<u8>, flow: Flow) -> Result<(), AllocError>
-    ensures { OnOk result (reply.new.items ≡ reply.old.items ++ energy_line flow) }
-{
-    let (up, down) = (flow.up(), flow.down());
-    let text = format!(in alloc; "energy up={up} down={down}\n")?;
-    reply.extend_from_slice(text.as_bytes())
 }
