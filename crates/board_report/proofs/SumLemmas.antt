@@ -10,7 +10,8 @@ use Rattle.ledger_model.specs.Board.{Flowed, energy_under}
 use Rattle.ledger_model.specs.Energy.{put_in, rising}
 use Rattle.ledger_model.specs.BoardLaws.{AreRising, IsIn}
 use Rattle.ledger_model.proofs.Callers.{put_in-same, put_in-below, put_in-above, rising-AreRising, rising-IsIn}
-use Rattle.board_report.specs.Sums.{quarter_sums, QuartersFit, AreInOrder, put_line, CanLead}
+use Rattle.board_report.specs.Lines.{quarter_sums, AreInOrder, put_line, CanLead}
+use Rattle.board_report.specs.Sums.{QuartersFit}
 
 same_energy : (a b : Energy) → a.up ≡ b.up → a.down ≡ b.down → a ≡ b
 same_energy a b up down = λ i. record { up = up i; down = down i }

@@ -1,7 +1,8 @@
 // The sums of a site by quarter.
 ghost use Rattle.std.specs.Prelude.{◌≡◌, reverse, IfOk, OnOk};
 ghost use Rattle.std.specs.List.Sorted.{IsPermutation};
-ghost use Rattle.board_report.specs.Sums.{station_quarters, quarter_sums, QuartersFit, AreInOrder, put_line, CanLead};
+ghost use Rattle.board_report.specs.Lines.{quarter_sums, AreInOrder, put_line, CanLead};
+ghost use Rattle.board_report.specs.Sums.{station_quarters, QuartersFit};
 
 use ledger_model::Name;
 use station_ledger::{QuarterLine, StationBoard};

@@ -46,7 +46,9 @@ fn put_flow(text: &mut Vec<u8>, flow: Flow) -> Result<(), AllocError>
 fn put_total(text: &mut Vec<u8>, figures: &Figures) -> Result<(), AllocError>
     ensures { OnOk result (text.new.items ≡ text.old.items ++ line (total_text_of figures.now)) }
 {
-    put_text(text, "", total_text(figures).as_str())
+    text.extend_from_slice(total_text(figures).as_str().as_bytes())?;
+    text.push(b'\n')?;
+    Ok(())
 }
 
 // The first moment of a quarter.

@@ -1,6 +1,6 @@
 use Rattle.std.proofs.Common.{◌≡◌, ◌++◌, List, length, reverse}
 use Rattle.ledger_model.specs.Board.{Flowed}
-use Rattle.board_report.specs.Sums.{quarter_sums}
+use Rattle.board_report.specs.Lines.{quarter_sums}
 use Rattle.board_report.proofs.sums.falling_sums.Given as goal
 
 -- the sums of what was passed, from the back

@@ -1,5 +1,6 @@
 use Rattle.std.proofs.Common.{sym, ap, subst, ◌∙◌}
-use Rattle.board_report.specs.Sums.{quarter_sums, QuartersFit}
+use Rattle.board_report.specs.Lines.{quarter_sums}
+use Rattle.board_report.specs.Sums.{QuartersFit}
 use Rattle.board_report.proofs.SumLemmas.{sums_permuted, fit_permuted}
 use Rattle.board_report.proofs.sums.site_quarters.Goals as goal
 
