@@ -18,6 +18,7 @@ BEGIN, END = "<!-- definitions: made by examples/definitions.py -->", "<!-- end 
 INNER = {
     "ocpp_board": {"Reading", "Answering", "Writing", "ScriptLines", "Plans", "Received", "Echoes"},
     "station_ledger": set(),
+    "board_report": {"Lines"},
     "site_book": set(),
     "slot_arena": set(),
 }
