@@ -46,7 +46,6 @@ def files_of(crate):
 def definitions_of(text):
     """Each definition of a file with its sentence, in order."""
     comment = []
-    inside = False
     for line in text.splitlines():
         bare = line.strip()
         if bare.startswith("--"):
@@ -56,8 +55,6 @@ def definitions_of(text):
         is_field = line.startswith("  ")
         if match and not is_field and comment:
             yield match.group(1), " ".join(comment)
-        if bare and not match:
-            inside = False
         comment = []
 
 

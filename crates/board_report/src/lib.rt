@@ -10,7 +10,7 @@
 //! values, one definition for each kind of line; and a site's board shows each quarter that one of its
 //! stations shows, once and rising, with the sum over these stations. A caller of `site_board` sees to
 //! it that the sums of each quarter stay below 2^64, which the boards of one plan always do
-//! ([`plans_fit`]). `site_board` and `write_board` take memory, and tell the want of it.
+//! ([`plans_fit`]). `site_board` and `write_board` alone can run out of memory, and say so.
 //!
 //! ```text
 //! let board = site_board(alloc, &name, figures, stations)?;

@@ -48,7 +48,7 @@ impl<J: Naming> Model for SiteBook<J> {
 
 impl<J: Naming> SiteBook<J> {
     /// The book of a site, with a row for each of these limits, all figures zero, and so many viewers.
-    /// It takes the site's table; where memory is wanting, the table stays.
+    /// It takes the site's table; where it runs out of memory, the table stays.
     ///
     /// Conditions: the tables are those that J names, the site's is there ([`Tables::has`] tells), and
     /// one plan can hold these stations: 64 at most, with limits of 1,048,576 readings in all.

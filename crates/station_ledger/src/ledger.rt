@@ -49,8 +49,8 @@ impl Model for StationLedger {
 }
 
 impl StationLedger {
-    /// A ledger without events, within these limits. Where memory is wanting it is not opened; no later
-    /// call takes any.
+    /// A ledger without events, within these limits. It and [`StationLedger::board`] alone can run out
+    /// of memory.
     pub fn open(alloc: Global, limits: Limits) -> Result<Self, AllocError>
         ensures limits { IfOk result (λ l. l.limits ≡ limits) }
         ensures empty { IfOk result (λ l. l.content ≡ empty_content) }

@@ -15,8 +15,7 @@
 //! how these are kept. `apply` gives the answer of the ledger's step and leaves the step's content;
 //! whatever a ledger holds was left by as many accepted commands as it counts. `energy`, `evse`,
 //! `figures` and `board` are those that the definitions make, from scratch, of the present content.
-//! `open` takes all the memory that the ledger will ever take, so no command meets want of it; `board`
-//! alone takes memory of its own.
+//! `open` and `board` alone can run out of memory; what the other calls promise has no exception for it.
 //!
 //! This body is the plain one: rows sorted by key, and the energy of each pair with its transaction and
 //! its quarter, evaluated anew at each accepted command.

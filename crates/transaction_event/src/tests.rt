@@ -215,7 +215,7 @@ fn ids_come_back(rt: HostRuntime) -> Result<(), Fail> {
     Ok(())
 }
 
-// With ample memory nothing tells of want of it.
+// With ample memory nothing tells that it is out.
 #[test]
 fn always_out_of_memory(rt: HostRuntime) -> Result<(), Fail> {
     let marked = read_marked(rt.alloc(), EVENT)?;
