@@ -10,9 +10,9 @@ use Rattle.ledger_model.specs.Content.{Entry}
 use Rattle.ledger_model.specs.Energy.{Pair, difference, pairs, quarter_of, quarters, energy, energy_in}
 use Rattle.ledger_model.specs.Limits.{Bounds}
 use Rattle.ledger_model.specs.Quarter.{quarter_seconds}
-use Rattle.ledger_model.specs.Ranges.{greatest_reading}
+use Rattle.ledger_model.specs.Ranges.{most_plan_readings, greatest_reading}
 use Rattle.ledger_model.proofs.Callers.{sum_by-filter_cons, rising-AreRising}
-use Rattle.board_report.specs.Plans.{IsBoardWithin, AreBoardsWithin, most_plan_readings}
+use Rattle.board_report.specs.Plans.{IsBoardWithin, AreBoardsWithin}
 use Rattle.board_report.specs.Sums.{station_quarters, QuartersFit}
 use Rattle.board_report.proofs.SumLemmas.{under-own, under-other, above_first}
 

@@ -5,11 +5,8 @@ use Rattle.ledger_model.specs.Content.{Entry}
 use Rattle.ledger_model.specs.Figures.{AreWithin}
 use Rattle.ledger_model.specs.Limits.{Bounds}
 use Rattle.ledger_model.specs.Quarter.{quarter_seconds}
+use Rattle.ledger_model.specs.Ranges.{most_plan_readings}
 use Rattle.board_report.specs.Sums.{station_quarters, QuartersFit}
-
--- How many readings the stations of one plan may store in all (this product's profile).
-abbrev pub most_plan_readings : ℕ
-most_plan_readings = 1_048_576
 
 -- A board is that of a station's events, and its figures are such as the station's limits allow.
 pub record IsBoardWithin (limits : Bounds) (shown : Board) : Type 0 where

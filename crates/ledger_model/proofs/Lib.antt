@@ -21,4 +21,6 @@ pub mod EnergyLemmas
 pub mod FigureLemmas
 pub mod PostLemmas
 pub mod TransactionLemmas
+pub mod Runs
+pub mod LiveEvents
 pub mod Callers

@@ -22,4 +22,5 @@ pub mod Posts
 pub mod Laws
 pub mod Examples
 pub mod BoardLaws
+pub mod WorldLaws
 pub mod BoardExamples

@@ -40,3 +40,15 @@ most_readings = 65_536
 -- How many changes one station may accept.
 abbrev pub most_changes : ℕ
 most_changes = 2 ^ 63
+
+-- How many sites a plan may have.
+abbrev pub most_sites : ℕ
+most_sites = 16
+
+-- How many stations a plan may have, over all its sites.
+abbrev pub most_stations : ℕ
+most_stations = 64
+
+-- How many readings the stations of a plan may store in all.
+abbrev pub most_plan_readings : ℕ
+most_plan_readings = 1_048_576

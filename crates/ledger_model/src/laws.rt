@@ -4,6 +4,7 @@
 
 mod board;
 mod ledger;
+mod world;
 
 pub use board::{
     board_examples, complete_is_four_conditions, energy_by_evse, energy_by_quarter,
@@ -11,3 +12,4 @@ pub use board::{
     site_quarters_are_sums, totals_after_a_post,
 };
 pub use ledger::{examples, inverses, orders, reached, readings_in_order, unchanged};
+pub use world::{each_station_by_its_own_commands, live_events_alone, orders_of_runs};

@@ -39,7 +39,10 @@ pub use evse::{EvseId, GREATEST_EVSE};
 pub use figures::Figures;
 pub use key::{Key, SEQUENCE_END};
 pub use kind::Kind;
-pub use limits::{Limits, MAX_CHANGES, MAX_EVENTS, MAX_READINGS, MAX_TRANSACTIONS};
+pub use limits::{
+    Limits, MAX_CHANGES, MAX_EVENTS, MAX_PLAN_READINGS, MAX_READINGS, MAX_SITES, MAX_STATIONS,
+    MAX_TRANSACTIONS,
+};
 pub use listed::Listed;
 pub use moment::{FIRST_MOMENT, FIRST_QUARTER, LAST_QUARTER, MOMENTS_END, Moment, Quarter};
 pub use name::{MAX_NAME, Name};

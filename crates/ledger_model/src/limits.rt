@@ -16,6 +16,15 @@ pub const MAX_READINGS: u64 = 65_536;
 /// How many changes one station may accept: 2^63.
 pub const MAX_CHANGES: u64 = 1 << 63;
 
+/// How many sites a plan may have.
+pub const MAX_SITES: usize = 16;
+
+/// How many stations a plan may have, over all its sites.
+pub const MAX_STATIONS: usize = 64;
+
+/// How many readings the stations of a plan may store in all.
+pub const MAX_PLAN_READINGS: u64 = 1_048_576;
+
 /// What one station's ledger may keep: transactions, events and readings stored at once, and changes
 /// accepted in all.
 #[derive(Clone, Copy, Debug, PartialEq, Eq)]

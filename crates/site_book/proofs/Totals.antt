@@ -4,6 +4,7 @@ use Rattle.std.specs.Prelude.{sum_by, slice_get}
 use Rattle.std.specs.List.{range_with_len}
 use Rattle.std.proofs.lemmas.List.Sums.{sum_by-cons}
 use lib.ListN.{length-map}
+use Rattle.ledger_model.specs.Ranges.{most_plan_readings}
 use Rattle.ledger_model.specs.declared.figures.Figures.{Figures}
 use Rattle.ledger_model.specs.Figures.{AreWithin}
 use Rattle.ledger_model.specs.Board.{plus_figures, sum_of_figures}
@@ -68,7 +69,7 @@ totals-words rows log r totals f kept is w =
     let u = subst (AreUnder (length rows) (readings_of rows)) (sym is) (totals-under rows log kept) in
     let count : length (map (λ (q : Row). q.limits) rows) ≡ length rows = length-map rows (λ (q : Row). q.limits) in
     let few : length rows ≤ 64 = omega (arith, kept.planned.few, count) in
-    let readings : readings_of rows ≤ 1_048_576 = kept.planned.readings in
+    let readings : readings_of rows ≤ most_plan_readings = kept.planned.readings in
     let events : r.limits.events ≤ 65_536 = r.events in
     let transactions : r.limits.transactions ≤ 4_096 = r.transactions in
     let own : r.limits.readings ≤ 65_536 = r.readings in

@@ -2,6 +2,7 @@ use Rattle.std.specs.Prelude.{◌≡◌, ℕ, ◌≤◌, List, length, Some, sli
 use Rattle.ledger_model.specs.declared.figures.Figures.{Figures}
 use Rattle.ledger_model.specs.Figures.{AreWithin}
 use Rattle.ledger_model.specs.Limits.{Bounds}
+use Rattle.ledger_model.specs.Ranges.{most_stations, most_plan_readings}
 use Rattle.ledger_model.specs.Posts.{Post}
 
 -- A site's book: the site's number, the limits of the station of each row, and all posts, first to last.
@@ -15,10 +16,10 @@ pub record Known : Type 0 where
   pub site : ℕ
   pub posts : List Post
 
--- Stations that one plan can hold: 64 at most, which may keep 1,048,576 readings in all.
+-- Stations that one plan can hold: no more than it may have, which may keep no more readings in all than it may.
 pub record ArePlanned (limits : List Bounds) : Type 0 where
-  pub few : length limits ≤ 64
-  pub readings : sum_by (λ l. l.readings) limits ≤ 1_048_576
+  pub few : length limits ≤ most_stations
+  pub readings : sum_by (λ l. l.readings) limits ≤ most_plan_readings
 
 -- The row is there, and its station can have these figures.
 pub record Admits (limits : List Bounds) (row : ℕ) (figures : Figures) : Type 0 where

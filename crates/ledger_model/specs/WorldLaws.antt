@@ -1,0 +1,42 @@
+use Rattle.std.specs.Prelude.{◌≡◌, ℕ, if◌then◌else◌, List, [], ◌∷◌, ◌++◌, ⊤, All, filter, filter_map, map, Option, None, Some, IsPermutation}
+use Rattle.std.specs.Str.{bytes_eq}
+use Rattle.ledger_model.specs.declared.command.Command.{Command}
+use Rattle.ledger_model.specs.declared.command.Command.TheVariants.{Deliver, Void, Restore, Erase}
+use Rattle.ledger_model.specs.declared.answer.Answer.{Answer}
+use Rattle.ledger_model.specs.declared.answer.Answer.TheVariants.{Accepted, Repeat, Refused}
+use Rattle.ledger_model.specs.Limits.{Bounds}
+use Rattle.ledger_model.specs.Content.{Content}
+use Rattle.ledger_model.specs.Laws.{Sent, left_by}
+use Rattle.ledger_model.specs.Step.{answer, step}
+use Rattle.ledger_model.specs.World.{Station, World, Happens}
+
+-- The commands of a run on the station of this name.
+abbrev pub commands_on : List ℕ → List Happens → List Command
+commands_on name hs = filter_map (λ (h : Happens). if bytes_eq h.0 name then Some h.1 else None) hs
+
+-- A station after all that a run asks of it.
+abbrev pub station_left : List Happens → Station → Station
+station_left hs s = record s { content = left_by s.limits s.content (commands_on s.name hs) }
+
+-- The command is a delivery.
+abbrev pub IsDelivery : Command → Type 0
+IsDelivery (Deliver key event) = ⊤
+IsDelivery (Void key) = ⊥
+IsDelivery (Restore key) = ⊥
+IsDelivery (Erase key) = ⊥
+
+-- What was delivered, where this answers a delivery that is accepted.
+abbrev pub delivered_by : Command → Answer → List Sent
+delivered_by (Deliver key event) (Accepted n) = (key, event) ∷ []
+delivered_by _ _ = []
+
+-- What was delivered by those of the commands, one after the other, that are deliveries and are accepted.
+abbrev pub accepted_deliveries : Bounds → Content → List Command → List Sent
+accepted_deliveries limits c [] = []
+accepted_deliveries limits c (command ∷ commands) = delivered_by command (answer limits c command) ++ accepted_deliveries limits (step limits c command).0 commands
+
+-- Two runs of deliveries whose accepted ones are, at each of these stations, the same in another order.
+pub record AreReordered (w : World) (one other : List Happens) : Type 0 where
+  pub one_delivers : All (λ h. IsDelivery h.1) one
+  pub other_delivers : All (λ h. IsDelivery h.1) other
+  pub orders : All (λ s. IsPermutation (accepted_deliveries s.limits s.content (commands_on s.name one)) (accepted_deliveries s.limits s.content (commands_on s.name other))) w
