@@ -1,0 +1,5 @@
+pub mod Twice
+pub mod Rows
+pub mod Counts
+pub mod Settled
+pub mod NewParts

@@ -1,0 +1,34 @@
+-- A loop that looks for a name that stands twice.
+use Rattle.std.proofs.Common.{◌≡◌, ℕ, ◌+◌, ◌-◌, take, ◌<◌, ◌≤◌, ◌||◌, Bool, true, false, List, [], ◌∷◌, length, map, drop, get_or, refl, ap, sym, ◌∙◌, bytes_eq}
+use Rattle.std.specs.List.{list_any}
+use Rattle.std.proofs.lemmas.List.{drop_more, drop_all, take_rest}
+use Rattle.site_desk.specs.Plan.{has_twice}
+
+any-map : {X Y : Type 0} (p : Y → Bool) (f : X → Y) (xs : List X) → list_any p (map f xs) ≡ list_any (λ x. p (f x)) xs
+any-map p f [] = refl
+any-map p f (x ∷ xs) = ap (λ b. p (f x) || b) (any-map p f xs)
+
+module _ {X : Type 0} (name : X → List ℕ) where
+  -- what is left begins with this element
+  left : (xs : List X) (i : ℕ) (x : X) → i < length xs
+      → has_twice (map name (drop i xs)) ≡ (list_any (λ y. bytes_eq (name (get_or xs i x)) (name y)) (drop (i + 1) xs) || has_twice (map name (drop (i + 1) xs)))
+  left xs i x less =
+      ap (λ ys. has_twice (map name ys)) (drop_more xs i x less)
+      ∙ ap (λ b. b || has_twice (map name (drop (i + 1) xs))) (any-map (bytes_eq (name (get_or xs i x))) name (drop (i + 1) xs))
+
+  rest : (xs : List X) (i : ℕ) (x : X) → list_any (λ y. bytes_eq (name x) (name y)) (drop i xs) ≡ list_any (λ y. bytes_eq (name x) (name y)) (take (length xs - i) (drop i xs))
+  rest xs i x = ap (list_any (λ y. bytes_eq (name x) (name y))) (sym (take_rest xs i))
+
+  -- its name stands again
+  pub twice_here : (xs : List X) (i : ℕ) (x : X) → i < length xs → list_any (λ y. bytes_eq (name (get_or xs i x)) (name y)) (take (length xs - (i + 1)) (drop (i + 1) xs)) ≡ true
+      → has_twice (map name (drop i xs)) ≡ true
+  twice_here xs i x less again = left xs i x less ∙ ap (λ b. b || has_twice (map name (drop (i + 1) xs))) (rest xs (i + 1) (get_or xs i x) ∙ again)
+
+  -- its name does not stand again
+  pub twice_later : (xs : List X) (i : ℕ) (x : X) → i < length xs → list_any (λ y. bytes_eq (name (get_or xs i x)) (name y)) (take (length xs - (i + 1)) (drop (i + 1) xs)) ≡ false
+      → has_twice (map name (drop (i + 1) xs)) ≡ has_twice (map name (drop i xs))
+  twice_later xs i x less once = sym (left xs i x less ∙ ap (λ b. b || has_twice (map name (drop (i + 1) xs))) (rest xs (i + 1) (get_or xs i x) ∙ once))
+
+  -- nothing is left
+  pub twice_end : (xs : List X) (i : ℕ) → length xs ≤ i → has_twice (map name (drop i xs)) ≡ false
+  twice_end xs i past = ap (λ ys. has_twice (map name ys)) (drop_all i xs past)

@@ -1,0 +1,53 @@
+use Rattle.std.specs.Prelude.{◌≡◌, ℕ, ◌≤◌, List, [], length, sum, Some, slice_get, refl}
+use Rattle.std.specs.Coded.{Coded, code_by, coded×, coded_list, coded_ℕ}
+use Rattle.ledger_model.specs.Limits.{Bounds}
+use Rattle.ledger_model.specs.Content.{Content, empty_content}
+use Rattle.ledger_model.specs.Step.{Reached}
+use Rattle.station_ledger.specs.Ledger.{bounds_code, content_code}
+
+-- How many passes a station may give out.
+abbrev pub most_passes : ℕ
+most_passes = 65_536
+
+-- A station's cell: the station's number in the plan, its site's number, its row in the site's book, its limits, its content, and how many changes each of its passes made.
+pub record Cell : Type 0 where
+  pub station : ℕ
+  pub site : ℕ
+  pub row : ℕ
+  pub limits : Bounds
+  pub content : Content
+  pub counts : List ℕ
+
+-- A pass: its station's number, its place among that station's passes, and how many changes it made.
+pub record Held : Type 0 where
+  pub station : ℕ
+  pub slot : ℕ
+  pub changes : ℕ
+
+-- A cell is kept as the tuple of its parts.
+abbrev pub cell_code : Coded Cell
+cell_code =
+    code_by (ℕ × (ℕ × (ℕ × (Bounds × (Content × List ℕ))))) (coded× coded_ℕ (coded× coded_ℕ (coded× coded_ℕ (coded× bounds_code (coded× content_code (coded_list coded_ℕ))))))
+    (λ c. (c.station, (c.site, (c.row, (c.limits, (c.content, c.counts))))))
+    (λ p. record { station = p.0; site = p.1.0; row = p.1.1.0; limits = p.1.1.1.0; content = p.1.1.1.1.0; counts = p.1.1.1.1.1 })
+    (λ _. refl)
+
+-- The cell of a station without events, to which no pass was given.
+abbrev pub new_cell : ℕ → ℕ → ℕ → Bounds → Cell
+new_cell station site row limits = record { station = station; site = site; row = row; limits = limits; content = empty_content; counts = [] }
+
+-- A pass that made no change yet.
+abbrev pub new_pass : ℕ → ℕ → Held
+new_pass station slot = record { station = station; slot = slot; changes = 0 }
+
+-- The pass is one of the cell's, and the cell counts as many changes for it as it made.
+pub record Knows (c : Cell) (p : Held) : Type 0 where
+  pub station : p.station ≡ c.station
+  pub count : slice_get c.counts p.slot ≡ Some p.changes
+
+-- What a cell keeps: as many accepted commands as its passes made lead from the empty content to its own, and there is room for all its passes.
+pub record IsCell (limits : Bounds) (content : Content) (counts : List ℕ) (room : ℕ) : Type 0 where
+  pub reached : Reached limits content.changes content
+  pub counted : sum counts ≡ content.changes
+  pub few : length counts ≤ most_passes
+  pub fits : most_passes ≤ room

@@ -1,0 +1,33 @@
+use Rattle.std.specs.Prelude.{◌≡◌, ℕ, suc, ◌<◌, ◌==◌, List, [], ◌∷◌, ◌++◌, filter, map, length, replicate, count_by, take, Some, slice_get}
+use Rattle.ledger_model.specs.Limits.{Bounds}
+use Rattle.site_book.specs.Book.{Book, Known, known}
+use Rattle.site_desk.specs.declared.plan.SitePlan.{SitePlan}
+use Rattle.site_desk.specs.declared.plan.StationPlan.{StationPlan}
+use Rattle.site_desk.specs.Cell.{Cell, new_cell}
+
+-- The row of a station of this number at a site: how many stations of the site come before it.
+abbrev pub row_at : List StationPlan → ℕ → ℕ → ℕ
+row_at stations site k = count_by (λ s. s.site == site) (take k stations)
+
+-- The limits of the stations of a site, in the plan's order.
+abbrev pub limits_at : List StationPlan → ℕ → List Bounds
+limits_at stations site = map (λ s. s.limits) (filter (λ s. s.site == site) stations)
+
+-- The cells of a plan that was just opened: one for each station, in the plan's order, without events.
+pub record AreNewCells (stations : List StationPlan) (cells : List Cell) : Type 0 where
+  pub count : length cells ≡ length stations
+  pub each : (k : ℕ) (s : StationPlan) → slice_get stations k ≡ Some s → slice_get cells k ≡ Some (new_cell k s.site (row_at stations s.site k) s.limits)
+
+-- The book of a site of a plan that was just opened.
+abbrev pub new_book : List StationPlan → ℕ → Book
+new_book stations site = record { site = site; limits = limits_at stations site; posts = [] }
+
+-- The books of a plan that was just opened: one for each site, in the plan's order.
+pub record AreNewBooks (stations : List StationPlan) (sites : ℕ) (books : List Book) : Type 0 where
+  pub count : length books ≡ sites
+  pub each : (site : ℕ) → site < sites → slice_get books site ≡ Some (new_book stations site)
+
+-- The viewers of these sites, which begin with this number: each with its site's number, and it knows no post.
+abbrev pub new_viewers : ℕ → List SitePlan → List (ℕ × Known)
+new_viewers site [] = []
+new_viewers site (s ∷ sites) = replicate s.viewers (site, known site []) ++ new_viewers (suc site) sites

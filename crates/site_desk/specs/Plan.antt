@@ -1,0 +1,39 @@
+use Rattle.std.specs.Prelude.{ℕ, Bool, false, not, ◌&&◌, ◌||◌, nat_le, nat_lt, List, [], ◌∷◌, map, length, sum_by, Option, None, Some, if◌then◌else◌, codes}
+use Rattle.std.specs.List.{list_all, list_any}
+use Rattle.std.specs.Str.{bytes_eq}
+use Rattle.site_desk.specs.declared.plan.SitePlan.{SitePlan}
+use Rattle.site_desk.specs.declared.plan.StationPlan.{StationPlan}
+use Rattle.site_desk.specs.declared.fault.DeskFault.{DeskFault}
+use Rattle.site_desk.specs.declared.fault.DeskFault.TheVariants.{PlanLimit, StationTwice}
+
+-- How many readings the stations of one plan may keep in all.
+abbrev pub most_planned_readings : ℕ
+most_planned_readings = 1_048_576
+
+-- How many viewers a site may have.
+abbrev pub most_viewers : ℕ
+most_viewers = 64
+
+-- The name that stands where none was given yet.
+abbrev pub blank_name : List ℕ
+blank_name = codes "-"
+
+-- Some text stands twice in the list.
+abbrev pub has_twice : List (List ℕ) → Bool
+has_twice [] = false
+has_twice (name ∷ names) = list_any (bytes_eq name) names || has_twice names
+
+-- The stations keep no more readings than a plan may, no site has too many viewers, each station is at one of the sites, and no two sites have one name.
+abbrev pub is_within_limits : List SitePlan → List StationPlan → Bool
+is_within_limits sites stations =
+    nat_le (sum_by (λ s. s.limits.readings) stations) most_planned_readings
+    && list_all (λ s. nat_le s.viewers most_viewers) sites
+    && list_all (λ s. nat_lt s.site (length sites)) stations
+    && not (has_twice (map (λ s. s.name) sites))
+
+-- What is wrong with a plan: first that it leaves the limits, then that two stations have one name.
+abbrev pub plan_fault : List SitePlan → List StationPlan → Option DeskFault
+plan_fault sites stations =
+    if not (is_within_limits sites stations) then Some PlanLimit
+    else (if has_twice (map (λ s. s.name) stations) then Some StationTwice
+    else None)

@@ -1,0 +1,46 @@
+use Rattle.std.specs.Prelude.{◌≡◌, ℕ, ◌+◌, List, [], ◌∷◌, ◌++◌, Option, None, Some, slice_get, slice_set}
+use Rattle.ledger_model.specs.declared.answer.Answer.{Answer}
+use Rattle.ledger_model.specs.declared.answer.Answer.TheVariants.{Accepted, Repeat, Refused}
+use Rattle.ledger_model.specs.declared.command.Command.{Command}
+use Rattle.ledger_model.specs.Board.{figures}
+use Rattle.ledger_model.specs.Content.{entries}
+use Rattle.ledger_model.specs.Posts.{Post, row_after}
+use Rattle.ledger_model.specs.Step.{answer, step}
+use Rattle.site_book.specs.Book.{Book, Known, known}
+use Rattle.site_desk.specs.Cell.{Cell, Held}
+
+-- The book has the cell's row, which was opened with the cell's limits.
+abbrev pub Holds : Cell → Book → Type 0
+Holds c b = slice_get b.limits c.row ≡ Some c.limits
+
+-- The cell's row in the book shows the figures of the cell's content.
+abbrev pub Tied : Cell → Book → Type 0
+Tied c b = row_after c.row b.posts ≡ figures (entries c.content)
+
+-- The pass after this answer: an accepted command is one change more.
+abbrev pub pass_after : Held → Answer → Held
+pass_after p (Accepted n) = record p { changes = p.changes + 1 }
+pass_after p Repeat = p
+pass_after p (Refused why) = p
+
+-- The counts after this answer to a pass: an accepted command is one change more for it.
+abbrev pub counts_after : List ℕ → Held → Answer → List ℕ
+counts_after counts p (Accepted n) = slice_set counts p.slot (p.changes + 1)
+counts_after counts p Repeat = counts
+counts_after counts p (Refused why) = counts
+
+-- The cell after a command of a pass: its content is the step's, and its count for the pass rises where the command was accepted.
+abbrev pub cell_after : Cell → Held → Command → Cell
+cell_after c p command = record c { content = (step c.limits c.content command).0; counts = counts_after c.counts p (answer c.limits c.content command) }
+
+-- The posts after this answer, which left this cell: an accepted command is one post more, of the cell's row and the figures of its content.
+abbrev pub posts_after : List Post → Cell → Answer → List Post
+posts_after posts c (Accepted n) = posts ++ (c.row, figures (entries c.content)) ∷ []
+posts_after posts c Repeat = posts
+posts_after posts c (Refused why) = posts
+
+-- What is told with this answer: after an accepted command all posts of the book.
+abbrev pub told_after : Book → Answer → Option Known
+told_after b (Accepted n) = Some (known b.site b.posts)
+told_after b Repeat = None
+told_after b (Refused why) = None

@@ -1,0 +1,154 @@
+ghost use Rattle.std.specs.Prelude.{◌≡◌, ◌↔◌, ◌<◌, ◌++◌, ◌∷◌, [], length, sum, IsTrue, IsErr, IfOk, OnOk, OnErr};
+ghost use Rattle.ledger_model.specs.Step.{Reached, answer};
+ghost use Rattle.site_desk.specs.Cell.{Knows, most_passes, new_cell, new_pass};
+ghost use Rattle.site_desk.specs.Settle.{cell_after, pass_after};
+
+use crate::fault::TooManyPasses;
+use crate::pass::Pass;
+use energy_flow::Work;
+use ledger_model::{Answer, Command, Limits};
+use station_ledger::StationLedger;
+use std::alloc::{AllocError, Global};
+use std::marker::Model;
+use std::thread::Threads;
+
+/// How many passes a station may give out.
+pub const MAX_PASSES: usize = 65_536;
+
+/// One station: its ledger, where its figures stand, and how many changes each of its passes made.
+/// Its content is always one that as many accepted commands as its passes made leave of the empty one.
+#[derive(Drop)]
+pub struct StationCell {
+    station: u16,
+    site: u16,
+    row: u16,
+    ledger: StationLedger,
+    counts: Vec<u64>,
+}
+
+impl Model for StationCell {
+    ghost use Rattle.std.specs.Prelude.{vec_capacity};
+    ghost use Rattle.site_desk.specs.Cell.{Cell, cell_code, IsCell};
+
+    ghost Value = { Cell };
+
+    ghost coded = { cell_code };
+
+    ghost view = { λ c. record { station = c.station; site = c.site; row = c.row; limits = c.ledger.limits; content = c.ledger.content; counts = c.counts.items } };
+
+    ghost invariant = { λ c. IsCell c.ledger.limits c.ledger.content c.counts.items (vec_capacity c.counts) };
+}
+
+impl StationCell {
+    // The cell of a station without events, with room for all its passes.
+    pub(crate) fn open(
+        alloc: Global,
+        station: u16,
+        site: u16,
+        row: u16,
+        limits: Limits,
+    ) -> Result<Self, AllocError>
+        ensures { IfOk result (λ c. c ≡ new_cell station site row limits) }
+    {
+        let ledger = StationLedger::open(alloc, limits)?;
+        let counts = Vec::with_capacity(alloc, MAX_PASSES)?;
+        let _ = ledger.changes();
+        Ok(StationCell {
+            station,
+            site,
+            row,
+            ledger,
+            counts,
+        })
+    }
+
+    /// The station's number in the plan.
+    pub fn station(&self) -> u16
+        ensures { result ≡ self.now.station }
+    {
+        self.station
+    }
+
+    /// The number of its site.
+    pub fn site(&self) -> u16
+        ensures { result ≡ self.now.site }
+    {
+        self.site
+    }
+
+    /// Its row in its site's book.
+    pub fn row(&self) -> u16
+        ensures { result ≡ self.now.row }
+    {
+        self.row
+    }
+
+    /// Its ledger.
+    pub fn ledger(&self) -> &StationLedger
+        ensures limits { result.now.limits ≡ self.now.limits }
+        ensures content { result.now.content ≡ self.now.content }
+        ensures reached { Reached self.now.limits self.now.content.changes self.now.content }
+        ensures counted { sum self.now.counts ≡ self.now.content.changes }
+    {
+        &self.ledger
+    }
+
+    /// Tells whether the pass is one of this cell's, and made as many changes as the cell counts for it.
+    pub fn knows(&self, pass: &Pass) -> bool
+        ensures { IsTrue result ↔ Knows self.now pass.now }
+    {
+        match self.counts.get(pass.slot) {
+            Some(count) => pass.station == self.station && *count == pass.changes,
+            None => false,
+        }
+    }
+
+    // A pass of this station, where it may give out one more.
+    fn enlist(&mut self, work: Work) -> Result<Pass, TooManyPasses>
+        ensures full { IsErr result ↔ (length self.old.counts ≡ most_passes) }
+        ensures pass { IfOk result (λ p. p ≡ new_pass self.old.station (length self.old.counts)) }
+        ensures cell { OnOk result (self.new ≡ record self.old { counts = self.old.counts ++ 0 ∷ [] }) }
+        ensures stays { OnErr result (self.new ≡ self.old) }
+    {
+        let slot = self.counts.len();
+        if slot == MAX_PASSES {
+            return Err(TooManyPasses);
+        }
+        self.counts.push_reserved(0);
+        Ok(Pass {
+            station: self.station,
+            slot,
+            changes: 0,
+            work,
+        })
+    }
+
+    // Takes a command of a pass, and counts the change where it is accepted.
+    pub(crate) fn change(&mut self, pass: &mut Pass, command: Command) -> Answer
+        requires { Knows self.old pass.old }
+        ensures answer { result ≡ answer self.old.limits self.old.content command }
+        ensures cell { self.new ≡ cell_after self.old pass.old command }
+        ensures pass { pass.new ≡ pass_after pass.old result }
+    {
+        let answer = self.ledger.apply(command, &mut pass.work);
+        let changes = self.ledger.changes();
+        if let Answer::Accepted(_) = answer {
+            self.counts[pass.slot] += 1;
+            pass.changes += 1;
+        }
+        let _ = changes;
+        answer
+    }
+}
+
+/// Gives out one more pass of the station, which made no change yet; `TooManyPasses` exactly after
+/// 65,536.
+pub fn enlist_cell<R: Threads>(rt: &R, cell: &mut StationCell) -> Result<Pass, TooManyPasses>
+    ensures full { IsErr result ↔ (length cell.old.counts ≡ most_passes) }
+    ensures pass { IfOk result (λ p. p ≡ new_pass cell.old.station (length cell.old.counts)) }
+    ensures known { IfOk result (λ p. Knows cell.new p) }
+    ensures cell { OnOk result (cell.new ≡ record cell.old { counts = cell.old.counts ++ 0 ∷ [] }) }
+    ensures stays { OnErr result (cell.new ≡ cell.old) }
+{
+    cell.enlist(Work::open(rt))
+}

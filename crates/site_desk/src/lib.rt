@@ -1,0 +1,18 @@
+//! The stations of a site desk: their ledgers, and the books that their figures are posted in.
+#![tactic(auto)]
+
+mod cell;
+mod fault;
+mod parts;
+mod pass;
+mod plan;
+mod steps;
+
+pub use cell::{MAX_PASSES, StationCell, enlist_cell};
+pub use fault::{DeskFault, TooManyPasses};
+pub use parts::Parts;
+pub use pass::Pass;
+pub use plan::{
+    MAX_PLANNED_READINGS, MAX_SITES, MAX_STATIONS, MAX_VIEWERS, Plan, SitePlan, StationPlan,
+};
+pub use steps::{settle, tied};
