@@ -1,9 +1,8 @@
 -- The counts of a cell's passes.
-use Rattle.std.proofs.Common.{◌≡◌, ℕ, ◌+◌, ◌<◌, ◌≤◌, List, length, get_or, set, sum, Some, refl, ap, sym, ◌∙◌, subst, arith, length-set}
+use Rattle.std.proofs.Common.{◌≡◌, ℕ, ◌+◌, ◌≤◌, List, get_or, set, sum, Some, ap, sym, ◌∙◌, subst, arith, length-set}
 use Rattle.std.specs.Prelude.{slice_get}
 use Rattle.std.proofs.lemmas.List.Sums.{sum_by-set, get_or-le-sum_by}
 use Rattle.std.proofs.lemmas.Option.{slice_get_within, get_or_from_slice_get}
-use Rattle.ledger_model.specs.declared.answer.Answer.{Answer}
 use Rattle.ledger_model.specs.declared.answer.Answer.TheVariants.{Accepted}
 use Rattle.ledger_model.specs.declared.command.Command.{Command}
 use Rattle.ledger_model.specs.Limits.{Bounds}

@@ -1,11 +1,10 @@
 -- Cells, books and viewers of a plan that was just opened.
-use Rattle.std.proofs.Common.{◌≡◌, ◌≢◌, ℕ, zero, suc, ◌+◌, ◌<◌, ◌≤◌, Bool, true, false, not, cond, eqb, leb, ltb, ◌&&◌, IsTrue, List, [], ◌∷◌, ◌++◌, length, map, take, drop, replicate, set, get_or, Some, None, refl, ap, sym, ◌∙◌, subst, ⊎_elim, inl, inr, ◌⊎◌, arith, append_assoc}
-use Rattle.std.specs.Prelude.{filter, slice_get, sum_by, count_by, All, Option}
+use Rattle.std.proofs.Common.{◌≡◌, ◌≢◌, ℕ, zero, suc, ◌+◌, ◌<◌, ◌≤◌, Bool, true, false, not, cond, eqb, leb, ltb, ◌&&◌, List, [], ◌∷◌, ◌++◌, length, map, take, drop, replicate, get_or, Some, None, refl, ap, sym, ◌∙◌, subst, ⊎_elim, inl, inr, ◌⊎◌, arith, append_assoc}
+use Rattle.std.specs.Prelude.{filter, slice_get, sum_by, count_by, Option}
 use Rattle.std.specs.List.{list_all}
-use Rattle.std.proofs.lemmas.Bool.{cases_eq, leb-true, eqb-true}
+use Rattle.std.proofs.lemmas.Bool.{cases_eq, leb-true}
 use Rattle.std.proofs.lemmas.List.{take_more, drop_more, length_push, take-append-le, take_all}
 use Rattle.std.proofs.lemmas.List.Sums.{sum_by-cons}
-use Rattle.std.proofs.lemmas.Option.{slice_get_within, slice_get-get_or}
 use Rattle.ledger_model.specs.Limits.{Bounds}
 use Rattle.site_book.specs.Book.{ArePlanned, Book, Known, known}
 use Rattle.site_book.proofs.Named.{get_front, get_last}
@@ -46,7 +45,7 @@ cells_push xs cells s new =
           (λ (r : (k ≡ length xs) × (s ≡ t)).
           let Is : ℕ → StationPlan → Type 0 = λ n u. slice_get (cells ++ last ∷ []) n ≡ Some (new_cell n u.site (row_at (xs ++ s ∷ []) u.site n) u.limits) in
           let here : Is (length xs) s = ap (slice_get (cells ++ last ∷ [])) (sym new.count) ∙ get_last cells last
-              ∙ ap (λ ys. Some (new_cell (length xs) s.site (count_by (λ u. eqb u.site s.site) ys) s.limits)) (sym (take-append-le (length xs) xs (s ∷ []) (omega arith))) in
+          ∙ ap (λ ys. Some (new_cell (length xs) s.site (count_by (λ u. eqb u.site s.site) ys) s.limits)) (sym (take-append-le (length xs) xs (s ∷ []) (omega arith))) in
           subst (λ u. Is k u) r.1 (subst (λ n. Is n s) (sym r.0) here))
           (get_push xs s t k at);
     }
@@ -80,16 +79,17 @@ map_replicate f zero x = refl
 map_replicate f (suc n) x = ap (λ ys. f x ∷ ys) (map_replicate f n x)
 
 -- the viewers of one site more
-pub viewers_more : (sites : List SitePlan) (n : ℕ) (s : SitePlan) (before after all : List (ℕ × Known)) (seats : List Known) → n < length sites → s ≡ get_or sites n s
-    → before ++ new_viewers n (drop n sites) ≡ all → seats ≡ replicate s.viewers (known n []) → after ≡ before ++ map (λ v. (n, v)) seats
+pub viewers_more : (sites : List SitePlan) (n : ℕ) (d : SitePlan) (before after all : List (ℕ × Known)) (seats : List Known) → n < length sites
+    → before ++ new_viewers n (drop n sites) ≡ all → seats ≡ replicate (get_or sites n d).viewers (known n []) → after ≡ before ++ map (λ v. (n, v)) seats
     → after ++ new_viewers (n + 1) (drop (n + 1) sites) ≡ all
-viewers_more sites n s before after all seats less is old made added =
+viewers_more sites n d before after all seats less old made added =
     let next : suc n ≡ n + 1 = omega arith in
-    let these : map (λ v. (n, v)) seats ≡ replicate s.viewers (n, known n []) = ap (map (λ v. (n, v))) made ∙ map_replicate (λ v. (n, v)) s.viewers (known n []) in
-    let left : new_viewers n (drop n sites) ≡ replicate s.viewers (n, known n []) ++ new_viewers (n + 1) (drop (n + 1) sites) =
-        ap (new_viewers n) (drop_more sites n s less ∙ ap (λ z. z ∷ drop (n + 1) sites) (sym is)) ∙ ap (λ k. replicate s.viewers (n, known n []) ++ new_viewers k (drop (n + 1) sites)) next in
+    let count = (get_or sites n d).viewers in
+    let these : map (λ v. (n, v)) seats ≡ replicate count (n, known n []) = ap (map (λ v. (n, v))) made ∙ map_replicate (λ v. (n, v)) count (known n []) in
+    let left : new_viewers n (drop n sites) ≡ replicate count (n, known n []) ++ new_viewers (n + 1) (drop (n + 1) sites) =
+    ap (new_viewers n) (drop_more sites n d less) ∙ ap (λ k. replicate count (n, known n []) ++ new_viewers k (drop (n + 1) sites)) next in
     ap (λ vs. vs ++ new_viewers (n + 1) (drop (n + 1) sites)) (added ∙ ap (λ ws. before ++ ws) these)
-    ∙ append_assoc before (replicate s.viewers (n, known n [])) (new_viewers (n + 1) (drop (n + 1) sites))
+    ∙ append_assoc before (replicate count (n, known n [])) (new_viewers (n + 1) (drop (n + 1) sites))
     ∙ ap (λ ws. before ++ ws) (sym left) ∙ old
 
 -- the limits of a site's stations are some of all

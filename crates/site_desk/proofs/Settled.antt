@@ -1,14 +1,12 @@
 -- What a command at a station changes, and that its row stays tied.
-use Rattle.std.proofs.Common.{◌≡◌, ◌≢◌, ℕ, ◌+◌, ◌<◌, List, [], ◌∷◌, ◌++◌, Bool, IsTrue, set, Some, refl, ap, sym, ◌∙◌, subst}
-use Rattle.std.specs.Prelude.{slice_get}
-use Rattle.std.proofs.lemmas.Option.{slice_get_within}
+use Rattle.std.proofs.Common.{◌≡◌, ◌≢◌, ℕ, ◌+◌, List, [], ◌∷◌, ◌++◌, Bool, IsTrue, set, refl, ap, sym, ◌∙◌, subst}
 use Rattle.ledger_model.specs.declared.answer.Answer.{Answer}
 use Rattle.ledger_model.specs.declared.answer.Answer.TheVariants.{Accepted, Repeat, Refused}
 use Rattle.ledger_model.specs.declared.command.Command.{Command}
 use Rattle.ledger_model.specs.declared.figures.Figures.{Figures}
 use Rattle.ledger_model.specs.Board.{figures}
 use Rattle.ledger_model.specs.Content.{Content, entries}
-use Rattle.ledger_model.specs.Posts.{Post, row_after}
+use Rattle.ledger_model.specs.Posts.{row_after}
 use Rattle.ledger_model.specs.Step.{answer, step, content_after}
 use Rattle.ledger_model.proofs.PostLemmas.{row-push_same, row-push_other}
 use Rattle.station_ledger.specs.Ledger.{Ledger}

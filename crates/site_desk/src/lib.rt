@@ -12,5 +12,7 @@ pub use cell::{MAX_PASSES, StationCell, enlist_cell};
 pub use fault::{DeskFault, TooManyPasses};
 pub use parts::Parts;
 pub use pass::Pass;
-pub use plan::{MAX_PLANNED_READINGS, MAX_SITES, MAX_STATIONS, MAX_VIEWERS, Plan, SitePlan, StationPlan};
+pub use plan::{
+    MAX_PLANNED_READINGS, MAX_SITES, MAX_STATIONS, MAX_VIEWERS, Plan, SitePlan, StationPlan,
+};
 pub use steps::{settle, tied};

@@ -77,13 +77,7 @@ fn open_cells(alloc: Global, stations: &[StationPlan]) -> Result<Vec<StationCell
     for k in 0..stations.len() {
         let station = &stations[k];
         let row = row_of(stations, station.site, k);
-        cells.push(StationCell::open(
-            alloc,
-            k as u16,
-            station.site,
-            row,
-            station.limits,
-        )?)?;
+        cells.push(StationCell::open(alloc, k as u16, station.site, row, station.limits)?)?;
     }
     Ok(cells)
 }

@@ -120,7 +120,9 @@ fn are_viewers_few(sites: &[SitePlan]) -> bool
 fn are_sites_known(stations: &[StationPlan], sites: usize) -> bool
     ensures { result ≡ list_all (λ s. nat_lt s.site sites) stations.now }
 {
-    stations.iter().all(|station| (station.site as usize) < sites)
+    stations
+        .iter()
+        .all(|station| (station.site as usize) < sites)
 }
 
 // How many readings the stations may keep in all.

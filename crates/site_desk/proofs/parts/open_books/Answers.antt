@@ -1,4 +1,4 @@
-use Rattle.std.proofs.Common.{◌≡◌, ◌+◌, ◌∷◌, [], ◌++◌, ℕ, None, ap, sym, ◌∙◌, subst, arith}
+use Rattle.std.proofs.Common.{◌+◌, ◌∷◌, [], ◌++◌, ap, sym, ◌∙◌, subst, arith}
 use Rattle.site_book.specs.Book.{ArePlanned}
 use Rattle.site_book.specs.Tables.{HasTable}
 use Rattle.site_book.proofs.Named.{has-others}
@@ -11,4 +11,14 @@ open-requires-clause-planned g c =
     subst ArePlanned (sym (c.as_slice.ensures.value ∙ c.limits_of-limits.ensures)) (planned_at c.args.sites.now c.args.stations.now c.loop-site.site (omega arith) c.requires.faultless)
 
 pub loop-site-preserved : goal.loop-site-preserved
-loop-site-preserved g c = ?
+loop-site-preserved g c =
+    let n = c.loop-site.site in
+    let i = c.loop-site.invariant in
+    let opened = c.in_ok-book.ensures in
+    record {
+      named = opened.named;
+      there = λ other least less. subst (λ ts. HasTable ts other) (sym opened.taken) (has-others c.loop-site.tables n other (λ e. absurd (omega (arith, e))) (i.there other (omega arith) less));
+      books = subst (AreNewBooks c.args.stations.now (n + 1)) (sym (c.in_ok-push.ensures.items ∙ ap (λ b. c.loop-site.books.items ++ b ∷ []) (opened.book ∙ ap (λ ls. record { site = n; limits = ls; posts = [] }) (c.as_slice.ensures.value ∙ c.limits_of-limits.ensures))))
+          (books_more c.args.stations.now c.loop-site.books.items n i.books);
+      viewers = viewers_more c.args.sites.now n c.index-sites-site.result c.loop-site.viewers.items c.add_viewers.new.viewers.items _ c.in_ok-book.seats.items (omega arith) i.viewers opened.viewers c.in_ok-add_viewers.ensures;
+    }

@@ -1,5 +1,5 @@
 use Rattle.std.proofs.Common.{sym, ◌∙◌, arith}
-use Rattle.site_desk.proofs.Twice.{twice_here, twice_later, twice_end}
+use Rattle.site_desk.proofs.Twice.{twice_here, twice_later}
 use Rattle.site_desk.proofs.plan.are_stations_twice.Goals as goal
 
 pub returns-then-has_station : goal.returns-then-has_station

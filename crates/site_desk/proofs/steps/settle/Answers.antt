@@ -1,4 +1,4 @@
-use Rattle.std.proofs.Common.{ap, sym, ◌∙◌}
+use Rattle.std.proofs.Common.{ap, ◌∙◌}
 use Rattle.ledger_model.specs.Board.{figures}
 use Rattle.ledger_model.specs.Content.{entries}
 use Rattle.site_desk.proofs.Settled.{book_posted, known_after, tied_after}

@@ -1,8 +1,5 @@
-use Rattle.std.proofs.Common.{◌≡◌, ℕ, ◌+◌, Some, slice_get, ap, sym, ◌∙◌, arith}
-use Rattle.ledger_model.specs.declared.answer.Answer.TheVariants.{Accepted}
-use Rattle.ledger_model.specs.Step.{answer}
+use Rattle.std.proofs.Common.{ap, sym, ◌∙◌, arith}
 use Rattle.station_ledger.specs.Ledger.{Ledger}
-use Rattle.site_desk.specs.Cell.{Cell, Held}
 use Rattle.site_desk.specs.Settle.{cell_after}
 use Rattle.site_desk.proofs.Counts.{count_at, count_read, count_part, one_more, cell_more}
 use Rattle.site_desk.proofs.Settled.{cell_changed}
