@@ -5,7 +5,11 @@ pub mod Cuts
 pub mod AnsweredLines
 pub mod SecondPhase
 pub mod LineWords
+pub mod Numbers
+pub mod AdmissibleLines
 pub mod Flushes
 pub mod Faults
 pub mod OpeningLine
 pub mod ReachedStations
+pub mod ScriptRuns
+pub mod SiteSums

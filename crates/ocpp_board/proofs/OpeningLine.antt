@@ -1,12 +1,13 @@
 -- The line that opens the ledgers has the same step before and after.
 use Rattle.std.proofs.Common.{◌≡◌, ℕ, true, List, ◌++◌, Option, None, Some, refl, sym, ap, subst}
 use Rattle.std.proofs.lemmas.Bool.{false≢true}
+use Rattle.ledger_model.specs.declared.command.Command.{Command}
 use Rattle.ledger_model.specs.World.{Station}
 use Rattle.transaction_event.specs.Message.{Meaning, Event, Ready, Silence, message}
 use Rattle.ocpp_board.specs.Lines.{Line, text_by}
-use Rattle.ocpp_board.specs.Script.{Script, by_meaning, sent_to, step_by, line_step, script_text, station_named, opening}
+use Rattle.ocpp_board.specs.Script.{Script, by_meaning, commanded_to, sent_to, step_by, line_step, script_text, station_named, opening}
 use Rattle.ocpp_board.specs.Answering.{AgreeFrom}
-use Rattle.ocpp_board.specs.LineMeaning.{LineMeaning, nothing, fails, declares, tells, sends, asks, line_meaning}
+use Rattle.ocpp_board.specs.LineMeaning.{LineMeaning, nothing, fails, sets_limits, declares, tells, sends, commands, asks_energy, asks_total, asks_board, line_meaning}
 
 -- the script with its ledgers opened
 abbrev pub opened_script : Script → Script
@@ -21,13 +22,21 @@ same_message : (station : Option Station) (s : Script) (text : List ℕ) → sen
 same_message None s text = refl
 same_message (Some station) s text = same_meaning (message text s.moment) station s
 
+same_command : (station : Option Station) (s : Script) (command : Command) → commanded_to station s command ≡ commanded_to station (opened_script s) command
+same_command None s command = refl
+same_command (Some station) s command = refl
+
 same_step : (s : Script) (meaning : LineMeaning) → opening meaning ≡ true → step_by s meaning ≡ step_by (opened_script s) meaning
 same_step s nothing e = absurd (false≢true e)
 same_step s (fails _) e = absurd (false≢true e)
 same_step s (declares _ _) e = absurd (false≢true e)
 same_step s (tells _) e = absurd (false≢true e)
+same_step s (sets_limits _ _ _ _) e = absurd (false≢true e)
 same_step s (sends name text) e = same_message (station_named name s.world) s text
-same_step s (asks name) e = refl
+same_step s (commands name command) e = same_command (station_named name s.world) s command
+same_step s (asks_energy name) e = refl
+same_step s (asks_total name) e = refl
+same_step s (asks_board site) e = refl
 
 pub opened_alike : (s t : Script) (line : Line) → t ≡ opened_script s → opening (line_meaning line) ≡ true → AgreeFrom line (script_text s) (script_text t)
 opened_alike s t line e opens =

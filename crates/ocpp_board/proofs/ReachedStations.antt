@@ -1,6 +1,7 @@
 -- What any lines keep of a script's stations.
-use Rattle.std.proofs.Common.{◌≡◌, ℕ, suc, ◌+◌, ◌≤◌, Bool, true, false, cond, List, [], ◌∷◌, Option, None, Some, length, refl, sym, ap, subst, ◌∙◌, arith}
+use Rattle.std.proofs.Common.{◌≡◌, ℕ, suc, ◌+◌, ◌≤◌, Bool, true, false, cond, List, [], ◌∷◌, ◌++◌, Option, None, Some, length, refl, sym, ap, subst, ◌∙◌, arith}
 use Rattle.std.specs.Str.{bytes_eq}
+use Rattle.std.proofs.lemmas.Slice.Eq.{bytes_eq-Decides}
 use Rattle.ledger_model.specs.declared.answer.Answer.{Answer}
 use Rattle.ledger_model.specs.declared.answer.Answer.TheVariants.{Accepted, Repeat, Refused}
 use Rattle.ledger_model.specs.declared.command.Command.{Command}
@@ -15,11 +16,13 @@ use Rattle.ledger_model.proofs.ReachedContents.{is_counted}
 use Rattle.transaction_event.specs.Message.{Meaning, Event, Ready, Silence, message}
 use Rattle.transaction_event.specs.Request.{Request}
 use Rattle.transaction_event.proofs.AdmissibleRequests.{each_delivery_is_admissible}
-use Rattle.ocpp_board.specs.Laws.{script_after, StationsAreReached, EnergyIsFromScratch, UnacceptedChangesNothing}
+use Rattle.ocpp_board.specs.Laws.{script_after, StationsAreReached, EnergyIsFromScratch, TotalsAreFromScratch, BoardsAreFromScratch, UnacceptedChangesNothing, asked_of, asked_by, sent_by, commanded_by}
 use Rattle.ocpp_board.specs.Lines.{Line}
-use Rattle.ocpp_board.specs.Script.{Script, start, declared_to, fault_line, by_meaning, sent_to, step_by, line_step, station_named, energy_answer}
-use Rattle.ocpp_board.specs.LineMeaning.{LineMeaning, nothing, fails, declares, tells, sends, asks, line_meaning}
-use Rattle.ocpp_board.specs.declared.script_line.LineFault.TheVariants.{DeclaredLate}
+use Rattle.ocpp_board.specs.Script.{Script, start, are_limits, by_meaning, commanded_to, declared_to, fault_line, is_past_plan, joined_by, limited_to, line_step, new_station, sent_to, station_named, step_by, energy_answer, total_answer, is_among, shown_site, stations_of}
+use Rattle.board_report.specs.Texts.{board_text}
+use Rattle.ocpp_board.specs.LineMeaning.{LineMeaning, nothing, fails, sets_limits, declares, tells, sends, commands, asks_energy, asks_total, asks_board, line_meaning}
+use Rattle.ocpp_board.specs.declared.script_line.LineFault.TheVariants.{DeclaredLate, PlanLimit, UnknownSite}
+use Rattle.ocpp_board.proofs.AdmissibleLines.{IsFine, fine_line}
 
 -- ---- one ledger
 
@@ -63,29 +66,91 @@ reached_world (s ∷ ss) name command is all = (at (bytes_eq name s.name), reach
     at true = reached_after s.limits s.content command is all.0
     at false = all.0
 
-one_world : (w : World) (name : List ℕ) (command : Command) → length w ≤ 1 → length (world_after w (name, command)) ≤ 1
-one_world [] name command one = one
-one_world (s ∷ []) name command one = one
-one_world (s ∷ t ∷ ss) name command one = absurd (omega arith)
+-- ---- names
 
--- what lines keep: each content is reached, and there is one station at most
-abbrev Kept : World → Type 0
-Kept w = AreReached w × (length w ≤ 1)
+named_by : (b : Bool) (s : Station) (o : Option Station) → cond b (Some s) o ≡ None → (b ≡ false) × (o ≡ None)
+named_by true s o e = cc e
+named_by false s o e = (refl, e)
+
+-- no station of this name stands here
+not_named : (s : Station) (ss : World) (name : List ℕ) → station_named name (s ∷ ss) ≡ None → (bytes_eq name s.name ≡ false) × (station_named name ss ≡ None)
+not_named s ss name none = named_by (bytes_eq name s.name) s (station_named name ss) none
+
+none_named : (s : Station) (ss : World) (name : List ℕ) → bytes_eq name s.name ≡ false → station_named name ss ≡ None → station_named name (s ∷ ss) ≡ None
+none_named s ss name apart none = ap (λ b. cond b (Some s) (station_named name ss)) apart ∙ none
+
+-- no two stations of a world have one name
+abbrev AreNamedOnce : World → Type 0
+AreNamedOnce [] = Unit {0}
+AreNamedOnce (s ∷ ss) = (station_named s.name ss ≡ None) × AreNamedOnce ss
+
+same_name : (b : Bool) (s : Station) (command : Command) → (cond b (station_after s command) s).name ≡ s.name
+same_name true s command = refl
+same_name false s command = refl
+
+-- a step keeps names
+names_kept : (w : World) (name other : List ℕ) (command : Command) → station_named other w ≡ None → station_named other (world_after w (name, command)) ≡ None
+names_kept [] name other command none = none
+names_kept (s ∷ ss) name other command none =
+    let p = not_named s ss other none in
+    let t = cond (bytes_eq name s.name) (station_after s command) s in
+    none_named t (world_after ss (name, command)) other (ap (bytes_eq other) (same_name (bytes_eq name s.name) s command) ∙ p.0) (names_kept ss name other command p.1)
+
+once_world : (w : World) (name : List ℕ) (command : Command) → AreNamedOnce w → AreNamedOnce (world_after w (name, command))
+once_world [] name command once = tt
+once_world (s ∷ ss) name command once =
+    (ap (λ n. station_named n (world_after ss (name, command))) (same_name (bytes_eq name s.name) s command) ∙ names_kept ss name s.name command once.0, once_world ss name command once.1)
+
+differ_back : (s t : List ℕ) → bytes_eq s t ≡ false → bytes_eq t s ≡ false
+differ_back s t apart = at (bytes_eq t s) refl
+  where
+    at : (b : Bool) → bytes_eq t s ≡ b → b ≡ false
+    at true e = let is : bytes_eq s t ≡ true = (bytes_eq-Decides s t).1 (sym ((bytes_eq-Decides t s).0 e)) in cc
+    at false e = refl
+
+-- a station of a new name behind the others
+named_behind : (w : World) (t : Station) (name : List ℕ) → station_named name w ≡ None → bytes_eq name t.name ≡ false → station_named name (w ++ t ∷ []) ≡ None
+named_behind [] t name none apart = none_named t [] name apart refl
+named_behind (s ∷ ss) t name none apart = let p = not_named s ss name none in none_named s (ss ++ t ∷ []) name p.0 (named_behind ss t name p.1 apart)
+
+once_behind : (w : World) (t : Station) → AreNamedOnce w → station_named t.name w ≡ None → AreNamedOnce (w ++ t ∷ [])
+once_behind [] t once none = (refl, tt)
+once_behind (s ∷ ss) t once none =
+    let p = not_named s ss t.name none in
+    (named_behind ss t s.name once.0 (differ_back t.name s.name p.0), once_behind ss t once.1 p.1)
+
+reached_behind : (w : World) (t : Station) → AreReached w → Reached t.limits t.content.changes t.content → AreReached (w ++ t ∷ [])
+reached_behind [] t all is = (is, tt)
+reached_behind (s ∷ ss) t all is = (all.0, reached_behind ss t all.1 is)
+
+-- what lines keep: each content is reached, and names stand once
+abbrev pub Kept : World → Type 0
+Kept w = AreReached w × AreNamedOnce w
+
+kept_world : (w : World) (name : List ℕ) (command : Command) → IsAdmissible command → Kept w → Kept (world_after w (name, command))
+kept_world w name command is kept = (reached_world w name command is kept.0, once_world w name command kept.1)
 
 -- ---- a line
 
-kept_declared : (w : World) (s : Script) (site name : List ℕ) → Kept s.world → Kept (declared_to w s site name).0.world
-kept_declared [] s site name kept = ((refl, tt), omega arith)
-kept_declared (_ ∷ _) s site name kept = kept
+kept_joined : (o : Option Station) (s : Script) (site name : List ℕ) → o ≡ station_named name s.world → Kept s.world → Kept (joined_by o s site name).0.world
+kept_joined None s site name e kept = (reached_behind s.world (new_station s.limits site name) kept.0 refl, once_behind s.world (new_station s.limits site name) kept.1 (sym e))
+kept_joined (Some _) s site name e kept = kept
 
-kept_late : (late : Bool) (s : Script) (site name : List ℕ) → Kept s.world → Kept (cond late (s, fault_line DeclaredLate) (declared_to s.world s site name)).0.world
-kept_late true s site name kept = kept
-kept_late false s site name kept = kept_declared s.world s site name kept
+kept_declared : (past : Bool) (s : Script) (site name : List ℕ) → Kept s.world → Kept (cond past (s, fault_line PlanLimit) (joined_by (station_named name s.world) s site name)).0.world
+kept_declared true s site name kept = kept
+kept_declared false s site name kept = kept_joined (station_named name s.world) s site name refl kept
+
+kept_late : (late : Bool) (s : Script) (after : Script × List ℕ) → Kept s.world → Kept after.0.world → Kept (cond late (s, fault_line DeclaredLate) after).0.world
+kept_late true s after kept then = kept
+kept_late false s after kept then = then
+
+kept_limited : (is : Bool) (s : Script) (t e r c : ℕ) → Kept s.world → Kept (cond {A = Script × List ℕ} is (record s { limits = record { transactions = t; events = e; readings = r; changes = c } }, []) (s, fault_line PlanLimit)).0.world
+kept_limited true s t e r c kept = kept
+kept_limited false s t e r c kept = kept
 
 kept_meaning : (meaning : Meaning) (station : Station) (s : Script) → ((id : List ℕ) (request : Request) → meaning ≡ Event id request → IsAdmissible (Deliver request.key request.event))
     → Kept s.world → Kept (by_meaning meaning station s).0.world
-kept_meaning (Event id request) station s is kept =
-    (reached_world s.world station.name (Deliver request.key request.event) (is id request refl) kept.0, one_world s.world station.name (Deliver request.key request.event) kept.1)
+kept_meaning (Event id request) station s is kept = kept_world s.world station.name (Deliver request.key request.event) (is id request refl) kept
 kept_meaning (Ready reply) station s is kept = kept
 kept_meaning Silence station s is kept = kept
 
@@ -93,20 +158,28 @@ kept_sent : (station : Option Station) (s : Script) (text : List ℕ) → Kept s
 kept_sent None s text kept = kept
 kept_sent (Some station) s text kept = kept_meaning (message text s.moment) station s (each_delivery_is_admissible text s.moment) kept
 
-kept_step : (s : Script) (meaning : LineMeaning) → Kept s.world → Kept (step_by s meaning).0.world
-kept_step s nothing kept = kept
-kept_step s (fails _) kept = kept
-kept_step s (declares site name) kept = kept_late s.opened s site name kept
-kept_step s (tells _) kept = kept
-kept_step s (sends name text) kept = kept_sent (station_named name s.world) s text kept
-kept_step s (asks name) kept = kept
+kept_commanded : (station : Option Station) (s : Script) (command : Command) → IsAdmissible command → Kept s.world → Kept (commanded_to station s command).0.world
+kept_commanded None s command is kept = kept
+kept_commanded (Some station) s command is kept = kept_world s.world station.name command is kept
+
+kept_step : (s : Script) (meaning : LineMeaning) → IsFine meaning → Kept s.world → Kept (step_by s meaning).0.world
+kept_step s nothing fine kept = kept
+kept_step s (fails _) fine kept = kept
+kept_step s (sets_limits t e r c) fine kept = kept_late s.opened s (limited_to s t e r c) kept (kept_limited (are_limits t e r c) s t e r c kept)
+kept_step s (declares site name) fine kept = kept_late s.opened s (declared_to s site name) kept (kept_declared (is_past_plan s site) s site name kept)
+kept_step s (tells _) fine kept = kept
+kept_step s (sends name text) fine kept = kept_sent (station_named name s.world) s text kept
+kept_step s (commands name command) fine kept = kept_commanded (station_named name s.world) s command fine kept
+kept_step s (asks_energy name) fine kept = kept
+kept_step s (asks_total name) fine kept = kept
+kept_step s (asks_board site) fine kept = kept
 
 kept_after : (s : Script) (lines : List Line) → Kept s.world → Kept (script_after s lines).world
 kept_after s [] kept = kept
-kept_after s (line ∷ lines) kept = kept_after (line_step s line).0 lines (kept_step s (line_meaning line) kept)
+kept_after s (line ∷ lines) kept = kept_after (line_step s line).0 lines (kept_step s (line_meaning line) (fine_line line) kept)
 
-kept_from_start : (lines : List Line) → Kept (script_after start lines).world
-kept_from_start lines = kept_after start lines (tt, omega arith)
+pub kept_from_start : (lines : List Line) → Kept (script_after start lines).world
+kept_from_start lines = kept_after start lines (tt, tt)
 
 -- ---- the laws
 
@@ -118,31 +191,44 @@ energy_is_from_scratch lines line name station says e =
     let s = script_after start lines in
     ap (λ meaning. (step_by s meaning).1) says ∙ ap energy_answer e
 
+pub totals_are_from_scratch : TotalsAreFromScratch
+totals_are_from_scratch lines line name station says e =
+    let s = script_after start lines in
+    ap (λ meaning. (step_by s meaning).1) says ∙ ap total_answer e
+
+pub boards_are_from_scratch : BoardsAreFromScratch
+boards_are_from_scratch lines line site says there =
+    let s = script_after start lines in
+    ap (λ meaning. (step_by s meaning).1) says ∙ shown (is_among site s.sites) there
+  where
+    shown : (b : Bool) → b ≡ true
+        → cond b (board_text (shown_site site (stations_of site (script_after start lines).world))) (fault_line UnknownSite) ≡ board_text (shown_site site (stations_of site (script_after start lines).world))
+    shown true is = refl
+    shown false is = cc is
+
 -- a step without an accepted change leaves the content
 same_content : (c : Content) (command : Command) (a : Answer) → ¬ (IsAccepted a) → content_after c command a ≡ c
 same_content c command (Accepted n) none = absurd (none tt)
 same_content c command Repeat none = refl
 same_content c command (Refused why) none = refl
 
-same_world : (w : World) (name : List ℕ) (station : Station) (command : Command) → length w ≤ 1 → station_named name w ≡ Some station
-    → ¬ (IsAccepted (answer station.limits station.content command)) → world_after w (station.name, command) ≡ w
-same_world [] name station command one e none = refl
-same_world (s ∷ t ∷ ss) name station command one e none = absurd (omega arith)
-same_world (s ∷ []) name station command one e none = found (bytes_eq name s.name) e
+-- a step on a name that no station has changes nothing
+no_station : (w : World) (name : List ℕ) (command : Command) → station_named name w ≡ None → world_after w (name, command) ≡ w
+no_station [] name command none = refl
+no_station (s ∷ ss) name command none =
+    let p = not_named s ss name none in
+    ap (λ b. cond b (station_after s command) s ∷ world_after ss (name, command)) p.0 ∙ ap (λ l. s ∷ l) (no_station ss name command p.1)
+
+pub same_world : (w : World) (name : List ℕ) (station : Station) (command : Command) → AreNamedOnce w → station_named name w ≡ Some station
+    → ¬ (IsAccepted (answer station.limits station.content command)) → world_after w (name, command) ≡ w
+same_world [] name station command once e none = refl
+same_world (s ∷ ss) name station command once e none = found (bytes_eq name s.name) refl e (λ f. same_world ss name station command once.1 f none)
   where
-    kept_by : (b : Bool) → s ≡ station → cond b (station_after s command) s ∷ [] ≡ s ∷ []
-    kept_by true same =
-        ap (λ c. (record s { content = c }) ∷ []) (same_content s.content command (answer s.limits s.content command) (subst (λ x. ¬ (IsAccepted (answer x.limits x.content command))) (sym same) none))
-    kept_by false same = refl
-
-    found : (b : Bool) → cond b (Some s) None ≡ Some station → world_after (s ∷ []) (station.name, command) ≡ s ∷ []
-    found true f = let same : s ≡ station = cc f in kept_by (bytes_eq station.name s.name) same
-    found false f = cc f
-
-pub unaccepted_changes_nothing : UnacceptedChangesNothing
-unaccepted_changes_nothing lines line name text id request station says named means none =
-    let s = script_after start lines in
-    ap (λ meaning. (step_by s meaning).0.world) says
-    ∙ ap (λ o. (sent_to o s text).0.world) named
-    ∙ ap (λ m. (by_meaning m station s).0.world) means
-    ∙ same_world s.world name station (Deliver request.key request.event) (kept_from_start lines).1 named none
+    found : (b : Bool) → bytes_eq name s.name ≡ b → cond b (Some s) (station_named name ss) ≡ Some station → (station_named name ss ≡ Some station → world_after ss (name, command) ≡ ss)
+        → cond b (station_after s command) s ∷ world_after ss (name, command) ≡ s ∷ ss
+    found true is f later =
+        let same : s ≡ station = cc f in
+        let named : name ≡ s.name = (bytes_eq-Decides name s.name).0 is in
+        ap (λ c. (record s { content = c }) ∷ world_after ss (name, command)) (same_content s.content command (answer s.limits s.content command) (subst (λ x. ¬ (IsAccepted (answer x.limits x.content command))) (sym same) none))
+        ∙ ap (λ l. s ∷ l) (no_station ss name command (ap (λ n. station_named n ss) named ∙ once.0))
+    found false is f later = ap (λ l. s ∷ l) (later f)

@@ -8,6 +8,7 @@ pub mod Reading
 pub mod Answering
 pub mod Writing
 pub mod ScriptLines
-pub mod Plans
+pub mod Drafts
+pub mod Running
 pub mod Received
 pub mod Echoes

@@ -22,7 +22,7 @@ use Rattle.ocpp_board.specs.Lines.{Line}
 pub data LineMeaning : Type 0 where
   nothing : LineMeaning
   fails : LineFault → LineMeaning
-  limits : ℕ → ℕ → ℕ → ℕ → LineMeaning
+  sets_limits : ℕ → ℕ → ℕ → ℕ → LineMeaning
   declares : List ℕ → List ℕ → LineMeaning
   tells : ℕ → LineMeaning
   sends : List ℕ → List ℕ → LineMeaning
@@ -49,7 +49,7 @@ number text = if is_number text && nat_lt (digits_value 10 text) (2 ^ 64) then S
 
 -- four numbers are limits: of transactions, events, readings and changes
 abbrev pub four_numbers : Option ℕ → Option ℕ → Option ℕ → Option ℕ → LineMeaning
-four_numbers (Some transactions) (Some events) (Some readings) (Some changes) = limits transactions events readings changes
+four_numbers (Some transactions) (Some events) (Some readings) (Some changes) = sets_limits transactions events readings changes
 four_numbers _ _ _ _ = fails BadLine
 
 -- `<readings> <changes>`, behind the words for transactions and events

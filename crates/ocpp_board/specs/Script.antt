@@ -26,7 +26,7 @@ use Rattle.transaction_event.specs.Reply.{event_reply_bytes}
 use Rattle.ocpp_board.specs.declared.script_line.LineFault.{LineFault}
 use Rattle.ocpp_board.specs.declared.script_line.LineFault.TheVariants.{DeclaredLate, PlanLimit, StationTwice, UnknownStation, UnknownSite}
 use Rattle.ocpp_board.specs.Lines.{Line, text_by}
-use Rattle.ocpp_board.specs.LineMeaning.{LineMeaning, nothing, fails, limits, declares, tells, sends, commands, asks_energy, asks_total, asks_board, line_meaning, fault_name}
+use Rattle.ocpp_board.specs.LineMeaning.{LineMeaning, nothing, fails, sets_limits, declares, tells, sends, commands, asks_energy, asks_total, asks_board, line_meaning, fault_name}
 
 -- where a script stands: the limits of the stations that are declared next; the sites of the plan so far in the order of their first mention; the world, whose stations are those of the plan and have empty contents until the ledgers are opened; whether they are; and the moment
 pub record Script : Type 0 where
@@ -157,7 +157,7 @@ sent_to (Some station) s text = by_meaning (message text s.moment) station s
 abbrev pub step_by : Script → LineMeaning → Script × List ℕ
 step_by s nothing = (s, [])
 step_by s (fails fault) = (s, fault_line fault)
-step_by s (limits transactions events readings changes) = if s.opened then (s, fault_line DeclaredLate) else limited_to s transactions events readings changes
+step_by s (sets_limits transactions events readings changes) = if s.opened then (s, fault_line DeclaredLate) else limited_to s transactions events readings changes
 step_by s (declares site name) = if s.opened then (s, fault_line DeclaredLate) else declared_to s site name
 step_by s (tells nanos) = (record s { moment = nanos }, [])
 step_by s (sends name text) = sent_to (station_named name s.world) s text
@@ -178,7 +178,7 @@ script_text = text_by line_step
 abbrev pub opening : LineMeaning → Bool
 opening nothing = false
 opening (fails _) = false
-opening (limits _ _ _ _) = false
+opening (sets_limits _ _ _ _) = false
 opening (declares _ _) = false
 opening (tells _) = false
 opening (sends _ _) = true

@@ -1,114 +1,254 @@
-ghost use Rattle.std.specs.Prelude.{◌≡◌, [], ◌++◌, true, IfOk, OnOk, Some, refl};
+ghost use Rattle.std.specs.Prelude.{◌≡◌, ℕ, ◌+◌, ◌<◌, ◌≤◌, ◌^◌, ◌++◌, ◌∷◌, [], All, length, map, true, OnOk, IfOk, IfSome, slice_get, Some, refl};
+ghost use Rattle.std.specs.List.{position};
+ghost use Rattle.std.specs.Str.{bytes_eq};
+ghost use Rattle.board_report.specs.Plans.{AreBoardsWithin};
+ghost use Rattle.board_report.specs.Texts.{board_text};
+ghost use Rattle.site_book.specs.Tables.{HasTable, NamedBy};
+ghost use Rattle.site_desk.specs.Cell.{Cell, new_pass};
+ghost use Rattle.site_desk.specs.Parts.{limits_at};
+ghost use Rattle.ocpp_board.specs.Drafts.{planned};
 ghost use Rattle.ocpp_board.specs.Lines.{line_bytes};
-ghost use Rattle.ocpp_board.specs.Plans.{planned, opened, opened_world};
-ghost use Rattle.transaction_event.specs.MessageMeaning.{HasShortId};
 ghost use Rattle.ocpp_board.specs.Received.{TakesMessage};
-ghost use Rattle.ocpp_board.specs.Script.{line_step, script_text, energy_answer, sent_to, station_named};
+ghost use Rattle.ocpp_board.specs.Running.{running, posts_in, boards_at, IsRunning, Settles};
+ghost use Rattle.ocpp_board.specs.Script.{board_answer, commanded_to, energy_answer, line_step, script_text, sent_to, shown_site, station_named, stations_of, total_answer};
+ghost use Rattle.transaction_event.specs.MessageMeaning.{HasShortId};
 
+use crate::draft::Draft;
 use crate::machine::Machine;
-use crate::plan::{Plan, PlannedStation};
 use crate::script_line::{LineFault, ScriptLine, read_line};
-use crate::text::{put_fault, put_line};
-use board_report::energy_text;
-use energy_flow::Work;
-use ledger_model::{Command, Limits, Moment, Name};
-use station_ledger::StationLedger;
+use crate::text::{put_answer, put_fault, put_line};
+use board_report::{energy_text, site_board, total_text, write_board};
+use ledger_model::{Answer, Command, Name};
+use site_book::{Naming, SiteBook, Tables};
+use site_desk::{Parts, Pass, StationCell, enlist_cell, settle};
+use station_ledger::StationBoard;
 use std::alloc::{AllocError, Global};
+use std::thread::Threads;
 use transaction_event::{Message, event_reply, message_of};
 
-/// A station whose ledger is opened.
+/// The commands of a script: its plan, its opened ledgers and books, and its moment.
 #[derive(Drop)]
-pub struct OpenStation {
-    /// Its site.
-    pub site: Name,
-    /// Its name.
-    pub name: Name,
-    /// Its events.
-    pub ledger: StationLedger,
-}
-
-/// The commands of a script: its opened ledgers, and its moment.
-#[derive(Drop)]
-pub struct Ledgers {
-    /// The station of the plan.
-    pub station: Option<OpenStation>,
-    /// The moment that the script told last.
-    pub moment: Moment,
-    work: Work,
+pub struct Ledgers<J: Naming> {
+    /// The plan, and the moment that the script told last.
+    pub draft: Draft,
+    /// The cell of each station, in the plan's order.
+    pub cells: Vec<StationCell>,
+    /// The book of each site, in the plan's order.
+    pub books: Vec<SiteBook<J>>,
+    passes: Vec<Pass>,
     alloc: Global,
+    ghost running: { IsRunning draft.sites draft.stations cells.items books.items passes.items },
 }
 
-impl Ledgers {
-    /// Opens an empty ledger for the station of the plan; `work` counts its comparisons.
-    pub fn open(alloc: Global, plan: Plan, work: Work) -> Result<Self, AllocError>
-        ensures { IfOk result (λ ledgers. opened ledgers ≡ record (planned plan) { opened = true }) }
+impl<J: Naming> Ledgers<J> {
+    /// Opens an empty ledger for each station of the plan, and a book for each site.
+    ///
+    /// Condition: the tables are those that J names, and each site's is there.
+    pub fn open<X: AllocGlobal + Threads>(
+        rt: &X,
+        tables: Tables,
+        draft: Draft,
+    ) -> Result<Self, AllocError>
+        requires named { NamedBy J.table tables }
+        requires there { (site : ℕ) → site < length draft.sites → HasTable tables site }
+        ensures script { IfOk result (λ l. running l.draft l.cells.items ≡ record (planned draft) { opened = true }) }
+        ensures none { IfOk result (λ l. posts_in l.books.items ≡ 0) }
     {
-        let Plan { station, moment } = plan;
-        let station = match station {
-            Some(PlannedStation { site, name }) => {
-                let ledger = StationLedger::open(alloc, Limits::default())?;
-                Some(OpenStation { site, name, ledger })
+        let alloc = rt.alloc();
+        match Parts::open(alloc, tables, draft.plan()) {
+            Ok(Parts { cells, books, .. }) => {
+                let mut cells = cells.into_vec();
+                let passes = enlist_all(rt, &mut cells)?;
+                Ok(Ledgers {
+                    draft,
+                    cells,
+                    books: books.into_vec(),
+                    passes,
+                    alloc,
+                })
             }
-            None => None,
-        };
-        Ok(Ledgers {
-            station,
-            moment,
-            work,
-            alloc,
-        })
+            Err(_) => Err(AllocError),
+        }
     }
 
     /// Answers one line.
     pub fn answer(&mut self, line: Option<&[u8]>, reply: &mut Vec<u8>) -> Result<(), AllocError>
-        requires { reply.old.items ≡ [] }
-        ensures { OnOk result (line_step (opened self.old) (line_bytes line.entry) ≡ (opened self.new, reply.new.items)) }
+        requires empty { reply.old.items ≡ [] }
+        requires few { posts_in self.old.books.items < 2 ^ 62 }
+        ensures step { OnOk result (line_step (running self.old.draft self.old.cells.items) (line_bytes line.entry) ≡ (running self.new.draft self.new.cells.items, reply.new.items)) }
+        ensures posts { OnOk result (posts_in self.new.books.items ≤ posts_in self.old.books.items + 1) }
     {
         match read_line(line) {
             ScriptLine::Nothing => Ok(()),
             ScriptLine::Fails(fault) => put_fault(reply, fault),
-            ScriptLine::Declares(_, _) => put_fault(reply, LineFault::DeclaredLate),
+            ScriptLine::Limits(_, _, _, _) | ScriptLine::Declares(_, _) => {
+                put_fault(reply, LineFault::DeclaredLate)
+            }
             ScriptLine::Tells(moment) => {
-                self.moment = moment;
+                self.draft.tell(moment);
                 Ok(())
             }
             ScriptLine::Sends(name, text) => self.receive(&name, text, reply),
-            ScriptLine::Asks(name) => self.put_energy_of(&name, reply),
+            ScriptLine::Commands(name, command) => self.command(&name, command, reply),
+            ScriptLine::AsksEnergy(name) => self.put_energy(&name, reply),
+            ScriptLine::AsksTotal(name) => self.put_total(&name, reply),
+            ScriptLine::AsksBoard(name) => self.put_board(&name, reply),
         }
     }
 
     // Delivers a station's message, and puts its reply into the reply.
     fn receive(&mut self, name: &Name, text: &str, reply: &mut Vec<u8>) -> Result<(), AllocError>
-        requires { reply.old.items ≡ [] }
-        ensures { OnOk result (sent_to (station_named name.now (opened_world self.old.station)) (opened self.old) text.now ≡ (opened self.new, reply.new.items)) }
+        requires empty { reply.old.items ≡ [] }
+        requires few { posts_in self.old.books.items < 2 ^ 62 }
+        ensures step { OnOk result (sent_to (station_named name.now (running self.old.draft self.old.cells.items).world) (running self.old.draft self.old.cells.items) text.now ≡ (running self.new.draft self.new.cells.items, reply.new.items)) }
+        ensures posts { OnOk result (posts_in self.new.books.items ≤ posts_in self.old.books.items + 1) }
     {
-        let (alloc, now) = (self.alloc, self.moment);
-        match &mut self.station {
-            Some(station) if *name == station.name => {
-                let message = message_of(alloc, text, now);
-                take_message(&mut station.ledger, message, &mut self.work, reply)
+        match self.draft.station(name) {
+            Some(number) => {
+                let message = message_of(self.alloc, text, self.draft.moment());
+                self.take_message(number, message, reply)
             }
-            _ => put_fault(reply, LineFault::UnknownStation),
+            None => put_fault(reply, LineFault::UnknownStation),
         }
+    }
+
+    // Takes an operator's command on a station, and puts the answer into the reply.
+    fn command(&mut self, name: &Name, command: Command, reply: &mut Vec<u8>) -> Result<(), AllocError>
+        requires empty { reply.old.items ≡ [] }
+        requires few { posts_in self.old.books.items < 2 ^ 62 }
+        ensures step { OnOk result (commanded_to (station_named name.now (running self.old.draft self.old.cells.items).world) (running self.old.draft self.old.cells.items) command ≡ (running self.new.draft self.new.cells.items, reply.new.items)) }
+        ensures posts { OnOk result (posts_in self.new.books.items ≤ posts_in self.old.books.items + 1) }
+    {
+        match self.draft.station(name) {
+            Some(number) => {
+                let answer = self.settle(number, command);
+                put_answer(reply, answer)
+            }
+            None => put_fault(reply, LineFault::UnknownStation),
+        }
+    }
+
+    // Delivers the event of a message to the station of this number, if it is one, and puts the answer into the
+    // reply. A message for which no memory was found delivers nothing.
+    fn take_message(
+        &mut self,
+        number: usize,
+        message: Message,
+        reply: &mut Vec<u8>,
+    ) -> Result<(), AllocError>
+        requires empty { reply.old.items ≡ [] }
+        requires there { number < length self.old.draft.stations }
+        requires short { HasShortId message }
+        requires few { posts_in self.old.books.items < 2 ^ 62 }
+        ensures takes { OnOk result (IfSome (slice_get (running self.old.draft self.old.cells.items).world number) (λ s. TakesMessage (running self.old.draft self.old.cells.items) (running self.new.draft self.new.cells.items) s message reply.new.items)) }
+        ensures posts { OnOk result (posts_in self.new.books.items ≤ posts_in self.old.books.items + 1) }
+    {
+        match message {
+            Message::Event {
+                id,
+                key,
+                event,
+                token,
+            } => {
+                let answer = self.settle(number, Command::Deliver(key, event));
+                put_line(reply, event_reply(id.as_str(), token, &answer).as_str())
+            }
+            Message::Reply { text, memory } => {
+                if memory {
+                    return Err(AllocError);
+                }
+                put_line(reply, text.as_str())
+            }
+            Message::Silent => put_line(reply, "silent"),
+        }
+    }
+
+    // Settles a command on the station of this number.
+    fn settle(&mut self, number: usize, command: Command) -> Answer
+        requires there { number < length self.old.draft.stations }
+        requires few { posts_in self.old.books.items < 2 ^ 62 }
+        ensures settled { IfSome (slice_get (running self.old.draft self.old.cells.items).world number) (λ s. Settles (running self.old.draft self.old.cells.items) (running self.new.draft self.new.cells.items) s command result) }
+        ensures posts { posts_in self.new.books.items ≤ posts_in self.old.books.items + 1 }
+    {
+        let cell = &mut self.cells[number];
+        let site = cell.site() as usize;
+        let pass = &mut self.passes[number];
+        let (answer, _) = settle(cell, &mut self.books[site], pass, command);
+        answer
     }
 
     // Puts the energy of a station into the reply.
-    fn put_energy_of(&self, name: &Name, reply: &mut Vec<u8>) -> Result<(), AllocError>
-        ensures { OnOk result (reply.new.items ≡ reply.old.items ++ energy_answer (station_named name.now (opened_world self.now.station))) }
+    fn put_energy(&self, name: &Name, reply: &mut Vec<u8>) -> Result<(), AllocError>
+        ensures { OnOk result (reply.new.items ≡ reply.old.items ++ energy_answer (station_named name.now (running self.now.draft self.now.cells.items).world)) }
     {
-        match &self.station {
-            Some(station) if *name == station.name => {
-                put_line(reply, energy_text(station.ledger.energy()).as_str())
+        match self.draft.station(name) {
+            Some(number) => {
+                let energy = self.cells[number].ledger().energy();
+                put_line(reply, energy_text(energy).as_str())
             }
-            _ => put_fault(reply, LineFault::UnknownStation),
+            None => put_fault(reply, LineFault::UnknownStation),
         }
+    }
+
+    // Puts the figures of a station into the reply.
+    fn put_total(&self, name: &Name, reply: &mut Vec<u8>) -> Result<(), AllocError>
+        ensures { OnOk result (reply.new.items ≡ reply.old.items ++ total_answer (station_named name.now (running self.now.draft self.now.cells.items).world)) }
+    {
+        match self.draft.station(name) {
+            Some(number) => {
+                let figures = self.cells[number].ledger().figures();
+                put_line(reply, total_text(&figures).as_str())
+            }
+            None => put_fault(reply, LineFault::UnknownStation),
+        }
+    }
+
+    // Puts the board of a site into the reply.
+    fn put_board(&self, name: &Name, reply: &mut Vec<u8>) -> Result<(), AllocError>
+        requires { reply.old.items ≡ [] }
+        ensures { OnOk result (reply.new.items ≡ board_answer (running self.now.draft self.now.cells.items) name.now) }
+    {
+        match self.draft.site(name) {
+            Some(site) => {
+                *reply = self.board_text(name, site)?;
+                Ok(())
+            }
+            None => put_fault(reply, LineFault::UnknownSite),
+        }
+    }
+
+    // The text of the board of the site of this name and number. Its totals are the book's.
+    fn board_text(&self, name: &Name, site: usize) -> Result<Vec<u8>, AllocError>
+        requires { position (λ s. bytes_eq name.now s.name) self.now.draft.sites ≡ Some site }
+        ensures { IfOk result (λ text. text.items ≡ board_text (shown_site name.now (stations_of name.now (running self.now.draft self.now.cells.items).world))) }
+    {
+        let stations = self.boards_at(site)?;
+        let totals = self.books[site].totals();
+        let board = site_board(self.alloc, name, totals, stations)?;
+        write_board(self.alloc, &board)
+    }
+
+    // The boards of the stations of the site of this number, each with the station's name.
+    fn boards_at(&self, site: usize) -> Result<Vec<(Name, StationBoard)>, AllocError>
+        ensures boards { IfOk result (λ boards. boards.items ≡ boards_at self.now.draft.stations self.now.cells.items site) }
+        ensures within { IfOk result (λ boards. AreBoardsWithin (limits_at self.now.draft.stations site) boards.items) }
+    {
+        let stations = self.draft.plan().stations.as_slice();
+        let mut boards = Vec::new(self.alloc);
+        for number in 0..stations.len() {
+            if stations[number].site as usize == site {
+                let board = self.cells[number].ledger().board(self.alloc)?;
+                boards.push((stations[number].name.copied(), board))?;
+            }
+        }
+        Ok(boards)
     }
 }
 
-impl Machine for Ledgers {
-    ghost text = { λ s. script_text (opened s) };
+impl<J: Naming> Machine for Ledgers<J> {
+    ghost text = { λ s. script_text (running s.draft s.cells.items) };
 
-    ghost answered = { λ _. 0 };
+    ghost answered = { λ s. posts_in s.books.items };
 
     ghost no_lines = { λ s. refl };
 
@@ -118,34 +258,18 @@ impl Machine for Ledgers {
     }
 }
 
-// Delivers the event of a message, if it is one, and puts the answer into the reply. A message for which no
-// memory was found delivers nothing.
-fn take_message(
-    ledger: &mut StationLedger,
-    message: Message,
-    work: &mut Work,
-    reply: &mut Vec<u8>,
-) -> Result<(), AllocError>
-    requires empty { reply.old.items ≡ [] }
-    requires short { HasShortId message }
-    ensures { OnOk result (TakesMessage ledger.old ledger.new message reply.new.items) }
+// The first pass of each station.
+fn enlist_all<X: AllocGlobal + Threads>(
+    rt: &X,
+    cells: &mut Vec<StationCell>,
+) -> Result<Vec<Pass>, AllocError>
+    requires { All (λ c. c.counts ≡ []) cells.old.items }
+    ensures cells { OnOk result (cells.new.items ≡ map {A = Cell} (λ c. record c { counts = 0 ∷ [] }) cells.old.items) }
+    ensures passes { IfOk result (λ passes. passes.items ≡ map (λ c. new_pass c.station 0) cells.old.items) }
 {
-    match message {
-        Message::Event {
-            id,
-            key,
-            event,
-            token,
-        } => {
-            let answer = ledger.apply(Command::Deliver(key, event), work);
-            put_line(reply, event_reply(id.as_str(), token, &answer).as_str())
-        }
-        Message::Reply { text, memory } => {
-            if memory {
-                return Err(AllocError);
-            }
-            put_line(reply, text.as_str())
-        }
-        Message::Silent => put_line(reply, "silent"),
+    let mut passes = Vec::with_capacity(rt.alloc(), cells.len())?;
+    for cell in cells.iter_mut() {
+        passes.push(enlist_cell(rt, cell).unwrap())?;
     }
+    Ok(passes)
 }

@@ -6,17 +6,18 @@
 //! says which bytes were read and which were written.
 //!
 //! The loops know lines and machines alone. [`line_reader`] cuts the input into lines and [`replay`] answers
-//! them, first the declarations and then, from the first line that needs the ledgers, the commands. [`plan`]
-//! and [`ledgers`] are the two machines.
+//! them, first the declarations and then, from the first line that needs the ledgers, the commands.
+//! [`declaring`] and [`ledgers`] are the two machines.
 #![tactic(auto)]
 
 mod cli;
+mod declaring;
+mod draft;
 mod fault;
 mod laws;
 mod ledgers;
 mod line_reader;
 mod machine;
-mod plan;
 mod replay;
 mod script_line;
 mod stream;

@@ -6,7 +6,8 @@ ghost use Rattle.ocpp_board.specs.Ranges.{longest_line, longest_script};
 ghost use Rattle.ocpp_board.specs.Script.{start, script_text};
 
 use crate::fault::ReplayFault;
-use crate::plan::{Declaring, Plan};
+use crate::declaring::Declaring;
+use crate::draft::Draft;
 use crate::replay::replay_lines;
 use std::io::{BufRead, BufWriter, Write};
 use std::thread::Threads;
@@ -73,7 +74,7 @@ fn replay_unflushed<X: AllocGlobal + Threads, R: BufRead, W: Write>(
 {
     let declaring = Declaring {
         rt,
-        plan: Plan::new(),
+        draft: Draft::new(),
     };
     replay_lines(
         rt.alloc(),

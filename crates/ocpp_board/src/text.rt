@@ -1,7 +1,9 @@
 ghost use Rattle.std.specs.Prelude.{◌≡◌, ◌++◌, OnOk};
-ghost use Rattle.ocpp_board.specs.Script.{fault_line, ended_line};
+ghost use Rattle.ocpp_board.specs.Script.{answer_text, fault_line, ended_line};
 
 use crate::script_line::LineFault;
+use itoa::Buffer;
+use ledger_model::Answer;
 use std::alloc::AllocError;
 
 /// Appends a text and a line feed.
@@ -21,4 +23,21 @@ pub fn put_fault(reply: &mut Vec<u8>, fault: LineFault) -> Result<(), AllocError
     reply.extend_from_slice(fault.name().as_bytes())?;
     reply.extend_from_slice(b"\n")?;
     Ok(())
+}
+
+/// Appends `accepted <n>` or `refused <name>` and a line feed.
+pub fn put_answer(reply: &mut Vec<u8>, answer: Answer) -> Result<(), AllocError>
+    ensures { OnOk result (reply.new.items ≡ reply.old.items ++ ended_line (answer_text answer)) }
+{
+    match answer {
+        Answer::Accepted(changes) => {
+            reply.extend_from_slice(b"accepted ")?;
+            put_line(reply, Buffer::new().format(changes))
+        }
+        Answer::Repeat => put_line(reply, "repeat"),
+        Answer::Refused(why) => {
+            reply.extend_from_slice(b"refused ")?;
+            put_line(reply, why.name())
+        }
+    }
 }

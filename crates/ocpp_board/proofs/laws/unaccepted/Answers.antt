@@ -1,4 +1,4 @@
-use Rattle.ocpp_board.proofs.ReachedStations.{unaccepted_changes_nothing}
+use Rattle.ocpp_board.proofs.ScriptRuns.{unaccepted_changes_nothing}
 use Rattle.ocpp_board.proofs.laws.unaccepted.Goals as goal
 
 pub returns : goal.returns
