@@ -6,6 +6,9 @@ pub mod AnsweredLines
 pub mod SecondPhase
 pub mod LineWords
 pub mod Numbers
+pub mod Places
+pub mod Drafting
+pub mod Answered
 pub mod AdmissibleLines
 pub mod Flushes
 pub mod Faults
