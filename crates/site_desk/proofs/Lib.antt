@@ -3,3 +3,5 @@ pub mod Rows
 pub mod Counts
 pub mod Settled
 pub mod NewParts
+pub mod Ties
+pub mod Callers
