@@ -5,3 +5,5 @@ pub mod Settled
 pub mod NewParts
 pub mod Ties
 pub mod Callers
+pub mod Submits
+pub mod Comparisons

@@ -2,14 +2,20 @@
 #![tactic(auto)]
 
 mod cell;
+mod checks;
 mod fault;
+mod gate;
+mod locks;
 mod parts;
 mod pass;
 mod plan;
+mod roster;
 mod steps;
+mod submit;
 
 pub use cell::{MAX_PASSES, StationCell, enlist_cell};
-pub use fault::{DeskFault, TooManyPasses};
+pub use fault::{BoardFault, CloseFault, DeskFault, EnlistFault, TooManyPasses};
+pub use gate::{Gate, NoGate};
 pub use parts::Parts;
 pub use pass::Pass;
 pub use plan::{

@@ -87,7 +87,7 @@ fn open_cells(alloc: Global, stations: &[StationPlan]) -> Result<Vec<StationCell
 }
 
 // The row of the station of this number at a site.
-fn row_of(stations: &[StationPlan], site: u16, number: usize) -> u16
+pub(crate) fn row_of(stations: &[StationPlan], site: u16, number: usize) -> u16
     requires few { length stations.now ≤ 64 }
     requires there { number ≤ length stations.now }
     ensures { result ≡ row_at stations.now site number }
