@@ -1,13 +1,16 @@
-use Rattle.std.specs.Prelude.{◌≡◌, ℕ, ◌<◌, ◌==◌, if◌then◌else◌, List, filter, map, length, count_by, sum_by, Some, slice_get}
+use Rattle.std.specs.Prelude.{◌≡◌, ℕ, ◌<◌, ◌==◌, if◌then◌else◌, List, filter, map, length, count_by, sum_by, Some, slice_get, refl}
+use Rattle.std.specs.Coded.{Coded, code_by, coded×, coded_list, coded_ℕ}
 use Rattle.ledger_model.specs.declared.figures.Figures.{Figures}
 use Rattle.ledger_model.specs.Board.{figures, plus_figures, sum_of_figures}
 use Rattle.ledger_model.specs.Content.{entries}
-use Rattle.ledger_model.specs.Posts.{totals_after}
+use Rattle.ledger_model.specs.Limits.{Bounds}
+use Rattle.ledger_model.specs.Posts.{Post, totals_after}
 use Rattle.ledger_model.specs.Step.{Reached}
 use Rattle.site_book.specs.Book.{Book, Known}
 use Rattle.site_book.specs.Prefix.{IsPrefix}
 use Rattle.site_desk.specs.declared.roster.Place.{Place}
-use Rattle.site_desk.specs.Cell.{Cell, Held}
+use Rattle.station_ledger.specs.Ledger.{bounds_code}
+use Rattle.site_desk.specs.Cell.{Cell, Held, cell_code}
 use Rattle.site_desk.specs.Parts.{IsTied}
 use Rattle.site_desk.specs.Roster.{Roster, StandsAt}
 
@@ -15,6 +18,21 @@ use Rattle.site_desk.specs.Roster.{Roster, StandsAt}
 pub record Ended : Type 0 where
   pub cells : List Cell
   pub books : List Book
+
+-- Figures are kept as the tuple of their parts.
+abbrev pub figures_code : Coded Figures
+figures_code = code_by (ℕ × (ℕ × (ℕ × (ℕ × (ℕ × (ℕ × ℕ)))))) (coded× coded_ℕ (coded× coded_ℕ (coded× coded_ℕ (coded× coded_ℕ (coded× coded_ℕ (coded× coded_ℕ coded_ℕ))))))
+    (λ f. (f.events, (f.voided, (f.transactions, (f.complete, (f.missing, (f.up, f.down)))))))
+    (λ p. record { events = p.0; voided = p.1.0; transactions = p.1.1.0; complete = p.1.1.1.0; missing = p.1.1.1.1.0; up = p.1.1.1.1.1.0; down = p.1.1.1.1.1.1 })
+    (λ _. refl)
+
+-- A book is kept as the tuple of its parts.
+abbrev pub book_code : Coded Book
+book_code = code_by (ℕ × (List Bounds × List Post)) (coded× coded_ℕ (coded× (coded_list bounds_code) (coded_list (coded× coded_ℕ figures_code)))) (λ b. (b.site, (b.limits, b.posts))) (λ p. record { site = p.0; limits = p.1.0; posts = p.1.1 }) (λ _. refl)
+
+-- They are kept as the pair of both lists.
+abbrev pub ended_code : Coded Ended
+ended_code = code_by (List Cell × List Book) (coded× (coded_list cell_code) (coded_list book_code)) (λ e. (e.cells, e.books)) (λ p. record { cells = p.0; books = p.1 }) (λ _. refl)
 
 -- How many of these passes are a station's.
 abbrev pub passes_of : ℕ → List Held → ℕ
@@ -75,3 +93,11 @@ AreSummed cells books = (site : ℕ) (b : Book) → slice_get books site ≡ Som
 -- Each viewer is at one of so many sites.
 abbrev pub AreViewed : ℕ → List Known → Type 0
 AreViewed sites viewers = (k : ℕ) (v : Known) → slice_get viewers k ≡ Some v → v.site < sites
+
+-- What lay behind the locks of a desk fits together, with all passes and viewers.
+pub record IsClosable (desk : Roster) (cells : List Cell) (books : List Book) (passes : List Held) (viewers : List Known) : Type 0 where
+  pub all_passes : AreAllPasses cells passes
+  pub all_viewers : length viewers ≡ desk.viewers
+  pub whole : AreWhole desk.stations books passes cells
+  pub summed : AreSummed cells books
+  pub viewed : AreViewed (length books) viewers

@@ -1,4 +1,4 @@
-use Rattle.std.specs.Prelude.{◌≡◌, ℕ, List, length, Some, slice_get}
+use Rattle.std.specs.Prelude.{◌≡◌, ℕ, ◌<◌, ◌≤◌, List, length, Some, slice_get}
 use Rattle.ledger_model.specs.Limits.{Bounds}
 use Rattle.site_desk.specs.declared.plan.StationPlan.{StationPlan}
 use Rattle.site_desk.specs.declared.roster.Place.{Place}
@@ -31,3 +31,10 @@ pub record StandsAt (k : ℕ) (at : Place) (c : Cell) : Type 0 where
   pub site : c.site ≡ at.site
   pub row : c.row ≡ at.row
   pub limits : c.limits ≡ at.limits
+
+-- What a desk keeps: a cell for each station, and a book for each site that a station is at; both are no more than a plan may have.
+pub record IsDesk (places : List Place) (cells books : ℕ) : Type 0 where
+  pub each_cell : cells ≡ length places
+  pub few_cells : cells ≤ 64
+  pub few_books : books ≤ 16
+  pub sites : (k : ℕ) (p : Place) → slice_get places k ≡ Some p → p.site < books

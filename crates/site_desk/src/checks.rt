@@ -1,10 +1,12 @@
 //! What a desk compares before it is closed.
-ghost use Rattle.std.specs.Prelude.{◌≡◌, IsTrue, IfSome};
+ghost use Rattle.std.specs.Prelude.{◌≡◌, ◌≢◌, IsTrue, IfNone, IfSome, length};
 ghost use Rattle.ledger_model.specs.Board.{plus_figures};
-ghost use Rattle.site_desk.specs.Close.{AreAllPasses, AreSummed, AreViewed, AreWhole, IsCounted, IsPlaced, IsSummed, IsWhole, changes_of, figures_at, figures_with, passes_of};
+ghost use Rattle.site_desk.specs.Close.{AreAllPasses, AreSummed, AreViewed, AreWhole, IsClosable, IsCounted, IsPlaced, IsSummed, IsWhole, changes_of, figures_at, figures_with, passes_of};
 ghost use Rattle.site_desk.specs.Parts.{IsTied};
+ghost use Rattle.site_desk.specs.declared.fault.CloseFault.{CloseFault};
 
 use crate::cell::StationCell;
+use crate::fault::CloseFault;
 use crate::pass::Pass;
 use crate::roster::Place;
 use crate::steps::{are_same, tied};
@@ -179,4 +181,30 @@ pub(crate) fn are_viewed<J: Naming>(viewers: &[Viewer<J>], sites: usize) -> bool
         }
     }
     true
+}
+
+// What keeps a desk from being closed, if anything does.
+pub(crate) fn fault_of<J: Naming>(
+    places: &[Place],
+    given: usize,
+    cells: &[StationCell],
+    books: &[SiteBook<J>],
+    passes: &[Pass],
+    viewers: &[Viewer<J>],
+) -> Option<CloseFault>
+    ensures whole { IfNone result (IsClosable (record { stations = places.now; viewers = given }) cells.now books.now passes.now viewers.now) }
+    ensures missing { result ≡ Some CloseFault.ViewerMissing → length viewers.now ≢ given }
+{
+    if !are_all_passes(cells, passes) {
+        return Some(CloseFault::PassMissing);
+    }
+    if viewers.len() != given {
+        return Some(CloseFault::ViewerMissing);
+    }
+    let is_whole = are_whole(cells, places, books, passes);
+    if is_whole && are_summed(books, cells) && are_viewed(viewers, books.len()) {
+        None
+    } else {
+        Some(CloseFault::Torn)
+    }
 }

@@ -3,6 +3,8 @@
 
 mod cell;
 mod checks;
+mod closed;
+mod desk;
 mod fault;
 mod gate;
 mod locks;
@@ -14,6 +16,8 @@ mod steps;
 mod submit;
 
 pub use cell::{MAX_PASSES, StationCell, enlist_cell};
+pub use closed::{CloseRefused, Closed};
+pub use desk::Desk;
 pub use fault::{BoardFault, CloseFault, DeskFault, EnlistFault, TooManyPasses};
 pub use gate::{Gate, NoGate};
 pub use parts::Parts;

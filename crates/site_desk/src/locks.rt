@@ -1,9 +1,13 @@
 //! Values into and out of their locks, without memory.
-ghost use Rattle.std.specs.Prelude.{◌≡◌, ◌+◌, ◌≤◌, vec_len, vec_capacity};
+ghost use Rattle.std.specs.Prelude.{◌≡◌, ℕ, ◌+◌, ◌≤◌, All, length, Some, slice_get, vec_len, vec_capacity};
+ghost use Rattle.site_book.specs.Book.{Book};
+ghost use Rattle.site_desk.specs.Close.{AreViewed, Saw};
 
 use crate::cell::StationCell;
+use crate::plan::{MAX_SITES, MAX_STATIONS};
 use crossbeam_utils::CachePadded;
-use site_book::{Naming, SiteBook};
+use site_book::{Naming, SiteBook, Viewer};
+use std::alloc::{AllocError, Global};
 use std::sync::Mutex;
 
 // A value behind a lock of its own, alone on its cache lines.
@@ -18,6 +22,28 @@ pub(crate) struct Spare<J: Naming> {
     ghost no_books: { vec_len books ≡ 0 },
     ghost cell_room: { 64 ≤ vec_capacity cells },
     ghost book_room: { 16 ≤ vec_capacity books },
+}
+
+impl<J: Naming> Spare<J> {
+    // Room for as many stations and sites as a plan may have.
+    pub(crate) fn open(alloc: Global) -> Result<Self, AllocError> {
+        let cells = Vec::with_capacity(alloc, MAX_STATIONS)?;
+        let books = Vec::with_capacity(alloc, MAX_SITES)?;
+        Ok(Spare { cells, books })
+    }
+}
+
+// Gives each viewer back to its site's book.
+pub(crate) fn take_viewers<J: Naming>(books: &mut Vec<SiteBook<J>>, viewers: Vec<Viewer<J>>)
+    requires numbers { (site : ℕ) (b : Book) → slice_get books.old.items site ≡ Some b → b.site ≡ site }
+    requires viewed { AreViewed (length books.old.items) viewers.items }
+    ensures same { books.new.items ≡ books.old.items }
+    ensures seen { All (Saw books.old.items) viewers.items }
+{
+    for viewer in viewers {
+        let book = &mut books[viewer.site() as usize];
+        book.take_viewer(viewer);
+    }
 }
 
 // Puts each value behind a lock of its own, in order.
