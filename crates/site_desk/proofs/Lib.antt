@@ -7,3 +7,4 @@ pub mod Ties
 pub mod Callers
 pub mod Submits
 pub mod Comparisons
+pub mod Ends

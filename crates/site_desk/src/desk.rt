@@ -232,8 +232,8 @@ fn lock_parts<J: Naming>(
     let viewers = viewers.into_vec();
     let places = open_places(alloc, plan.stations.as_slice())?;
     let spare = Spare::open(alloc)?;
-    let mut cells = Vec::with_capacity(alloc, free_cells.len())?;
-    let mut books = Vec::with_capacity(alloc, free_books.len())?;
+    let mut cells = Vec::with_capacity(alloc, plan.stations.len())?;
+    let mut books = Vec::with_capacity(alloc, plan.sites.len())?;
     lock_up(&mut free_cells, &mut cells);
     lock_up(&mut free_books, &mut books);
     let desk = Desk {

@@ -1,5 +1,5 @@
 //! Values into and out of their locks, without memory.
-ghost use Rattle.std.specs.Prelude.{◌≡◌, ℕ, ◌+◌, ◌≤◌, All, length, Some, slice_get, vec_len, vec_capacity};
+ghost use Rattle.std.specs.Prelude.{◌≡◌, ℕ, ◌+◌, ◌<◌, ◌≤◌, All, length, Some, slice_get, vec_len, vec_capacity};
 ghost use Rattle.site_book.specs.Book.{Book};
 ghost use Rattle.site_desk.specs.Close.{AreViewed, Saw};
 
@@ -41,9 +41,19 @@ pub(crate) fn take_viewers<J: Naming>(books: &mut Vec<SiteBook<J>>, viewers: Vec
     ensures seen { All (Saw books.old.items) viewers.items }
 {
     for viewer in viewers {
-        let book = &mut books[viewer.site() as usize];
-        book.take_viewer(viewer);
+        take_viewer(books, viewer);
     }
+}
+
+// Gives a viewer back to its site's book.
+fn take_viewer<J: Naming>(books: &mut Vec<SiteBook<J>>, viewer: Viewer<J>)
+    requires numbers { (site : ℕ) (b : Book) → slice_get books.old.items site ≡ Some b → b.site ≡ site }
+    requires viewed { viewer.site < length books.old.items }
+    ensures same { books.new.items ≡ books.old.items }
+    ensures seen { Saw books.old.items viewer }
+{
+    let book = &mut books[viewer.site() as usize];
+    book.take_viewer(viewer);
 }
 
 // Puts each value behind a lock of its own, in order.
