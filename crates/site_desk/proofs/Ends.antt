@@ -1,10 +1,7 @@
 -- What a desk keeps, and what is known once it is closed.
-use Rattle.std.proofs.Common.{◌≡◌, ℕ, zero, suc, ◌<◌, ◌≤◌, Bool, true, false, List, [], ◌∷◌, length, set, get_or, Some, refl, ap, sym, ◌∙◌, subst, arith}
+use Rattle.std.proofs.Common.{◌≡◌, ℕ, zero, suc, ◌<◌, ◌≤◌, Bool, true, false, List, [], ◌∷◌, length, set, get_or, Some, refl, ap, sym, ◌∙◌, arith}
 use Rattle.std.specs.Prelude.{slice_get, None}
-use Rattle.std.proofs.lemmas.Option.{slice_get_within, slice_get-get_or, slice_get_read, get_or_from_slice_get}
-use Rattle.ledger_model.specs.Board.{figures}
-use Rattle.ledger_model.specs.Content.{entries}
-use Rattle.ledger_model.specs.Posts.{row_after}
+use Rattle.std.proofs.lemmas.Option.{slice_get_within, slice_get_read, get_or_from_slice_get}
 use Rattle.site_book.specs.Book.{Book}
 use Rattle.site_desk.specs.declared.plan.SitePlan.{SitePlan}
 use Rattle.site_desk.specs.declared.plan.StationPlan.{StationPlan}
@@ -39,6 +36,7 @@ new_desk sites stations places cells books h new few fewer count sums = record {
     found_at [] k less = absurd (omega arith)
     found_at (x ∷ xs) zero less = (x, refl)
     found_at (x ∷ xs) (suc k) less = found_at xs k (omega arith)
+
     some_same : (a b : Place) → Some a ≡ Some b → a ≡ b
     some_same a b h = cc
 

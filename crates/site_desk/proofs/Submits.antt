@@ -1,5 +1,5 @@
 -- What a settled command tells one who does not know what lay behind the locks.
-use Rattle.std.proofs.Common.{◌≡◌, ℕ, suc, ◌+◌, ◌≤◌, List, [], ◌∷◌, ◌++◌, sum, None, Some, Ok, Err, refl, ap, sym, ◌∙◌, subst, arith}
+use Rattle.std.proofs.Common.{◌≡◌, ℕ, ◌+◌, [], ◌∷◌, ◌++◌, sum, None, Some, Ok, Err, ap, sym, ◌∙◌, subst, arith}
 use Rattle.std.specs.Prelude.{Option, Result, IfOk}
 use Rattle.ledger_model.specs.declared.answer.Answer.{Answer}
 use Rattle.ledger_model.specs.declared.answer.Answer.TheVariants.{Accepted, Repeat, Refused}
@@ -8,7 +8,6 @@ use Rattle.ledger_model.specs.declared.command.Command.{Command}
 use Rattle.ledger_model.specs.Board.{Board, board, figures}
 use Rattle.ledger_model.specs.Content.{Content, entries}
 use Rattle.ledger_model.specs.Limits.{Bounds}
-use Rattle.ledger_model.specs.Posts.{Post}
 use Rattle.ledger_model.specs.Quarter.{quarter_seconds}
 use Rattle.ledger_model.specs.Step.{Reached, answer, step}
 use Rattle.site_book.specs.Book.{Book, Known, known}
@@ -16,11 +15,11 @@ use Rattle.site_desk.specs.declared.roster.Place.{Place}
 use Rattle.site_desk.specs.Cell.{Cell, Held, Knows}
 use Rattle.site_desk.specs.Roster.{StandsAt}
 use Rattle.site_desk.specs.Settle.{cell_after, pass_after, posts_after, told_after}
-use Rattle.site_desk.specs.Submit.{IsAnswered, IsBoardOfSome, IsTaken, IsUnchanged, Submitted}
+use Rattle.site_desk.specs.Submit.{IsAnswered, IsBoardOfSome, IsTaken, Submitted}
 use Rattle.site_desk.proofs.Counts.{count_part, next_number}
 
 module _ (at : Place) (number : ℕ) (c : Cell) (b : Book) (p : Held) (command : Command) (stands : StandsAt number at c) (site : b.site ≡ at.site)
-  (reached : Reached c.limits c.content.changes c.content) (counted : sum c.counts ≡ c.content.changes) (knows : Knows c p) where
+    (reached : Reached c.limits c.content.changes c.content) (counted : sum c.counts ≡ c.content.changes) (knows : Knows c p) where
   -- at the place's limits
   reached_here : Reached at.limits c.content.changes c.content
   reached_here = subst (λ l. Reached l c.content.changes c.content) stands.limits reached

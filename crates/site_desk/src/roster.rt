@@ -19,10 +19,7 @@ pub struct Place {
 }
 
 // The place of each station of a plan.
-pub(crate) fn open_places(
-    alloc: Global,
-    stations: &[StationPlan],
-) -> Result<Vec<Place>, AllocError>
+pub(crate) fn open_places(alloc: Global, stations: &[StationPlan]) -> Result<Vec<Place>, AllocError>
     requires { length stations.now ≤ 64 }
     ensures { IfOk result (λ places. AreNewPlaces stations.now places.items) }
 {

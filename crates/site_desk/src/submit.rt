@@ -22,12 +22,7 @@ pub(crate) fn stands_at(cell: &StationCell, number: usize, place: &Place) -> boo
 }
 
 // Tells whether the cell is that of the station of this number and place, and the book its site's.
-fn are_at<J: Naming>(
-    cell: &StationCell,
-    book: &SiteBook<J>,
-    number: usize,
-    place: &Place,
-) -> bool
+fn are_at<J: Naming>(cell: &StationCell, book: &SiteBook<J>, number: usize, place: &Place) -> bool
     ensures { IsTrue result → (StandsAt number place.now cell.now) × (book.now.site ≡ place.now.site) }
 {
     stands_at(cell, number, place) && book.site() == place.site

@@ -1,6 +1,6 @@
-use Rattle.std.proofs.Common.{◌<◌, ℕ, arith, subst, sym}
+use Rattle.std.proofs.Common.{◌<◌, arith}
 use Rattle.site_book.specs.Book.{Known}
-use Rattle.site_desk.proofs.Comparisons.{each_more, each_all}
+use Rattle.site_desk.proofs.Comparisons.{each_all}
 use Rattle.site_desk.proofs.checks.are_viewed.Goals as goal
 
 pub returns : goal.returns

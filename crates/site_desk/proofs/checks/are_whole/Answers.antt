@@ -1,4 +1,4 @@
-use Rattle.std.proofs.Common.{arith, ap, ◌∙◌}
+use Rattle.std.proofs.Common.{arith}
 use Rattle.site_desk.specs.Close.{IsWhole}
 use Rattle.site_desk.proofs.Comparisons.{each_more, each_all}
 use Rattle.site_desk.proofs.checks.are_whole.Goals as goal

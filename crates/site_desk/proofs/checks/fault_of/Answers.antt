@@ -1,4 +1,3 @@
-use Rattle.std.proofs.Common.{rules}
 use Rattle.site_desk.proofs.checks.fault_of.Goals as goal
 
 pub returns-then-are_viewed-clause-whole : goal.returns-then-are_viewed-clause-whole

@@ -1,6 +1,5 @@
-use Rattle.std.proofs.Common.{◌∙◌, subst, sym}
+use Rattle.std.proofs.Common.{◌∙◌, subst}
 use Rattle.std.proofs.lemmas.List.Elements.{All-push}
-use Rattle.site_book.specs.Book.{Book}
 use Rattle.site_desk.specs.Close.{Saw}
 use Rattle.site_desk.proofs.locks.take_viewers.Goals as goal
 

@@ -1,6 +1,5 @@
-use Rattle.std.proofs.Common.{◌≡◌, ℕ, ◌+◌, Some, slice_get, ap, sym, ◌∙◌, subst, arith}
+use Rattle.std.proofs.Common.{◌≡◌, slice_get, ap, sym, ◌∙◌, subst, arith}
 use Rattle.std.specs.Prelude.{vec_len}
-use Rattle.site_desk.specs.Close.{IsClosable}
 use Rattle.site_desk.specs.Parts.{AreTied}
 use Rattle.site_desk.specs.Roster.{IsDesk}
 use Rattle.site_desk.proofs.desk.Desk.close.Goals as goal
