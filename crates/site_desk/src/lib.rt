@@ -51,3 +51,6 @@ pub use plan::{
     MAX_PLANNED_READINGS, MAX_SITES, MAX_STATIONS, MAX_VIEWERS, Plan, SitePlan, StationPlan,
 };
 pub use steps::{settle, tied};
+
+#[cfg(test)]
+mod tests;
