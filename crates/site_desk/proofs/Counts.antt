@@ -1,5 +1,5 @@
 -- The counts of a cell's passes.
-use Rattle.std.proofs.Common.{◌≡◌, ℕ, ◌+◌, ◌≤◌, List, get_or, set, sum, Some, ap, sym, ◌∙◌, subst, arith, length-set}
+use Rattle.std.proofs.Common.{◌≡◌, ℕ, suc, ◌+◌, ◌≤◌, List, get_or, set, sum, Some, ap, sym, ◌∙◌, subst, arith, length-set}
 use Rattle.std.specs.Prelude.{slice_get}
 use Rattle.std.proofs.lemmas.List.Sums.{sum_by-set, get_or-le-sum_by}
 use Rattle.std.proofs.lemmas.Option.{slice_get_within, get_or_from_slice_get}
@@ -42,6 +42,13 @@ one_more limits c command n is =
     let same : Accepted n ≡ Accepted (c.changes + 1) = sym is ∙ next in
     let number : n ≡ c.changes + 1 = cc in
     ap (λ a. (content_after c command a).changes) is ∙ number
+
+pub next_number : (limits : Bounds) (c : Content) (command : Command) (n : ℕ) → answer limits c command ≡ Accepted n → n ≡ suc c.changes
+next_number limits c command n is =
+    let next = (is_counted limits c command (subst IsAccepted (sym is) tt)).next in
+    let same : Accepted n ≡ Accepted (c.changes + 1) = sym is ∙ next in
+    let number : n ≡ c.changes + 1 = cc in
+    omega (arith, number)
 
 -- what a cell keeps after an accepted command
 pub cell_more : (limits limits' : Bounds) (content content' : Content) (counts : List ℕ) (slot changes v n room : ℕ) → IsCell limits content counts room

@@ -3,3 +3,8 @@ pub mod Rows
 pub mod Counts
 pub mod Settled
 pub mod NewParts
+pub mod Ties
+pub mod Callers
+pub mod Submits
+pub mod Comparisons
+pub mod Ends

@@ -2,7 +2,7 @@
 use Rattle.std.proofs.Common.{◌≡◌, ◌≢◌, ℕ, zero, suc, ◌+◌, ◌<◌, ◌≤◌, Bool, true, false, not, cond, eqb, leb, ltb, ◌&&◌, List, [], ◌∷◌, ◌++◌, length, map, take, drop, replicate, get_or, Some, None, refl, ap, sym, ◌∙◌, subst, ⊎_elim, inl, inr, ◌⊎◌, arith, append_assoc}
 use Rattle.std.specs.Prelude.{filter, slice_get, sum_by, count_by, Option}
 use Rattle.std.specs.List.{list_all}
-use Rattle.std.proofs.lemmas.Bool.{cases_eq, leb-true}
+use Rattle.std.proofs.lemmas.Bool.{cases_eq, leb-true, ltb-true}
 use Rattle.std.proofs.lemmas.List.{take_more, drop_more, length_push, take-append-le, take_all}
 use Rattle.std.proofs.lemmas.List.Sums.{sum_by-cons}
 use Rattle.ledger_model.specs.Limits.{Bounds}
@@ -113,6 +113,10 @@ sum_at (s ∷ stations) site =
     ]
 
 -- what holds of a plan without a fault
+and_right : (a b : Bool) → (a && b) ≡ true → b ≡ true
+and_right true b h = h
+and_right false b h = absurd (cc (h))
+
 and_left : (a b : Bool) → (a && b) ≡ true → a ≡ true
 and_left true b h = refl
 and_left false b h = h
@@ -132,3 +136,18 @@ planned_at sites stations site few h = record {
   few = omega (arith, few_at stations site);
   readings = omega (arith, sum_at stations site, planned_readings sites stations h);
 }
+
+all_below : (n : ℕ) (stations : List StationPlan) (k : ℕ) (s : StationPlan) → list_all (λ t. ltb t.site n) stations ≡ true → slice_get stations k ≡ Some s → s.site < n
+all_below n [] k s h at = absurd (cc (at))
+all_below n (t ∷ stations) zero s h at =
+    let e : t ≡ s = cc in
+    subst (λ (u : StationPlan). u.site < n) e (ltb-true t.site n (and_left (ltb t.site n) _ h))
+all_below n (t ∷ stations) (suc k) s h at = all_below n stations k s (and_right (ltb t.site n) _ h) at
+
+-- each station of a plan without a fault is at one of its sites
+pub planned_sites : (sites : List SitePlan) (stations : List StationPlan) (k : ℕ) (s : StationPlan) → plan_fault sites stations ≡ None → slice_get stations k ≡ Some s → s.site < length sites
+planned_sites sites stations k s h at =
+    let within : is_within_limits sites stations ≡ true = within_of (is_within_limits sites stations) (has_twice (map (λ s. s.name) stations)) h in
+    all_below (length sites) stations k s
+    (and_right (leb (sum_by (λ s. s.limits.readings) stations) most_planned_readings && list_all (λ s. leb s.viewers most_viewers) sites) _
+    (and_left (leb (sum_by (λ s. s.limits.readings) stations) most_planned_readings && list_all (λ s. leb s.viewers most_viewers) sites && list_all (λ s. ltb s.site (length sites)) stations) _ within)) at

@@ -2,3 +2,6 @@ pub mod Plan
 pub mod Cell
 pub mod Settle
 pub mod Parts
+pub mod Roster
+pub mod Submit
+pub mod Close

@@ -4,6 +4,7 @@ use Rattle.site_book.specs.Book.{Book, Known, known}
 use Rattle.site_desk.specs.declared.plan.SitePlan.{SitePlan}
 use Rattle.site_desk.specs.declared.plan.StationPlan.{StationPlan}
 use Rattle.site_desk.specs.Cell.{Cell, new_cell}
+use Rattle.site_desk.specs.Settle.{Holds, Tied}
 
 -- The row of a station of this number at a site: how many stations of the site come before it.
 abbrev pub row_at : List StationPlan → ℕ → ℕ → ℕ
@@ -31,3 +32,18 @@ pub record AreNewBooks (stations : List StationPlan) (sites : ℕ) (books : List
 abbrev pub new_viewers : ℕ → List SitePlan → List (ℕ × Known)
 new_viewers site [] = []
 new_viewers site (s ∷ sites) = replicate s.viewers (site, known site []) ++ new_viewers (suc site) sites
+
+-- The cell's row stands in its site's book, opened with the cell's limits, and shows the figures of its content.
+pub record IsTied (books : List Book) (c : Cell) : Type 0 where
+  pub book : Book
+  pub there : slice_get books c.site ≡ Some book
+  pub held : Holds c book
+  pub tied : Tied c book
+
+-- Each cell's row stands in its site's book and shows the figures of its content.
+abbrev pub AreTied : List Cell → List Book → Type 0
+AreTied cells books = (k : ℕ) (c : Cell) → slice_get cells k ≡ Some c → IsTied books c
+
+-- No two cells have the same row of one site.
+abbrev pub AreApart : List Cell → Type 0
+AreApart cells = (j k : ℕ) (c d : Cell) → slice_get cells j ≡ Some c → slice_get cells k ≡ Some d → c.site ≡ d.site → c.row ≡ d.row → j ≡ k

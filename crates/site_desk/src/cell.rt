@@ -83,6 +83,13 @@ impl StationCell {
         self.row
     }
 
+    /// How many passes it gave out, at most 65,536.
+    pub fn passes(&self) -> usize
+        ensures { result ≡ length self.now.counts }
+    {
+        self.counts.len()
+    }
+
     /// Its ledger.
     pub fn ledger(&self) -> &StationLedger
         ensures limits { result.now.limits ≡ self.now.limits }

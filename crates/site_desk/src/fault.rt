@@ -13,3 +13,32 @@ pub enum DeskFault {
 /// A station gave out as many passes as it may: 65,536.
 #[derive(Clone, Copy, Debug, PartialEq, Eq)]
 pub struct TooManyPasses;
+
+/// Why no pass is given out.
+#[derive(Clone, Copy, Debug, PartialEq, Eq)]
+pub enum EnlistFault {
+    /// No station of the desk has this name.
+    UnknownStation,
+    /// The station gave out 65,536 passes.
+    TooManyPasses,
+}
+
+/// Why there is no board.
+#[derive(Clone, Copy, Debug, PartialEq, Eq)]
+pub enum BoardFault {
+    /// No station of the desk has this name.
+    UnknownStation,
+    /// There is no memory for it.
+    OutOfMemory,
+}
+
+/// Why a desk is not closed. The first that applies answers.
+#[derive(Clone, Copy, Debug, PartialEq, Eq)]
+pub enum CloseFault {
+    /// A pass that was given out is missing.
+    PassMissing,
+    /// A viewer of the desk is missing.
+    ViewerMissing,
+    /// What lay behind the locks does not fit together: a count, a place, a row or a total differs.
+    Torn,
+}

@@ -1,18 +1,56 @@
-//! The stations of a site desk: their ledgers, and the books that their figures are posted in.
+//! The stations and sites of a running desk: ledgers and books under locks, tied rows, and the end.
+//!
+//! A [`Plan`] has sites and stations. [`Parts::open`] makes a [`StationCell`] of each station, its
+//! ledger with what each of its [`Pass`]es changed, and a book of each site, whose rows show the
+//! stations' figures. [`settle`] takes a command of a pass at a cell: where it is accepted, it posts
+//! the station's new figures in the book, in one step. A [`Desk`] has the same parts, each cell and each
+//! book behind a lock of its own, so that stations take commands at once: [`Desk::submit`] settles
+//! under the station's lock and then its site's, while viewers glance at the totals and wait for
+//! nobody. [`Desk::close`] compares all that lay behind the locks and gives up the locks: a [`Closed`].
+//! `open` and [`Desk::station_board`] alone take memory.
+//!
+//! The crate's one contract: a cell's content is always one that as many accepted commands as its
+//! passes made leave of the empty content, under its limits. `settle` takes the step of the ledger
+//! and posts the figures after it, no more and no less, and leaves the row tied to the content. What
+//! `submit` answers is the step's answer at some such content, since nobody knows beforehand what lies
+//! behind a lock. Where `close` succeeds, all counts agree, all rows are tied, all totals are sums over
+//! stations, and what each viewer knew begins its site's posts. That a run settles at all, and on the
+//! latest content, the tests show.
+//!
+//! ```text
+//! let (desk, viewers) = Desk::open(alloc, Tables::make(alloc, sites)?, &plan)?;
+//! let mut pass = desk.enlist(rt, &name)?;
+//! desk.submit(rt, &mut pass, Command::Void(key), &NoGate);      // (Accepted(1), Some(told))
+//! let closed = desk.close(passes, viewers)?;                    // no lock is left
+//! closed.row(0) == closed.ledger(0).figures()
+//! ```
 #![tactic(auto)]
 
 mod cell;
+mod checks;
+mod closed;
+mod desk;
 mod fault;
+mod gate;
+mod locks;
 mod parts;
 mod pass;
 mod plan;
+mod roster;
 mod steps;
+mod submit;
 
 pub use cell::{MAX_PASSES, StationCell, enlist_cell};
-pub use fault::{DeskFault, TooManyPasses};
+pub use closed::{CloseRefused, Closed};
+pub use desk::Desk;
+pub use fault::{BoardFault, CloseFault, DeskFault, EnlistFault, TooManyPasses};
+pub use gate::{Gate, NoGate};
 pub use parts::Parts;
 pub use pass::Pass;
 pub use plan::{
     MAX_PLANNED_READINGS, MAX_SITES, MAX_STATIONS, MAX_VIEWERS, Plan, SitePlan, StationPlan,
 };
 pub use steps::{settle, tied};
+
+#[cfg(test)]
+mod tests;

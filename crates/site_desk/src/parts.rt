@@ -2,7 +2,7 @@ ghost use Rattle.std.specs.Prelude.{◌≡◌, ◌↔◌, ℕ, ◌<◌, ◌≤�
 ghost use Rattle.site_book.specs.Book.{ArePlanned, known};
 ghost use Rattle.site_book.specs.Tables.{HasTable, NamedBy};
 ghost use Rattle.site_desk.specs.declared.fault.DeskFault.{DeskFault};
-ghost use Rattle.site_desk.specs.Parts.{AreNewBooks, AreNewCells, limits_at, new_viewers, row_at};
+ghost use Rattle.site_desk.specs.Parts.{AreApart, AreNewBooks, AreNewCells, AreTied, limits_at, new_viewers, row_at};
 ghost use Rattle.site_desk.specs.Plan.{plan_fault};
 
 use crate::cell::StationCell;
@@ -37,6 +37,8 @@ impl<J: Naming> Parts<J> {
         ensures cells { IfOk result (λ p. AreNewCells plan.now.stations.items p.cells) }
         ensures books { IfOk result (λ p. AreNewBooks plan.now.stations.items (length plan.now.sites.items) p.books) }
         ensures viewers { IfOk result (λ p. p.viewers ≡ new_viewers 0 plan.now.sites.items) }
+        ensures tied { IfOk result (λ p. AreTied p.cells p.books) }
+        ensures apart { IfOk result (λ p. AreApart p.cells) }
     {
         if let Some(fault) = plan.fault() {
             return Err(fault);
@@ -56,6 +58,8 @@ fn open_parts<J: Naming>(alloc: Global, tables: Tables, plan: &Plan) -> Result<P
     ensures cells { IfOk result (λ p. AreNewCells plan.now.stations.items p.cells) }
     ensures books { IfOk result (λ p. AreNewBooks plan.now.stations.items (length plan.now.sites.items) p.books) }
     ensures viewers { IfOk result (λ p. p.viewers ≡ new_viewers 0 plan.now.sites.items) }
+    ensures tied { IfOk result (λ p. AreTied p.cells p.books) }
+    ensures apart { IfOk result (λ p. AreApart p.cells) }
 {
     let sites = plan.sites.as_slice();
     let stations = plan.stations.as_slice();
@@ -83,7 +87,7 @@ fn open_cells(alloc: Global, stations: &[StationPlan]) -> Result<Vec<StationCell
 }
 
 // The row of the station of this number at a site.
-fn row_of(stations: &[StationPlan], site: u16, number: usize) -> u16
+pub(crate) fn row_of(stations: &[StationPlan], site: u16, number: usize) -> u16
     requires few { length stations.now ≤ 64 }
     requires there { number ≤ length stations.now }
     ensures { result ≡ row_at stations.now site number }

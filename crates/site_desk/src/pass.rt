@@ -35,9 +35,4 @@ impl Pass {
     {
         self.changes
     }
-
-    /// How many differences of readings its commands had evaluated.
-    pub fn work(&self) -> &Work {
-        &self.work
-    }
 }

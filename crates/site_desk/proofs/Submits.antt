@@ -1,0 +1,71 @@
+-- What a settled command tells one who does not know what lay behind the locks.
+use Rattle.std.proofs.Common.{◌≡◌, ℕ, ◌+◌, [], ◌∷◌, ◌++◌, sum, None, Some, Ok, Err, ap, sym, ◌∙◌, subst, arith}
+use Rattle.std.specs.Prelude.{Option, Result, IfOk}
+use Rattle.ledger_model.specs.declared.answer.Answer.{Answer}
+use Rattle.ledger_model.specs.declared.answer.Answer.TheVariants.{Accepted, Repeat, Refused}
+use Rattle.ledger_model.specs.declared.answer.Refusal.TheVariants.{ConflictingEvent, TooManyTransactions, EventsFull, ReadingsFull, NoSuchEvent, AlreadyVoided, NotVoided, ChangesExhausted}
+use Rattle.ledger_model.specs.declared.command.Command.{Command}
+use Rattle.ledger_model.specs.Board.{Board, board, figures}
+use Rattle.ledger_model.specs.Content.{Content, entries}
+use Rattle.ledger_model.specs.Limits.{Bounds}
+use Rattle.ledger_model.specs.Quarter.{quarter_seconds}
+use Rattle.ledger_model.specs.Step.{Reached, answer, step}
+use Rattle.site_book.specs.Book.{Book, Known, known}
+use Rattle.site_desk.specs.declared.roster.Place.{Place}
+use Rattle.site_desk.specs.Cell.{Cell, Held, Knows}
+use Rattle.site_desk.specs.Roster.{StandsAt}
+use Rattle.site_desk.specs.Settle.{cell_after, pass_after, posts_after, told_after}
+use Rattle.site_desk.specs.Submit.{IsAnswered, IsBoardOfSome, IsTaken, Submitted}
+use Rattle.site_desk.proofs.Counts.{count_part, next_number}
+
+module _ (at : Place) (number : ℕ) (c : Cell) (b : Book) (p : Held) (command : Command) (stands : StandsAt number at c) (site : b.site ≡ at.site)
+    (reached : Reached c.limits c.content.changes c.content) (counted : sum c.counts ≡ c.content.changes) (knows : Knows c p) where
+  -- at the place's limits
+  reached_here : Reached at.limits c.content.changes c.content
+  reached_here = subst (λ l. Reached l c.content.changes c.content) stands.limits reached
+
+  answered_by : (a : Answer) (p' : Held) (told : Option Known) → a ≡ answer c.limits c.content command → p' ≡ p → told ≡ None → IsAnswered at p command a p' told
+  answered_by a p' told is same untold = record {
+    before = c.content;
+    reached = reached_here;
+    answered = ap (λ l. answer l c.content command) (sym stands.limits) ∙ sym is;
+    unchanged = record { pass = same; untold = untold };
+  }
+
+  taken_by : (n : ℕ) (c' : Cell) (b' : Book) (p' : Held) (told : Option Known) → Accepted n ≡ answer c.limits c.content command → c' ≡ cell_after c p command → p' ≡ record p { changes = p.changes + 1 }
+      → b' ≡ record b { posts = b.posts ++ (c'.row, figures (entries c'.content)) ∷ [] } → told ≡ Some (known b'.site b'.posts) → IsTaken at p command n p' told
+  taken_by n c' b' p' told is cells passes books told_is =
+      let next = next_number c.limits c.content command n (sym is) in
+      let part = count_part c.counts p.slot p.changes knows.count in
+      record {
+        before = c.content;
+        count = c.content.changes;
+        number = next;
+        reached = reached_here;
+        answered = ap (λ l. answer l c.content command) (sym stands.limits) ∙ sym is;
+        posts = b.posts;
+        posted = told_is
+            ∙ (λ i. Some (known (books i).site (books i).posts))
+            ∙ (λ i. Some (known (site i) (b.posts ++ ((cells i).row, figures (entries (cells i).content)) ∷ [])))
+            ∙ (λ i. Some (known at.site (b.posts ++ (stands.row i, figures (entries (step (stands.limits i) c.content command).0)) ∷ [])));
+        pass = passes;
+        enough = let more : p'.changes ≡ p.changes + 1 = ap (λ (q : Held). q.changes) passes in omega (arith, more, next, part, counted);
+      }
+
+  pub submitted : (a : Answer) (c' : Cell) (b' : Book) (p' : Held) (told : Option Known) → a ≡ answer c.limits c.content command → c' ≡ cell_after c p command → p' ≡ pass_after p a
+      → b' ≡ record b { posts = posts_after b.posts c' a } → told ≡ told_after b' a → Submitted at p command a p' told
+  submitted (Accepted n) c' b' p' told is cells passes books told_is = taken_by n c' b' p' told is cells passes books told_is
+  submitted Repeat c' b' p' told is cells passes books told_is = answered_by Repeat p' told is passes told_is
+  submitted (Refused ConflictingEvent) c' b' p' told is cells passes books told_is = answered_by (Refused ConflictingEvent) p' told is passes told_is
+  submitted (Refused TooManyTransactions) c' b' p' told is cells passes books told_is = answered_by (Refused TooManyTransactions) p' told is passes told_is
+  submitted (Refused EventsFull) c' b' p' told is cells passes books told_is = answered_by (Refused EventsFull) p' told is passes told_is
+  submitted (Refused ReadingsFull) c' b' p' told is cells passes books told_is = answered_by (Refused ReadingsFull) p' told is passes told_is
+  submitted (Refused NoSuchEvent) c' b' p' told is cells passes books told_is = answered_by (Refused NoSuchEvent) p' told is passes told_is
+  submitted (Refused AlreadyVoided) c' b' p' told is cells passes books told_is = answered_by (Refused AlreadyVoided) p' told is passes told_is
+  submitted (Refused NotVoided) c' b' p' told is cells passes books told_is = answered_by (Refused NotVoided) p' told is passes told_is
+  submitted (Refused ChangesExhausted) c' b' p' told is cells passes books told_is = record { pass = passes; untold = told_is }
+
+-- the board of a ledger
+pub board_shown : {E : Type 0} (r : Result Board E) (limits : Bounds) (content c : Content) → IfOk r (λ b. b ≡ board quarter_seconds (entries content)) → content ≡ c → Reached limits c.changes c → IfOk r IsBoardOfSome
+board_shown (Ok b) limits content c shown is reached = record { limits = limits; content = c; reached = reached; shown = shown ∙ ap (λ d. board quarter_seconds (entries d)) is }
+board_shown (Err e) limits content c shown is reached = tt

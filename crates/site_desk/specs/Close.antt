@@ -1,0 +1,103 @@
+use Rattle.std.specs.Prelude.{◌≡◌, ℕ, ◌<◌, ◌==◌, if◌then◌else◌, List, filter, map, length, count_by, sum_by, Some, slice_get, refl}
+use Rattle.std.specs.Coded.{Coded, code_by, coded×, coded_list, coded_ℕ}
+use Rattle.ledger_model.specs.declared.figures.Figures.{Figures}
+use Rattle.ledger_model.specs.Board.{figures, plus_figures, sum_of_figures}
+use Rattle.ledger_model.specs.Content.{entries}
+use Rattle.ledger_model.specs.Limits.{Bounds}
+use Rattle.ledger_model.specs.Posts.{Post, totals_after}
+use Rattle.ledger_model.specs.Step.{Reached}
+use Rattle.site_book.specs.Book.{Book, Known}
+use Rattle.site_book.specs.Prefix.{IsPrefix}
+use Rattle.site_desk.specs.declared.roster.Place.{Place}
+use Rattle.station_ledger.specs.Ledger.{bounds_code}
+use Rattle.site_desk.specs.Cell.{Cell, Held, cell_code}
+use Rattle.site_desk.specs.Parts.{IsTied}
+use Rattle.site_desk.specs.Roster.{Roster, StandsAt}
+
+-- What is closed: the cells of all stations and the books of all sites, in the plan's order.
+pub record Ended : Type 0 where
+  pub cells : List Cell
+  pub books : List Book
+
+-- Figures are kept as the tuple of their parts.
+abbrev pub figures_code : Coded Figures
+figures_code = code_by (ℕ × (ℕ × (ℕ × (ℕ × (ℕ × (ℕ × ℕ)))))) (coded× coded_ℕ (coded× coded_ℕ (coded× coded_ℕ (coded× coded_ℕ (coded× coded_ℕ (coded× coded_ℕ coded_ℕ))))))
+    (λ f. (f.events, (f.voided, (f.transactions, (f.complete, (f.missing, (f.up, f.down)))))))
+    (λ p. record { events = p.0; voided = p.1.0; transactions = p.1.1.0; complete = p.1.1.1.0; missing = p.1.1.1.1.0; up = p.1.1.1.1.1.0; down = p.1.1.1.1.1.1 })
+    (λ _. refl)
+
+-- A book is kept as the tuple of its parts.
+abbrev pub book_code : Coded Book
+book_code = code_by (ℕ × (List Bounds × List Post)) (coded× coded_ℕ (coded× (coded_list bounds_code) (coded_list (coded× coded_ℕ figures_code)))) (λ b. (b.site, (b.limits, b.posts))) (λ p. record { site = p.0; limits = p.1.0; posts = p.1.1 }) (λ _. refl)
+
+-- They are kept as the pair of both lists.
+abbrev pub ended_code : Coded Ended
+ended_code = code_by (List Cell × List Book) (coded× (coded_list cell_code) (coded_list book_code)) (λ e. (e.cells, e.books)) (λ p. record { cells = p.0; books = p.1 }) (λ _. refl)
+
+-- How many of these passes are a station's.
+abbrev pub passes_of : ℕ → List Held → ℕ
+passes_of number passes = count_by (λ p. p.station == number) passes
+
+-- How many changes a station's passes made.
+abbrev pub changes_of : ℕ → List Held → ℕ
+changes_of number passes = sum_by (λ p. if p.station == number then p.changes else 0) passes
+
+-- The figures of a site: the sums over its stations.
+abbrev pub figures_at : List Cell → ℕ → Figures
+figures_at cells site = sum_of_figures (map (λ c. figures (entries c.content)) (filter (λ c. c.site == site) cells))
+
+-- These figures with the cell's, where it is the site's.
+abbrev pub figures_with : Cell → ℕ → Figures → Figures
+figures_with c site sum = if c.site == site then plus_figures (figures (entries c.content)) sum else sum
+
+-- The cell is that of the station of this number, where the plan has it.
+pub record IsPlaced (places : List Place) (number : ℕ) (c : Cell) : Type 0 where
+  pub place : Place
+  pub there : slice_get places number ≡ Some place
+  pub stands : StandsAt number place c
+
+-- As many accepted commands as the station's passes made lead from the empty content to this one.
+pub record IsCounted (passes : List Held) (number : ℕ) (c : Cell) : Type 0 where
+  pub changes : c.content.changes ≡ changes_of number passes
+  pub reached : Reached c.limits (changes_of number passes) c.content
+
+-- The cell is where the plan has it, its content is what its passes made, and its row is tied.
+pub record IsWhole (places : List Place) (books : List Book) (passes : List Held) (number : ℕ) (c : Cell) : Type 0 where
+  pub placed : IsPlaced places number c
+  pub counted : IsCounted passes number c
+  pub tied : IsTied books c
+
+-- The book is that of the site of this number, and its totals are the sums over the site's stations.
+pub record IsSummed (cells : List Cell) (site : ℕ) (b : Book) : Type 0 where
+  pub number : b.site ≡ site
+  pub totals : totals_after b.posts ≡ figures_at cells site
+
+-- What the viewer knew begins its site's posts.
+pub record Saw (books : List Book) (v : Known) : Type 0 where
+  pub book : Book
+  pub there : slice_get books v.site ≡ Some book
+  pub prefix : IsPrefix v.posts book.posts
+
+-- All passes that the cells gave out are here.
+abbrev pub AreAllPasses : List Cell → List Held → Type 0
+AreAllPasses cells passes = (k : ℕ) (c : Cell) → slice_get cells k ≡ Some c → passes_of k passes ≡ length c.counts
+
+-- Each cell is whole.
+abbrev pub AreWhole : List Place → List Book → List Held → List Cell → Type 0
+AreWhole places books passes cells = (k : ℕ) (c : Cell) → slice_get cells k ≡ Some c → IsWhole places books passes k c
+
+-- Each book's totals are the sums over its site's stations.
+abbrev pub AreSummed : List Cell → List Book → Type 0
+AreSummed cells books = (site : ℕ) (b : Book) → slice_get books site ≡ Some b → IsSummed cells site b
+
+-- Each viewer is at one of so many sites.
+abbrev pub AreViewed : ℕ → List Known → Type 0
+AreViewed sites viewers = (k : ℕ) (v : Known) → slice_get viewers k ≡ Some v → v.site < sites
+
+-- What lay behind the locks of a desk fits together, with all passes and viewers.
+pub record IsClosable (desk : Roster) (cells : List Cell) (books : List Book) (passes : List Held) (viewers : List Known) : Type 0 where
+  pub all_passes : AreAllPasses cells passes
+  pub all_viewers : length viewers ≡ desk.viewers
+  pub whole : AreWhole desk.stations books passes cells
+  pub summed : AreSummed cells books
+  pub viewed : AreViewed (length books) viewers

@@ -1,0 +1,58 @@
+use Rattle.std.specs.Prelude.{◌≡◌, ℕ, suc, ◌+◌, ◌≤◌, List, [], ◌∷◌, ◌++◌, Option, None, Some}
+use Rattle.ledger_model.specs.declared.answer.Answer.{Answer}
+use Rattle.ledger_model.specs.declared.answer.Answer.TheVariants.{Accepted, Repeat, Refused}
+use Rattle.ledger_model.specs.declared.answer.Refusal.TheVariants.{ConflictingEvent, TooManyTransactions, EventsFull, ReadingsFull, NoSuchEvent, AlreadyVoided, NotVoided, ChangesExhausted}
+use Rattle.ledger_model.specs.declared.command.Command.{Command}
+use Rattle.ledger_model.specs.Board.{Board, board, figures}
+use Rattle.ledger_model.specs.Content.{Content, entries}
+use Rattle.ledger_model.specs.Limits.{Bounds}
+use Rattle.ledger_model.specs.Posts.{Post}
+use Rattle.ledger_model.specs.Quarter.{quarter_seconds}
+use Rattle.ledger_model.specs.Step.{Reached, answer, step}
+use Rattle.site_book.specs.Book.{Known, known}
+use Rattle.site_desk.specs.declared.roster.Place.{Place}
+use Rattle.site_desk.specs.Cell.{Held}
+
+-- The command was accepted as change n at some content that n - 1 accepted commands leave; its station's figures after it were posted last, and the pass made one change more.
+pub record IsTaken (at : Place) (p : Held) (command : Command) (n : ℕ) (p' : Held) (told : Option Known) : Type 0 where
+  pub before : Content
+  pub count : ℕ
+  pub number : n ≡ suc count
+  pub reached : Reached at.limits count before
+  pub answered : answer at.limits before command ≡ Accepted n
+  pub posts : List Post
+  pub posted : told ≡ Some (known at.site (posts ++ (at.row, figures (entries (step at.limits before command).0)) ∷ []))
+  pub pass : p' ≡ record p { changes = p.changes + 1 }
+  pub enough : p'.changes ≤ n
+
+-- The pass is as it was, and nothing was told.
+pub record IsUnchanged (p p' : Held) (told : Option Known) : Type 0 where
+  pub pass : p' ≡ p
+  pub untold : told ≡ None
+
+-- This is the answer to the command at some content that accepted commands leave, and nothing changed.
+pub record IsAnswered (at : Place) (p : Held) (command : Command) (told_answer : Answer) (p' : Held) (told : Option Known) : Type 0 where
+  pub before : Content
+  pub reached : Reached at.limits before.changes before
+  pub answered : answer at.limits before command ≡ told_answer
+  pub unchanged : IsUnchanged p p' told
+
+-- What a submitted command comes to, at a station of this place.
+abbrev pub Submitted : Place → Held → Command → Answer → Held → Option Known → Type 0
+Submitted at p command (Accepted n) p' told = IsTaken at p command n p' told
+Submitted at p command Repeat p' told = IsAnswered at p command Repeat p' told
+Submitted at p command (Refused ChangesExhausted) p' told = IsUnchanged p p' told
+Submitted at p command (Refused ConflictingEvent) p' told = IsAnswered at p command (Refused ConflictingEvent) p' told
+Submitted at p command (Refused TooManyTransactions) p' told = IsAnswered at p command (Refused TooManyTransactions) p' told
+Submitted at p command (Refused EventsFull) p' told = IsAnswered at p command (Refused EventsFull) p' told
+Submitted at p command (Refused ReadingsFull) p' told = IsAnswered at p command (Refused ReadingsFull) p' told
+Submitted at p command (Refused NoSuchEvent) p' told = IsAnswered at p command (Refused NoSuchEvent) p' told
+Submitted at p command (Refused AlreadyVoided) p' told = IsAnswered at p command (Refused AlreadyVoided) p' told
+Submitted at p command (Refused NotVoided) p' told = IsAnswered at p command (Refused NotVoided) p' told
+
+-- The board is that of some content that accepted commands leave within some limits.
+pub record IsBoardOfSome (b : Board) : Type 0 where
+  pub limits : Bounds
+  pub content : Content
+  pub reached : Reached limits content.changes content
+  pub shown : b ≡ board quarter_seconds (entries content)

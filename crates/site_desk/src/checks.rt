@@ -1,0 +1,210 @@
+//! What a desk compares before it is closed.
+ghost use Rattle.std.specs.Prelude.{◌≡◌, ◌≢◌, IsTrue, IfNone, IfSome, length};
+ghost use Rattle.ledger_model.specs.Board.{plus_figures};
+ghost use Rattle.site_desk.specs.Close.{AreAllPasses, AreSummed, AreViewed, AreWhole, IsClosable, IsCounted, IsPlaced, IsSummed, IsWhole, changes_of, figures_at, figures_with, passes_of};
+ghost use Rattle.site_desk.specs.Parts.{IsTied};
+ghost use Rattle.site_desk.specs.declared.fault.CloseFault.{CloseFault};
+
+use crate::cell::StationCell;
+use crate::fault::CloseFault;
+use crate::pass::Pass;
+use crate::roster::Place;
+use crate::steps::{are_same, tied};
+use crate::submit::stands_at;
+use ledger_model::Figures;
+use site_book::{Naming, SiteBook, Viewer};
+
+// How many of the passes are the station's.
+fn passes_of(passes: &[Pass], number: usize) -> usize
+    ensures { result ≡ passes_of number passes.now }
+{
+    let mut count = 0;
+    for pass in passes {
+        if pass.station() as usize == number {
+            count += 1;
+        }
+    }
+    count
+}
+
+// How many changes the station's passes made, where that fits.
+fn changes_of(passes: &[Pass], number: usize) -> Option<u64>
+    ensures { IfSome result (λ n. n ≡ changes_of number passes.now) }
+{
+    let mut changes: u64 = 0;
+    for pass in passes {
+        if pass.station() as usize == number {
+            changes = changes.checked_add(pass.changes())?;
+        }
+    }
+    Some(changes)
+}
+
+// Tells whether all passes that the cells gave out are here.
+pub(crate) fn are_all_passes(cells: &[StationCell], passes: &[Pass]) -> bool
+    ensures { IsTrue result → AreAllPasses cells.now passes.now }
+{
+    for k in 0..cells.len() {
+        if passes_of(passes, k) != cells[k].passes() {
+            return false;
+        }
+    }
+    true
+}
+
+// Tells whether the cell is where the plan has it.
+fn is_placed(cell: &StationCell, number: usize, places: &[Place]) -> bool
+    ensures { IsTrue result → IsPlaced places.now number cell.now }
+{
+    match places.get(number) {
+        Some(place) => stands_at(cell, number, place),
+        None => false,
+    }
+}
+
+// Tells whether the station's passes made as many changes as its ledger counts.
+fn is_counted(cell: &StationCell, number: usize, passes: &[Pass]) -> bool
+    ensures { IsTrue result → IsCounted passes.now number cell.now }
+{
+    match changes_of(passes, number) {
+        Some(changes) => cell.ledger().changes() == changes,
+        None => false,
+    }
+}
+
+// Tells whether the cell's row stands in its site's book and shows its figures.
+fn is_tied<J: Naming>(cell: &StationCell, books: &[SiteBook<J>]) -> bool
+    ensures { IsTrue result → IsTied books.now cell.now }
+{
+    match books.get(cell.site() as usize) {
+        Some(book) => book.holds(cell.row(), cell.ledger().limits()) && tied(cell, book),
+        None => false,
+    }
+}
+
+// Tells whether the cell is whole.
+fn is_whole<J: Naming>(
+    cell: &StationCell,
+    number: usize,
+    places: &[Place],
+    books: &[SiteBook<J>],
+    passes: &[Pass],
+) -> bool
+    ensures { IsTrue result → IsWhole places.now books.now passes.now number cell.now }
+{
+    is_placed(cell, number, places) && is_counted(cell, number, passes) && is_tied(cell, books)
+}
+
+// Tells whether each cell is whole.
+pub(crate) fn are_whole<J: Naming>(
+    cells: &[StationCell],
+    places: &[Place],
+    books: &[SiteBook<J>],
+    passes: &[Pass],
+) -> bool
+    ensures { IsTrue result → AreWhole places.now books.now passes.now cells.now }
+{
+    for k in 0..cells.len() {
+        if !is_whole(&cells[k], k, places, books, passes) {
+            return false;
+        }
+    }
+    true
+}
+
+// Both figures added up, where that fits.
+fn plus(figures: &Figures, others: &Figures) -> Option<Figures>
+    ensures { IfSome result (λ f. f ≡ plus_figures figures.now others.now) }
+{
+    Some(Figures {
+        events: figures.events.checked_add(others.events)?,
+        voided: figures.voided.checked_add(others.voided)?,
+        transactions: figures.transactions.checked_add(others.transactions)?,
+        complete: figures.complete.checked_add(others.complete)?,
+        missing: figures.missing.checked_add(others.missing)?,
+        up: figures.up.checked_add(others.up)?,
+        down: figures.down.checked_add(others.down)?,
+    })
+}
+
+// These sums with the cell's figures, where it is the site's and they fit.
+fn plus_at(cell: &StationCell, site: usize, sum: &Figures) -> Option<Figures>
+    ensures { IfSome result (λ f. f ≡ figures_with cell.now site sum.now) }
+{
+    if cell.site() as usize == site {
+        plus(&cell.ledger().figures(), sum)
+    } else {
+        Some(*sum)
+    }
+}
+
+// The sums over the stations of a site, where they fit.
+fn figures_at(cells: &[StationCell], site: usize) -> Option<Figures>
+    ensures { IfSome result (λ f. f ≡ figures_at cells.now site) }
+{
+    let mut sum = Figures::zero();
+    for done in 0..cells.len() {
+        sum = plus_at(&cells[cells.len() - 1 - done], site, &sum)?;
+    }
+    Some(sum)
+}
+
+// Tells whether the book is that of this site, and its totals the sums over the site's stations.
+fn is_summed<J: Naming>(book: &SiteBook<J>, site: usize, cells: &[StationCell]) -> bool
+    ensures { IsTrue result → IsSummed cells.now site book.now }
+{
+    match figures_at(cells, site) {
+        Some(figures) => book.site() as usize == site && are_same(&book.totals(), &figures),
+        None => false,
+    }
+}
+
+// Tells whether each book's totals are the sums over its site's stations.
+pub(crate) fn are_summed<J: Naming>(books: &[SiteBook<J>], cells: &[StationCell]) -> bool
+    ensures { IsTrue result → AreSummed cells.now books.now }
+{
+    for site in 0..books.len() {
+        if !is_summed(&books[site], site, cells) {
+            return false;
+        }
+    }
+    true
+}
+
+// Tells whether each viewer's site is one of so many.
+pub(crate) fn are_viewed<J: Naming>(viewers: &[Viewer<J>], sites: usize) -> bool
+    ensures { IsTrue result → AreViewed sites viewers.now }
+{
+    for viewer in viewers {
+        if viewer.site() as usize >= sites {
+            return false;
+        }
+    }
+    true
+}
+
+// What keeps a desk from being closed, if anything does.
+pub(crate) fn fault_of<J: Naming>(
+    places: &[Place],
+    given: usize,
+    cells: &[StationCell],
+    books: &[SiteBook<J>],
+    passes: &[Pass],
+    viewers: &[Viewer<J>],
+) -> Option<CloseFault>
+    ensures whole { IfNone result (IsClosable (record { stations = places.now; viewers = given }) cells.now books.now passes.now viewers.now) }
+    ensures missing { result ≡ Some CloseFault.ViewerMissing → length viewers.now ≢ given }
+{
+    if !are_all_passes(cells, passes) {
+        return Some(CloseFault::PassMissing);
+    }
+    if viewers.len() != given {
+        return Some(CloseFault::ViewerMissing);
+    }
+    let is_whole = are_whole(cells, places, books, passes);
+    if is_whole && are_summed(books, cells) && are_viewed(viewers, books.len()) {
+        None
+    } else {
+        Some(CloseFault::Torn)
+    }
+}

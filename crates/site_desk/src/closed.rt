@@ -1,0 +1,115 @@
+ghost use Rattle.std.specs.Prelude.{◌≡◌, ◌<◌, length, Some, slice_get};
+ghost use Rattle.ledger_model.specs.Board.{figures};
+ghost use Rattle.ledger_model.specs.Content.{entries};
+ghost use Rattle.ledger_model.specs.Posts.{totals_after};
+ghost use Rattle.site_book.specs.Book.{Book};
+ghost use Rattle.site_desk.specs.Cell.{Cell};
+ghost use Rattle.site_desk.specs.Parts.{AreTied};
+
+use crate::cell::StationCell;
+use crate::desk::Desk;
+use crate::fault::CloseFault;
+use crate::pass::Pass;
+use ledger_model::{Figures, Listed};
+use site_book::{Naming, SiteBook, Viewer};
+use station_ledger::StationLedger;
+use std::marker::Model;
+
+/// A desk that was closed: all ledgers, rows and totals, which no lock guards any more.
+#[derive(Drop)]
+pub struct Closed<J: Naming> {
+    cells: Vec<StationCell>,
+    books: Vec<SiteBook<J>>,
+}
+
+impl<J: Naming> Model for Closed<J> {
+    ghost use Rattle.site_desk.specs.Close.{Ended, ended_code};
+
+    ghost Value = { Ended };
+
+    ghost coded = { ended_code };
+
+    ghost use Rattle.site_desk.specs.Parts.{AreTied};
+
+    ghost view = { λ c. record { cells = c.cells.items; books = c.books.items } };
+
+    ghost invariant = { λ c. AreTied c.cells.items c.books.items };
+}
+
+impl<J: Naming> Closed<J> {
+    // What was under the locks.
+    pub(crate) fn of(cells: Vec<StationCell>, books: Vec<SiteBook<J>>) -> Self
+        requires { AreTied cells.items books.items }
+        ensures { result ≡ record { cells = cells.items; books = books.items } }
+    {
+        Closed { cells, books }
+    }
+
+    /// How many stations it has.
+    pub fn stations(&self) -> usize
+        ensures { result ≡ length self.now.cells }
+    {
+        self.cells.len()
+    }
+
+    /// How many sites it has.
+    pub fn sites(&self) -> usize
+        ensures { result ≡ length self.now.books }
+    {
+        self.books.len()
+    }
+
+    /// The ledger of the station of this number.
+    ///
+    /// Condition: it has the station ([`Closed::stations`] tells).
+    pub fn ledger(&self, station: u16) -> &StationLedger
+        requires { station < length self.now.cells }
+        ensures { (c : Cell) → slice_get self.now.cells station ≡ Some c → result.now ≡ record { limits = c.limits; content = c.content } }
+    {
+        self.cells[station as usize].ledger()
+    }
+
+    /// The figures that the station's row shows: those of its ledger.
+    ///
+    /// Condition: it has the station ([`Closed::stations`] tells).
+    pub fn row(&self, station: u16) -> Figures
+        requires { station < length self.now.cells }
+        ensures { (c : Cell) → slice_get self.now.cells station ≡ Some c → result ≡ figures (entries c.content) }
+    {
+        let cell = &self.cells[station as usize];
+        self.books[cell.site() as usize].row(cell.row())
+    }
+
+    /// How many commands the station accepted.
+    ///
+    /// Condition: it has the station ([`Closed::stations`] tells).
+    pub fn changes(&self, station: u16) -> u64
+        requires { station < length self.now.cells }
+        ensures { (c : Cell) → slice_get self.now.cells station ≡ Some c → result ≡ c.content.changes }
+    {
+        self.cells[station as usize].ledger().changes()
+    }
+
+    /// The totals of the site of this number.
+    ///
+    /// Condition: it has the site ([`Closed::sites`] tells).
+    pub fn totals(&self, site: u16) -> Figures
+        requires { site < length self.now.books }
+        ensures { (b : Book) → slice_get self.now.books site ≡ Some b → result ≡ totals_after b.posts }
+    {
+        self.books[site as usize].totals()
+    }
+}
+
+/// A desk that was not closed, with the passes and viewers that were handed in, all as they were.
+#[derive(Drop)]
+pub struct CloseRefused<J: Naming> {
+    /// The desk.
+    pub desk: Desk<J>,
+    /// The passes.
+    pub passes: Listed<Pass>,
+    /// The viewers.
+    pub viewers: Listed<Viewer<J>>,
+    /// Why it was not closed.
+    pub fault: CloseFault,
+}

@@ -1,0 +1,247 @@
+ghost use Rattle.std.specs.Prelude.{◌≡◌, ◌≢◌, ◌↔◌, ℕ, ◌<◌, All, length, IfOk, IfErr, OnOk, None, Some, false, slice_get};
+ghost use Rattle.std.specs.List.{list_any};
+ghost use Rattle.std.specs.Str.{bytes_eq};
+ghost use Rattle.ledger_model.specs.declared.answer.Answer.{Answer};
+ghost use Rattle.ledger_model.specs.declared.answer.Refusal.{Refusal};
+ghost use Rattle.site_book.specs.Tables.{HasTable, NamedBy};
+ghost use Rattle.site_desk.specs.declared.fault.BoardFault.{BoardFault};
+ghost use Rattle.site_desk.specs.declared.fault.CloseFault.{CloseFault};
+ghost use Rattle.site_desk.specs.declared.fault.DeskFault.{DeskFault};
+ghost use Rattle.site_desk.specs.declared.fault.EnlistFault.{EnlistFault};
+ghost use Rattle.site_desk.specs.declared.roster.Place.{Place};
+ghost use Rattle.site_desk.specs.Close.{IsClosable, Saw};
+ghost use Rattle.site_desk.specs.Parts.{new_viewers};
+ghost use Rattle.site_desk.specs.Plan.{plan_fault};
+ghost use Rattle.site_desk.specs.Roster.{AreNewPlaces, IsNamed};
+ghost use Rattle.site_desk.specs.Submit.{IsBoardOfSome, IsUnchanged, Submitted};
+
+use crate::cell::{StationCell, enlist_cell};
+use crate::checks::fault_of;
+use crate::closed::{CloseRefused, Closed};
+use crate::fault::{BoardFault, DeskFault, EnlistFault};
+use crate::gate::Gate;
+use crate::locks::{Locked, Spare, lock_up, take_viewers, unlock};
+use crate::parts::Parts;
+use crate::pass::Pass;
+use crate::plan::Plan;
+use crate::roster::{Place, number_of, open_places};
+use crate::submit::{board_of, try_settle};
+use ledger_model::{Answer, Command, Listed, Name, Refusal};
+use site_book::{Naming, SiteBook, Tables, Told, Viewer};
+use station_ledger::StationBoard;
+use std::alloc::{AllocError, Global};
+use std::marker::Model;
+use std::sync::{Mutex, Wait};
+use std::thread::Threads;
+use std::time::Clock;
+
+/// The stations and sites of a plan, each station and each site's book behind a lock of its own, the
+/// station's taken first. Contracts see where each station stands, and how many viewers there are.
+#[derive(Drop)]
+pub struct Desk<J: Naming> {
+    places: Vec<Place>,
+    viewers: usize,
+    cells: Vec<Locked<StationCell>>,
+    books: Vec<Locked<SiteBook<J>>>,
+    spare: Mutex<Spare<J>>,
+}
+
+impl<J: Naming> Model for Desk<J> {
+    ghost use Rattle.site_desk.specs.Roster.{Roster};
+
+    ghost Value = { Roster };
+
+    ghost use Rattle.std.specs.Prelude.{vec_len};
+    ghost use Rattle.site_desk.specs.Roster.{IsDesk};
+
+    ghost view = { λ d. record { stations = d.places.items; viewers = d.viewers } };
+
+    ghost invariant = { λ d. IsDesk d.places.items (vec_len d.cells) (vec_len d.books) };
+}
+
+impl<J: Naming> Desk<J> {
+    /// The desk of a plan, all without events, and its viewers, each with its site's number, site by
+    /// site. Faults come as from [`Parts::open`]; a refusal drops the tables.
+    ///
+    /// Condition: the tables are those that J names, and each site's is there, as
+    /// [`Tables::make`](site_book::Tables::make) gives them.
+    pub fn open(
+        alloc: Global,
+        tables: Tables,
+        plan: &Plan,
+    ) -> Result<(Self, Vec<(u16, Viewer<J>)>), DeskFault>
+        requires named { NamedBy J.table tables }
+        requires there { (site : ℕ) → site < length plan.now.sites.items → HasTable tables site }
+        ensures limits { (result ≡ Err DeskFault.PlanLimit) ↔ (plan_fault plan.now.sites.items plan.now.stations.items ≡ Some DeskFault.PlanLimit) }
+        ensures twice { (result ≡ Err DeskFault.StationTwice) ↔ (plan_fault plan.now.sites.items plan.now.stations.items ≡ Some DeskFault.StationTwice) }
+        ensures stations { IfOk result (λ r. AreNewPlaces plan.now.stations.items r.0.stations) }
+        ensures viewers { IfOk result (λ r. r.1.items ≡ new_viewers 0 plan.now.sites.items) }
+        ensures given { IfOk result (λ r. r.0.viewers ≡ length r.1.items) }
+    {
+        match Parts::open(alloc, tables, plan) {
+            Err(fault) => Err(fault),
+            Ok(parts) => match lock_parts(alloc, plan, parts) {
+                Ok(desk) => Ok(desk),
+                Err(_) => Err(DeskFault::OutOfMemory),
+            },
+        }
+    }
+
+    /// A pass of the station of this name, which made no change yet. It waits for the station's lock.
+    pub fn enlist<R: Wait + Threads>(&self, rt: &R, name: &Name) -> Result<Pass, EnlistFault>
+        ensures unknown { (result ≡ Err EnlistFault.UnknownStation) ↔ (list_any (λ p. bytes_eq name.now p.name) self.now.stations ≡ false) }
+        ensures station { IfOk result (λ p. IsNamed self.now.stations name.now p.station) }
+        ensures changes { IfOk result (λ p. p.changes ≡ 0) }
+    {
+        let Some(number) = number_of(&self.places, name) else {
+            return Err(EnlistFault::UnknownStation);
+        };
+        let lock: &Mutex<StationCell> = &self.cells[number];
+        let mut cell = lock.lock(rt);
+        if cell.station() as usize != number {
+            return Err(EnlistFault::TooManyPasses);
+        }
+        match enlist_cell(rt, &mut cell) {
+            Ok(pass) => Ok(pass),
+            Err(_) => Err(EnlistFault::TooManyPasses),
+        }
+    }
+
+    /// Takes a command of a pass and answers it, under the station's lock and then its site's: where it
+    /// is accepted, the station's new figures are posted, and what the book told comes with the answer.
+    /// Any other answer changes nothing. `ChangesExhausted` also answers a pass of no station of this
+    /// desk, and where what lies behind the locks is not as it should be, which no run of fewer than
+    /// 2^62 accepted changes a site meets.
+    pub fn submit<G: Gate, R: Wait + Clock>(
+        &self,
+        rt: &R,
+        pass: &mut Pass,
+        command: Command,
+        gate: &G,
+    ) -> (Answer, Option<Told<J>>)
+        ensures settled { (at : Place) → slice_get self.now.stations pass.old.station ≡ Some at → Submitted at pass.old command result.0 pass.new result.1 }
+        ensures stranger { slice_get self.now.stations pass.old.station ≡ None → (result.0 ≡ Answer.Refused Refusal.ChangesExhausted) × IsUnchanged pass.old pass.new result.1 }
+    {
+        let number = pass.station() as usize;
+        let Some(place) = self.places.get(number) else {
+            return (Answer::Refused(Refusal::ChangesExhausted), None);
+        };
+        let lock: &Mutex<StationCell> = &self.cells[number];
+        let mut cell = lock.lock(rt);
+        gate.held(rt, &place.name);
+        let lock: &Mutex<SiteBook<J>> = &self.books[place.site as usize];
+        let mut book = lock.lock(rt);
+        try_settle(&mut cell, &mut book, number, place, pass, command)
+    }
+
+    /// The board of the station of this name. It waits for the station's lock.
+    pub fn station_board<R: Wait>(
+        &self,
+        rt: &R,
+        alloc: Global,
+        name: &Name,
+    ) -> Result<StationBoard, BoardFault>
+        ensures unknown { (result ≡ Err BoardFault.UnknownStation) ↔ (list_any (λ p. bytes_eq name.now p.name) self.now.stations ≡ false) }
+        ensures board { IfOk result IsBoardOfSome }
+    {
+        let Some(number) = number_of(&self.places, name) else {
+            return Err(BoardFault::UnknownStation);
+        };
+        let lock: &Mutex<StationCell> = &self.cells[number];
+        let cell = lock.lock(rt);
+        match board_of(&cell, alloc) {
+            Ok(board) => Ok(board),
+            Err(_) => Err(BoardFault::OutOfMemory),
+        }
+    }
+
+    /// Closes the desk. All values are moved out of their locks and compared, and only then is anything
+    /// given up; it takes no memory. The passes and viewers are to be all that were given out: a
+    /// missing one is told, passes first, and what does not fit together is `Torn`.
+    pub fn close(
+        self,
+        passes: Vec<Pass>,
+        viewers: Vec<Viewer<J>>,
+    ) -> Result<Closed<J>, CloseRefused<J>>
+        ensures stations { IfOk result (λ s. length s.cells ≡ length self.stations) }
+        ensures whole { IfOk result (λ s. IsClosable self s.cells s.books passes.items viewers.items) }
+        ensures seen { IfOk result (λ s. All (Saw s.books) viewers.items) }
+        ensures viewer { IfErr result (λ r. r.fault ≡ CloseFault.ViewerMissing → length viewers.items ≢ self.viewers) }
+        ensures desk { IfErr result (λ r. r.desk ≡ self) }
+        ensures passes { IfErr result (λ r. r.passes ≡ passes.items) }
+        ensures viewers { IfErr result (λ r. r.viewers ≡ viewers.items) }
+    {
+        let Desk {
+            places,
+            viewers: given,
+            cells: mut locked_cells,
+            books: mut locked_books,
+            spare,
+        } = self;
+        let Spare {
+            mut cells,
+            mut books,
+        } = spare.into_inner();
+        unlock(&mut locked_cells, &mut cells);
+        unlock(&mut locked_books, &mut books);
+        match fault_of(&places, given, &cells, &books, &passes, &viewers) {
+            None => {
+                take_viewers(&mut books, viewers);
+                Ok(Closed::of(cells, books))
+            }
+            Some(fault) => {
+                lock_up(&mut cells, &mut locked_cells);
+                lock_up(&mut books, &mut locked_books);
+                let spare = Mutex::new(Spare { cells, books });
+                Err(CloseRefused {
+                    desk: Desk {
+                        places,
+                        viewers: given,
+                        cells: locked_cells,
+                        books: locked_books,
+                        spare,
+                    },
+                    passes: Listed::of(passes),
+                    viewers: Listed::of(viewers),
+                    fault,
+                })
+            }
+        }
+    }
+}
+
+// The parts of a plan behind their locks, with room to close them.
+fn lock_parts<J: Naming>(
+    alloc: Global,
+    plan: &Plan,
+    parts: Parts<J>,
+) -> Result<(Desk<J>, Vec<(u16, Viewer<J>)>), AllocError>
+    requires faultless { plan_fault plan.now.sites.items plan.now.stations.items ≡ None }
+    requires cells { length parts.cells ≡ length plan.now.stations.items }
+    requires books { length parts.books ≡ length plan.now.sites.items }
+    ensures stations { IfOk result (λ r. AreNewPlaces plan.now.stations.items r.0.stations) }
+    ensures viewers { IfOk result (λ r. r.1.items ≡ parts.viewers) }
+    ensures given { IfOk result (λ r. r.0.viewers ≡ length r.1.items) }
+{
+    let Parts {
+        cells,
+        books,
+        viewers,
+    } = parts;
+    let (mut free_cells, mut free_books) = (cells.into_vec(), books.into_vec());
+    let viewers = viewers.into_vec();
+    let places = open_places(alloc, plan.stations.as_slice())?;
+    let spare = Spare::open(alloc)?;
+    let mut cells = Vec::with_capacity(alloc, plan.stations.len())?;
+    let mut books = Vec::with_capacity(alloc, plan.sites.len())?;
+    lock_up(&mut free_cells, &mut cells);
+    lock_up(&mut free_books, &mut books);
+    let desk = Desk {
+        places,
+        viewers: viewers.len(),
+        cells,
+        books,
+        spare: Mutex::new(spare),
+    };
+    Ok((desk, viewers))
+}

@@ -1,0 +1,23 @@
+use ledger_model::Name;
+use std::sync::Wait;
+use std::time::Clock;
+
+/// What is told when a desk holds a station, and when a session has answered a call. Nothing is asked
+/// of it: it may wait, as one that holds a station back for a test does.
+pub trait Gate {
+    /// A submitted command has its station's lock, and not yet that of its site's book.
+    fn held<R: Wait + Clock>(&self, rt: &R, station: &Name);
+
+    /// A session has answered the call of this number, counted from 1.
+    fn after<R: Wait + Clock>(&self, rt: &R, station: &Name, call: u64);
+}
+
+/// A gate that does nothing.
+#[derive(Clone, Copy, Debug)]
+pub struct NoGate;
+
+impl Gate for NoGate {
+    fn held<R: Wait + Clock>(&self, _rt: &R, _station: &Name) {}
+
+    fn after<R: Wait + Clock>(&self, _rt: &R, _station: &Name, _call: u64) {}
+}

@@ -1,0 +1,50 @@
+//! Where the stations of a desk stand, which no lock guards.
+ghost use Rattle.std.specs.Prelude.{◌≡◌, ◌≤◌, length, IfOk, IfSome, is_some};
+ghost use Rattle.std.specs.List.{list_any};
+ghost use Rattle.std.specs.Str.{bytes_eq};
+ghost use Rattle.site_desk.specs.Roster.{AreNewPlaces, IsNamed};
+
+use crate::parts::row_of;
+use crate::plan::StationPlan;
+use ledger_model::{Limits, Name};
+use std::alloc::{AllocError, Global};
+
+// Where a station stands: its name, its site's number, its row in the site's book, and its limits.
+#[derive(Drop)]
+pub struct Place {
+    pub(crate) name: Name,
+    pub(crate) site: u16,
+    pub(crate) row: u16,
+    pub(crate) limits: Limits,
+}
+
+// The place of each station of a plan.
+pub(crate) fn open_places(alloc: Global, stations: &[StationPlan]) -> Result<Vec<Place>, AllocError>
+    requires { length stations.now ≤ 64 }
+    ensures { IfOk result (λ places. AreNewPlaces stations.now places.items) }
+{
+    let mut places = Vec::with_capacity(alloc, stations.len())?;
+    for k in 0..stations.len() {
+        let station = &stations[k];
+        places.push(Place {
+            name: station.name.copied(),
+            site: station.site,
+            row: row_of(stations, station.site, k),
+            limits: station.limits,
+        })?;
+    }
+    Ok(places)
+}
+
+// The number of the station of this name.
+pub(crate) fn number_of(places: &[Place], name: &Name) -> Option<usize>
+    ensures known { is_some result ≡ list_any (λ p. bytes_eq name.now p.name) places.now }
+    ensures named { IfSome result (IsNamed places.now name.now) }
+{
+    for k in 0..places.len() {
+        if *name == places[k].name {
+            return Some(k);
+        }
+    }
+    None
+}

@@ -1,0 +1,59 @@
+ghost use Rattle.std.specs.Prelude.{◌≡◌, IsTrue, IfOk};
+ghost use Rattle.site_desk.specs.Roster.{StandsAt};
+ghost use Rattle.site_desk.specs.Submit.{IsBoardOfSome, Submitted};
+
+use crate::cell::StationCell;
+use crate::pass::Pass;
+use crate::roster::Place;
+use crate::steps::{settle, tied};
+use ledger_model::{Answer, Command, Refusal};
+use site_book::{Naming, SiteBook, Told};
+use station_ledger::StationBoard;
+use std::alloc::{AllocError, Global};
+
+// Tells whether the cell is that of the station of this number and place.
+pub(crate) fn stands_at(cell: &StationCell, number: usize, place: &Place) -> bool
+    ensures { IsTrue result → StandsAt number place.now cell.now }
+{
+    cell.station() as usize == number
+        && cell.site() == place.site
+        && cell.row() == place.row
+        && *cell.ledger().limits() == place.limits
+}
+
+// Tells whether the cell is that of the station of this number and place, and the book its site's.
+fn are_at<J: Naming>(cell: &StationCell, book: &SiteBook<J>, number: usize, place: &Place) -> bool
+    ensures { IsTrue result → (StandsAt number place.now cell.now) × (book.now.site ≡ place.now.site) }
+{
+    stands_at(cell, number, place) && book.site() == place.site
+}
+
+// Settles the command where all that settling asks is so; else nothing changes.
+pub(crate) fn try_settle<J: Naming>(
+    cell: &mut StationCell,
+    book: &mut SiteBook<J>,
+    number: usize,
+    place: &Place,
+    pass: &mut Pass,
+    command: Command,
+) -> (Answer, Option<Told<J>>)
+    ensures { Submitted place.now pass.old command result.0 pass.new result.1 }
+{
+    if are_at(cell, book, number, place)
+        && cell.knows(pass)
+        && book.holds(cell.row(), cell.ledger().limits())
+        && book.can_post()
+        && tied(cell, book)
+    {
+        settle(cell, book, pass, command)
+    } else {
+        (Answer::Refused(Refusal::ChangesExhausted), None)
+    }
+}
+
+// The board of a cell's station.
+pub(crate) fn board_of(cell: &StationCell, alloc: Global) -> Result<StationBoard, AllocError>
+    ensures { IfOk result IsBoardOfSome }
+{
+    cell.ledger().board(alloc)
+}
