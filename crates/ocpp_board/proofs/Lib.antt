@@ -9,6 +9,11 @@ pub mod Numbers
 pub mod Places
 pub mod Drafting
 pub mod Answered
+pub mod Settling
+pub mod Enlisted
+pub mod Opened
+pub mod Named
+pub mod Boards
 pub mod AdmissibleLines
 pub mod Flushes
 pub mod Faults

@@ -11,8 +11,8 @@ use Rattle.site_book.specs.Book.{Book}
 use Rattle.site_desk.specs.declared.plan.SitePlan.{SitePlan}
 use Rattle.site_desk.specs.declared.plan.StationPlan.{StationPlan}
 use Rattle.site_desk.specs.Cell.{Cell, Held, Knows}
-use Rattle.site_desk.specs.Parts.{limits_at, row_at}
-use Rattle.site_desk.specs.Settle.{Tied}
+use Rattle.site_desk.specs.Parts.{AreApart, limits_at, row_at}
+use Rattle.site_desk.specs.Settle.{Holds, Tied}
 use Rattle.ocpp_board.specs.Drafts.{Drafted, IsPlan, planned_world}
 use Rattle.ocpp_board.specs.Script.{Script}
 
@@ -36,7 +36,12 @@ pub record IsPlaced (stations : List StationPlan) (number : ℕ) (s : StationPla
   pub row : c.row ≡ row_at stations s.site number
   pub limits : c.limits ≡ s.limits
 
--- What the opened ledgers keep: a cell and a pass for each station and a book for each site, in the plan's order; each cell knows its pass, and its row in its site's book shows the figures of its content.
+-- A cell's row stands in its site's book, and shows the figures of its content.
+pub record IsShown (c : Cell) (b : Book) : Type 0 where
+  pub held : Holds c b
+  pub tied : Tied c b
+
+-- What the opened ledgers keep: a cell and a pass for each station and a book for each site, in the plan's order; each cell knows its pass, and its row in its site's book, which no other cell has, shows the figures of its content.
 pub record IsRunning (sites : List SitePlan) (stations : List StationPlan) (cells : List Cell) (books : List Book) (passes : List Held) : Type 0 where
   pub plan : IsPlan sites stations
   pub all_cells : length cells ≡ length stations
@@ -45,7 +50,8 @@ pub record IsRunning (sites : List SitePlan) (stations : List StationPlan) (cell
   pub placed : (k : ℕ) (s : StationPlan) (c : Cell) → slice_get stations k ≡ Some s → slice_get cells k ≡ Some c → IsPlaced stations k s c
   pub books_are : (site : ℕ) (b : Book) → slice_get books site ≡ Some b → b.limits ≡ limits_at stations site
   pub known : (k : ℕ) (c : Cell) (p : Held) → slice_get cells k ≡ Some c → slice_get passes k ≡ Some p → Knows c p
-  pub tied : (k : ℕ) (c : Cell) (b : Book) → slice_get cells k ≡ Some c → slice_get books c.site ≡ Some b → Tied c b
+  pub shown : (k : ℕ) (c : Cell) (b : Book) → slice_get cells k ≡ Some c → slice_get books c.site ≡ Some b → IsShown c b
+  pub apart : AreApart cells
 
 -- A command on a station of a running script took its step, and this is the answer.
 pub record Settles (old new : Script) (s : Station) (command : Command) (a : Answer) : Type 0 where

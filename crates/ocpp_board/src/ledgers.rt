@@ -1,4 +1,4 @@
-ghost use Rattle.std.specs.Prelude.{◌≡◌, ℕ, ◌+◌, ◌<◌, ◌≤◌, ◌^◌, ◌++◌, ◌∷◌, [], All, length, map, true, OnOk, IfOk, IfSome, slice_get, Some, refl};
+ghost use Rattle.std.specs.Prelude.{◌≡◌, ℕ, ◌+◌, ◌<◌, ◌≤◌, ◌^◌, ◌++◌, ◌∷◌, [], All, length, map, true, OnOk, IfOk, IfSome, slice_get, take, Some, refl};
 ghost use Rattle.std.specs.List.{position};
 ghost use Rattle.std.specs.Str.{bytes_eq};
 ghost use Rattle.board_report.specs.Plans.{AreBoardsWithin};
@@ -233,15 +233,33 @@ impl<J: Naming> Ledgers<J> {
         ensures boards { IfOk result (λ boards. boards.items ≡ boards_at self.now.draft.stations self.now.cells.items site) }
         ensures within { IfOk result (λ boards. AreBoardsWithin (limits_at self.now.draft.stations site) boards.items) }
     {
-        let stations = self.draft.plan().stations.as_slice();
         let mut boards = Vec::new(self.alloc);
-        for number in 0..stations.len() {
-            if stations[number].site as usize == site {
-                let board = self.cells[number].ledger().board(self.alloc)?;
-                boards.push((stations[number].name.copied(), board))?;
-            }
+        for number in 0..self.cells.len() {
+            self.add_board(number, site, &mut boards)?;
         }
         Ok(boards)
+    }
+
+    // Adds the board of the station of this number, where it is at the site, to those of the stations before it.
+    fn add_board(
+        &self,
+        number: usize,
+        site: usize,
+        boards: &mut Vec<(Name, StationBoard)>,
+    ) -> Result<(), AllocError>
+        requires there { number < length self.now.draft.stations }
+        requires boards { boards.old.items ≡ boards_at (take number self.now.draft.stations) self.now.cells.items site }
+        requires within { AreBoardsWithin (limits_at (take number self.now.draft.stations) site) boards.old.items }
+        ensures boards { OnOk result (boards.new.items ≡ boards_at (take (number + 1) self.now.draft.stations) self.now.cells.items site) }
+        ensures within { OnOk result (AreBoardsWithin (limits_at (take (number + 1) self.now.draft.stations) site) boards.new.items) }
+    {
+        let station = &self.draft.plan().stations.as_slice()[number];
+        if station.site as usize != site {
+            return Ok(());
+        }
+        let board = self.cells[number].ledger().board(self.alloc)?;
+        boards.push((station.name.copied(), board))?;
+        Ok(())
     }
 }
 
