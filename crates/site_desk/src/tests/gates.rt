@@ -130,7 +130,7 @@ fn deliver_each_second<J: Naming, R: Wait + Clock>(
     first: u32,
 ) -> Option<Pass> {
     for k in 0..400 {
-        let told = tells(Kind::Updated, first + 2 * k, k as u64, 10 * k as u64);
+        let told = tells(Kind::Updated, first.min(1) + 2 * k, k as u64, 10 * k as u64);
         let (answer, _) = desk.submit(rt, &mut pass, delivery_of(alloc, told)?, &NoGate);
         if !matches!(answer, Answer::Accepted(_)) {
             return None;

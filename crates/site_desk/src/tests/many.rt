@@ -232,6 +232,19 @@ fn shows<J: Naming, R: Abort>(
     }
 }
 
+// A pass of each station.
+fn enlist_all<J: Naming, R: Wait + Threads>(
+    rt: &R,
+    alloc: Global,
+    desk: &Desk<J>,
+) -> Result<Vec<Pass>, Fail> {
+    let mut passes = Vec::new(alloc);
+    for (_, text) in STATIONS {
+        passes.push(desk.enlist(rt, &name(text)?).ok().ok_or("no pass")?)?;
+    }
+    Ok(passes)
+}
+
 #[test]
 fn eight_threads_on_two_sites(rt: HostRuntime) -> Result<(), Fail> {
     let plan = plan(&["north", "south"], &STATIONS)?;
@@ -250,10 +263,7 @@ fn eight_threads<J: Naming + Send + Sync, R: Abort + Threads + Wait + Clock + Sy
 {
     let (desk, pairs) = Desk::<J>::open(alloc, tables, plan).ok().ok_or("no desk")?;
     let viewers = viewers_of(alloc, pairs)?;
-    let mut passes = Vec::new(alloc);
-    for (_, text) in STATIONS {
-        passes.push(desk.enlist(rt, &name(text)?).ok().ok_or("no pass")?)?;
-    }
+    let passes = enlist_all(rt, alloc, &desk)?;
     let (sent, viewers) = all_at_once(rt, alloc, &desk, passes, viewers);
     let (passes, changes) = came_back(alloc, sent.ok_or("no memory")?)?;
     let totals = compare(rt, alloc, &desk)?;

@@ -125,7 +125,43 @@ fn closes_with_all<J: Naming, R: Abort>(
     Ok(())
 }
 
-// Closing without one viewer or without a pass, with what was accepted before.
+// A pass that delivers three events.
+fn three_events<J: Naming, R: Abort + Wait + Threads + Clock>(
+    rt: &R,
+    alloc: Global,
+    desk: &Desk<J>,
+) -> Result<Pass, Fail> {
+    let mut pass = desk.enlist(rt, &name("A")?).ok().ok_or("no pass")?;
+    for (number, told) in [
+        (1, tells(Kind::Started, 0, 0, 1_000)),
+        (2, tells(Kind::Updated, 2, 31, 1_600)),
+        (3, tells(Kind::Updated, 1, 14, 1_200)),
+    ] {
+        let (answer, _) = desk.submit(rt, &mut pass, delivery(alloc, told)?, &NoGate);
+        assert_eq!(rt; answer, Answer::Accepted(number));
+    }
+    Ok(pass)
+}
+
+// The station's board then; no other station has one, nor a pass.
+fn shows_board<J: Naming, R: Abort + Wait + Threads>(
+    rt: &R,
+    alloc: Global,
+    desk: &Desk<J>,
+) -> Result<(), Fail> {
+    let board = desk
+        .station_board(rt, alloc, &name("A")?)
+        .ok()
+        .ok_or("no board")?;
+    assert_eq!(rt; board.quarters().len(), 2);
+    assert_eq!(rt; board.figures(), figures([3, 0, 1, 0, 0, 600_000, 0]));
+    let none = desk.station_board(rt, alloc, &name("Z")?);
+    assert_eq!(rt; none.err(), Some(BoardFault::UnknownStation));
+    let unknown = desk.enlist(rt, &name("Z")?);
+    assert_eq!(rt; unknown.err(), Some(EnlistFault::UnknownStation));
+    Ok(())
+}
+
 fn gives_out_passes<J: Naming, R: Abort + Wait + Threads + Clock>(
     rt: &R,
     alloc: Global,
@@ -136,25 +172,8 @@ fn gives_out_passes<J: Naming, R: Abort + Wait + Threads + Clock>(
     requires there { (site : ℕ) → site < length plan.now.sites.items → HasTable tables site }
 {
     let (desk, pairs) = Desk::<J>::open(alloc, tables, plan).ok().ok_or("no desk")?;
-    let unknown = desk.enlist(rt, &name("Z")?);
-    assert_eq!(rt; unknown.err(), Some(EnlistFault::UnknownStation));
-    let mut pass = desk.enlist(rt, &name("A")?).ok().ok_or("no pass")?;
-    for (number, told) in [
-        (1, tells(Kind::Started, 0, 0, 1_000)),
-        (2, tells(Kind::Updated, 2, 31, 1_600)),
-        (3, tells(Kind::Updated, 1, 14, 1_200)),
-    ] {
-        let (answer, _) = desk.submit(rt, &mut pass, delivery(alloc, told)?, &NoGate);
-        assert_eq!(rt; answer, Answer::Accepted(number));
-    }
-    let board = desk
-        .station_board(rt, alloc, &name("A")?)
-        .ok()
-        .ok_or("no board")?;
-    assert_eq!(rt; board.quarters().len(), 2);
-    assert_eq!(rt; board.figures(), figures([3, 0, 1, 0, 0, 600_000, 0]));
-    let none = desk.station_board(rt, alloc, &name("Z")?);
-    assert_eq!(rt; none.err(), Some(BoardFault::UnknownStation));
+    let pass = three_events(rt, alloc, &desk)?;
+    shows_board(rt, alloc, &desk)?;
     let passes = all_passes(rt, alloc, &desk)?;
     closes_with_all(rt, alloc, desk, passes, pass, viewers_of(alloc, pairs)?)
 }

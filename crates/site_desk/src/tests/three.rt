@@ -202,6 +202,37 @@ fn at_once<J: Naming + Send + Sync, R: Threads + Wait + Clock + Sync>(
     (a, operator, b)
 }
 
+// Passes of A, B and A again, once the first event is there.
+fn enlisted<J: Naming, R: Abort + Threads + Wait + Clock>(
+    rt: &R,
+    alloc: Global,
+    desk: &Desk<J>,
+) -> Result<(Pass, Pass, Pass), Fail> {
+    let mut a = desk.enlist(rt, &name("A")?).ok().ok_or("no pass")?;
+    let b = desk.enlist(rt, &name("B")?).ok().ok_or("no pass")?;
+    let operator = desk.enlist(rt, &name("A")?).ok().ok_or("no pass")?;
+    let first = deliver(rt, alloc, desk, &mut a, tells(Kind::Started, 0, 0, 1_000));
+    assert_eq!(rt; first, Some(Answer::Accepted(1)));
+    Ok((a, b, operator))
+}
+
+// The desk closed with all passes and the viewer.
+fn closed_with<J: Naming>(
+    alloc: Global,
+    desk: Desk<J>,
+    passes: (Pass, Pass, Pass),
+    viewer: Viewer<J>,
+) -> Option<Closed<J>> {
+    let (a, b, operator) = passes;
+    let mut all = Vec::new(alloc);
+    all.push(a).ok()?;
+    all.push(b).ok()?;
+    all.push(operator).ok()?;
+    let mut viewers = Vec::new(alloc);
+    viewers.push(viewer).ok()?;
+    desk.close(all, viewers).ok()
+}
+
 #[test]
 fn three_threads(rt: HostRuntime) -> Result<(), Fail> {
     let plan = plan(&["north"], &[(0, "A"), (0, "B")])?;
@@ -220,19 +251,15 @@ fn three_sides<J: Naming + Send + Sync, R: Abort + Threads + Wait + Clock + Sync
 {
     let (desk, pairs) = Desk::<J>::open(alloc, tables, plan).ok().ok_or("no desk")?;
     let viewer = viewers_of(alloc, pairs)?.pop().ok_or("no viewer")?;
-    let mut a = desk.enlist(rt, &name("A")?).ok().ok_or("no pass")?;
-    let b = desk.enlist(rt, &name("B")?).ok().ok_or("no pass")?;
-    let operator = desk.enlist(rt, &name("A")?).ok().ok_or("no pass")?;
-    let first = deliver(rt, alloc, &desk, &mut a, tells(Kind::Started, 0, 0, 1_000));
-    assert_eq!(rt; first, Some(Answer::Accepted(1)));
-    let (a, operator, b) = at_once(rt, alloc, &desk, (a, b, operator), viewer);
+    let passes = enlisted(rt, alloc, &desk)?;
+    let (a, operator, b) = at_once(rt, alloc, &desk, passes, viewer);
     let (b, viewer, seen) = b.ok_or("B was refused")?;
     assert_eq!(rt; seen.down, 1_500_000, "what B told is seen");
     let mut a = a.ok_or("A was refused")?;
     afterwards(rt, alloc, &desk, &mut a)?;
     boards(rt, alloc, &desk)?;
-    let passes = vec![in alloc; a, b, operator.ok_or("the operator was refused")?]?;
-    let closed = desk.close(passes, vec![in alloc; viewer]?);
-    shows(rt, &closed.ok().ok_or("not closed")?);
+    let operator = operator.ok_or("the operator was refused")?;
+    let closed = closed_with(alloc, desk, (a, b, operator), viewer).ok_or("not closed")?;
+    shows(rt, &closed);
     Ok(())
 }
