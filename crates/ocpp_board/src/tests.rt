@@ -2,6 +2,7 @@
 mod command_line;
 mod echo;
 mod energy_rows;
+mod failing_rows;
 mod limit_rows;
 mod loops;
 mod messages;

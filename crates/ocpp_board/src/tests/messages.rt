@@ -95,6 +95,9 @@ const NOT_A_CALL: &str = "[4,\"-1\",\"RpcFrameworkError\",\"NotACall\",{}]\n";
 
 const TOO_LONG: &str = "[4,\"-1\",\"RpcFrameworkError\",\"TextTooLong\",{}]\n";
 
+const NO_EVENTS: &str =
+    "total events=0 voided=0 transactions=0 complete=0 missing=0 up=0 down=0\n";
+
 // The message of an event, without the words before it and the line feed.
 const MESSAGE: &[u8] =
     b"[2,\"1\",\"TransactionEvent\",{\"eventType\":\"Started\",\"timestamp\":\"2026-03-01T10:00:00Z\",\"triggerReason\":\"MeterValuePeriodic\",\"seqNo\":0,\"transactionInfo\":{\"transactionId\":\"T1\"},\"meterValue\":[{\"timestamp\":\"2026-03-01T10:00:00Z\",\"sampledValue\":[{\"value\":1000}]}]}]";
@@ -132,7 +135,7 @@ fn cut_and_huge_messages(rt: HostRuntime) -> Result<(), Fail> {
         put_message(&mut script, parts)?;
         text.extend_from_slice(line.as_bytes())?;
     }
-    script.extend_from_slice(b"energy A\n")?;
-    text.extend_from_slice(b"energy up=0 down=0\n")?;
+    script.extend_from_slice(b"total A\n")?;
+    text.extend_from_slice(NO_EVENTS.as_bytes())?;
     expect_text(&rt, "cut_and_huge_messages", &script, &text)
 }

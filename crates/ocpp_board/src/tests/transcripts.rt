@@ -34,6 +34,20 @@ impl Transcript {
         Ok(transcript)
     }
 
+    // What the complete lines among the first `count` bytes of the script write.
+    pub fn text_of_complete(&self, count: usize) -> &[u8] {
+        let mut length = 0;
+        for (bytes, written) in self.starts.iter() {
+            if *bytes <= count {
+                length = *written;
+            }
+        }
+        if count >= self.script.len() || length > self.text.len() {
+            length = self.text.len();
+        }
+        &self.text[..length]
+    }
+
     fn put_piece(&mut self, alloc: Global, piece: &str) -> Result<(), Fail> {
         for line in piece.lines() {
             match line.strip_prefix("> ") {
