@@ -180,7 +180,13 @@ fn quarters_and_evses(rt: HostRuntime) -> Result<(), Fail> {
             ("readings_again_at_end", &[READINGS_AGAIN_AT_END]),
             (
                 "evse_moves",
-                &[EVSE_NAMED, EVSE_BOARD, EVSE_VOIDED, EVSE_BOARD, START_VOIDED],
+                &[
+                    EVSE_NAMED,
+                    EVSE_BOARD,
+                    EVSE_VOIDED,
+                    EVSE_BOARD,
+                    START_VOIDED,
+                ],
             ),
             ("widest_gap", &[WIDEST_GAP]),
         ],

@@ -48,7 +48,8 @@ silent
 "#;
 
 // Payloads of TransactionEvent: what is refused, a value of one phase, which is no reading, and a token.
-const PAYLOAD_FAULTS: &str = r#"> msg A [2,"a","TransactionEvent",{"eventType":"Started","timestamp":"2026-03-01T10:00:00Z","triggerReason":"MeterValuePeriodic","transactionInfo":{"transactionId":"T1"},"meterValue":[{"timestamp":"2026-03-01T10:00:00Z","sampledValue":[{"value":1000}]}]}]
+const PAYLOAD_FAULTS: &str =
+    r#"> msg A [2,"a","TransactionEvent",{"eventType":"Started","timestamp":"2026-03-01T10:00:00Z","triggerReason":"MeterValuePeriodic","transactionInfo":{"transactionId":"T1"},"meterValue":[{"timestamp":"2026-03-01T10:00:00Z","sampledValue":[{"value":1000}]}]}]
 [4,"a","OccurrenceConstraintViolation","Missing",{}]
 > event A a T1 Started 1.0 10:00:00Z 1000
 [4,"a","TypeConstraintViolation","WrongType",{}]
@@ -83,9 +84,7 @@ fn always_out_of_memory(rt: HostRuntime) -> Result<(), Fail> {
 fn frame_and_payload_faults(rt: HostRuntime) -> Result<(), Fail> {
     expect_transcripts(
         &rt,
-        &[
-            ("frame_and_payload_faults", &[FRAME_FAULTS, PAYLOAD_FAULTS]),
-        ],
+        &[("frame_and_payload_faults", &[FRAME_FAULTS, PAYLOAD_FAULTS])],
     )
 }
 
@@ -95,8 +94,7 @@ const NOT_A_CALL: &str = "[4,\"-1\",\"RpcFrameworkError\",\"NotACall\",{}]\n";
 
 const TOO_LONG: &str = "[4,\"-1\",\"RpcFrameworkError\",\"TextTooLong\",{}]\n";
 
-const NO_EVENTS: &str =
-    "total events=0 voided=0 transactions=0 complete=0 missing=0 up=0 down=0\n";
+const NO_EVENTS: &str = "total events=0 voided=0 transactions=0 complete=0 missing=0 up=0 down=0\n";
 
 // The message of an event, without the words before it and the line feed.
 const MESSAGE: &[u8] =

@@ -178,8 +178,6 @@ fault DeclaredLate
 fn limits_are_in_range(rt: HostRuntime) -> Result<(), Fail> {
     expect_transcripts(
         &rt,
-        &[
-            ("in range", &[LIMITS, NO_NUMBERS, LAST_LIMITS, NO_NUMBERS]),
-        ],
+        &[("in range", &[LIMITS, NO_NUMBERS, LAST_LIMITS, NO_NUMBERS])],
     )
 }

@@ -166,10 +166,7 @@ fn lines_and_their_faults(rt: HostRuntime) -> Result<(), Fail> {
         &[
             ("script_faults", &[FAULTS]),
             ("unknown names", &[UNKNOWN_NAMES]),
-            (
-                "words that are none",
-                &[NO_COMMANDS, COMMANDS, NO_COMMANDS],
-            ),
+            ("words that are none", &[NO_COMMANDS, COMMANDS, NO_COMMANDS]),
             ("refused declarations", &[REFUSED_DECLARATIONS]),
             ("late declarations", &[LATE]),
             ("opened by a station", &[OPENED_BY_STATION]),
