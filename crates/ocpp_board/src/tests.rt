@@ -6,6 +6,7 @@ mod failing_rows;
 mod limit_rows;
 mod loops;
 mod messages;
+mod payload_orders;
 mod payloads;
 mod plan_rows;
 mod script_rows;
