@@ -42,7 +42,7 @@ fault UnknownSite
 energy up=0 down=0
 "#;
 
-// Words of an operator's line that are none; none of them opens the ledgers.
+// Lines that lack a word, have one too many or one that is none; none of them opens the ledgers.
 const NO_COMMANDS: &str = r#"> void
 fault BadLine
 > void A
@@ -78,6 +78,12 @@ fault BadLine
 > board 
 fault BadLine
 > board a b
+fault BadLine
+> msg
+fault BadLine
+> msg A
+fault BadLine
+> msg A/B x
 fault BadLine
 "#;
 
