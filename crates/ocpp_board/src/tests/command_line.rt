@@ -83,6 +83,41 @@ fn help_and_version(rt: HostRuntime) -> Result<(), Fail> {
     Ok(())
 }
 
+// The help names each line of a script, and each fault of a line.
+#[test]
+fn help_names_all_lines(rt: HostRuntime) -> Result<(), Fail> {
+    let words = ["ocpp_board", "--help"];
+    let ended = run(&rt, words.as_slice(), &mut &SCRIPT[..], ROOM)?;
+    let help = str::from_utf8(&ended.written)?;
+    for line in [
+        "limits <transactions> <events> <readings> <changes>",
+        "station <site> <station>",
+        "now <time>",
+        "msg <station> <text>",
+        "void",
+        "restore",
+        "erase",
+        "<station> <transaction id> <seqNo>",
+        "energy <station>",
+        "total <station>",
+        "board <site>",
+    ] {
+        assert!(rt; help.contains(line), "no line {line}");
+    }
+    for fault in [
+        "LineTooLong",
+        "BadLine",
+        "DeclaredLate",
+        "PlanLimit",
+        "StationTwice",
+        "UnknownStation",
+        "UnknownSite",
+    ] {
+        assert!(rt; help.contains(fault), "no fault {fault}");
+    }
+    Ok(())
+}
+
 #[test]
 fn faults_are_told(rt: HostRuntime) -> Result<(), Fail> {
     let words = ["ocpp_board"];

@@ -6,31 +6,29 @@ use std::test::Fail;
 use std::thread::Threads;
 
 // An event with one reading of 1,000 watt-hours.
-const EVENT: &str =
+pub const EVENT: &str =
     r#"[2,"a","TransactionEvent",{"eventType":"Started","timestamp":"2026-03-01T10:00:00Z","triggerReason":"MeterValuePeriodic","seqNo":0,"transactionInfo":{"transactionId":"T1"},"meterValue":[{"timestamp":"2026-03-01T10:00:00Z","sampledValue":[{"value":1000}]}]}]"#;
 
-const TAKEN: &str = r#"[3,"a",{}]"#;
+pub const TAKEN: &str = r#"[3,"a",{}]"#;
 
-const MISSING: &str = r#"[4,"a","OccurrenceConstraintViolation","Missing",{}]"#;
+pub const MISSING: &str = r#"[4,"a","OccurrenceConstraintViolation","Missing",{}]"#;
 
-const WRONG_TYPE: &str = r#"[4,"a","TypeConstraintViolation","WrongType",{}]"#;
+pub const WRONG_TYPE: &str = r#"[4,"a","TypeConstraintViolation","WrongType",{}]"#;
 
-const RANGE: &str = r#"[4,"a","PropertyConstraintViolation","Range",{}]"#;
+pub const RANGE: &str = r#"[4,"a","PropertyConstraintViolation","Range",{}]"#;
 
-const TOO_MANY: &str = r#"[4,"a","OccurrenceConstraintViolation","TooManyReadings",{}]"#;
+pub const DECIMAL: &str = r#"[4,"a","PropertyConstraintViolation","Decimal",{}]"#;
 
-const DECIMAL: &str = r#"[4,"a","PropertyConstraintViolation","Decimal",{}]"#;
-
-const MOMENT: &str = r#"[4,"a","PropertyConstraintViolation","Moment",{}]"#;
+pub const MOMENT: &str = r#"[4,"a","PropertyConstraintViolation","Moment",{}]"#;
 
 // The text with its first `from` replaced.
-fn edited(alloc: Global, text: &str, from: &str, to: &str) -> Result<String, Fail> {
+pub fn edited(alloc: Global, text: &str, from: &str, to: &str) -> Result<String, Fail> {
     let (before, after) = text.split_once(from).ok_or("nothing to replace")?;
     Ok(format!(in alloc; "{before}{to}{after}")?)
 }
 
 // Compares what a new station's message is answered with this reply.
-fn expect_reply<X: AllocGlobal + Threads + Abort>(
+pub fn expect_reply<X: AllocGlobal + Threads + Abort>(
     rt: &X,
     label: &str,
     message: &str,
@@ -240,69 +238,4 @@ fn a_long_integer_is_out_of_range(rt: HostRuntime) -> Result<(), Fail> {
     }
     let message = edited(rt.alloc(), EVENT, r#""seqNo":0"#, long.as_str())?;
     expect_reply(&rt, "10,001 digits", message.as_str(), RANGE)
-}
-
-// Each line breaks one check more, from the last to the first; the earliest that is broken answers.
-#[test]
-fn the_first_fault_answers(rt: HostRuntime) -> Result<(), Fail> {
-    let mut text = String::from_str(rt.alloc(), EVENT)?;
-    for (from, to, want) in [
-        (r#""value":1000"#, r#""value":-1"#, DECIMAL),
-        (
-            r#""value""#,
-            r#""unitOfMeasure":{"unit":"Wh","multiplier":"0"},"value""#,
-            WRONG_TYPE,
-        ),
-        (r#""unit":"Wh""#, r#""unit":"W""#, RANGE),
-        (
-            r#""unitOfMeasure""#,
-            r#""location":7,"unitOfMeasure""#,
-            WRONG_TYPE,
-        ),
-        (
-            r#"[{"timestamp":"2026-03-01T10:00:00Z""#,
-            r#"[{"timestamp":"""#,
-            MOMENT,
-        ),
-        (
-            r#""meterValue""#,
-            r#""idToken":"AA","meterValue""#,
-            WRONG_TYPE,
-        ),
-        (r#""meterValue""#, r#""evse":{},"meterValue""#, MISSING),
-        (r#""transactionId":"T1""#, r#""transactionId":"""#, RANGE),
-        (r#""seqNo":0"#, r#""seqNo":0.0"#, WRONG_TYPE),
-        (r#""MeterValuePeriodic""#, "null", MISSING),
-        (r#""2026-03-01T10:00:00Z""#, r#""2026""#, MOMENT),
-        (r#""Started""#, "[]", WRONG_TYPE),
-        (
-            r#"{"eventType""#,
-            r#"[],{"eventType""#,
-            r#"[4,"a","RpcFrameworkError","NotACall",{}]"#,
-        ),
-    ] {
-        text = edited(rt.alloc(), text.as_str(), from, to)?;
-        expect_reply(&rt, to, text.as_str(), want)?;
-    }
-    Ok(())
-}
-
-// 1,024 readings count, whatever stands between them; what is wrong with the next is told before its number.
-#[test]
-fn readings_are_bounded(rt: HostRuntime) -> Result<(), Fail> {
-    let mut values = String::new(rt.alloc());
-    for _ in 0..1_024 {
-        values.push_str(r#"{"value":1},"#)?;
-    }
-    for (last, want) in [
-        (r#"{"value":1,"phase":"L1"}"#, TAKEN),
-        (r#"{"value":1}"#, TOO_MANY),
-        (r#"{"value":-1}"#, DECIMAL),
-        (r#"{"value":1,"unitOfMeasure":{"unit":"W"}}"#, RANGE),
-    ] {
-        let all = format!(in rt.alloc(); "{values}{last}")?;
-        let text = edited(rt.alloc(), EVENT, r#"{"value":1000}"#, all.as_str())?;
-        expect_reply(&rt, last, text.as_str(), want)?;
-    }
-    Ok(())
 }

@@ -12,7 +12,7 @@ use std::test::Fail;
 use std::thread::Threads;
 
 // Each script with its text.
-const SCRIPTS: [(&str, &[u8], &[u8]); 14] = [
+const SCRIPTS: [(&str, &[u8], &[u8]); 12] = [
     // An empty script, empty lines and comments write nothing.
     ("nothing", b"", b""),
     (
@@ -43,16 +43,6 @@ const SCRIPTS: [(&str, &[u8], &[u8]); 14] = [
     ),
     ("a carriage return alone", b"\r", b"fault BadLine\n"),
     ("two carriage returns", b"\r\r\n", b"fault BadLine\n"),
-    (
-        "a declaration after an unknown station",
-        b"energy Z\nstation north A\n",
-        b"fault UnknownStation\nfault DeclaredLate\n",
-    ),
-    (
-        "stations twice, past the plan and late",
-        b"station north A\nstation south A\nstation north B\nenergy A\nstation north A\nenergy B\n",
-        b"fault StationTwice\nfault PlanLimit\nenergy up=0 down=0\nfault DeclaredLate\nfault UnknownStation\n",
-    ),
     // A line that is no line does not open the ledgers.
     (
         "lines that are no lines open nothing",
@@ -80,25 +70,26 @@ const SCRIPTS: [(&str, &[u8], &[u8]); 14] = [
 ];
 
 #[test]
-fn script_faults(rt: HostRuntime) -> Result<(), Fail> {
+fn bytes_of_lines(rt: HostRuntime) -> Result<(), Fail> {
     for (label, script, text) in SCRIPTS {
         expect_text(&rt, label, script, text)?;
     }
     Ok(())
 }
 
-// A comment of so many bytes, a line feed, and a question.
+// A comment of so many bytes, a declaration, and questions.
 fn long_script(rt: &HostRuntime, count: usize) -> Result<Vec<u8>, Fail> {
     let mut script = Vec::new(rt.alloc());
     script.resize(count, b'#')?;
-    script.extend_from_slice(b"\nenergy A\n")?;
+    script.extend_from_slice(b"\nstation north A\nenergy A\nenergy B\n")?;
     Ok(script)
 }
 
+// A line that is too long opens nothing, and the next line is answered.
 #[test]
 fn lines_have_a_most_length(rt: HostRuntime) -> Result<(), Fail> {
-    let longest: &[u8] = b"fault UnknownStation\n";
-    let longer: &[u8] = b"fault LineTooLong\nfault UnknownStation\n";
+    let longest: &[u8] = b"energy up=0 down=0\nfault UnknownStation\n";
+    let longer: &[u8] = b"fault LineTooLong\nenergy up=0 down=0\nfault UnknownStation\n";
     for (label, count, text) in [
         ("the longest line", MAX_LINE_BYTES, longest),
         ("one byte more", MAX_LINE_BYTES + 1, longer),
