@@ -18,14 +18,20 @@ const VERSION: &str = "0.2.0";
 const LINES: &str = "\
 Without a command, ocpp_board replays.
 
-A script has one line for each step, and each answer is one line:
+A script has one line for each step, and each answer is one line, or a board:
+  limits <transactions> <events> <readings> <changes>
+                             holds for the stations that follow; writes nothing
   station <site> <station>   declares a station; writes nothing
   now <time>                 sets the moment, as 2026-03-01T10:00:00Z; writes nothing
   msg <station> <text>       an OCPP-J message of the station; writes the reply, or `silent`
+  void, restore or erase, with <station> <transaction id> <seqNo>
+                             an operator's command; writes `accepted <n>` or `refused <name>`
   energy <station>           writes `energy up=<n> down=<n>`, in milliwatt-hours
+  total <station>            writes the station's figures
+  board <site>               writes the board of the site, from `board <site>` to `end`
 Empty lines and lines that begin with # write nothing. A line with a fault writes
 `fault <name>` and changes no plan, content or moment: LineTooLong, BadLine,
-DeclaredLate, StationTwice, PlanLimit or UnknownStation.
+DeclaredLate, PlanLimit, StationTwice, UnknownStation or UnknownSite.
 
 Exit status: 0; 1 with `fault <name>` on standard error where the replay stopped
 (ReadFault, WriteFault, TooMuchInput, OutOfMemory); 2 for a fault of the arguments.";
