@@ -1,5 +1,5 @@
 -- Lists of slots that share none.
-use Rattle.std.proofs.Common.{◌≡◌, ◌≢◌, ℕ, List, [], ◌∷◌, ◌++◌, sym}
+use Rattle.std.proofs.Common.{ℕ, List, [], ◌∷◌, ◌++◌, sym}
 use Rattle.slot_links.specs.Chain.{IsAbsent, AreApart, AreElsewhere}
 
 -- A slot absent from a list is absent from both its parts.

@@ -1,8 +1,8 @@
 -- Chains put together, cut, and left alone.
-use Rattle.std.proofs.Common.{◌≡◌, ◌≢◌, ℕ, ◌<◌, List, [], ◌∷◌, ◌++◌, Option, Some, None, length, refl, sym, ap, ◌∙◌, subst}
+use Rattle.std.proofs.Common.{◌≡◌, ℕ, ◌<◌, List, [], ◌∷◌, ◌++◌, Option, Some, None, length, refl, sym, ◌∙◌, subst}
 use Rattle.slot_links.specs.Links.{Links, links, linked_in, linked_out, written, IsSlot}
-use Rattle.slot_links.specs.Chain.{head_or, last_or, IsChain, IsAbsent, IsBeside, AreApart, AreElsewhere, AreSlots}
-use Rattle.slot_links.proofs.Written.{length-written, last_beside, head_beside}
+use Rattle.slot_links.specs.Chain.{head_or, last_or, IsChain, IsAbsent, IsBeside, AreApart, AreSlots}
+use Rattle.slot_links.proofs.Written.{length-written}
 use Rattle.slot_links.proofs.Ends.{chain_prev_beside, chain_next_beside, chain_prev_first, chain_next_last}
 
 -- The first slot of two lists.
@@ -117,3 +117,13 @@ chain_back_in l back first last prev before apart slots hf hl hb chain =
     )
     )
     )
+
+-- A slot is one after a run was put in.
+pub slot_in : (l : Links) (before : Option ℕ) (first last : ℕ) (after : Option ℕ) (s : ℕ) → IsSlot l s → IsSlot (linked_in l before first last after) s
+slot_in l before first last after s slot = let lens = length-linked_in l before first last after in
+    (slots_kept l (linked_in l before first last after) (s ∷ []) lens.0 lens.1 (slot, tt)).0
+
+-- A slot is one after a run was left out.
+pub slot_out : (l : Links) (before after : Option ℕ) (s : ℕ) → IsSlot l s → IsSlot (linked_out l before after) s
+slot_out l before after s slot = let lens = length-linked_out l before after in
+    (slots_kept l (linked_out l before after) (s ∷ []) lens.0 lens.1 (slot, tt)).0

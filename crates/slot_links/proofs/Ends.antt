@@ -1,7 +1,7 @@
 -- Chains whose ends are written, and those beside.
-use Rattle.std.proofs.Common.{◌≡◌, ◌≢◌, ℕ, ◌<◌, List, [], ◌∷◌, ◌++◌, Option, Some, None, length, refl, sym, ap, ◌∙◌}
-use Rattle.slot_links.specs.Links.{Links, links, written, IsSlot}
-use Rattle.slot_links.specs.Chain.{head_or, last_or, IsChain, IsBeside, AreApart, AreElsewhere, AreSlots}
+use Rattle.std.proofs.Common.{ℕ, List, [], ◌∷◌, Option, Some, None, ◌∙◌}
+use Rattle.slot_links.specs.Links.{links, written}
+use Rattle.slot_links.specs.Chain.{head_or, last_or, IsChain, IsBeside, AreApart, AreSlots}
 use Rattle.slot_links.proofs.Written.{written_other, written_same, last_other, beside_parts}
 
 -- A link to the slot before, written beside a chain, leaves it.

@@ -1,11 +1,11 @@
 -- Whole lists: a run put in, left out, and lists beside.
-use Rattle.std.proofs.Common.{◌≡◌, ◌≢◌, ℕ, ◌<◌, List, [], ◌∷◌, ◌++◌, Option, Some, None, length, refl, sym, ap, ◌∙◌, subst}
+use Rattle.std.proofs.Common.{◌≡◌, ℕ, List, [], ◌∷◌, ◌++◌, Some, None, refl, sym, ◌∙◌, subst}
 use Rattle.slot_links.specs.Links.{Links, links, linked_in, linked_out, written, IsSlot}
-use Rattle.slot_links.specs.Chain.{head_or, last_or, IsChain, IsAbsent, IsBeside, AreApart, AreElsewhere, AreSlots, IsLinked, IsRun}
-use Rattle.slot_links.proofs.Apart.{absent_parts, elsewhere_back, elsewhere_parts, elsewhere_both, parts_elsewhere, apart_parts, apart_both}
-use Rattle.slot_links.proofs.Written.{length-written, last_beside, head_beside}
+use Rattle.slot_links.specs.Chain.{head_or, last_or, IsChain, IsAbsent, IsBeside, AreElsewhere, IsLinked, IsRun}
+use Rattle.slot_links.proofs.Apart.{elsewhere_back, elsewhere_parts, elsewhere_both, parts_elsewhere, apart_parts, apart_both}
+use Rattle.slot_links.proofs.Written.{last_beside, head_beside}
 use Rattle.slot_links.proofs.Ends.{chain_prev_beside, chain_next_beside, chain_prev_first, chain_next_last}
-use Rattle.slot_links.proofs.Chains.{head_append, head_some, last_append, last_some, chain_both, chain_parts, slots_kept, slots_both, slots_parts, length-linked_in, length-linked_out, chain_beside_in, chain_beside_out, chain_front_in, chain_run_in, chain_back_in}
+use Rattle.slot_links.proofs.Chains.{head_append, head_some, last_some, chain_both, chain_parts, slots_kept, slots_both, slots_parts, length-linked_in, length-linked_out, chain_beside_in, chain_beside_out, chain_front_in, chain_run_in, chain_back_in}
 
 -- The first slot of a run is absent where the run is elsewhere.
 first_absent : (mid zs : List ℕ) (first : ℕ) → head_or None mid ≡ Some first → AreElsewhere mid zs → IsAbsent first zs

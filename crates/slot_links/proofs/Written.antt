@@ -1,5 +1,5 @@
 -- What a written link changes, and what it leaves.
-use Rattle.std.proofs.Common.{◌≡◌, ◌≢◌, ℕ, ◌<◌, List, [], ◌∷◌, Option, Some, None, length, get_or, set, refl, sym, arith, get_or-set_other, get_or-set_same, length-set}
+use Rattle.std.proofs.Common.{◌≡◌, ◌≢◌, ℕ, ◌<◌, List, [], ◌∷◌, Option, Some, None, length, get_or, refl, sym, get_or-set_other, get_or-set_same, length-set}
 use Rattle.slot_links.specs.Links.{written}
 use Rattle.slot_links.specs.Chain.{last_or, head_or, IsAbsent, IsBeside, AreElsewhere}
 
