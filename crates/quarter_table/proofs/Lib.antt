@@ -1,0 +1,3 @@
+pub mod Orders
+pub mod Places
+pub mod Replaced

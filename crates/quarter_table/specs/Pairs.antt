@@ -1,0 +1,24 @@
+-- The rows that pairs make.
+use Rattle.std.specs.Prelude.{ℕ, ◌==◌, List, map, filter, length, sum_by}
+use Rattle.energy_flow.specs.Flow.{Energy}
+use Rattle.ledger_model.specs.Board.{Flowed}
+use Rattle.ledger_model.specs.Energy.{Pair, difference, quarter_of, rising}
+use Rattle.quarter_table.specs.declared.row.QuarterRow.{QuarterRow}
+
+-- Differences added up, field by field.
+abbrev pub total : List Flowed → Energy
+total flows = record { up = sum_by (λ f. f.1.up) flows; down = sum_by (λ f. f.1.down) flows }
+
+-- The row of a quarter: how many of the pairs are of it, and what they add up to.
+abbrev pub row_of : ℕ → List Flowed → QuarterRow
+row_of quarter flows =
+    let own = filter (λ f. f.0 == quarter) flows in
+    record { quarter = quarter; pairs = length own; flow = total own }
+
+-- The rows of pairs, each given by its quarter and its difference: one for each quarter that has a pair, rising.
+abbrev pub rows_of : List Flowed → List QuarterRow
+rows_of flows = map (λ quarter. row_of quarter flows) (rising (map (λ f. f.0) flows))
+
+-- Pairs of readings, each by its quarter and its difference.
+abbrev pub flows_of : ℕ → List Pair → List Flowed
+flows_of period pairs = map (λ p. (quarter_of period p, difference p)) pairs

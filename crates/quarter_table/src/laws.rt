@@ -1,0 +1,1 @@
+//! Laws of rows, each the contract of a function with nothing to do.
