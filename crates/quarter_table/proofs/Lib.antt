@@ -1,3 +1,4 @@
+pub mod Changes
 pub mod Orders
 pub mod Places
 pub mod Replaced

@@ -74,4 +74,62 @@ impl QuarterTable {
     {
         self.row(quarter).pairs > 0
     }
+
+    /// Adds a pair of this difference. The quarter has a row, or there is room for one; the number
+    /// and the sum stay in range. [`QuarterTable::row`] and [`QuarterTable::room`] tell.
+    pub fn add(&mut self, quarter: Quarter, flow: Flow)
+        requires room { (row_at quarter self.old.rows).pairs ≡ 0 → length self.old.rows < self.old.capacity }
+        requires number { (row_at quarter self.old.rows).pairs + 1 < 2 ^ 32 }
+        requires sum { CanPlus (row_at quarter self.old.rows).flow flow }
+        ensures rows { self.new.rows ≡ set_row (with_pair flow (row_at quarter self.old.rows)) self.old.rows }
+        ensures capacity { self.new.capacity ≡ self.old.capacity }
+    {
+        match place_of(&self.rows, quarter) {
+            Ok(at) => {
+                let row = self.rows[at];
+                self.rows[at] = QuarterRow {
+                    quarter,
+                    pairs: row.pairs + 1,
+                    flow: row.flow.plus(flow),
+                };
+            }
+            Err(at) => {
+                let row = QuarterRow {
+                    quarter,
+                    pairs: 1,
+                    flow,
+                };
+                match self.rows.insert(at, row) {
+                    Ok(()) => (),
+                    Err(_) => unreachable!(),
+                }
+            }
+        }
+    }
+
+    /// Takes a pair of this difference out. The quarter has a row, and its sum holds the difference,
+    /// which is all of it where no other pair is left. [`QuarterTable::row`] tells.
+    pub fn remove(&mut self, quarter: Quarter, flow: Flow)
+        requires there { 0 < (row_at quarter self.old.rows).pairs }
+        requires within { CanMinus (row_at quarter self.old.rows).flow flow }
+        requires last { (row_at quarter self.old.rows).pairs ≡ 1 → (row_at quarter self.old.rows).flow ≡ flow }
+        ensures rows { self.new.rows ≡ set_row (without_pair flow (row_at quarter self.old.rows)) self.old.rows }
+        ensures capacity { self.new.capacity ≡ self.old.capacity }
+    {
+        match place_of(&self.rows, quarter) {
+            Ok(at) => {
+                let row = self.rows[at];
+                if row.pairs == 1 {
+                    self.rows.remove(at);
+                } else {
+                    self.rows[at] = QuarterRow {
+                        quarter,
+                        pairs: row.pairs - 1,
+                        flow: row.flow.minus(flow),
+                    };
+                }
+            }
+            Err(_) => unreachable!(),
+        }
+    }
 }
