@@ -60,17 +60,17 @@ pairs_both [] ys a b = b
 pairs_both (x ∷ xs) ys a b = (a.0, pairs_both xs ys a.1 b)
 
 -- Each row is of an earlier quarter.
-abbrev AreBefore : ℕ → List QuarterRow → Type 0
+abbrev pub AreBefore : ℕ → List QuarterRow → Type 0
 AreBefore q [] = Unit {0}
 AreBefore q (r ∷ rs) = (r.quarter < q) × AreBefore q rs
 
 -- Each row is of the quarter or a later one.
-abbrev AreFrom : ℕ → List QuarterRow → Type 0
+abbrev pub AreFrom : ℕ → List QuarterRow → Type 0
 AreFrom q [] = Unit {0}
 AreFrom q (r ∷ rs) = (q ≤ r.quarter) × AreFrom q rs
 
 -- The rows of earlier quarters are that.
-earlier_before : (q : ℕ) (rs : List QuarterRow) → AreBefore q (earlier q rs)
+pub earlier_before : (q : ℕ) (rs : List QuarterRow) → AreBefore q (earlier q rs)
 earlier_before q [] = tt
 earlier_before q (r ∷ rs) = elim (cases_lt r.quarter q) [
   | inl lt ↦ rw (earlier_on q r rs lt) (lt, earlier_before q rs)
@@ -78,7 +78,7 @@ earlier_before q (r ∷ rs) = elim (cases_lt r.quarter q) [
 ]
 
 -- The rows of later quarters are that.
-later_after : (q : ℕ) (rs : List QuarterRow) → AreAfter q (later q rs)
+pub later_after : (q : ℕ) (rs : List QuarterRow) → AreAfter q (later q rs)
 later_after q [] = tt
 later_after q (r ∷ rs) = elim (cases_lt q r.quarter) [
   | inl lt ↦ rw (later_on q r rs lt) (lt, later_after q rs)
@@ -86,7 +86,7 @@ later_after q (r ∷ rs) = elim (cases_lt q r.quarter) [
 ]
 
 -- Rows after a quarter are from it on.
-after_from : (q : ℕ) (rs : List QuarterRow) → AreAfter q rs → AreFrom q rs
+pub after_from : (q : ℕ) (rs : List QuarterRow) → AreAfter q rs → AreFrom q rs
 after_from q [] after = tt
 after_from q (r ∷ rs) after = (omega (arith, after.0), after_from q rs after.1)
 

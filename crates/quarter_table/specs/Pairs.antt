@@ -22,3 +22,7 @@ rows_of flows = map (λ quarter. row_of quarter flows) (rising (map (λ f. f.0) 
 -- Pairs of readings, each by its quarter and its difference.
 abbrev pub flows_of : ℕ → List Pair → List Flowed
 flows_of period pairs = map (λ p. (quarter_of period p, difference p)) pairs
+
+-- What a board shows of a row.
+abbrev pub line_of : QuarterRow → Flowed
+line_of row = (row.quarter, row.flow)
