@@ -1,5 +1,5 @@
 -- The rows of pairs of readings, and the quarters of a board.
-use Rattle.std.proofs.Common.{◌≡◌, ℕ, ◌==◌, cond, eqb, List, [], ◌∷◌, length, map, refl, sym, ap, ◌∙◌}
+use Rattle.std.proofs.Common.{◌≡◌, ℕ, ◌==◌, cond, List, [], ◌∷◌, map, refl, sym, ap, ◌∙◌}
 use Rattle.std.specs.List.{filter, sum_by}
 use Rattle.std.proofs.Math.Path.{fun_ext}
 use Rattle.energy_flow.specs.Flow.{Energy}

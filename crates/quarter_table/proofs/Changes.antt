@@ -1,8 +1,8 @@
 -- What a pair added or taken out does to the rows, at the place of its quarter.
-use Rattle.std.proofs.Common.{◌≡◌, ℕ, suc, ◌+◌, ◌-◌, ◌<◌, ◌≤◌, List, length, get_or, set, unwrap_or, refl, sym, ap, ◌∙◌, subst, arith}
+use Rattle.std.proofs.Common.{◌≡◌, ℕ, ◌+◌, ◌-◌, ◌<◌, List, get_or, set, unwrap_or, sym, ap, ◌∙◌, arith}
 use Rattle.std.specs.List.{insert, remove}
 use Rattle.std.proofs.lemmas.Option.{unwrap_or-slice_get}
-use Rattle.energy_flow.specs.Flow.{Energy, no_energy, plus, minus}
+use Rattle.energy_flow.specs.Flow.{Energy, plus, minus}
 use Rattle.quarter_table.specs.declared.row.QuarterRow.{QuarterRow}
 use Rattle.quarter_table.specs.Rows.{no_row, row_at, with_pair, without_pair, set_row}
 use Rattle.quarter_table.specs.Kept.{StandsAt, BelongsAt}

@@ -1,8 +1,8 @@
 -- Rows are determined by the row of each quarter.
-use Rattle.std.proofs.Common.{◌≡◌, ◌≢◌, ℕ, zero, suc, ◌+◌, ◌<◌, ◌≤◌, ◌⊎◌, ⊎_elim, List, [], ◌∷◌, ◌++◌, refl, sym, ap, ◌∙◌, subst, arith, inl, inr}
+use Rattle.std.proofs.Common.{◌≡◌, ◌≢◌, ℕ, ◌<◌, ◌≤◌, ◌⊎◌, ⊎_elim, List, [], ◌∷◌, ◌++◌, refl, sym, ap, ◌∙◌, arith, inl, inr}
 use Rattle.std.proofs.lemmas.Bool.{cases_lt, cases_eq, cases_order}
 use Rattle.quarter_table.specs.declared.row.QuarterRow.{QuarterRow}
-use Rattle.quarter_table.specs.Rows.{no_row, row_at, earlier, later, if_any, set_row, AreAfter, AreInOrder, HavePairs}
+use Rattle.quarter_table.specs.Rows.{no_row, row_at, earlier, later, if_any, set_row, AreInOrder, HavePairs}
 use Rattle.quarter_table.proofs.Orders.{earlier_on, earlier_past, later_on, later_past, row_here, row_other, after_less, after_missing}
 use Rattle.quarter_table.proofs.Replaced.{some_row, none_row, AreBefore, earlier_before, later_after}
 
@@ -55,9 +55,9 @@ among_earlier : (q k : ℕ) (rs : List QuarterRow) → k < q → row_at k (earli
 among_earlier q k [] lt = refl
 among_earlier q k (r ∷ rs) lt = elim (cases_lt r.quarter q) [
   | inl on ↦ ap (row_at k) (earlier_on q r rs on) ∙ (elim (cases_eq r.quarter k) [
-      | inl is ↦ row_here k r (earlier q rs) is ∙ sym (row_here k r rs is)
-      | inr not ↦ row_other k r (earlier q rs) not ∙ among_earlier q k rs lt ∙ sym (row_other k r rs not)
-    ])
+    | inl is ↦ row_here k r (earlier q rs) is ∙ sym (row_here k r rs is)
+    | inr not ↦ row_other k r (earlier q rs) not ∙ among_earlier q k rs lt ∙ sym (row_other k r rs not)
+  ])
   | inr past ↦ ap (row_at k) (earlier_past q r rs past) ∙ among_earlier q k rs lt ∙ sym (row_other k r rs (λ is. absurd (omega arith)))
 ]
 
@@ -66,9 +66,9 @@ among_later : (q k : ℕ) (rs : List QuarterRow) → q < k → row_at k (later q
 among_later q k [] lt = refl
 among_later q k (r ∷ rs) lt = elim (cases_lt q r.quarter) [
   | inl on ↦ ap (row_at k) (later_on q r rs on) ∙ (elim (cases_eq r.quarter k) [
-      | inl is ↦ row_here k r (later q rs) is ∙ sym (row_here k r rs is)
-      | inr not ↦ row_other k r (later q rs) not ∙ among_later q k rs lt ∙ sym (row_other k r rs not)
-    ])
+    | inl is ↦ row_here k r (later q rs) is ∙ sym (row_here k r rs is)
+    | inr not ↦ row_other k r (later q rs) not ∙ among_later q k rs lt ∙ sym (row_other k r rs not)
+  ])
   | inr past ↦ ap (row_at k) (later_past q r rs past) ∙ among_later q k rs lt ∙ sym (row_other k r rs (λ is. absurd (omega arith)))
 ]
 
@@ -104,5 +104,5 @@ row_at-set_other k row rs apart =
     elim (cases_lt k q) [
       | inl lt ↦ skip_missing k (earlier q rs) (if_any row ++ later q rs) (tail_missing k row rs lt) ∙ among_earlier q k rs lt
       | inr le ↦ let gt : q < k = omega arith in
-        skip_before q k (earlier q rs) (if_any row ++ later q rs) (earlier_before q rs) le ∙ tail_later k row rs gt ∙ among_later q k rs gt
+          skip_before q k (earlier q rs) (if_any row ++ later q rs) (earlier_before q rs) le ∙ tail_later k row rs gt ∙ among_later q k rs gt
     ]

@@ -1,9 +1,9 @@
 -- The rows that pairs make, and how they change with a pair.
-use Rattle.std.proofs.Common.{◌≡◌, ◌≢◌, ℕ, zero, suc, ◌+◌, ◌-◌, ◌<◌, ◌≤◌, ◌⊎◌, ◌↔◌, ⊎_elim, ◌==◌, cond, Bool, true, false, eqb, List, [], ◌∷◌, ◌++◌, length, map, refl, sym, ap, ◌∙◌, subst, arith, inl, inr}
+use Rattle.std.proofs.Common.{◌≡◌, ◌≢◌, ℕ, suc, ◌+◌, ◌-◌, ◌<◌, ◌⊎◌, ⊎_elim, ◌==◌, cond, Bool, List, [], ◌∷◌, ◌++◌, length, map, refl, sym, ap, ◌∙◌, subst, arith, inl, inr}
 use Rattle.std.specs.List.{filter, sum_by}
 use Rattle.std.proofs.lemmas.Bool.{eq-eqb, ne_eqb, cases_eq}
 use Rattle.std.proofs.lemmas.List.Sums.{sum_by-cons, sum_by-append, length-filter}
-use Rattle.energy_flow.specs.Flow.{Energy, no_energy, plus, minus}
+use Rattle.energy_flow.specs.Flow.{Energy, plus, minus}
 use Rattle.ledger_model.specs.Board.{Flowed}
 use Rattle.ledger_model.specs.BoardLaws.{AreRising, IsIn}
 use Rattle.ledger_model.specs.Energy.{rising}

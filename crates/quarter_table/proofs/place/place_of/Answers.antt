@@ -1,5 +1,4 @@
 use Rattle.std.proofs.Common.{◌≡◌, ◌≢◌, ◌<◌, length, get_or, subst, sym, ap, ◌∙◌, arith}
-use Rattle.std.proofs.lemmas.Bool.Decides.{nat_tests}
 use Rattle.std.proofs.lemmas.List.{get_or_default}
 use Rattle.quarter_table.specs.declared.row.QuarterRow.{QuarterRow}
 use Rattle.quarter_table.specs.Rows.{no_row, earlier}
@@ -21,9 +20,9 @@ returns-else-at-len-clause-belongs c =
     let rs = c.args.rows.now.items in let q = c.args.quarter in let e = c.earlier_rows-at.ensures in
     let none : length (earlier q rs) < length rs → (get_or rs (length (earlier q rs)) (no_row q)).quarter ≢ q = λ within is. elim c.else-at-len.branch [
       | else-at-len-via-then-at-len+else-number w ↦
-        let r = w.index.result.now in
-        let here : r ≡ get_or rs (length (earlier q rs)) (no_row q) = w.index.ensures ∙ ap (λ n. get_or rs n r) e ∙ get_or_default rs (length (earlier q rs)) r (no_row q) within in
-        w.if-number.false (w.number.ensures.value ∙ ap (λ (x : QuarterRow). x.quarter) here ∙ is ∙ sym w.number-then-at-len.ensures.value)
+          let r = w.index.result.now in
+          let here : r ≡ get_or rs (length (earlier q rs)) (no_row q) = w.index.ensures ∙ ap (λ n. get_or rs n r) e ∙ get_or_default rs (length (earlier q rs)) r (no_row q) within in
+          w.if-number.false (w.number.ensures.value ∙ ap (λ (x : QuarterRow). x.quarter) here ∙ is ∙ sym w.number-then-at-len.ensures.value)
       | else-at-len-via-else-at-len w ↦ absurd (omega (arith, e, within, w.if-at-len.false, c.len.ensures))
     ] in
     subst (BelongsAt q rs) (sym e) (belongs q rs (no_row q) c.requires none)

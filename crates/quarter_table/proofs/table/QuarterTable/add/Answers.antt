@@ -1,4 +1,4 @@
-use Rattle.std.proofs.Common.{◌≡◌, ◌<◌, ◌≤◌, length, subst, sym, ap, ◌∙◌, arith, length-set}
+use Rattle.std.proofs.Common.{◌≡◌, length, subst, sym, ap, ◌∙◌, arith, length-set}
 use Rattle.quarter_table.specs.declared.row.QuarterRow.{QuarterRow}
 use Rattle.quarter_table.specs.Rows.{row_at, with_pair, set_row, AreInOrder, HavePairs}
 use Rattle.quarter_table.proofs.Replaced.{order_set, pairs_set}
