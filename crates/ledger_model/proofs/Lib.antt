@@ -22,3 +22,7 @@ pub mod FigureLemmas
 pub mod PostLemmas
 pub mod TransactionLemmas
 pub mod Callers
+pub mod Splices
+pub mod SumsByTransaction
+pub mod OneMore
+pub mod OneMoreByCommand

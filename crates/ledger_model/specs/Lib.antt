@@ -23,3 +23,4 @@ pub mod Laws
 pub mod Examples
 pub mod BoardLaws
 pub mod BoardExamples
+pub mod Deltas
