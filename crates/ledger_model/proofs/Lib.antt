@@ -26,3 +26,4 @@ pub mod Splices
 pub mod SumsByTransaction
 pub mod OneMore
 pub mod OneMoreByCommand
+pub mod OneMoreFigures

@@ -11,10 +11,10 @@ use Rattle.ledger_model.specs.Event.{MeterReading}
 use Rattle.ledger_model.specs.Content.{Entry, live, live_of, transactions_of}
 use Rattle.ledger_model.specs.Energy.{Pair, followed, pairs, pairs_of, readings_of}
 use Rattle.ledger_model.specs.Evse.{evse_of, transactions_at, first_or_none}
-use Rattle.ledger_model.specs.Deltas.{across, pairs_between, first_reading, last_reading, own_events, own_readings, IsOneMore, reading_before, reading_behind, pairs_less, pairs_more}
+use Rattle.ledger_model.specs.Deltas.{across, pairs_between, first_reading, last_reading, own_events, own_readings, IsOneMore, reading_before, reading_behind, pairs_less, pairs_more, pairs_kept}
 use Rattle.ledger_model.proofs.SumLemmas.{sum_by-flat_map, sum_by-filter_cons}
 use Rattle.ledger_model.proofs.Splices.{followed_cut, followed_sums}
-use Rattle.ledger_model.proofs.SumsByTransaction.{others, same_text, sums_differ_by_one}
+use Rattle.ledger_model.proofs.SumsByTransaction.{others, same_text, sum_by_one, others_count, sums_differ_by_one}
 
 -- The ids of events' transactions.
 abbrev ids : List Entry → List (List ℕ)
@@ -121,16 +121,40 @@ station_sums f es more front e back one =
     let less = sum_by-flat_map f (λ u. pairs_of u es) (transactions_of (live es)) in let many = sum_by-flat_map f (λ u. pairs_of u more) (transactions_of (live more)) in
     omega (arith, all, own, less, many)
 
+-- Sums over three lists.
+sum_of_three : (f : Pair → ℕ) (a b d : List Pair) → sum_by f (a ++ (b ++ d)) ≡ sum_by f a + (sum_by f b + sum_by f d)
+sum_of_three f a b d = sum_by-append f a (b ++ d) ∙ ap (λ n. sum_by f a + n) (sum_by-append f b d)
+
+-- The station's pairs without the event add up as those that are kept and the pair across its place.
+pub pairs_less_kept : (f : Pair → ℕ) (es more front : List Entry) (e : Entry) (back : List Entry) → IsOneMore es more front e back
+    → sum_by f (pairs es) ≡ sum_by f (pairs_less front e back ++ pairs_kept es front e back)
+pairs_less_kept f es more front e back one =
+    let t = e.0.tx in let p = followed (own_readings t front) in let q = followed (own_readings t back) in let a = pairs_less front e back in
+    let ts = others t (transactions_of (live es)) in let g = λ (u : List ℕ). sum_by f (pairs_of u es) in
+    let whole = sum_by-flat_map f (λ u. pairs_of u es) (transactions_of (live es)) ∙ sum_by_one g t (ids (live es)) (λ absent. ap (λ l. sum_by f (followed (readings_among l))) (none_own t (live es) absent)) in
+    let own = ap (sum_by f) (pairs_without es more front e back one) ∙ sum_of_three f p a q in
+    let rest = sum_by-flat_map f (λ u. pairs_of u es) ts in
+    let kept = sum_of_three f (flat_map (λ u. pairs_of u es) ts) p q in
+    omega (arith, whole, own, rest, kept, sum_by-append f a (pairs_kept es front e back))
+
+-- With the event they add up as those that are kept and those that its readings make.
+pub pairs_more_kept : (f : Pair → ℕ) (es more front : List Entry) (e : Entry) (back : List Entry) → IsOneMore es more front e back
+    → sum_by f (pairs more) ≡ sum_by f (pairs_more front e back ++ pairs_kept es front e back)
+pairs_more_kept f es more front e back one =
+    let less = pairs_less_kept f es more front e back one ∙ sum_by-append f (pairs_less front e back) (pairs_kept es front e back) in
+    let many = sum_by-append f (pairs_more front e back) (pairs_kept es front e back) in
+    omega (arith, less, many, station_sums f es more front e back one)
+
 -- The EVSE of another transaction.
 pub evse_else : (es more front : List Entry) (e : Entry) (back : List Entry) (u : List ℕ) → IsOneMore es more front e back → bytes_eq u e.0.tx ≡ false → evse_of u more ≡ evse_of u es
 evse_else es more front e back u one apart = ap (λ l. first_or_none (filter_map (λ x. x.1.event.evse) l)) (live_else es more front e back u one apart)
 
 -- What is taken of a sum where a test holds.
-abbrev taken : Bool → ℕ → ℕ
+abbrev pub taken : Bool → ℕ → ℕ
 taken b n = cond b n 0
 
 -- A sum over those that pass a test, as one over all.
-passed_sum : {X : Type 0} (measure : X → ℕ) (p : X → Bool) (xs : List X) → sum_by measure (filter p xs) ≡ sum_by (λ x. taken (p x) (measure x)) xs
+pub passed_sum : {X : Type 0} (measure : X → ℕ) (p : X → Bool) (xs : List X) → sum_by measure (filter p xs) ≡ sum_by (λ x. taken (p x) (measure x)) xs
 passed_sum measure p [] = refl
 passed_sum measure p (x ∷ xs) =
     let rest : sum_by measure (filter p xs) ≡ sum_by (λ y. taken (p y) (measure y)) xs = passed_sum measure p xs in

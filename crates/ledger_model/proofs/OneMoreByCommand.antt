@@ -140,7 +140,7 @@ voided_less es key s rising there live_now = record {
 }
 
 -- Events of greater keys stay when one is taken out.
-kept_below : (key : KeyName) (es : List Entry) → T (below_all key_cmp key es) → entries_without key es ≡ es
+pub kept_below : (key : KeyName) (es : List Entry) → T (below_all key_cmp key es) → entries_without key es ≡ es
 kept_below key [] h = refl
 kept_below key (e ∷ es) h = ap (λ o. cond (not (is_eq o)) (e ∷ entries_without key es) (entries_without key es)) (less _ (first _ _ h)) ∙ ap (λ l. e ∷ l) (kept_below key es (second _ _ h))
 

@@ -119,11 +119,15 @@ counts_nothing : (n : ℕ) (b : Bool) → (b ≡ false → n ≡ 0) → cond b n
 counts_nothing n true none = refl
 counts_nothing n false none = sym (none refl)
 
+-- A sum over distinct texts: what one text counts, and the others, where one that does not stand there counts nothing.
+pub sum_by_one : (g : List ℕ → ℕ) (t : List ℕ) (xs : List (List ℕ)) → (list_any (bytes_eq t) xs ≡ false → g t ≡ 0) → sum_by g (distinct xs) ≡ g t + sum_by g (others t (distinct xs))
+sum_by_one g t xs none = sum_with_one g t xs ∙ ap (λ n. n + sum_by g (others t (distinct xs))) (counts_nothing (g t) (list_any (bytes_eq t) xs) none)
+
+-- The other texts count the same, where they and what they count are.
+pub others_count : (g h : List ℕ → ℕ) (t : List ℕ) (xs ys : List (List ℕ)) → others t xs ≡ others t ys → ((u : List ℕ) → bytes_eq t u ≡ false → h u ≡ g u) → sum_by h (others t (distinct ys)) ≡ sum_by g (others t (distinct xs))
+others_count g h t xs ys same agree = others_agree g h t agree (distinct ys) ∙ ap (sum_by g) (others_distinct t ys ∙ ap distinct (sym same) ∙ sym (others_distinct t xs))
+
 -- Two sums over distinct texts, where the texts and the measures differ in one text alone, differ by what that counts.
 pub sums_differ_by_one : (g h : List ℕ → ℕ) (t : List ℕ) (xs ys : List (List ℕ)) → others t xs ≡ others t ys → ((u : List ℕ) → bytes_eq t u ≡ false → h u ≡ g u) → (list_any (bytes_eq t) xs ≡ false → g t ≡ 0) → (list_any (bytes_eq t) ys ≡ false → h t ≡ 0)
     → sum_by h (distinct ys) + g t ≡ sum_by g (distinct xs) + h t
-sums_differ_by_one g h t xs ys same agree none_x none_y =
-    let in_x = sum_with_one g t xs ∙ ap (λ n. n + sum_by g (others t (distinct xs))) (counts_nothing (g t) (list_any (bytes_eq t) xs) none_x) in
-    let in_y = sum_with_one h t ys ∙ ap (λ n. n + sum_by h (others t (distinct ys))) (counts_nothing (h t) (list_any (bytes_eq t) ys) none_y) in
-    let rest : sum_by h (others t (distinct ys)) ≡ sum_by g (others t (distinct xs)) = others_agree g h t agree (distinct ys) ∙ ap (sum_by g) (others_distinct t ys ∙ ap distinct (sym same) ∙ sym (others_distinct t xs)) in
-    omega (arith, in_x, in_y, rest)
+sums_differ_by_one g h t xs ys same agree none_x none_y = omega (arith, sum_by_one g t xs none_x, sum_by_one h t ys none_y, others_count g h t xs ys same agree)

@@ -1,12 +1,12 @@
 -- What one live event more changes.
-use Rattle.std.specs.Prelude.{◌≡◌, ℕ, ◌-◌, List, [], ◌∷◌, ◌++◌, Option, None, Some, filter, length, slice_get}
+use Rattle.std.specs.Prelude.{◌≡◌, ℕ, ◌-◌, not, List, [], ◌∷◌, ◌++◌, Option, None, Some, filter, length, slice_get}
 use Rattle.std.specs.List.{flat_map}
 use Rattle.std.specs.Ordering.{is_lt}
 use Rattle.std.specs.Str.{bytes_eq}
 use Rattle.ledger_model.specs.Event.{MeterReading}
 use Rattle.ledger_model.specs.Key.{KeyName, key_cmp}
-use Rattle.ledger_model.specs.Content.{Entry, live}
-use Rattle.ledger_model.specs.Energy.{Pair}
+use Rattle.ledger_model.specs.Content.{Entry, live, transactions_of}
+use Rattle.ledger_model.specs.Energy.{Pair, followed, pairs_of}
 
 -- The pair of two readings, where there are both.
 abbrev pub across : Option MeterReading → Option MeterReading → List Pair
@@ -63,3 +63,9 @@ pairs_less front e back = across (reading_before front e) (reading_behind e back
 -- The pairs that stand only with the event, of which its readings are.
 abbrev pub pairs_more : List Entry → Entry → List Entry → List Pair
 pairs_more front e back = pairs_between (reading_before front e) e.1.event.readings (reading_behind e back)
+
+-- The station's pairs that stand with the event and without it: those of other transactions, and those of its own on either side of its place.
+abbrev pub pairs_kept : List Entry → List Entry → Entry → List Entry → List Pair
+pairs_kept es front e back =
+    flat_map (λ tx. pairs_of tx es) (filter (λ tx. not (bytes_eq e.0.tx tx)) (transactions_of (live es)))
+    ++ (followed (own_readings e.0.tx front) ++ followed (own_readings e.0.tx back))
