@@ -171,9 +171,9 @@ pub evse_sums : (f : Pair → ℕ) (evse : ℕ) (es more front : List Entry) (e 
 evse_sums f evse es more front e back one =
     let g = λ (u : List ℕ). taken (evse_of u es == evse) (sum_by f (pairs_of u es)) in let h = λ (u : List ℕ). taken (evse_of u more == evse) (sum_by f (pairs_of u more)) in
     let all = by_transaction_sums g h es more front e back one
-      (λ u apart. ap (λ n. taken (n == evse) (sum_by f (pairs_of u more))) (evse_else es more front e back u one apart) ∙ ap (λ ps. taken (evse_of u es == evse) (sum_by f ps)) (pairs_else es more front e back u one apart))
-      (λ none. ap (λ l. taken (evse_of e.0.tx es == evse) (sum_by f (followed (readings_among l)))) none ∙ nothing_taken (evse_of e.0.tx es == evse))
-      (λ none. ap (λ l. taken (evse_of e.0.tx more == evse) (sum_by f (followed (readings_among l)))) none ∙ nothing_taken (evse_of e.0.tx more == evse)) in
+    (λ u apart. ap (λ n. taken (n == evse) (sum_by f (pairs_of u more))) (evse_else es more front e back u one apart) ∙ ap (λ ps. taken (evse_of u es == evse) (sum_by f ps)) (pairs_else es more front e back u one apart))
+    (λ none. ap (λ l. taken (evse_of e.0.tx es == evse) (sum_by f (followed (readings_among l)))) none ∙ nothing_taken (evse_of e.0.tx es == evse))
+    (λ none. ap (λ l. taken (evse_of e.0.tx more == evse) (sum_by f (followed (readings_among l)))) none ∙ nothing_taken (evse_of e.0.tx more == evse)) in
     let less = sum_by-flat_map f (λ u. pairs_of u es) (transactions_at evse es) ∙ passed_sum (λ u. sum_by f (pairs_of u es)) (λ u. evse_of u es == evse) (transactions_of (live es)) in
     let many = sum_by-flat_map f (λ u. pairs_of u more) (transactions_at evse more) ∙ passed_sum (λ u. sum_by f (pairs_of u more)) (λ u. evse_of u more == evse) (transactions_of (live more)) in
     omega (arith, all, less, many)

@@ -17,7 +17,7 @@ use Rattle.ledger_model.specs.Energy.{Pair, difference, energy, energy_in, energ
 use Rattle.ledger_model.specs.Evse.{evse_of, energy_at, transactions_at}
 use Rattle.ledger_model.specs.Gaps.{missing, numbers_of}
 use Rattle.ledger_model.specs.Complete.{is_complete, starts_and_ends}
-use Rattle.ledger_model.specs.Deltas.{IsOneMore, pairs_less, pairs_more}
+use Rattle.ledger_model.specs.Deltas.{IsOneMore, flow_if, pairs_less, pairs_more}
 use Rattle.ledger_model.proofs.Keys.{key_total, exact_keys}
 use Rattle.ledger_model.proofs.Rising.{first, second, below_less, find_below, less}
 use Rattle.ledger_model.proofs.Transactions.{transactions_added}
@@ -89,10 +89,6 @@ energy_in_more period q es more front e back one =
 pub pairs_in_more : (period q : ℕ) (es more front : List Entry) (e : Entry) (back : List Entry) → IsOneMore es more front e back
     → count_by (λ p. quarter_of period p == q) (pairs more) + count_by (λ p. quarter_of period p == q) (pairs_less front e back) ≡ count_by (λ p. quarter_of period p == q) (pairs es) + count_by (λ p. quarter_of period p == q) (pairs_more front e back)
 pairs_in_more period q es more front e back one = station_sums (λ p. cond (quarter_of period p == q) 1 0) es more front e back one
-
--- A flow where a test holds, else none.
-abbrev pub flow_if : Bool → Energy → Energy
-flow_if b flow = cond b flow no_energy
 
 if_up : (b : Bool) (flow : Energy) → (flow_if b flow).up ≡ taken b flow.up
 if_up true flow = refl

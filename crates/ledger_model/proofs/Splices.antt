@@ -1,5 +1,5 @@
 -- The pairs of readings in a row, when some are put in between.
-use Rattle.std.proofs.Common.{◌≡◌, ℕ, suc, ◌+◌, ◌-◌, List, [], ◌∷◌, ◌++◌, Option, Some, None, length, slice_get, drop, refl, sym, ap, ◌∙◌, arith, append_assoc}
+use Rattle.std.proofs.Common.{◌≡◌, ℕ, suc, ◌+◌, ◌-◌, ◌≤◌, List, [], ◌∷◌, ◌++◌, Option, Some, None, length, slice_get, drop, refl, sym, ap, ◌∙◌, arith, append_assoc, length-append}
 use Rattle.std.specs.List.{zip, sum_by}
 use Rattle.std.proofs.lemmas.List.{append-nil}
 use Rattle.std.proofs.lemmas.List.Sums.{sum_by-append}
@@ -69,3 +69,14 @@ followed_sums f front mid back =
     let with_mid = ap (sum_by f) (followed_cut front mid back) ∙ sum_by-append f (followed front) (m ++ followed back) ∙ ap (λ n. sum_by f (followed front) + n) (sum_by-append f m (followed back)) in
     let without = ap (sum_by f) (followed_cut front [] back) ∙ sum_by-append f (followed front) (a ++ followed back) ∙ ap (λ n. sum_by f (followed front) + n) (sum_by-append f a (followed back)) in
     omega (arith, with_mid, without)
+
+-- Two readings make one pair at most.
+pub few_across : (before after : Option MeterReading) → length (across before after) ≤ 1
+few_across None after = omega arith
+few_across (Some a) None = omega arith
+few_across (Some a) (Some b) = omega arith
+
+-- Readings in a row make one pair more at most than there are readings.
+pub few_between : (before : Option MeterReading) (rs : List MeterReading) (after : Option MeterReading) → length (pairs_between before rs after) ≤ length rs + 1
+few_between before [] after = let few = few_across before after in omega (arith, few)
+few_between before (r ∷ rs) after = omega (arith, few_across before (Some r), few_between (Some r) rs after, length-append (across before (Some r)) (pairs_between (Some r) rs after))

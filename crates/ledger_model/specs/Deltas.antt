@@ -1,8 +1,9 @@
 -- What one live event more changes.
-use Rattle.std.specs.Prelude.{◌≡◌, ℕ, ◌-◌, not, List, [], ◌∷◌, ◌++◌, Option, None, Some, filter, length, slice_get}
+use Rattle.std.specs.Prelude.{Bool, if◌then◌else◌, ◌≡◌, ℕ, ◌-◌, not, List, [], ◌∷◌, ◌++◌, Option, None, Some, filter, length, slice_get}
 use Rattle.std.specs.List.{flat_map}
 use Rattle.std.specs.Ordering.{is_lt}
 use Rattle.std.specs.Str.{bytes_eq}
+use Rattle.energy_flow.specs.Flow.{Energy, no_energy}
 use Rattle.ledger_model.specs.Event.{MeterReading}
 use Rattle.ledger_model.specs.Key.{KeyName, key_cmp}
 use Rattle.ledger_model.specs.Content.{Entry, live, transactions_of}
@@ -69,3 +70,7 @@ abbrev pub pairs_kept : List Entry → List Entry → Entry → List Entry → L
 pairs_kept es front e back =
     flat_map (λ tx. pairs_of tx es) (filter (λ tx. not (bytes_eq e.0.tx tx)) (transactions_of (live es)))
     ++ (followed (own_readings e.0.tx front) ++ followed (own_readings e.0.tx back))
+
+-- An energy where a test holds, else none.
+abbrev pub flow_if : Bool → Energy → Energy
+flow_if b flow = if b then flow else no_energy
