@@ -1,20 +1,19 @@
 -- What one live event more changes: in its transaction alone.
-use Rattle.std.proofs.Common.{◌≡◌, ℕ, ◌+◌, ◌==◌, Bool, true, false, cond, not, ◌||◌, List, [], ◌∷◌, ◌++◌, length, map, refl, sym, ap, subst, ◌∙◌, bytes_eq, arith}
+use Rattle.std.proofs.Common.{◌≡◌, ℕ, ◌+◌, ◌==◌, Bool, true, false, cond, not, ◌||◌, List, [], ◌∷◌, ◌++◌, length, map, refl, sym, ap, ◌∙◌, bytes_eq, arith}
 use Rattle.std.specs.List.{filter, filter_map, flat_map, list_any, sum_by}
-use Rattle.std.proofs.Math.Path.{fun_ext}
-use Rattle.std.proofs.lemmas.List.{map-append}
 use Rattle.std.proofs.lemmas.List.Elements.{filter-append}
-use Rattle.std.proofs.lemmas.List.Sums.{sum_by-append, sum_by-cons}
+use Rattle.std.proofs.lemmas.List.Sums.{sum_by-append, sum_by-cons, length-filter}
 use Rattle.std.proofs.lemmas.Grind.{flat_map-append}
 use Rattle.std.proofs.lemmas.Cmp.{nat_list_eq_equiv}
 use Rattle.ledger_model.specs.Event.{MeterReading}
-use Rattle.ledger_model.specs.Content.{Entry, live, live_of, transactions_of}
-use Rattle.ledger_model.specs.Energy.{Pair, followed, pairs, pairs_of, readings_of}
+use Rattle.ledger_model.specs.Content.{Entry, has_transaction, live, live_of, transactions_of}
+use Rattle.ledger_model.specs.Energy.{Pair, followed, pairs, pairs_of}
 use Rattle.ledger_model.specs.Evse.{evse_of, transactions_at, first_or_none}
-use Rattle.ledger_model.specs.Deltas.{across, pairs_between, first_reading, last_reading, own_events, own_readings, IsOneMore, reading_before, reading_behind, pairs_less, pairs_more, pairs_kept}
+use Rattle.ledger_model.specs.Deltas.{own_events, own_readings, IsOneMore, pairs_less, pairs_more, pairs_kept}
 use Rattle.ledger_model.proofs.SumLemmas.{sum_by-flat_map, sum_by-filter_cons}
-use Rattle.ledger_model.proofs.Splices.{followed_cut, followed_sums}
-use Rattle.ledger_model.proofs.SumsByTransaction.{others, same_text, sum_by_one, others_count, sums_differ_by_one}
+use Rattle.ledger_model.proofs.Splices.{followed_cut}
+use Rattle.ledger_model.proofs.SumsByTransaction.{others, same_text, sum_by_one, sums_differ_by_one, counts_differ_by_one}
+use Rattle.ledger_model.proofs.TransactionLemmas.{any-map}
 
 -- The ids of events' transactions.
 abbrev ids : List Entry → List (List ℕ)
@@ -177,3 +176,25 @@ evse_sums f evse es more front e back one =
     let less = sum_by-flat_map f (λ u. pairs_of u es) (transactions_at evse es) ∙ passed_sum (λ u. sum_by f (pairs_of u es)) (λ u. evse_of u es == evse) (transactions_of (live es)) in
     let many = sum_by-flat_map f (λ u. pairs_of u more) (transactions_at evse more) ∙ passed_sum (λ u. sum_by f (pairs_of u more)) (λ u. evse_of u more == evse) (transactions_of (live more)) in
     omega (arith, all, less, many)
+
+-- The event's transaction has a live event with it.
+now_live : (e : Entry) (front back : List Entry) → has_transaction e.0.tx (front ++ e ∷ back) ≡ true
+now_live e [] back = ap (λ b. b || has_transaction e.0.tx back) (same_text e.0.tx)
+now_live e (x ∷ front) back = ap (λ b. bytes_eq e.0.tx x.0.tx || b) (now_live e front back) ∙ or_true (bytes_eq e.0.tx x.0.tx)
+  where
+    or_true : (b : Bool) → (b || true) ≡ true
+    or_true true = refl
+    or_true false = refl
+
+-- How many transactions an EVSE has.
+pub evse_counts : (evse : ℕ) (es more front : List Entry) (e : Entry) (back : List Entry) → IsOneMore es more front e back
+    → length (transactions_at evse more) + taken (has_transaction e.0.tx (live es)) (taken (evse_of e.0.tx es == evse) 1) ≡ length (transactions_at evse es) + taken (evse_of e.0.tx more == evse) 1
+evse_counts evse es more front e back one =
+    let g = λ (u : List ℕ). taken (evse_of u es == evse) 1 in let h = λ (u : List ℕ). taken (evse_of u more == evse) 1 in
+    let all = counts_differ_by_one g h e.0.tx (ids (live es)) (ids (live more))
+    (ap (λ l. others e.0.tx (ids l)) one.less_live ∙ others_ids e front back ∙ ap (λ l. others e.0.tx (ids l)) (sym one.more_live))
+    (λ u apart. ap (λ n. taken (n == evse) 1) (evse_else es more front e back u one (turned_apart e.0.tx u apart))) in
+    let was = ap (λ b. taken b (g e.0.tx)) (any-map e.0.tx (live es)) in
+    let is = ap (λ b. taken b (h e.0.tx)) (any-map e.0.tx (live more) ∙ ap (has_transaction e.0.tx) one.more_live ∙ now_live e front back) in
+    let less = length-filter (λ u. evse_of u es == evse) (transactions_of (live es)) in let many = length-filter (λ u. evse_of u more == evse) (transactions_of (live more)) in
+    omega (arith, all, was, is, less, many)

@@ -1,25 +1,24 @@
 -- How figures and energies change with one live event more.
-use Rattle.std.proofs.Common.{◌≡◌, ℕ, ◌+◌, ◌==◌, Bool, true, false, cond, not, ◌&&◌, T, List, [], ◌∷◌, ◌++◌, Option, Some, None, is_some, length, map, refl, sym, ap, subst, ◌∙◌, bytes_eq, arith}
-use Rattle.std.specs.List.{filter, flat_map, sum_by, count_by}
+use Rattle.std.proofs.Common.{◌≡◌, ℕ, ◌+◌, ◌==◌, Bool, true, false, cond, not, ◌&&◌, T, List, [], ◌∷◌, Option, Some, None, is_some, length, map, refl, sym, ap, subst, ◌∙◌, arith}
+use Rattle.std.specs.List.{filter, sum_by, count_by}
 use Rattle.std.specs.Ordering.{is_eq}
 use Rattle.std.specs.declared.cmp.Ordering.{Ordering}
 use Rattle.std.specs.declared.cmp.Ordering.TheVariants.{Less, Equal, Greater}
-use Rattle.std.specs.FinMap.Entries.{find, put, below_all, length-put}
-use Rattle.std.proofs.lemmas.List.Sums.{length-filter}
+use Rattle.std.specs.FinMap.Entries.{find, below_all, length-put}
 use Rattle.std.proofs.lemmas.List.{length-append}
-use Rattle.energy_flow.specs.Flow.{Energy, no_energy, plus}
+use Rattle.energy_flow.specs.Flow.{Energy, plus}
 use Rattle.ledger_model.specs.declared.command.Command.TheVariants.{Deliver, Void, Restore, Erase}
 use Rattle.ledger_model.specs.Event.{EventContent}
 use Rattle.ledger_model.specs.Key.{KeyName, key_cmp}
-use Rattle.ledger_model.specs.Content.{Entry, Stored, live, live_of, transactions_of, has_transaction}
+use Rattle.ledger_model.specs.Content.{Entry, Stored, live, transactions_of, has_transaction}
 use Rattle.ledger_model.specs.Entries.{IsRising, entries_after, entries_without, entries_marked_at}
-use Rattle.ledger_model.specs.Energy.{Pair, difference, energy, energy_in, energy_of, energy_over, pairs, pairs_of, quarter_of}
-use Rattle.ledger_model.specs.Evse.{evse_of, energy_at, transactions_at}
+use Rattle.ledger_model.specs.Energy.{Pair, difference, energy, energy_in, energy_of, energy_over, pairs, quarter_of}
+use Rattle.ledger_model.specs.Evse.{evse_of, energy_at}
 use Rattle.ledger_model.specs.Gaps.{missing, numbers_of}
 use Rattle.ledger_model.specs.Complete.{is_complete, starts_and_ends}
 use Rattle.ledger_model.specs.Deltas.{IsOneMore, flow_if, pairs_less, pairs_more}
 use Rattle.ledger_model.proofs.Keys.{key_total, exact_keys}
-use Rattle.ledger_model.proofs.Rising.{first, second, below_less, find_below, less}
+use Rattle.ledger_model.proofs.Rising.{first, second, below_less, find_below}
 use Rattle.ledger_model.proofs.Transactions.{transactions_added}
 use Rattle.ledger_model.proofs.FigureBounds.{live_and_voided}
 use Rattle.ledger_model.proofs.OneMore.{live_else, by_transaction_sums, station_sums, transaction_sums, evse_sums, passed_sum, taken}

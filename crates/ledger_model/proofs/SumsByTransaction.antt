@@ -1,5 +1,5 @@
 -- Sums over transactions, when the events of one change.
-use Rattle.std.proofs.Common.{◌≡◌, ℕ, ◌+◌, Bool, true, false, cond, not, ◌&&◌, ◌||◌, List, [], ◌∷◌, ◌++◌, length, map, refl, sym, ap, subst, ◌∙◌, bytes_eq, arith}
+use Rattle.std.proofs.Common.{◌≡◌, ℕ, ◌+◌, Bool, true, false, cond, not, ◌&&◌, ◌||◌, List, [], ◌∷◌, refl, sym, ap, subst, ◌∙◌, bytes_eq, arith}
 use Rattle.std.specs.List.{filter, list_any, sum_by}
 use Rattle.std.proofs.Math.Path.{fun_ext}
 use Rattle.std.proofs.lemmas.List.Sums.{sum_by-cons}
@@ -131,3 +131,8 @@ others_count g h t xs ys same agree = others_agree g h t agree (distinct ys) ∙
 pub sums_differ_by_one : (g h : List ℕ → ℕ) (t : List ℕ) (xs ys : List (List ℕ)) → others t xs ≡ others t ys → ((u : List ℕ) → bytes_eq t u ≡ false → h u ≡ g u) → (list_any (bytes_eq t) xs ≡ false → g t ≡ 0) → (list_any (bytes_eq t) ys ≡ false → h t ≡ 0)
     → sum_by h (distinct ys) + g t ≡ sum_by g (distinct xs) + h t
 sums_differ_by_one g h t xs ys same agree none_x none_y = omega (arith, sum_by_one g t xs none_x, sum_by_one h t ys none_y, others_count g h t xs ys same agree)
+
+-- The same, where a text that does not stand there may count.
+pub counts_differ_by_one : (g h : List ℕ → ℕ) (t : List ℕ) (xs ys : List (List ℕ)) → others t xs ≡ others t ys → ((u : List ℕ) → bytes_eq t u ≡ false → h u ≡ g u)
+    → sum_by h (distinct ys) + cond (list_any (bytes_eq t) xs) (g t) 0 ≡ sum_by g (distinct xs) + cond (list_any (bytes_eq t) ys) (h t) 0
+counts_differ_by_one g h t xs ys same agree = omega (arith, sum_with_one g t xs, sum_with_one h t ys, others_count g h t xs ys same agree)

@@ -10,7 +10,7 @@ ghost use Rattle.ledger_model.specs.Deltas.{across, before_key, behind_key, firs
 ghost use Rattle.ledger_model.specs.Energy.{Pair, energy, energy_in, energy_of, energy_over, followed, pairs, pairs_of, quarter_of};
 ghost use Rattle.ledger_model.specs.Entries.{entries_after, IsRising};
 ghost use Rattle.ledger_model.specs.Event.{EventContent, MeterReading};
-ghost use Rattle.ledger_model.specs.Evse.{energy_at, evse_of};
+ghost use Rattle.ledger_model.specs.Evse.{energy_at, evse_of, transactions_at};
 ghost use Rattle.ledger_model.specs.Gaps.{missing, numbers_of};
 ghost use Rattle.ledger_model.specs.Key.{KeyName, key_cmp};
 
@@ -60,13 +60,14 @@ pub fn energies_with_one_event_more()
 {}
 
 /// With one live event more, one event more is live, and a transaction more where the event's had
-/// none. How many are complete and how many numbers are missing change by that transaction alone.
-/// How many events are voided changes by the command.
+/// none. How many are complete, how many numbers are missing and how many transactions an EVSE has
+/// change by that transaction alone. How many events are voided changes by the command.
 pub fn figures_with_one_event_more()
     ensures events { (es more front : List Entry) (e : Entry) (back : List Entry) → IsOneMore es more front e back → length (live more) ≡ length (live es) + 1 }
     ensures transactions { (es more front : List Entry) (e : Entry) (back : List Entry) → IsOneMore es more front e back → length (transactions_of (live more)) ≡ (if has_transaction e.0.tx (live es) then length (transactions_of (live es)) else length (transactions_of (live es)) + 1) }
     ensures complete { (es more front : List Entry) (e : Entry) (back : List Entry) → IsOneMore es more front e back → count_by (λ tx. is_complete tx more) (transactions_of (live more)) + (if is_complete e.0.tx es then 1 else 0) ≡ count_by (λ tx. is_complete tx es) (transactions_of (live es)) + (if is_complete e.0.tx more then 1 else 0) }
     ensures missing { (es more front : List Entry) (e : Entry) (back : List Entry) → IsOneMore es more front e back → sum_by (λ tx. missing (numbers_of tx more)) (transactions_of (live more)) + missing (numbers_of e.0.tx es) ≡ sum_by (λ tx. missing (numbers_of tx es)) (transactions_of (live es)) + missing (numbers_of e.0.tx more) }
+    ensures at_evse { (evse : ℕ) (es more front : List Entry) (e : Entry) (back : List Entry) → IsOneMore es more front e back → length (transactions_at evse more) + (if has_transaction e.0.tx (live es) then (if evse_of e.0.tx es == evse then 1 else 0) else 0) ≡ length (transactions_at evse es) + (if evse_of e.0.tx more == evse then 1 else 0) }
     ensures voided_by_delivery { (es : List Entry) (key : KeyName) (event : EventContent) → IsRising es → find key_cmp key es ≡ None → count_by (λ e. e.1.voided) (entries_after es (Deliver key event)) ≡ count_by (λ e. e.1.voided) es }
     ensures voided_by_restoration { (es : List Entry) (key : KeyName) (s : Stored) → IsRising es → find key_cmp key es ≡ Some s → s.voided ≡ true → count_by (λ e. e.1.voided) (entries_after es (Restore key)) + 1 ≡ count_by (λ e. e.1.voided) es }
     ensures voided_by_void { (es : List Entry) (key : KeyName) (s : Stored) → IsRising es → find key_cmp key es ≡ Some s → s.voided ≡ false → count_by (λ e. e.1.voided) (entries_after es (Void key)) ≡ count_by (λ e. e.1.voided) es + 1 }
