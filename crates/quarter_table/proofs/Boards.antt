@@ -6,9 +6,8 @@ use Rattle.energy_flow.specs.Flow.{Energy}
 use Rattle.ledger_model.specs.Board.{Flowed, board}
 use Rattle.ledger_model.specs.Content.{Entry}
 use Rattle.ledger_model.specs.Energy.{Pair, difference, energy_over, pairs, quarter_of, rising}
-use Rattle.ledger_model.proofs.Callers.{sum_by-map}
+use Rattle.ledger_model.proofs.Callers.{sum_by-map, passed_sum}
 use Rattle.quarter_table.specs.Pairs.{row_of, rows_of, flows_of, line_of}
-use Rattle.quarter_table.proofs.Made.{passed_sum}
 
 map_map : {X Y Z : Type 0} (f : Y → Z) (g : X → Y) (xs : List X) → map f (map g xs) ≡ map (λ x. f (g x)) xs
 map_map f g [] = refl

@@ -5,3 +5,5 @@ pub mod Made
 pub mod Orders
 pub mod Places
 pub mod Replaced
+pub mod Held
+pub mod Several

@@ -7,7 +7,7 @@ use Rattle.energy_flow.specs.Flow.{Energy, plus, minus}
 use Rattle.ledger_model.specs.Board.{Flowed}
 use Rattle.ledger_model.specs.BoardLaws.{AreRising, IsIn}
 use Rattle.ledger_model.specs.Energy.{rising}
-use Rattle.ledger_model.proofs.Callers.{sum_by-filter_cons, rising-AreRising, rising-IsIn}
+use Rattle.ledger_model.proofs.Callers.{passed_sum, rising-AreRising, rising-IsIn}
 use Rattle.quarter_table.specs.declared.row.QuarterRow.{QuarterRow}
 use Rattle.quarter_table.specs.Rows.{no_row, row_at, with_pair, without_pair, set_row, AreAfter, AreInOrder, HavePairs}
 use Rattle.quarter_table.specs.Pairs.{total, row_of, rows_of}
@@ -121,13 +121,6 @@ row_as q pairs flow = record { quarter = q; pairs = pairs; flow = flow }
 -- Rows with the same numbers.
 same_row : (q m n : ℕ) (a b : Energy) → m ≡ n → a.up ≡ b.up → a.down ≡ b.down → row_as q m a ≡ row_as q n b
 same_row q m n a b pairs up down = λ i. record { quarter = q; pairs = pairs i; flow = record { up = up i; down = down i } }
-
--- A sum over those that pass a test, as one over all.
-pub passed_sum : {X : Type 0} (measure : X → ℕ) (p : X → Bool) (xs : List X) → sum_by measure (filter p xs) ≡ sum_by (λ x. cond (p x) (measure x) 0) xs
-passed_sum measure p [] = refl
-passed_sum measure p (x ∷ xs) =
-    let rest : sum_by measure (filter p xs) ≡ sum_by (λ y. cond (p y) (measure y) 0) xs = passed_sum measure p xs in
-    sum_by-filter_cons measure p x xs ∙ ap (λ n. cond (p x) (measure x) 0 + n) rest ∙ sym (sum_by-cons (λ y. cond (p y) (measure y) 0) x xs)
 
 -- Pairs that add up the same, by whatever measure, have the same row for each quarter.
 pub row_alike : (q : ℕ) (xs ys : List Flowed) → ((measure : Flowed → ℕ) → sum_by measure xs ≡ sum_by measure ys) → row_of q xs ≡ row_of q ys

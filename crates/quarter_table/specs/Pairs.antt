@@ -1,9 +1,10 @@
 -- The rows that pairs make.
-use Rattle.std.specs.Prelude.{ℕ, ◌==◌, List, map, filter, length, sum_by}
+use Rattle.std.specs.Prelude.{ℕ, ◌==◌, List, [], ◌∷◌, map, filter, length, sum_by}
 use Rattle.energy_flow.specs.Flow.{Energy}
 use Rattle.ledger_model.specs.Board.{Flowed}
 use Rattle.ledger_model.specs.Energy.{Pair, difference, quarter_of, rising}
 use Rattle.quarter_table.specs.declared.row.QuarterRow.{QuarterRow}
+use Rattle.quarter_table.specs.Rows.{row_at, set_row, with_pair, without_pair}
 
 -- Differences added up, field by field.
 abbrev pub total : List Flowed → Energy
@@ -26,3 +27,13 @@ flows_of period pairs = map (λ p. (quarter_of period p, difference p)) pairs
 -- What a board shows of a row.
 abbrev pub line_of : QuarterRow → Flowed
 line_of row = (row.quarter, row.flow)
+
+-- Rows after these pairs were added, one after the other.
+abbrev pub rows_with : List Flowed → List QuarterRow → List QuarterRow
+rows_with [] rows = rows
+rows_with (f ∷ fs) rows = rows_with fs (set_row (with_pair f.1 (row_at f.0 rows)) rows)
+
+-- Rows after these pairs were taken out, one after the other.
+abbrev pub rows_without : List Flowed → List QuarterRow → List QuarterRow
+rows_without [] rows = rows
+rows_without (f ∷ fs) rows = rows_without fs (set_row (without_pair f.1 (row_at f.0 rows)) rows)
