@@ -1,14 +1,12 @@
 -- Rows after several pairs, and after one event.
-use Rattle.std.proofs.Common.{◌≡◌, ℕ, List, [], ◌∷◌, ◌++◌, map, refl, sym, ap, ◌∙◌}
+use Rattle.std.proofs.Common.{◌≡◌, ℕ, List, [], ◌∷◌, ◌++◌, refl, sym, ap, ◌∙◌}
 use Rattle.std.specs.List.{sum_by}
 use Rattle.std.proofs.lemmas.List.{map-append}
-use Rattle.energy_flow.specs.Flow.{Energy}
 use Rattle.ledger_model.specs.Board.{Flowed}
 use Rattle.ledger_model.specs.Content.{Entry}
 use Rattle.ledger_model.specs.Deltas.{IsOneMore, pairs_kept, pairs_less, pairs_more}
 use Rattle.ledger_model.specs.Energy.{Pair, difference, pairs, quarter_of}
 use Rattle.ledger_model.proofs.Callers.{sum_by-map, pairs_less_kept, pairs_more_kept}
-use Rattle.quarter_table.specs.Rows.{row_at, set_row, with_pair, without_pair}
 use Rattle.quarter_table.specs.Pairs.{rows_of, rows_with, rows_without, flows_of}
 use Rattle.quarter_table.proofs.Made.{made_added, made_removed, made_alike, moved_front}
 
