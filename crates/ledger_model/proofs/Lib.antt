@@ -27,3 +27,4 @@ pub mod SumsByTransaction
 pub mod OneMore
 pub mod OneMoreByCommand
 pub mod OneMoreFigures
+pub mod KeysByNumber

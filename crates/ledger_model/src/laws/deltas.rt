@@ -1,5 +1,5 @@
 //! Laws of one live event more: what a delivery, a restoration or a void changes, and what it leaves.
-ghost use Rattle.std.specs.Prelude.{◌≡◌, ℕ, ◌+◌, ◌≤◌, ◌==◌, true, false, if◌then◌else◌, List, ◌∷◌, ◌++◌, None, Some, count_by, filter, length, sum_by};
+ghost use Rattle.std.specs.Prelude.{◌≡◌, ℕ, ◌+◌, ◌≤◌, ◌==◌, true, false, if◌then◌else◌, List, ◌∷◌, ◌++◌, None, Some, count_by, filter, length, nat_lt, sum_by};
 ghost use Rattle.std.specs.FinMap.{find};
 ghost use Rattle.std.specs.Str.{bytes_eq};
 ghost use Rattle.energy_flow.specs.Flow.{plus};
@@ -26,12 +26,15 @@ pub fn pairs_of_readings_put_in()
 {}
 
 /// A delivery of a new key, and a restoration, make one live event more, in the place of its key;
-/// before a void there was one more. An erasure leaves the live events.
+/// before a void there was one more. An erasure leaves the live events. Of its own transaction's events
+/// those of smaller numbers stand in front of a key, and those of greater ones behind it.
 pub fn one_event_more_or_less()
     ensures delivered { (es : List Entry) (key : KeyName) (event : EventContent) → IsRising es → find key_cmp key es ≡ None → IsOneMore es (entries_after es (Deliver key event)) (before_key key es) (key, record { event = event; voided = false }) (behind_key key es) }
     ensures restored { (es : List Entry) (key : KeyName) (s : Stored) → IsRising es → find key_cmp key es ≡ Some s → s.voided ≡ true → IsOneMore es (entries_after es (Restore key)) (before_key key es) (key, record { event = s.event; voided = false }) (behind_key key es) }
     ensures voided { (es : List Entry) (key : KeyName) (s : Stored) → IsRising es → find key_cmp key es ≡ Some s → s.voided ≡ false → IsOneMore (entries_after es (Void key)) es (before_key key es) (key, s) (behind_key key es) }
     ensures erased { (es : List Entry) (key : KeyName) (s : Stored) → IsRising es → find key_cmp key es ≡ Some s → s.voided ≡ true → live (entries_after es (Erase key)) ≡ live es }
+    ensures in_front { (key : KeyName) (es : List Entry) → own_events key.tx (before_key key es) ≡ filter (λ e. nat_lt e.0.seq key.seq) (live_of key.tx es) }
+    ensures behind { (key : KeyName) (es : List Entry) → own_events key.tx (behind_key key es) ≡ filter (λ e. nat_lt key.seq e.0.seq) (live_of key.tx es) }
 {}
 
 /// One live event more stands in its transaction alone, whose pairs change at its place alone. The
