@@ -12,3 +12,8 @@ pub use Rattle.ledger_model.proofs.Bounds.{IsEntry, AreEntries, AreKept, AreKept
 pub use Rattle.ledger_model.proofs.FigureBounds.{figures_within, live_and_voided, transactions_by_entries, missing_by_entries}
 pub use Rattle.ledger_model.proofs.GapLemmas.{gaps-AreGaps}
 pub use Rattle.ledger_model.proofs.NumberLemmas.{rising_from_sorted}
+pub use Rattle.ledger_model.proofs.Splices.{followed_cut, followed_sums, few_across, few_between}
+pub use Rattle.ledger_model.proofs.OneMoreByCommand.{delivered_more, restored_more, voided_less, erased_same}
+pub use Rattle.ledger_model.proofs.OneMore.{passed_sum, live_with, live_without, live_else, pairs_with, pairs_without, pairs_else, pairs_less_kept, pairs_more_kept, transaction_sums, by_transaction_sums, station_sums, evse_sums, evse_else, evse_counts}
+pub use Rattle.ledger_model.proofs.OneMoreFigures.{events_more, transactions_more, complete_more, missing_more, energy_more, energy_of_more, energy_in_more, pairs_in_more, energy_at_more, voided_delivered, voided_restored, voided_voided, voided_erased}
+pub use Rattle.ledger_model.proofs.KeysByNumber.{own_before_key, own_behind_key}

@@ -24,3 +24,9 @@ pub mod TransactionLemmas
 pub mod Runs
 pub mod LiveEvents
 pub mod Callers
+pub mod Splices
+pub mod SumsByTransaction
+pub mod OneMore
+pub mod OneMoreByCommand
+pub mod OneMoreFigures
+pub mod KeysByNumber

@@ -36,7 +36,7 @@ distinct-any tx (x ∷ xs) =
       | false ↦ λ e. others_stay x tx e (distinct xs) ∙ distinct-any tx xs
     ]) refl
 
-any-map : (tx : List ℕ) (es : List Entry) → list_any (bytes_eq tx) (map (λ e. e.0.tx) es) ≡ has_transaction tx es
+pub any-map : (tx : List ℕ) (es : List Entry) → list_any (bytes_eq tx) (map (λ e. e.0.tx) es) ≡ has_transaction tx es
 any-map tx [] = refl
 any-map tx (e ∷ es) = ap (λ b. bytes_eq tx e.0.tx || b) (any-map tx es)
 

@@ -24,3 +24,4 @@ pub mod Examples
 pub mod BoardLaws
 pub mod WorldLaws
 pub mod BoardExamples
+pub mod Deltas

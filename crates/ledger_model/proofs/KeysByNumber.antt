@@ -1,0 +1,75 @@
+-- Where a key stands among the events of its own transaction: by its number.
+use Rattle.std.proofs.Common.{◌≡◌, ℕ, ◌<◌, Bool, true, false, cond, ◌&&◌, nat_lt, ◌⊎◌, List, [], ◌∷◌, refl, sym, ap, ◌∙◌, bytes_eq, arith, ⊎_elim}
+use Rattle.std.specs.List.{filter}
+use Rattle.std.specs.Ordering.{is_lt, nat_cmp, ordering_then}
+use Rattle.std.specs.Cmp.{nat_cmp_is, tied_itself}
+use Rattle.std.specs.Cmp.Lexicographic.{slice_cmp}
+use Rattle.std.specs.declared.cmp.Ordering.TheVariants.{Less, Equal, Greater}
+use Rattle.std.proofs.Math.Path.{fun_ext}
+use Rattle.std.proofs.lemmas.Bool.{lt-ltb, le-ltb, cases_order}
+use Rattle.std.proofs.lemmas.Cmp.{nat_list_cmp_total}
+use Rattle.ledger_model.specs.Key.{KeyName, key_cmp}
+use Rattle.ledger_model.specs.Content.{Entry, live, live_of}
+use Rattle.ledger_model.specs.Deltas.{before_key, behind_key, own_events}
+use Rattle.ledger_model.proofs.SumsByTransaction.{one_text}
+
+-- Two tests, one after the other, are one test.
+twice : {X : Type 0} (p q : X → Bool) (xs : List X) → filter p (filter q xs) ≡ filter (λ x. q x && p x) xs
+twice p q [] = refl
+twice p q (x ∷ xs) = elim (q x) as (λ b. filter p (cond b (x ∷ filter q xs) (filter q xs)) ≡ cond (b && p x) (x ∷ filter (λ y. q y && p y) xs) (filter (λ y. q y && p y) xs)) [
+  | true ↦ ap (λ l. cond (p x) (x ∷ l) l) (twice p q xs)
+  | false ↦ twice p q xs
+]
+
+never : (b : Bool) → (b && false) ≡ false
+never true = refl
+never false = refl
+
+always : (b : Bool) → (b && true) ≡ b
+always true = refl
+always false = refl
+
+-- A smaller number stands in front.
+number_first : (m n : ℕ) → is_lt (nat_cmp m n) ≡ nat_lt m n
+number_first m n = ⊎_elim
+    (λ (e : m ≡ n). ap is_lt (sym (nat_cmp_is m n Equal e)) ∙ sym (le-ltb m n (omega arith)))
+    (λ (o : (m < n) ⊎ (n < m)). ⊎_elim
+    (λ (lt : m < n). ap is_lt (sym (nat_cmp_is m n Less lt)) ∙ sym (lt-ltb m n lt))
+    (λ (gt : n < m). ap is_lt (sym (nat_cmp_is m n Greater gt)) ∙ sym (le-ltb m n (omega arith)))
+    o)
+    (cases_order m n)
+
+-- Of two keys of one transaction, that of the smaller number stands in front.
+by_number : (a b : KeyName) → a.tx ≡ b.tx → is_lt (key_cmp a b) ≡ nat_lt a.seq b.seq
+by_number a b same =
+    ap (λ o. is_lt (ordering_then o (nat_cmp a.seq b.seq))) (sym (ap (slice_cmp nat_cmp a.tx) same) ∙ tied_itself nat_list_cmp_total a.tx) ∙ number_first a.seq b.seq
+
+-- Among the events of a key's transaction, those in front of the key have smaller numbers.
+own_in_front : (key : KeyName) (e : Entry) → (is_lt (key_cmp e.0 key) && bytes_eq key.tx e.0.tx) ≡ (bytes_eq key.tx e.0.tx && nat_lt e.0.seq key.seq)
+own_in_front key e =
+    (elim (bytes_eq key.tx e.0.tx) as (λ b. bytes_eq key.tx e.0.tx ≡ b → (is_lt (key_cmp e.0 key) && b) ≡ (b && nat_lt e.0.seq key.seq)) [
+      | true ↦ λ is. always (is_lt (key_cmp e.0 key)) ∙ by_number e.0 key (sym (one_text key.tx e.0.tx is))
+      | false ↦ λ is. never (is_lt (key_cmp e.0 key))
+    ]) refl
+
+-- Those behind it have greater ones.
+own_behind : (key : KeyName) (e : Entry) → (is_lt (key_cmp key e.0) && bytes_eq key.tx e.0.tx) ≡ (bytes_eq key.tx e.0.tx && nat_lt key.seq e.0.seq)
+own_behind key e =
+    (elim (bytes_eq key.tx e.0.tx) as (λ b. bytes_eq key.tx e.0.tx ≡ b → (is_lt (key_cmp key e.0) && b) ≡ (b && nat_lt key.seq e.0.seq)) [
+      | true ↦ λ is. always (is_lt (key_cmp key e.0)) ∙ by_number key e.0 (one_text key.tx e.0.tx is)
+      | false ↦ λ is. never (is_lt (key_cmp key e.0))
+    ]) refl
+
+-- The live events of a key's transaction in front of the key are those of smaller numbers.
+pub own_before_key : (key : KeyName) (es : List Entry) → own_events key.tx (before_key key es) ≡ filter (λ e. nat_lt e.0.seq key.seq) (live_of key.tx es)
+own_before_key key es =
+    twice (λ (e : Entry). bytes_eq key.tx e.0.tx) (λ e. is_lt (key_cmp e.0 key)) (live es)
+    ∙ ap (λ p. filter p (live es)) (fun_ext (own_in_front key))
+    ∙ sym (twice (λ (e : Entry). nat_lt e.0.seq key.seq) (λ e. bytes_eq key.tx e.0.tx) (live es))
+
+-- Those behind it are those of greater numbers.
+pub own_behind_key : (key : KeyName) (es : List Entry) → own_events key.tx (behind_key key es) ≡ filter (λ e. nat_lt key.seq e.0.seq) (live_of key.tx es)
+own_behind_key key es =
+    twice (λ (e : Entry). bytes_eq key.tx e.0.tx) (λ e. is_lt (key_cmp key e.0)) (live es)
+    ∙ ap (λ p. filter p (live es)) (fun_ext (own_behind key))
+    ∙ sym (twice (λ (e : Entry). nat_lt key.seq e.0.seq) (λ e. bytes_eq key.tx e.0.tx) (live es))

@@ -1,0 +1,200 @@
+-- What one live event more changes: in its transaction alone.
+use Rattle.std.proofs.Common.{◌≡◌, ℕ, ◌+◌, ◌==◌, Bool, true, false, cond, not, ◌||◌, List, [], ◌∷◌, ◌++◌, length, map, refl, sym, ap, ◌∙◌, bytes_eq, arith}
+use Rattle.std.specs.List.{filter, filter_map, flat_map, list_any, sum_by}
+use Rattle.std.proofs.lemmas.List.Elements.{filter-append}
+use Rattle.std.proofs.lemmas.List.Sums.{sum_by-append, sum_by-cons, length-filter}
+use Rattle.std.proofs.lemmas.Grind.{flat_map-append}
+use Rattle.std.proofs.lemmas.Cmp.{nat_list_eq_equiv}
+use Rattle.ledger_model.specs.Event.{MeterReading}
+use Rattle.ledger_model.specs.Content.{Entry, has_transaction, live, live_of, transactions_of}
+use Rattle.ledger_model.specs.Energy.{Pair, followed, pairs, pairs_of}
+use Rattle.ledger_model.specs.Evse.{evse_of, transactions_at, first_or_none}
+use Rattle.ledger_model.specs.Deltas.{own_events, own_readings, IsOneMore, pairs_less, pairs_more, pairs_kept}
+use Rattle.ledger_model.proofs.SumLemmas.{sum_by-flat_map, sum_by-filter_cons}
+use Rattle.ledger_model.proofs.Splices.{followed_cut}
+use Rattle.ledger_model.proofs.SumsByTransaction.{others, same_text, sum_by_one, sums_differ_by_one, counts_differ_by_one}
+use Rattle.ledger_model.proofs.TransactionLemmas.{any-map}
+
+-- The ids of events' transactions.
+abbrev ids : List Entry → List (List ℕ)
+ids es = map (λ e. e.0.tx) es
+
+-- The ids of other transactions, with an event of this one among others.
+others_ids : (e : Entry) (front back : List Entry) → others e.0.tx (ids (front ++ back)) ≡ others e.0.tx (ids (front ++ e ∷ back))
+others_ids e [] back = sym (ap (λ b. cond (not b) (e.0.tx ∷ others e.0.tx (ids back)) (others e.0.tx (ids back))) (same_text e.0.tx))
+others_ids e (x ∷ front) back = ap (λ ts. cond (not (bytes_eq e.0.tx x.0.tx)) (x.0.tx ∷ ts) ts) (others_ids e front back)
+
+-- The events of a transaction, with one among others.
+own_with : (e : Entry) (front back : List Entry) → own_events e.0.tx (front ++ e ∷ back) ≡ own_events e.0.tx front ++ e ∷ own_events e.0.tx back
+own_with e front back =
+    filter-append (λ (x : Entry). bytes_eq e.0.tx x.0.tx) front (e ∷ back)
+    ∙ ap (λ b. own_events e.0.tx front ++ cond b (e ∷ own_events e.0.tx back) (own_events e.0.tx back)) (same_text e.0.tx)
+
+-- The events of another transaction.
+own_else : (u : List ℕ) (e : Entry) (front back : List Entry) → bytes_eq u e.0.tx ≡ false → own_events u (front ++ e ∷ back) ≡ own_events u (front ++ back)
+own_else u e front back apart =
+    filter-append (λ (x : Entry). bytes_eq u x.0.tx) front (e ∷ back)
+    ∙ ap (λ b. own_events u front ++ cond b (e ∷ own_events u back) (own_events u back)) apart
+    ∙ sym (filter-append (λ (x : Entry). bytes_eq u x.0.tx) front back)
+
+-- A transaction whose id stands nowhere has no events.
+none_own : (t : List ℕ) (es : List Entry) → list_any (bytes_eq t) (ids es) ≡ false → own_events t es ≡ []
+none_own t [] none = refl
+none_own t (e ∷ es) none =
+    (elim (bytes_eq t e.0.tx) as (λ b. (b || list_any (bytes_eq t) (ids es)) ≡ false → cond b (e ∷ own_events t es) (own_events t es) ≡ []) [
+      | true ↦ λ h. absurd (true_not h)
+      | false ↦ λ h. none_own t es h
+    ]) none
+  where
+    true_not : true ≡ false → ⊥
+    true_not h = cc
+
+-- The live events of the transaction, without the event.
+pub live_without : (es more front : List Entry) (e : Entry) (back : List Entry) → IsOneMore es more front e back → live_of e.0.tx es ≡ own_events e.0.tx front ++ own_events e.0.tx back
+live_without es more front e back one = ap (own_events e.0.tx) one.less_live ∙ filter-append (λ (x : Entry). bytes_eq e.0.tx x.0.tx) front back
+
+-- The live events of the transaction, with it.
+pub live_with : (es more front : List Entry) (e : Entry) (back : List Entry) → IsOneMore es more front e back → live_of e.0.tx more ≡ own_events e.0.tx front ++ e ∷ own_events e.0.tx back
+live_with es more front e back one = ap (own_events e.0.tx) one.more_live ∙ own_with e front back
+
+-- The live events of another transaction.
+pub live_else : (es more front : List Entry) (e : Entry) (back : List Entry) (u : List ℕ) → IsOneMore es more front e back → bytes_eq u e.0.tx ≡ false → live_of u more ≡ live_of u es
+live_else es more front e back u one apart = ap (own_events u) one.more_live ∙ own_else u e front back apart ∙ sym (ap (own_events u) one.less_live)
+
+-- The readings of events.
+abbrev readings_among : List Entry → List MeterReading
+readings_among es = flat_map (λ e. e.1.event.readings) es
+
+-- The pairs of the transaction, without the event.
+pub pairs_without : (es more front : List Entry) (e : Entry) (back : List Entry) → IsOneMore es more front e back
+    → pairs_of e.0.tx es ≡ followed (own_readings e.0.tx front) ++ (pairs_less front e back ++ followed (own_readings e.0.tx back))
+pairs_without es more front e back one =
+    let t = e.0.tx in
+    ap (λ l. followed (readings_among l)) (live_without es more front e back one)
+    ∙ ap followed (flat_map-append (λ (x : Entry). x.1.event.readings) (own_events t front) (own_events t back))
+    ∙ followed_cut (own_readings t front) [] (own_readings t back)
+
+-- The pairs of the transaction, with it.
+pub pairs_with : (es more front : List Entry) (e : Entry) (back : List Entry) → IsOneMore es more front e back
+    → pairs_of e.0.tx more ≡ followed (own_readings e.0.tx front) ++ (pairs_more front e back ++ followed (own_readings e.0.tx back))
+pairs_with es more front e back one =
+    let t = e.0.tx in
+    ap (λ l. followed (readings_among l)) (live_with es more front e back one)
+    ∙ ap followed (flat_map-append (λ (x : Entry). x.1.event.readings) (own_events t front) (e ∷ own_events t back))
+    ∙ followed_cut (own_readings t front) e.1.event.readings (own_readings t back)
+
+-- The pairs of another transaction.
+pub pairs_else : (es more front : List Entry) (e : Entry) (back : List Entry) (u : List ℕ) → IsOneMore es more front e back → bytes_eq u e.0.tx ≡ false → pairs_of u more ≡ pairs_of u es
+pairs_else es more front e back u one apart = ap (λ l. followed (readings_among l)) (live_else es more front e back u one apart)
+
+-- A sum over the pairs of the transaction.
+pub transaction_sums : (f : Pair → ℕ) (es more front : List Entry) (e : Entry) (back : List Entry) → IsOneMore es more front e back
+    → sum_by f (pairs_of e.0.tx more) + sum_by f (pairs_less front e back) ≡ sum_by f (pairs_of e.0.tx es) + sum_by f (pairs_more front e back)
+transaction_sums f es more front e back one =
+    let t = e.0.tx in let p = followed (own_readings t front) in let q = followed (own_readings t back) in let a = pairs_less front e back in let m = pairs_more front e back in
+    let with_it = ap (sum_by f) (pairs_with es more front e back one) ∙ sum_by-append f p (m ++ q) ∙ ap (λ n. sum_by f p + n) (sum_by-append f m q) in
+    let without = ap (sum_by f) (pairs_without es more front e back one) ∙ sum_by-append f p (a ++ q) ∙ ap (λ n. sum_by f p + n) (sum_by-append f a q) in
+    omega (arith, with_it, without)
+
+turned_apart : (t u : List ℕ) → bytes_eq t u ≡ false → bytes_eq u t ≡ false
+turned_apart t u apart = nat_list_eq_equiv.symm u t ∙ apart
+
+-- A sum over the transactions with a live event, of a measure that is nothing where a transaction has none, changes by what the event's transaction counts.
+pub by_transaction_sums : (g h : List ℕ → ℕ) (es more front : List Entry) (e : Entry) (back : List Entry) → IsOneMore es more front e back
+    → ((u : List ℕ) → bytes_eq u e.0.tx ≡ false → h u ≡ g u) → (live_of e.0.tx es ≡ [] → g e.0.tx ≡ 0) → (live_of e.0.tx more ≡ [] → h e.0.tx ≡ 0)
+    → sum_by h (transactions_of (live more)) + g e.0.tx ≡ sum_by g (transactions_of (live es)) + h e.0.tx
+by_transaction_sums g h es more front e back one agree none_less none_more =
+    sums_differ_by_one g h e.0.tx (ids (live es)) (ids (live more))
+    (ap (λ l. others e.0.tx (ids l)) one.less_live ∙ others_ids e front back ∙ ap (λ l. others e.0.tx (ids l)) (sym one.more_live))
+    (λ u apart. agree u (turned_apart e.0.tx u apart))
+    (λ absent. none_less (none_own e.0.tx (live es) absent))
+    (λ absent. none_more (none_own e.0.tx (live more) absent))
+
+-- A sum over the pairs of the station.
+pub station_sums : (f : Pair → ℕ) (es more front : List Entry) (e : Entry) (back : List Entry) → IsOneMore es more front e back
+    → sum_by f (pairs more) + sum_by f (pairs_less front e back) ≡ sum_by f (pairs es) + sum_by f (pairs_more front e back)
+station_sums f es more front e back one =
+    let g = λ (u : List ℕ). sum_by f (pairs_of u es) in let h = λ (u : List ℕ). sum_by f (pairs_of u more) in
+    let all = by_transaction_sums g h es more front e back one (λ u apart. ap (sum_by f) (pairs_else es more front e back u one apart)) (λ none. ap (λ l. sum_by f (followed (readings_among l))) none) (λ none. ap (λ l. sum_by f (followed (readings_among l))) none) in
+    let own = transaction_sums f es more front e back one in
+    let less = sum_by-flat_map f (λ u. pairs_of u es) (transactions_of (live es)) in let many = sum_by-flat_map f (λ u. pairs_of u more) (transactions_of (live more)) in
+    omega (arith, all, own, less, many)
+
+-- Sums over three lists.
+sum_of_three : (f : Pair → ℕ) (a b d : List Pair) → sum_by f (a ++ (b ++ d)) ≡ sum_by f a + (sum_by f b + sum_by f d)
+sum_of_three f a b d = sum_by-append f a (b ++ d) ∙ ap (λ n. sum_by f a + n) (sum_by-append f b d)
+
+-- The station's pairs without the event add up as those that are kept and the pair across its place.
+pub pairs_less_kept : (f : Pair → ℕ) (es more front : List Entry) (e : Entry) (back : List Entry) → IsOneMore es more front e back
+    → sum_by f (pairs es) ≡ sum_by f (pairs_less front e back ++ pairs_kept es front e back)
+pairs_less_kept f es more front e back one =
+    let t = e.0.tx in let p = followed (own_readings t front) in let q = followed (own_readings t back) in let a = pairs_less front e back in
+    let ts = others t (transactions_of (live es)) in let g = λ (u : List ℕ). sum_by f (pairs_of u es) in
+    let whole = sum_by-flat_map f (λ u. pairs_of u es) (transactions_of (live es)) ∙ sum_by_one g t (ids (live es)) (λ absent. ap (λ l. sum_by f (followed (readings_among l))) (none_own t (live es) absent)) in
+    let own = ap (sum_by f) (pairs_without es more front e back one) ∙ sum_of_three f p a q in
+    let rest = sum_by-flat_map f (λ u. pairs_of u es) ts in
+    let kept = sum_of_three f (flat_map (λ u. pairs_of u es) ts) p q in
+    omega (arith, whole, own, rest, kept, sum_by-append f a (pairs_kept es front e back))
+
+-- With the event they add up as those that are kept and those that its readings make.
+pub pairs_more_kept : (f : Pair → ℕ) (es more front : List Entry) (e : Entry) (back : List Entry) → IsOneMore es more front e back
+    → sum_by f (pairs more) ≡ sum_by f (pairs_more front e back ++ pairs_kept es front e back)
+pairs_more_kept f es more front e back one =
+    let less = pairs_less_kept f es more front e back one ∙ sum_by-append f (pairs_less front e back) (pairs_kept es front e back) in
+    let many = sum_by-append f (pairs_more front e back) (pairs_kept es front e back) in
+    omega (arith, less, many, station_sums f es more front e back one)
+
+-- The EVSE of another transaction.
+pub evse_else : (es more front : List Entry) (e : Entry) (back : List Entry) (u : List ℕ) → IsOneMore es more front e back → bytes_eq u e.0.tx ≡ false → evse_of u more ≡ evse_of u es
+evse_else es more front e back u one apart = ap (λ l. first_or_none (filter_map (λ x. x.1.event.evse) l)) (live_else es more front e back u one apart)
+
+-- What is taken of a sum where a test holds.
+abbrev pub taken : Bool → ℕ → ℕ
+taken b n = cond b n 0
+
+-- A sum over those that pass a test, as one over all.
+pub passed_sum : {X : Type 0} (measure : X → ℕ) (p : X → Bool) (xs : List X) → sum_by measure (filter p xs) ≡ sum_by (λ x. taken (p x) (measure x)) xs
+passed_sum measure p [] = refl
+passed_sum measure p (x ∷ xs) =
+    let rest : sum_by measure (filter p xs) ≡ sum_by (λ y. taken (p y) (measure y)) xs = passed_sum measure p xs in
+    sum_by-filter_cons measure p x xs ∙ ap (λ n. taken (p x) (measure x) + n) rest ∙ sym (sum_by-cons (λ y. taken (p y) (measure y)) x xs)
+
+nothing_taken : (b : Bool) → taken b 0 ≡ 0
+nothing_taken true = refl
+nothing_taken false = refl
+
+-- A sum over the pairs of an EVSE: the transaction's are taken from where it was and brought to where it is.
+pub evse_sums : (f : Pair → ℕ) (evse : ℕ) (es more front : List Entry) (e : Entry) (back : List Entry) → IsOneMore es more front e back
+    → sum_by f (flat_map (λ u. pairs_of u more) (transactions_at evse more)) + taken (evse_of e.0.tx es == evse) (sum_by f (pairs_of e.0.tx es))
+    ≡ sum_by f (flat_map (λ u. pairs_of u es) (transactions_at evse es)) + taken (evse_of e.0.tx more == evse) (sum_by f (pairs_of e.0.tx more))
+evse_sums f evse es more front e back one =
+    let g = λ (u : List ℕ). taken (evse_of u es == evse) (sum_by f (pairs_of u es)) in let h = λ (u : List ℕ). taken (evse_of u more == evse) (sum_by f (pairs_of u more)) in
+    let all = by_transaction_sums g h es more front e back one
+    (λ u apart. ap (λ n. taken (n == evse) (sum_by f (pairs_of u more))) (evse_else es more front e back u one apart) ∙ ap (λ ps. taken (evse_of u es == evse) (sum_by f ps)) (pairs_else es more front e back u one apart))
+    (λ none. ap (λ l. taken (evse_of e.0.tx es == evse) (sum_by f (followed (readings_among l)))) none ∙ nothing_taken (evse_of e.0.tx es == evse))
+    (λ none. ap (λ l. taken (evse_of e.0.tx more == evse) (sum_by f (followed (readings_among l)))) none ∙ nothing_taken (evse_of e.0.tx more == evse)) in
+    let less = sum_by-flat_map f (λ u. pairs_of u es) (transactions_at evse es) ∙ passed_sum (λ u. sum_by f (pairs_of u es)) (λ u. evse_of u es == evse) (transactions_of (live es)) in
+    let many = sum_by-flat_map f (λ u. pairs_of u more) (transactions_at evse more) ∙ passed_sum (λ u. sum_by f (pairs_of u more)) (λ u. evse_of u more == evse) (transactions_of (live more)) in
+    omega (arith, all, less, many)
+
+-- The event's transaction has a live event with it.
+now_live : (e : Entry) (front back : List Entry) → has_transaction e.0.tx (front ++ e ∷ back) ≡ true
+now_live e [] back = ap (λ b. b || has_transaction e.0.tx back) (same_text e.0.tx)
+now_live e (x ∷ front) back = ap (λ b. bytes_eq e.0.tx x.0.tx || b) (now_live e front back) ∙ or_true (bytes_eq e.0.tx x.0.tx)
+  where
+    or_true : (b : Bool) → (b || true) ≡ true
+    or_true true = refl
+    or_true false = refl
+
+-- How many transactions an EVSE has.
+pub evse_counts : (evse : ℕ) (es more front : List Entry) (e : Entry) (back : List Entry) → IsOneMore es more front e back
+    → length (transactions_at evse more) + taken (has_transaction e.0.tx (live es)) (taken (evse_of e.0.tx es == evse) 1) ≡ length (transactions_at evse es) + taken (evse_of e.0.tx more == evse) 1
+evse_counts evse es more front e back one =
+    let g = λ (u : List ℕ). taken (evse_of u es == evse) 1 in let h = λ (u : List ℕ). taken (evse_of u more == evse) 1 in
+    let all = counts_differ_by_one g h e.0.tx (ids (live es)) (ids (live more))
+    (ap (λ l. others e.0.tx (ids l)) one.less_live ∙ others_ids e front back ∙ ap (λ l. others e.0.tx (ids l)) (sym one.more_live))
+    (λ u apart. ap (λ n. taken (n == evse) 1) (evse_else es more front e back u one (turned_apart e.0.tx u apart))) in
+    let was = ap (λ b. taken b (g e.0.tx)) (any-map e.0.tx (live es)) in
+    let is = ap (λ b. taken b (h e.0.tx)) (any-map e.0.tx (live more) ∙ ap (has_transaction e.0.tx) one.more_live ∙ now_live e front back) in
+    let less = length-filter (λ u. evse_of u es == evse) (transactions_of (live es)) in let many = length-filter (λ u. evse_of u more == evse) (transactions_of (live more)) in
+    omega (arith, all, was, is, less, many)

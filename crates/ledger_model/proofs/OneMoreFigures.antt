@@ -1,0 +1,148 @@
+-- How figures and energies change with one live event more.
+use Rattle.std.proofs.Common.{◌≡◌, ℕ, ◌+◌, ◌==◌, Bool, true, false, cond, not, ◌&&◌, T, List, [], ◌∷◌, Option, Some, None, is_some, length, map, refl, sym, ap, subst, ◌∙◌, arith}
+use Rattle.std.specs.List.{filter, sum_by, count_by}
+use Rattle.std.specs.Ordering.{is_eq}
+use Rattle.std.specs.declared.cmp.Ordering.{Ordering}
+use Rattle.std.specs.declared.cmp.Ordering.TheVariants.{Less, Equal, Greater}
+use Rattle.std.specs.FinMap.Entries.{find, below_all, length-put}
+use Rattle.std.proofs.lemmas.List.{length-append}
+use Rattle.energy_flow.specs.Flow.{Energy, plus}
+use Rattle.ledger_model.specs.declared.command.Command.TheVariants.{Deliver, Void, Restore, Erase}
+use Rattle.ledger_model.specs.Event.{EventContent}
+use Rattle.ledger_model.specs.Key.{KeyName, key_cmp}
+use Rattle.ledger_model.specs.Content.{Entry, Stored, live, transactions_of, has_transaction}
+use Rattle.ledger_model.specs.Entries.{IsRising, entries_after, entries_without, entries_marked_at}
+use Rattle.ledger_model.specs.Energy.{Pair, difference, energy, energy_in, energy_of, energy_over, pairs, quarter_of}
+use Rattle.ledger_model.specs.Evse.{evse_of, energy_at}
+use Rattle.ledger_model.specs.Gaps.{missing, numbers_of}
+use Rattle.ledger_model.specs.Complete.{is_complete, starts_and_ends}
+use Rattle.ledger_model.specs.Deltas.{IsOneMore, flow_if, pairs_less, pairs_more}
+use Rattle.ledger_model.proofs.Keys.{key_total, exact_keys}
+use Rattle.ledger_model.proofs.Rising.{first, second, below_less, find_below}
+use Rattle.ledger_model.proofs.Transactions.{transactions_added}
+use Rattle.ledger_model.proofs.FigureBounds.{live_and_voided}
+use Rattle.ledger_model.proofs.OneMore.{live_else, by_transaction_sums, station_sums, transaction_sums, evse_sums, passed_sum, taken}
+use Rattle.ledger_model.proofs.OneMoreByCommand.{delivered_more, restored_more, voided_less, erased_same, kept_below}
+
+-- One event more is live.
+pub events_more : (es more front : List Entry) (e : Entry) (back : List Entry) → IsOneMore es more front e back → length (live more) ≡ length (live es) + 1
+events_more es more front e back one = omega (arith, ap length one.less_live, ap length one.more_live, length-append front back, length-append front (e ∷ back))
+
+-- One transaction more has a live event, where the event's had none.
+pub transactions_more : (es more front : List Entry) (e : Entry) (back : List Entry) → IsOneMore es more front e back
+    → length (transactions_of (live more)) ≡ cond (has_transaction e.0.tx (live es)) (length (transactions_of (live es))) (length (transactions_of (live es)) + 1)
+transactions_more es more front e back one =
+    ap (λ l. length (transactions_of l)) one.more_live ∙ transactions_added front back e
+    ∙ ap (λ l. cond (has_transaction e.0.tx l) (length (transactions_of l)) (length (transactions_of l) + 1)) (sym one.less_live)
+
+-- What a transaction's live events count among the complete ones.
+abbrev complete_by : List Entry → ℕ
+complete_by l = cond (starts_and_ends (map (λ e. e.1.event.kind) l) && (missing (map (λ e. e.0.seq) l) == 0)) 1 0
+
+-- How many are complete changes by the event's transaction alone.
+pub complete_more : (es more front : List Entry) (e : Entry) (back : List Entry) → IsOneMore es more front e back
+    → count_by (λ tx. is_complete tx more) (transactions_of (live more)) + cond (is_complete e.0.tx es) 1 0 ≡ count_by (λ tx. is_complete tx es) (transactions_of (live es)) + cond (is_complete e.0.tx more) 1 0
+complete_more es more front e back one =
+    by_transaction_sums (λ u. cond (is_complete u es) 1 0) (λ u. cond (is_complete u more) 1 0) es more front e back one
+    (λ u apart. ap complete_by (live_else es more front e back u one apart)) (λ none. ap complete_by none) (λ none. ap complete_by none)
+
+-- So does how many numbers are missing.
+pub missing_more : (es more front : List Entry) (e : Entry) (back : List Entry) → IsOneMore es more front e back
+    → sum_by (λ tx. missing (numbers_of tx more)) (transactions_of (live more)) + missing (numbers_of e.0.tx es) ≡ sum_by (λ tx. missing (numbers_of tx es)) (transactions_of (live es)) + missing (numbers_of e.0.tx more)
+missing_more es more front e back one =
+    by_transaction_sums (λ u. missing (numbers_of u es)) (λ u. missing (numbers_of u more)) es more front e back one
+    (λ u apart. ap (λ l. missing (map (λ (x : Entry). x.0.seq) l)) (live_else es more front e back u one apart)) (λ none. ap (λ l. missing (map (λ (x : Entry). x.0.seq) l)) none) (λ none. ap (λ l. missing (map (λ (x : Entry). x.0.seq) l)) none)
+
+-- Energies with the same sums are the same.
+same_energy : (a b : Energy) → a.up ≡ b.up → a.down ≡ b.down → a ≡ b
+same_energy a b up down = λ i. record { up = up i; down = down i }
+
+-- The energy of the station.
+pub energy_more : (es more front : List Entry) (e : Entry) (back : List Entry) → IsOneMore es more front e back
+    → plus (energy more) (energy_over (pairs_less front e back)) ≡ plus (energy es) (energy_over (pairs_more front e back))
+energy_more es more front e back one =
+    same_energy (plus (energy more) (energy_over (pairs_less front e back))) (plus (energy es) (energy_over (pairs_more front e back))) (station_sums (λ p. (difference p).up) es more front e back one) (station_sums (λ p. (difference p).down) es more front e back one)
+
+-- The energy of the event's transaction.
+pub energy_of_more : (es more front : List Entry) (e : Entry) (back : List Entry) → IsOneMore es more front e back
+    → plus (energy_of e.0.tx more) (energy_over (pairs_less front e back)) ≡ plus (energy_of e.0.tx es) (energy_over (pairs_more front e back))
+energy_of_more es more front e back one =
+    same_energy (plus (energy_of e.0.tx more) (energy_over (pairs_less front e back))) (plus (energy_of e.0.tx es) (energy_over (pairs_more front e back))) (transaction_sums (λ p. (difference p).up) es more front e back one) (transaction_sums (λ p. (difference p).down) es more front e back one)
+
+-- A sum over the pairs of a quarter.
+quarter_sums : (f : Pair → ℕ) (period q : ℕ) (es more front : List Entry) (e : Entry) (back : List Entry) → IsOneMore es more front e back
+    → sum_by f (filter (λ p. quarter_of period p == q) (pairs more)) + sum_by f (filter (λ p. quarter_of period p == q) (pairs_less front e back)) ≡ sum_by f (filter (λ p. quarter_of period p == q) (pairs es)) + sum_by f (filter (λ p. quarter_of period p == q) (pairs_more front e back))
+quarter_sums f period q es more front e back one =
+    let test = λ (p : Pair). quarter_of period p == q in
+    let all = station_sums (λ p. taken (test p) (f p)) es more front e back one in
+    omega (arith, all, passed_sum f test (pairs more), passed_sum f test (pairs_less front e back), passed_sum f test (pairs es), passed_sum f test (pairs_more front e back))
+
+-- The energy of a quarter.
+pub energy_in_more : (period q : ℕ) (es more front : List Entry) (e : Entry) (back : List Entry) → IsOneMore es more front e back
+    → plus (energy_in period q more) (energy_over (filter (λ p. quarter_of period p == q) (pairs_less front e back))) ≡ plus (energy_in period q es) (energy_over (filter (λ p. quarter_of period p == q) (pairs_more front e back)))
+energy_in_more period q es more front e back one =
+    let test = λ (p : Pair). quarter_of period p == q in
+    same_energy (plus (energy_in period q more) (energy_over (filter test (pairs_less front e back)))) (plus (energy_in period q es) (energy_over (filter test (pairs_more front e back)))) (quarter_sums (λ p. (difference p).up) period q es more front e back one) (quarter_sums (λ p. (difference p).down) period q es more front e back one)
+
+-- How many pairs a quarter has.
+pub pairs_in_more : (period q : ℕ) (es more front : List Entry) (e : Entry) (back : List Entry) → IsOneMore es more front e back
+    → count_by (λ p. quarter_of period p == q) (pairs more) + count_by (λ p. quarter_of period p == q) (pairs_less front e back) ≡ count_by (λ p. quarter_of period p == q) (pairs es) + count_by (λ p. quarter_of period p == q) (pairs_more front e back)
+pairs_in_more period q es more front e back one = station_sums (λ p. cond (quarter_of period p == q) 1 0) es more front e back one
+
+if_up : (b : Bool) (flow : Energy) → (flow_if b flow).up ≡ taken b flow.up
+if_up true flow = refl
+if_up false flow = refl
+
+if_down : (b : Bool) (flow : Energy) → (flow_if b flow).down ≡ taken b flow.down
+if_down true flow = refl
+if_down false flow = refl
+
+-- The energy of an EVSE: the transaction's is taken from where it was and brought to where it is.
+pub energy_at_more : (evse : ℕ) (es more front : List Entry) (e : Entry) (back : List Entry) → IsOneMore es more front e back
+    → plus (energy_at evse more) (flow_if (evse_of e.0.tx es == evse) (energy_of e.0.tx es)) ≡ plus (energy_at evse es) (flow_if (evse_of e.0.tx more == evse) (energy_of e.0.tx more))
+energy_at_more evse es more front e back one =
+    let was = evse_of e.0.tx es == evse in let is = evse_of e.0.tx more == evse in
+    same_energy (plus (energy_at evse more) (flow_if was (energy_of e.0.tx es))) (plus (energy_at evse es) (flow_if is (energy_of e.0.tx more)))
+    (ap (λ n. (energy_at evse more).up + n) (if_up was (energy_of e.0.tx es)) ∙ evse_sums (λ p. (difference p).up) evse es more front e back one ∙ ap (λ n. (energy_at evse es).up + n) (sym (if_up is (energy_of e.0.tx more))))
+    (ap (λ n. (energy_at evse more).down + n) (if_down was (energy_of e.0.tx es)) ∙ evse_sums (λ p. (difference p).down) evse es more front e back one ∙ ap (λ n. (energy_at evse es).down + n) (sym (if_down is (energy_of e.0.tx more))))
+
+-- As many events are stored after a mark.
+marked_length : (es : List Entry) (key : KeyName) (voided : Bool) (s : Stored) → IsRising es → find key_cmp key es ≡ Some s → length (entries_marked_at es key voided (find key_cmp key es)) ≡ length es
+marked_length es key voided s rising there =
+    ap (λ o. length (entries_marked_at es key voided o)) there
+    ∙ length-put key_cmp key_total key (record { event = s.event; voided = voided }) es rising ∙ ap (λ (o : Option Stored). cond (is_some o) (length es) (length es + 1)) there
+
+-- One event less is stored after an erasure.
+erased_length : (es : List Entry) (key : KeyName) (s : Stored) → IsRising es → find key_cmp key es ≡ Some s → length (entries_without key es) + 1 ≡ length es
+erased_length [] key s rising there = cc
+erased_length (e ∷ es) key s rising there =
+    (elim (key_cmp key e.0) as (λ (o : Ordering). key_cmp key e.0 ≡ o → cond (is_eq o) (Some e.1) (find key_cmp key es) ≡ Some s → length (cond (not (is_eq o)) (e ∷ entries_without key es) (entries_without key es)) + 1 ≡ length (e ∷ es)) [
+      | Less ↦ λ lt some. let none = find_below key es (below_less key e.0 es lt (first _ _ rising)) in cc
+      | Equal ↦ λ eq some. let kept = ap length (kept_below key es (subst (λ k. T (below_all key_cmp k es)) (sym (exact_keys key e.0 eq)) (first _ _ rising))) in omega (arith, kept)
+      | Greater ↦ λ gt some. omega (arith, erased_length es key s (second _ _ rising) some)
+    ]) refl there
+
+-- A delivery of a new key leaves as many events voided.
+pub voided_delivered : (es : List Entry) (key : KeyName) (event : EventContent) → IsRising es → find key_cmp key es ≡ None → count_by (λ e. e.1.voided) (entries_after es (Deliver key event)) ≡ count_by (λ e. e.1.voided) es
+voided_delivered es key event rising absent =
+    let long = length-put key_cmp key_total key (record { event = event; voided = false }) es rising ∙ ap (λ (o : Option Stored). cond (is_some o) (length es) (length es + 1)) absent in
+    let one = events_more es (entries_after es (Deliver key event)) _ _ _ (delivered_more es key event rising absent) in
+    omega (arith, long, one, live_and_voided es, live_and_voided (entries_after es (Deliver key event)))
+
+-- A restoration leaves one event less voided.
+pub voided_restored : (es : List Entry) (key : KeyName) (s : Stored) → IsRising es → find key_cmp key es ≡ Some s → s.voided ≡ true → count_by (λ e. e.1.voided) (entries_after es (Restore key)) + 1 ≡ count_by (λ e. e.1.voided) es
+voided_restored es key s rising there voided =
+    let one = events_more es (entries_after es (Restore key)) _ _ _ (restored_more es key s rising there voided) in
+    omega (arith, marked_length es key false s rising there, one, live_and_voided es, live_and_voided (entries_after es (Restore key)))
+
+-- A void leaves one event more voided.
+pub voided_voided : (es : List Entry) (key : KeyName) (s : Stored) → IsRising es → find key_cmp key es ≡ Some s → s.voided ≡ false → count_by (λ e. e.1.voided) (entries_after es (Void key)) ≡ count_by (λ e. e.1.voided) es + 1
+voided_voided es key s rising there live_now =
+    let one = events_more (entries_after es (Void key)) es _ _ _ (voided_less es key s rising there live_now) in
+    omega (arith, marked_length es key true s rising there, one, live_and_voided es, live_and_voided (entries_after es (Void key)))
+
+-- An erasure leaves one event less voided.
+pub voided_erased : (es : List Entry) (key : KeyName) (s : Stored) → IsRising es → find key_cmp key es ≡ Some s → s.voided ≡ true → count_by (λ e. e.1.voided) (entries_after es (Erase key)) + 1 ≡ count_by (λ e. e.1.voided) es
+voided_erased es key s rising there voided =
+    let same = ap length (erased_same es key s rising there voided) in
+    omega (arith, erased_length es key s rising there, same, live_and_voided es, live_and_voided (entries_after es (Erase key)))

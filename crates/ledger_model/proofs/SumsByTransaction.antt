@@ -1,0 +1,138 @@
+-- Sums over transactions, when the events of one change.
+use Rattle.std.proofs.Common.{◌≡◌, ℕ, ◌+◌, Bool, true, false, cond, not, ◌&&◌, ◌||◌, List, [], ◌∷◌, refl, sym, ap, subst, ◌∙◌, bytes_eq, arith}
+use Rattle.std.specs.List.{filter, list_any, sum_by}
+use Rattle.std.proofs.Math.Path.{fun_ext}
+use Rattle.std.proofs.lemmas.List.Sums.{sum_by-cons}
+use Rattle.std.proofs.lemmas.Slice.Eq.{bytes_eq-Decides}
+use Rattle.ledger_model.specs.Content.{distinct}
+use Rattle.ledger_model.proofs.Transactions.{filter_twice}
+
+-- The texts other than one.
+abbrev pub others : List ℕ → List (List ℕ) → List (List ℕ)
+others t xs = filter (λ y. not (bytes_eq t y)) xs
+
+-- A text is itself.
+pub same_text : (t : List ℕ) → bytes_eq t t ≡ true
+same_text t = (bytes_eq-Decides t t).1 refl
+
+-- Two texts found the same are one.
+pub one_text : (t x : List ℕ) → bytes_eq t x ≡ true → t ≡ x
+one_text t x = (bytes_eq-Decides t x).0
+
+-- A sum over texts: at each place of one text, and over the others.
+sum_parts : (g : List ℕ → ℕ) (t : List ℕ) (ys : List (List ℕ)) → sum_by g ys ≡ sum_by (λ y. cond (bytes_eq t y) (g t) 0) ys + sum_by g (others t ys)
+sum_parts g t [] = refl
+sum_parts g t (y ∷ ys) =
+    let rest : sum_by g ys ≡ sum_by (λ y. cond (bytes_eq t y) (g t) 0) ys + sum_by g (others t ys) = sum_parts g t ys in
+    let whole = sum_by-cons g y ys in let at = sum_by-cons (λ y. cond (bytes_eq t y) (g t) 0) y ys in
+    at_or_else (bytes_eq t y) refl rest whole at
+  where
+    at_or_else : (b : Bool) → bytes_eq t y ≡ b → sum_by g ys ≡ sum_by (λ y. cond (bytes_eq t y) (g t) 0) ys + sum_by g (others t ys) → sum_by g (y ∷ ys) ≡ g y + sum_by g ys → sum_by (λ y. cond (bytes_eq t y) (g t) 0) (y ∷ ys) ≡ cond (bytes_eq t y) (g t) 0 + sum_by (λ y. cond (bytes_eq t y) (g t) 0) ys → sum_by g (y ∷ ys) ≡ sum_by (λ y. cond (bytes_eq t y) (g t) 0) (y ∷ ys) + sum_by g (others t (y ∷ ys))
+    at_or_else true is rest whole at =
+        let here : cond (bytes_eq t y) (g t) 0 ≡ g t = ap (λ b. cond b (g t) 0) is in let same : g t ≡ g y = ap g (one_text t y is) in
+        let left : sum_by g (others t (y ∷ ys)) ≡ sum_by g (others t ys) = ap (λ b. sum_by g (cond (not b) (y ∷ others t ys) (others t ys))) is in
+        omega (arith, rest, whole, at, here, same, left)
+    at_or_else false is rest whole at =
+        let here : cond (bytes_eq t y) (g t) 0 ≡ 0 = ap (λ b. cond b (g t) 0) is in
+        let left : sum_by g (others t (y ∷ ys)) ≡ g y + sum_by g (others t ys) = ap (λ b. sum_by g (cond (not b) (y ∷ others t ys) (others t ys))) is ∙ sum_by-cons g y (others t ys) in
+        omega (arith, rest, whole, at, here, left)
+
+-- A text is not among the others.
+none_among_others : (c : ℕ) (t : List ℕ) (ys : List (List ℕ)) → sum_by (λ y. cond (bytes_eq t y) c 0) (others t ys) ≡ 0
+none_among_others c t [] = refl
+none_among_others c t (y ∷ ys) =
+    (elim (bytes_eq t y) as (λ b. bytes_eq t y ≡ b → sum_by (λ y. cond (bytes_eq t y) c 0) (cond (not b) (y ∷ others t ys) (others t ys)) ≡ 0) [
+      | true ↦ λ e. none_among_others c t ys
+      | false ↦ λ e. let rest = none_among_others c t ys in let here : cond (bytes_eq t y) c 0 ≡ 0 = ap (λ b. cond b c 0) e in
+          sum_by-cons (λ y. cond (bytes_eq t y) c 0) y (others t ys) ∙ ap (λ n. n + sum_by (λ y. cond (bytes_eq t y) c 0) (others t ys)) here ∙ ap (λ n. 0 + n) rest
+    ]) refl
+
+-- Leaving out another text takes nothing from it.
+another_left_out : (c : ℕ) (t x : List ℕ) → bytes_eq t x ≡ false → (ys : List (List ℕ)) → sum_by (λ y. cond (bytes_eq t y) c 0) (others x ys) ≡ sum_by (λ y. cond (bytes_eq t y) c 0) ys
+another_left_out c t x apart [] = refl
+another_left_out c t x apart (y ∷ ys) =
+    let rest = another_left_out c t x apart ys in let whole = sum_by-cons (λ y. cond (bytes_eq t y) c 0) y ys in
+    (elim (bytes_eq x y) as (λ b. bytes_eq x y ≡ b → sum_by (λ y. cond (bytes_eq t y) c 0) (cond (not b) (y ∷ others x ys) (others x ys)) ≡ sum_by (λ y. cond (bytes_eq t y) c 0) (y ∷ ys)) [
+      | true ↦ λ e.
+          let here : cond (bytes_eq t y) c 0 ≡ 0 = ap (λ b. cond b c 0) (subst (λ z. bytes_eq t z ≡ false) (one_text x y e) apart) in
+          rest ∙ sym (whole ∙ ap (λ n. n + sum_by (λ y. cond (bytes_eq t y) c 0) ys) here ∙ (let z : 0 + sum_by (λ y. cond (bytes_eq t y) c 0) ys ≡ sum_by (λ y. cond (bytes_eq t y) c 0) ys = omega arith in z))
+      | false ↦ λ e. sum_by-cons (λ y. cond (bytes_eq t y) c 0) y (others x ys) ∙ ap (λ n. cond (bytes_eq t y) c 0 + n) rest ∙ sym whole
+    ]) refl
+
+-- A text stands once among distinct ones, where it stands at all.
+once : (c : ℕ) (t : List ℕ) (xs : List (List ℕ)) → sum_by (λ y. cond (bytes_eq t y) c 0) (distinct xs) ≡ cond (list_any (bytes_eq t) xs) c 0
+once c t [] = refl
+once c t (x ∷ xs) =
+    let whole = sum_by-cons (λ y. cond (bytes_eq t y) c 0) x (others x (distinct xs)) in
+    whole ∙ (elim (bytes_eq t x) as (λ b. bytes_eq t x ≡ b → cond b c 0 + sum_by (λ y. cond (bytes_eq t y) c 0) (others x (distinct xs)) ≡ cond (b || list_any (bytes_eq t) xs) c 0) [
+      | true ↦ λ e. let none : sum_by (λ y. cond (bytes_eq t y) c 0) (others x (distinct xs)) ≡ 0 = subst (λ z. sum_by (λ y. cond (bytes_eq t y) c 0) (others z (distinct xs)) ≡ 0) (one_text t x e) (none_among_others c t (distinct xs)) in omega (arith, none)
+      | false ↦ λ e. let rest = another_left_out c t x e (distinct xs) ∙ once c t xs in omega (arith, rest)
+    ]) refl
+
+and_turned : (a b : Bool) → (a && b) ≡ (b && a)
+and_turned true true = refl
+and_turned true false = refl
+and_turned false true = refl
+and_turned false false = refl
+
+and_twice : (a : Bool) → (a && a) ≡ a
+and_twice true = refl
+and_twice false = refl
+
+-- Two texts are left out in either order.
+others_turned : (t x : List ℕ) (ys : List (List ℕ)) → others t (others x ys) ≡ others x (others t ys)
+others_turned t x ys =
+    filter_twice (λ y. not (bytes_eq t y)) (λ y. not (bytes_eq x y)) ys
+    ∙ ap (λ p. filter p ys) (fun_ext (λ y. and_turned (not (bytes_eq x y)) (not (bytes_eq t y))))
+    ∙ sym (filter_twice (λ y. not (bytes_eq x y)) (λ y. not (bytes_eq t y)) ys)
+
+-- A text is left out once.
+others_again : (t : List ℕ) (ys : List (List ℕ)) → others t (others t ys) ≡ others t ys
+others_again t ys = filter_twice (λ y. not (bytes_eq t y)) (λ y. not (bytes_eq t y)) ys ∙ ap (λ p. filter p ys) (fun_ext (λ y. and_twice (not (bytes_eq t y))))
+
+-- A text is left out before or after the others are listed once each.
+others_distinct : (t : List ℕ) (xs : List (List ℕ)) → others t (distinct xs) ≡ distinct (others t xs)
+others_distinct t [] = refl
+others_distinct t (x ∷ xs) =
+    let rest = others_distinct t xs in
+    (elim (bytes_eq t x) as (λ b. bytes_eq t x ≡ b → cond (not b) (x ∷ others t (others x (distinct xs))) (others t (others x (distinct xs))) ≡ distinct (cond (not b) (x ∷ others t xs) (others t xs))) [
+      | true ↦ λ e. ap (λ z. others t (others z (distinct xs))) (sym (one_text t x e)) ∙ others_again t (distinct xs) ∙ rest
+      | false ↦ λ e. ap (λ ys. x ∷ ys) (others_turned t x (distinct xs) ∙ ap (others x) rest)
+    ]) refl
+
+-- Measures that agree on other texts add up the same over them.
+others_agree : (g h : List ℕ → ℕ) (t : List ℕ) → ((u : List ℕ) → bytes_eq t u ≡ false → h u ≡ g u) → (ys : List (List ℕ)) → sum_by h (others t ys) ≡ sum_by g (others t ys)
+others_agree g h t same [] = refl
+others_agree g h t same (y ∷ ys) =
+    let rest = others_agree g h t same ys in
+    (elim (bytes_eq t y) as (λ b. bytes_eq t y ≡ b → sum_by h (cond (not b) (y ∷ others t ys) (others t ys)) ≡ sum_by g (cond (not b) (y ∷ others t ys) (others t ys))) [
+      | true ↦ λ e. rest
+      | false ↦ λ e. sum_by-cons h y (others t ys) ∙ ap (λ n. n + sum_by h (others t ys)) (same y e) ∙ ap (λ n. g y + n) rest ∙ sym (sum_by-cons g y (others t ys))
+    ]) refl
+
+-- A sum over distinct texts: for one text, where it stands, and over the others.
+sum_with_one : (g : List ℕ → ℕ) (t : List ℕ) (xs : List (List ℕ)) → sum_by g (distinct xs) ≡ cond (list_any (bytes_eq t) xs) (g t) 0 + sum_by g (others t (distinct xs))
+sum_with_one g t xs = sum_parts g t (distinct xs) ∙ ap (λ n. n + sum_by g (others t (distinct xs))) (once (g t) t xs)
+
+-- A text that does not stand there counts nothing.
+counts_nothing : (n : ℕ) (b : Bool) → (b ≡ false → n ≡ 0) → cond b n 0 ≡ n
+counts_nothing n true none = refl
+counts_nothing n false none = sym (none refl)
+
+-- A sum over distinct texts: what one text counts, and the others, where one that does not stand there counts nothing.
+pub sum_by_one : (g : List ℕ → ℕ) (t : List ℕ) (xs : List (List ℕ)) → (list_any (bytes_eq t) xs ≡ false → g t ≡ 0) → sum_by g (distinct xs) ≡ g t + sum_by g (others t (distinct xs))
+sum_by_one g t xs none = sum_with_one g t xs ∙ ap (λ n. n + sum_by g (others t (distinct xs))) (counts_nothing (g t) (list_any (bytes_eq t) xs) none)
+
+-- The other texts count the same, where they and what they count are.
+pub others_count : (g h : List ℕ → ℕ) (t : List ℕ) (xs ys : List (List ℕ)) → others t xs ≡ others t ys → ((u : List ℕ) → bytes_eq t u ≡ false → h u ≡ g u) → sum_by h (others t (distinct ys)) ≡ sum_by g (others t (distinct xs))
+others_count g h t xs ys same agree = others_agree g h t agree (distinct ys) ∙ ap (sum_by g) (others_distinct t ys ∙ ap distinct (sym same) ∙ sym (others_distinct t xs))
+
+-- Two sums over distinct texts, where the texts and the measures differ in one text alone, differ by what that counts.
+pub sums_differ_by_one : (g h : List ℕ → ℕ) (t : List ℕ) (xs ys : List (List ℕ)) → others t xs ≡ others t ys → ((u : List ℕ) → bytes_eq t u ≡ false → h u ≡ g u) → (list_any (bytes_eq t) xs ≡ false → g t ≡ 0) → (list_any (bytes_eq t) ys ≡ false → h t ≡ 0)
+    → sum_by h (distinct ys) + g t ≡ sum_by g (distinct xs) + h t
+sums_differ_by_one g h t xs ys same agree none_x none_y = omega (arith, sum_by_one g t xs none_x, sum_by_one h t ys none_y, others_count g h t xs ys same agree)
+
+-- The same, where a text that does not stand there may count.
+pub counts_differ_by_one : (g h : List ℕ → ℕ) (t : List ℕ) (xs ys : List (List ℕ)) → others t xs ≡ others t ys → ((u : List ℕ) → bytes_eq t u ≡ false → h u ≡ g u)
+    → sum_by h (distinct ys) + cond (list_any (bytes_eq t) xs) (g t) 0 ≡ sum_by g (distinct xs) + cond (list_any (bytes_eq t) ys) (h t) 0
+counts_differ_by_one g h t xs ys same agree = omega (arith, sum_with_one g t xs, sum_with_one h t ys, others_count g h t xs ys same agree)

@@ -1,0 +1,86 @@
+-- What the rows of pairs hold: no more than the pairs, and each of them.
+use Rattle.std.proofs.Common.{◌≡◌, ℕ, ◌+◌, ◌<◌, ◌≤◌, ◌==◌, ◌⊎◌, ⊎_elim, Bool, true, false, cond, List, [], ◌∷◌, ◌++◌, length, map, sym, ap, ◌∙◌, subst, arith}
+use Rattle.std.specs.List.{filter, sum_by}
+use Rattle.std.proofs.lemmas.Bool.{cases_order}
+use Rattle.std.proofs.lemmas.List.{length-map}
+use Rattle.std.proofs.lemmas.List.Sums.{sum_by-le-sum_by, length-filter, count_by-le-length}
+use Rattle.energy_flow.specs.Flow.{Energy, no_energy, plus, CanMinus}
+use Rattle.ledger_model.specs.Board.{Flowed}
+use Rattle.ledger_model.specs.Energy.{put_in, rising}
+use Rattle.ledger_model.proofs.Callers.{passed_sum, put_in-same, put_in-below, put_in-above}
+use Rattle.quarter_table.specs.declared.row.QuarterRow.{QuarterRow}
+use Rattle.quarter_table.specs.Rows.{no_row, row_at, with_pair}
+use Rattle.quarter_table.specs.Pairs.{total, row_of, rows_of}
+use Rattle.quarter_table.proofs.Made.{made_row, none_made, row_with_pair}
+
+-- A number put in makes a list longer by one at most.
+length-put_in : (n : ℕ) (ms : List ℕ) → length (put_in n ms) ≤ length ms + 1
+length-put_in n [] = omega arith
+length-put_in n (m ∷ ms) = ⊎_elim
+    (λ (e : n ≡ m). rw (put_in-same n m ms e) (omega arith))
+    (λ (o : (n < m) ⊎ (m < n)). ⊎_elim
+    (λ (below : n < m). rw (put_in-below n m ms below) (omega arith))
+    (λ (above : m < n). let rest = length-put_in n ms in rw (put_in-above n m ms above) (omega (arith, rest)))
+    o)
+    (cases_order n m)
+
+length-rising : (ns : List ℕ) → length (rising ns) ≤ length ns
+length-rising [] = omega arith
+length-rising (n ∷ ns) = omega (arith, length-put_in n (rising ns), length-rising ns)
+
+-- There are no more rows than pairs.
+pub few_rows : (fs : List Flowed) → length (rows_of fs) ≤ length fs
+few_rows fs =
+    let qs = map (λ (f : Flowed). f.0) fs in
+    let rows : length (rows_of fs) ≡ length (rising qs) = simp length-map in
+    let all : length qs ≡ length fs = simp length-map in
+    omega (arith, rows, all, length-rising qs)
+
+-- A row counts no more pairs than there are.
+pub few_pairs : (q : ℕ) (fs : List Flowed) → (row_of q fs).pairs ≤ length fs
+few_pairs q fs = omega (arith, length-filter (λ (f : Flowed). f.0 == q) fs, count_by-le-length (λ (f : Flowed). f.0 == q) fs)
+
+taken_le : (b : Bool) (n : ℕ) → cond b n 0 ≤ n
+taken_le true n = omega arith
+taken_le false n = omega arith
+
+-- A sum over some is no more than that over all.
+part_le : (measure : Flowed → ℕ) (p : Flowed → Bool) (fs : List Flowed) → sum_by measure (filter p fs) ≤ sum_by measure fs
+part_le measure p fs = omega (arith, passed_sum measure p fs, sum_by-le-sum_by (λ f. cond (p f) (measure f) 0) measure fs (λ f. taken_le (p f) (measure f)))
+
+-- A row adds up to no more than all pairs do.
+pub row_up_le : (q : ℕ) (fs : List Flowed) → (row_of q fs).flow.up ≤ (total fs).up
+row_up_le q fs = part_le (λ f. f.1.up) (λ f. f.0 == q) fs
+
+pub row_down_le : (q : ℕ) (fs : List Flowed) → (row_of q fs).flow.down ≤ (total fs).down
+row_down_le q fs = part_le (λ f. f.1.down) (λ f. f.0 == q) fs
+
+-- The row that a pair is in.
+abbrev its_row : List Flowed → ℕ → Energy → List Flowed → QuarterRow
+its_row front q flow back = row_at q (rows_of (front ++ (q, flow) ∷ back))
+
+its_row_is : (front : List Flowed) (q : ℕ) (flow : Energy) (back : List Flowed) → its_row front q flow back ≡ with_pair flow (row_of q (front ++ back))
+its_row_is front q flow back = made_row q (front ++ (q, flow) ∷ back) ∙ row_with_pair front q flow back
+
+-- The row of a pair that is there counts it.
+pub pair_counted : (front : List Flowed) (q : ℕ) (flow : Energy) (back : List Flowed) → 0 < (its_row front q flow back).pairs
+pair_counted front q flow back = subst (λ (r : QuarterRow). 0 < r.pairs) (sym (its_row_is front q flow back)) (omega arith)
+
+-- Its sum holds the pair's difference.
+pub pair_held : (front : List Flowed) (q : ℕ) (flow : Energy) (back : List Flowed) → CanMinus (its_row front q flow back).flow flow
+pair_held front q flow back = subst (λ (r : QuarterRow). CanMinus r.flow flow) (sym (its_row_is front q flow back)) (record { up = omega arith; down = omega arith })
+
+-- An energy added to none is itself.
+none_plus : (a flow : Energy) → a ≡ no_energy → plus a flow ≡ flow
+none_plus a flow none =
+    let up : a.up + flow.up ≡ flow.up = let z : a.up ≡ 0 = ap (λ (x : Energy). x.up) none in omega arith in
+    let down : a.down + flow.down ≡ flow.down = let z : a.down ≡ 0 = ap (λ (x : Energy). x.down) none in omega arith in
+    λ i. record { up = up i; down = down i }
+
+-- It is all of it where no other pair is left.
+pub last_pair : (front : List Flowed) (q : ℕ) (flow : Energy) (back : List Flowed) → (its_row front q flow back).pairs ≡ 1 → (its_row front q flow back).flow ≡ flow
+last_pair front q flow back one =
+    let is = its_row_is front q flow back in
+    let counted : (row_of q (front ++ back)).pairs + 1 ≡ 1 = sym (ap (λ (r : QuarterRow). r.pairs) is) ∙ one in
+    let none : row_of q (front ++ back) ≡ no_row q = none_made q (front ++ back) (omega arith) in
+    ap (λ (r : QuarterRow). r.flow) is ∙ none_plus (row_of q (front ++ back)).flow flow (ap (λ (r : QuarterRow). r.flow) none)

@@ -1,0 +1,9 @@
+pub mod Boards
+pub mod Changes
+pub mod Determined
+pub mod Made
+pub mod Orders
+pub mod Places
+pub mod Replaced
+pub mod Held
+pub mod Several

@@ -1,0 +1,66 @@
+use Rattle.std.proofs.Common.{◌≡◌, ◌<◌, subst, sym, ap, ◌∙◌, arith, length-set}
+use Rattle.energy_flow.specs.Flow.{CanMinus}
+use Rattle.quarter_table.specs.declared.row.QuarterRow.{QuarterRow}
+use Rattle.quarter_table.specs.Rows.{row_at, without_pair, set_row, AreInOrder, HavePairs}
+use Rattle.quarter_table.proofs.Replaced.{order_set, pairs_set}
+use Rattle.quarter_table.proofs.Changes.{row_read, removed_there, removed_last}
+use Rattle.quarter_table.proofs.table.QuarterTable.remove.Goals as goal
+
+pub invariant_of-self : goal.invariant_of-self
+invariant_of-self c =
+    let rs = c.self.inside.rows.items in let was = c.self.invariant in
+    let same = row_read c.args.quarter rs c.in-Ok.at c.index-row.result.now c.in-Ok.ensures.stands c.index-row.ensures in
+    let one : (row_at c.args.quarter rs).pairs ≡ 1 = sym (ap (λ (r : QuarterRow). r.pairs) same) ∙ c.if-row-eq1.true in
+    let e = c.remove.ensures.items ∙ removed_last c.args.quarter c.args.flow rs c.in-Ok.at c.in-Ok.ensures.stands one in
+    let row = without_pair c.args.flow (row_at c.args.quarter rs) in
+    record {
+      in_order = subst AreInOrder (sym e) (order_set row rs was.in_order);
+      pairs = subst HavePairs (sym e) (pairs_set row rs was.pairs);
+      few = omega (arith, was.few, c.remove.ensures.len);
+      room = omega (arith, was.room, c.remove.ensures.capacity);
+    }
+
+pub overflow_sub-row : goal.overflow_sub-row
+overflow_sub-row c =
+    let same = row_read c.args.quarter c.self.inside.rows.items c.in-Ok.at c.index-row.result.now c.in-Ok.ensures.stands c.index-row.ensures in
+    let there : 0 < c.index-row.result.now.pairs = subst (λ (r : QuarterRow). 0 < r.pairs) (sym (same ∙ ap (λ t. row_at c.args.quarter t.rows) c.self.view_is)) c.requires.there in
+    omega (arith, there)
+
+pub minus-requires : goal.minus-requires
+minus-requires c =
+    let same = row_read c.args.quarter c.self.inside.rows.items c.in-Ok.at c.index-row.result.now c.in-Ok.ensures.stands c.index-row.ensures in
+    subst (λ (r : QuarterRow). CanMinus r.flow c.args.flow) (sym (same ∙ ap (λ t. row_at c.args.quarter t.rows) c.self.view_is)) c.requires.within
+
+pub invariant_of-self-else-row-eq1 : goal.invariant_of-self-else-row-eq1
+invariant_of-self-else-row-eq1 c =
+    let rs = c.self.inside.rows.items in let was = c.self.invariant in
+    let same = row_read c.args.quarter rs c.in-Ok.at c.index-row.result.now c.in-Ok.ensures.stands c.index-row.ensures in
+    let there : 0 < (row_at c.args.quarter rs).pairs = subst (λ t. 0 < (row_at c.args.quarter t.rows).pairs) (sym c.self.view_is) c.requires.there in
+    let pairs = ap (λ (r : QuarterRow). r.pairs) same in
+    let more : 1 < (row_at c.args.quarter rs).pairs = omega (arith, there, pairs, c.if-row-eq1.false) in
+    let e = removed_there c.args.quarter c.args.flow rs c.in-Ok.at c.index-row.result.now c.minus.result c.in-Ok.ensures.stands c.index-row.ensures c.minus.ensures more in
+    let row = without_pair c.args.flow (row_at c.args.quarter rs) in
+    record {
+      in_order = subst AreInOrder (sym e) (order_set row rs was.in_order);
+      pairs = subst HavePairs (sym e) (pairs_set row rs was.pairs);
+      few = simp length-set was.few;
+      room = was.room;
+    }
+
+pub returns-then-row-eq1-clause-rows : goal.returns-then-row-eq1-clause-rows
+returns-then-row-eq1-clause-rows c =
+    let rs = c.self.inside.rows.items in
+    let same = row_read c.args.quarter rs c.in-Ok.at c.index-row.result.now c.in-Ok.ensures.stands c.index-row.ensures in
+    let one : (row_at c.args.quarter rs).pairs ≡ 1 = sym (ap (λ (r : QuarterRow). r.pairs) same) ∙ c.if-row-eq1.true in
+    c.remove.ensures.items ∙ removed_last c.args.quarter c.args.flow rs c.in-Ok.at c.in-Ok.ensures.stands one
+    ∙ ap (λ t. set_row (without_pair c.args.flow (row_at c.args.quarter t.rows)) t.rows) c.self.view_is
+
+pub returns-else-row-eq1-clause-rows : goal.returns-else-row-eq1-clause-rows
+returns-else-row-eq1-clause-rows c =
+    let rs = c.self.inside.rows.items in
+    let same = row_read c.args.quarter rs c.in-Ok.at c.index-row.result.now c.in-Ok.ensures.stands c.index-row.ensures in
+    let there : 0 < (row_at c.args.quarter rs).pairs = subst (λ t. 0 < (row_at c.args.quarter t.rows).pairs) (sym c.self.view_is) c.requires.there in
+    let pairs = ap (λ (r : QuarterRow). r.pairs) same in
+    let more : 1 < (row_at c.args.quarter rs).pairs = omega (arith, there, pairs, c.if-row-eq1.false) in
+    removed_there c.args.quarter c.args.flow rs c.in-Ok.at c.index-row.result.now c.minus.result c.in-Ok.ensures.stands c.index-row.ensures c.minus.ensures more
+    ∙ ap (λ t. set_row (without_pair c.args.flow (row_at c.args.quarter t.rows)) t.rows) c.self.view_is

@@ -1,0 +1,4 @@
+pub mod Kept
+pub mod Pairs
+pub mod Rows
+pub mod Table

@@ -1,0 +1,52 @@
+-- Rows of a table, one for each quarter that has a pair.
+use Rattle.std.specs.Prelude.{ℕ, ◌+◌, ◌-◌, ◌<◌, ◌==◌, nat_lt, if◌then◌else◌, List, [], ◌∷◌, ◌++◌, filter}
+use Rattle.energy_flow.specs.Flow.{Energy, no_energy, plus, minus}
+use Rattle.quarter_table.specs.declared.row.QuarterRow.{QuarterRow}
+
+-- What stands for a quarter that has no pair.
+abbrev pub no_row : ℕ → QuarterRow
+no_row quarter = record { quarter = quarter; pairs = 0; flow = no_energy }
+
+-- The row of a quarter.
+abbrev pub row_at : ℕ → List QuarterRow → QuarterRow
+row_at quarter [] = no_row quarter
+row_at quarter (row ∷ rows) = if row.quarter == quarter then row else row_at quarter rows
+
+-- A row with one pair more, of this difference.
+abbrev pub with_pair : Energy → QuarterRow → QuarterRow
+with_pair flow row = record { quarter = row.quarter; pairs = row.pairs + 1; flow = plus row.flow flow }
+
+-- A row with one pair less, of this difference.
+abbrev pub without_pair : Energy → QuarterRow → QuarterRow
+without_pair flow row = record { quarter = row.quarter; pairs = row.pairs - 1; flow = minus row.flow flow }
+
+-- The rows of earlier quarters.
+abbrev pub earlier : ℕ → List QuarterRow → List QuarterRow
+earlier quarter rows = filter (λ r. nat_lt r.quarter quarter) rows
+
+-- The rows of later quarters.
+abbrev pub later : ℕ → List QuarterRow → List QuarterRow
+later quarter rows = filter (λ r. nat_lt quarter r.quarter) rows
+
+-- A row by itself, where it has a pair.
+abbrev pub if_any : QuarterRow → List QuarterRow
+if_any row = if row.pairs == 0 then [] else row ∷ []
+
+-- The rows with that of one quarter replaced, or left out where it has no pair.
+abbrev pub set_row : QuarterRow → List QuarterRow → List QuarterRow
+set_row row rows = earlier row.quarter rows ++ (if_any row ++ later row.quarter rows)
+
+-- Each row is of a later quarter.
+abbrev pub AreAfter : ℕ → List QuarterRow → Type 0
+AreAfter quarter [] = Unit {0}
+AreAfter quarter (row ∷ rows) = (quarter < row.quarter) × AreAfter quarter rows
+
+-- Each row is of a later quarter than those before it.
+abbrev pub AreInOrder : List QuarterRow → Type 0
+AreInOrder [] = Unit {0}
+AreInOrder (row ∷ rows) = AreAfter row.quarter rows × AreInOrder rows
+
+-- Each row has a pair.
+abbrev pub HavePairs : List QuarterRow → Type 0
+HavePairs [] = Unit {0}
+HavePairs (row ∷ rows) = (0 < row.pairs) × HavePairs rows

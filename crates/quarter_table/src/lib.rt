@@ -1,0 +1,33 @@
+//! How many pairs of readings each quarter has, and what their differences add up to.
+//!
+//! A pair is a reading and the one that follows it; it counts for the quarter of the later one. A
+//! quarter has a row exactly while it has a pair, even one of difference zero, and rows stand in
+//! rising order. All memory is taken by [`QuarterTable::reserve`]. A pair of a quarter that has a row
+//! costs one binary search; a row that comes or goes moves those behind it, and none where quarters
+//! come in the order of time.
+//!
+//! The crate's one contract: after any pairs were added and others removed, the rows are those of the
+//! pairs that are left, whatever the order, each with their number and their sum. [`laws`] says so of
+//! [`QuarterTable::add`] and [`QuarterTable::remove`], and that the rows of a station's pairs are the
+//! quarters of its board.
+//!
+//! ```text
+//! let mut table = QuarterTable::reserve(rt.alloc(), 1)?;
+//! table.add(quarter, rise);
+//! table.add(quarter, fall);
+//! // table.rows() is one row of 2 pairs, with the rise and the fall
+//! table.remove(quarter, rise);
+//! table.remove(quarter, fall);
+//! // table.rows() is empty
+//! ```
+#![tactic(auto)]
+
+pub mod laws;
+mod place;
+mod row;
+mod table;
+#[cfg(test)]
+mod tests;
+
+pub use row::QuarterRow;
+pub use table::QuarterTable;

@@ -1,0 +1,42 @@
+//! Where rows stand, and how they are changed there.
+ghost use Rattle.std.specs.Prelude.{◌≡◌, ◌<◌, ◌≤◌, ◌+◌, ◌-◌, IfOk, IfErr, length, get_or, slice_get, Some, slice_set};
+ghost use Rattle.std.specs.List.{insert, remove};
+ghost use Rattle.std.specs.Vec.{vec_len, vec_capacity};
+ghost use Rattle.quarter_table.specs.Rows.{row_at, earlier, AreInOrder};
+ghost use Rattle.quarter_table.specs.Kept.{StandsAt, BelongsAt};
+
+use crate::row::QuarterRow;
+use ledger_model::Quarter;
+
+// How many rows are of earlier quarters.
+fn earlier_rows(rows: &Vec<QuarterRow>, quarter: Quarter) -> usize
+    requires { AreInOrder rows.now.items }
+    ensures { result ≡ length (earlier quarter rows.now.items) }
+{
+    let number = quarter.number();
+    let mut low = 0;
+    let mut high = rows.len();
+    while low < high {
+        let middle = low + (high - low) / 2;
+        if rows[middle].quarter.number() < number {
+            low = middle + 1;
+        } else {
+            high = middle;
+        }
+    }
+    low
+}
+
+/// Where the row of a quarter stands, or else where it belongs.
+pub(crate) fn place_of(rows: &Vec<QuarterRow>, quarter: Quarter) -> Result<usize, usize>
+    requires { AreInOrder rows.now.items }
+    ensures stands { IfOk result (λ at. StandsAt quarter rows.now.items at) }
+    ensures belongs { IfErr result (λ at. BelongsAt quarter rows.now.items at) }
+{
+    let at = earlier_rows(rows, quarter);
+    if at < rows.len() && rows[at].quarter.number() == quarter.number() {
+        Ok(at)
+    } else {
+        Err(at)
+    }
+}

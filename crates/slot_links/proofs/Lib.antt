@@ -1,0 +1,5 @@
+pub mod Apart
+pub mod Chains
+pub mod Ends
+pub mod Lists
+pub mod Written
