@@ -184,7 +184,6 @@ class Reader:
     def leave_part(self, number):
         if self.part.total is None:
             self.complain(number, f"{self.part.name} has no total line before this one")
-            self.part.total = Total([0] * 7)
         self.counts["quarters"] += len(self.part.quarters)
         self.counts["transactions"] += len(self.part.transactions)
         self.sink.part(self.part)
@@ -336,25 +335,32 @@ def ranges(gaps):
 
 
 def table(caption, heads, rows, cards=False):
-    """A table as text. A head that begins with a blank has its column set to the left; a row is its class and its
-    cells, which are HTML. The roles keep it a table where the style makes cards of its rows."""
-    yield f'<table role="table" class="{"cards" if cards else "plain"}">\n<caption>{caption}</caption>\n'
-    yield '<thead role="rowgroup"><tr role="row">'
+    """A table as text. The column of a head that begins with a blank is set to the left; a row is its attributes and
+    its cells, which are HTML. On a phone the style makes a card of each row where `cards` is set, and the roles keep
+    it a table."""
+
+    def role(name):
+        return f' role="{name}"' if cards else ""
+
     left = [' class="left"' if head.startswith(" ") else "" for head in heads]
+    labels = [f' data-head="{head.strip()}"' if cards else "" for head in heads]
+    yield f'<table{role("table")} class="{"cards" if cards else "plain"}">\n<caption>{caption}</caption>\n'
+    yield f'<thead{role("rowgroup")}><tr{role("row")}>'
     for head, side in zip(heads, left):
-        yield f'<th role="columnheader" scope="col"{side}>{head.strip()}</th>'
-    yield '</tr></thead>\n<tbody role="rowgroup">\n'
+        yield f'<th{role("columnheader")} scope="col"{side}>{head.strip()}</th>'
+    yield f'</tr></thead>\n<tbody{role("rowgroup")}>\n'
     for mark, cells in rows:
-        yield f'<tr role="row"{mark}><th role="rowheader" scope="row">{cells[0]}</th>'
-        for head, side, cell in zip(heads[1:], left[1:], cells[1:]):
-            label = f' data-head="{head.strip()}"' if cards else ""
-            yield f'<td role="cell"{side}{label}><span>{cell}</span></td>'
+        yield f'<tr{role("row")}{mark}><th{role("rowheader")} scope="row">{cells[0]}</th>'
+        for side, label, cell in zip(left[1:], labels[1:], cells[1:]):
+            yield f'<td{role("cell")}{side}{label}>{f"<span>{cell}</span>" if cards else cell}</td>'
         yield "</tr>\n"
     yield "</tbody>\n</table>\n"
 
 
 def figures(total):
-    """The figures of a site or a station."""
+    """The figures of a site or a station; nothing where its total line was not read."""
+    if total is None:
+        return
     rows = [("Up", kwh(total.up) + " kWh", False), ("Down", kwh(total.down) + " kWh", False),
             ("Net", kwh(total.up - total.down) + " kWh", False), ("Sessions", total.transactions, False),
             ("Complete", f"{total.complete} of {total.transactions}", total.complete < total.transactions),
@@ -442,7 +448,7 @@ def day_of_quarters(whose, day, quarters, scale):
 
 def quarters_of(part, whose):
     if not part.quarters:
-        yield f"<p>{whose} has no quarters: no two readings of one session follow each other.</p>\n"
+        yield f"<p>{whose} shows no quarter.</p>\n"
     scale = Scale(part.quarters)
     for day, quarters in groupby(part.quarters, key=lambda q: q.day):
         yield from day_of_quarters(whose, day, list(quarters), scale)
@@ -477,7 +483,7 @@ def session_row(t):
 
 def sessions_of(part):
     if not part.transactions:
-        yield "<p>No session has an event that counts.</p>\n"
+        yield "<p>It shows no session.</p>\n"
         return
     heads = ["Transaction", "EVSE", " State", "First and last number", "Numbers spanned", "Events", " Missing numbers",
              "Up, kWh", "Down, kWh"]
@@ -503,6 +509,17 @@ def station(part, label):
     yield "</section>\n"
 
 
+def station_row(part, label):
+    """A station's row in the table of a site's stations."""
+    total, link = part.total, f'<a href="#{label}">{escape(part.name)}</a>'
+    if total is None:
+        return MARK, [link] + ["not read"] * 7
+    marked = not part.whole or total.complete < total.transactions or total.missing or total.voided
+    return (MARK if marked else "",
+            [link, str(total.transactions), str(total.complete), str(total.missing), str(total.events),
+             str(total.voided), kwh(total.up), kwh(total.down)])
+
+
 class Page:
     """The page. A board's stations wait in a file until the table of them all, which comes first, is known."""
 
@@ -523,11 +540,8 @@ class Page:
         if part.is_site:
             self.site = part
             return
-        label, total = f"b{self.number}-{len(self.rows) + 1}", part.total
-        marked = not part.whole or total.complete < total.transactions or total.missing or total.voided
-        self.rows.append((MARK if marked else "",
-                          [f'<a href="#{label}">{escape(part.name)}</a>', str(total.transactions), str(total.complete),
-                           str(total.missing), str(total.events), str(total.voided), kwh(total.up), kwh(total.down)]))
+        label = f"b{self.number}-{len(self.rows) + 1}"
+        self.rows.append(station_row(part, label))
         self.stations.writelines(station(part, label))
 
     def end(self):

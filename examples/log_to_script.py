@@ -227,7 +227,6 @@ class Conversion:
         self.words = words
         self.script = Script(words.boards)
         self.counts = dict.fromkeys(["lines", "messages", "answers", "sent", "blank", "refused"], 0)
-        self.full = False
 
     def take(self, line):
         """Takes a line into the script and tells what it is."""
@@ -257,7 +256,7 @@ class Conversion:
                 self.counts["refused"] += 1
                 print(f"line {number}: {why}", file=sys.stderr)
             except Full:
-                self.full = True
+                self.counts["refused"] += 1
                 print(f"line {number}: no room in a script of {LONGEST_SCRIPT:,} bytes; this line and all after it "
                       "are left out", file=sys.stderr)
                 return
@@ -308,7 +307,7 @@ def main():
         print(f"log_to_script.py: {fault}", file=sys.stderr)
         return 2
     conversion.tell()
-    return 1 if conversion.counts["refused"] or conversion.full else 0
+    return 1 if conversion.counts["refused"] else 0
 
 
 if __name__ == "__main__":
