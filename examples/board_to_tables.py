@@ -22,7 +22,6 @@ error with their numbers, and the page says where it is not whole.
 
 import argparse
 import csv
-import os
 import re
 import shutil
 import sys
@@ -267,9 +266,9 @@ dl.figures div.mark{border:3px double var(--ink)}
 dl.figures dt{font-size:.8rem}dl.figures dd{margin:0;font-weight:600}
 .warning{border:3px double var(--ink);padding:.5rem .7rem;font-weight:600}
 .day{display:grid;grid-template-columns:minmax(0,1fr) 19rem;gap:0 1.25rem;margin:0 0 1.25rem}
-figure{margin:0}figcaption,caption{text-align:left;font-size:.85rem;padding:.2rem 0}
+figure{margin:0;padding-left:4rem}figcaption,caption{text-align:left;font-size:.85rem;padding:.2rem 0}figcaption{margin-left:-4rem}
 svg{display:block;overflow:visible}
-svg text{font:11px system-ui,sans-serif;fill:var(--ink);paint-order:stroke;stroke:#fff;stroke-width:3px}
+svg text{font:11px system-ui,sans-serif;fill:var(--ink)}
 .grid{stroke:var(--line)}.zero{stroke:var(--ink)}
 .up{fill:var(--rise)}.down{fill:url(#falls);stroke:var(--fall)}
 .still{fill:#fff;stroke:var(--ink);stroke-width:1.5}
@@ -388,7 +387,7 @@ class Scale:
         return self.TOP + self.HEIGHT * (self.up - mwh) / self.span
 
     def round_step(self):
-        """The distance of the lines: 1, 2 or 5 times a power of ten, for at most five lines."""
+        """The distance of the lines: 1, 2 or 5 times a power of ten, so that there are few lines."""
         power = 1
         while True:
             for step in (power, 2 * power, 5 * power):
@@ -426,7 +425,7 @@ def picture(label, quarters, scale):
         yield from bar(q, scale)
     for mwh in scale.marks():
         text = kwh(abs(mwh)) + (" up" if mwh > 0 else " down" if mwh else "")
-        yield f'<text x="2" y="{scale.at(mwh) - 3:.1f}">{text}</text>'
+        yield f'<text x="-5" y="{scale.at(mwh) + 4:.1f}" text-anchor="end">{text}</text>'
     for hour, anchor in ((0, "start"), (6, "middle"), (12, "middle"), (18, "middle"), (24, "end")):
         yield f'<text x="{hour / 24 * 100}%" y="{bottom + 17}" text-anchor="{anchor}">{hour:02}:00</text>'
     yield "\n</svg>\n"
@@ -440,7 +439,7 @@ def day_of_quarters(whose, day, quarters, scale):
     yield '<div class="day">\n<figure>\n'
     yield from picture(f"Bars. {said}. The table has the numbers.", quarters, scale)
     yield f'<figcaption>{said}</figcaption>\n</figure>\n'
-    yield f'<div class="scroll" role="region" tabindex="0" aria-label="Quarters of {whose} on {day}">\n'
+    yield f'<div class="scroll" role="group" tabindex="0" aria-label="Quarters of {whose} on {day}">\n'
     rows = (("", [f"{q.time()} to {q.time(1)}", kwh(q.up), kwh(q.down)]) for q in quarters)
     yield from table(f"{day}, kWh", ["Quarter (UTC)", "Up", "Down"], rows)
     yield "</div>\n</div>\n"
