@@ -30,7 +30,9 @@ from datetime import datetime
 from html import escape
 from itertools import groupby
 
+# Bytes that are looked at of a line; those of a board are far shorter.
 LONGEST_LINE = 4_096
+# Characters of a board's stations that are kept in memory before they go to a file.
 KEPT_IN_MEMORY = 1_048_576
 
 N = r"(0|[1-9][0-9]{0,19})"

@@ -28,11 +28,14 @@ import sys
 import tempfile
 from datetime import datetime, timezone
 
-LONGEST_LOG_LINE = 4_194_304
+# Limits of scripts, in bytes and in number.
 LONGEST_LINE = 262_400
 LONGEST_SCRIPT = 1_073_741_824
 MOST_SITES = 16
 MOST_STATIONS = 64
+# Bytes of a line of the log: room for a message of which each byte is escaped, and for other fields.
+LONGEST_LOG_LINE = 4_194_304
+# Bytes of the script that are kept in memory before they go to a file.
 KEPT_IN_MEMORY = 1_048_576
 
 NAME = re.compile(r"[A-Za-z0-9*\-_=:+|@.]{1,48}")
