@@ -9,10 +9,6 @@ made=$(mktemp -d) || exit
 trap 'rm -r "$made"' EXIT
 status=0
 
-# Days whose scripts the program replays, and days whose expected texts have boards.
-replayed="day"
-with_boards="site_day"
-
 # same NAME..: the file of this name that was made is the stored one.
 same() {
     for name in "$@"; do
@@ -30,13 +26,21 @@ made_by() {
     "$@" 2> "$made/told" || { cat "$made/told" >&2; status=1; }
 }
 
-for day in $replayed; do
+# The logs become scripts. That of the first day has other fields, and its messages are JSON.
+made_by ./log_to_script.py day.jsonl --site-field location --station-field chargePoint --time-field at \
+    --message-field frame --json-message --direction-field from --incoming station > "$made/day.jsonl.script"
+made_by ./log_to_script.py site_day.jsonl > "$made/site_day.jsonl.script"
+same day.jsonl.script site_day.jsonl.script
+
+# The scripts, those by hand and those of the logs, become replies and boards.
+mkdir "$made/cases"
+for script in *.script; do
+    day=${script%.script}
     if [ -n "$program" ]; then
-        made_by "$program" replay < "$day.script" > "$made/$day.expected"
+        made_by "$program" replay < "$script" > "$made/$day.expected"
         same "$day.expected"
     else
-        mkdir -p "$made/cases"
-        cp "$day.script" "$made/cases/$day"
+        cp "$script" "$made/cases/$day"
         cp "$day.expected" "$made/cases/$day.stdout"
     fi
 done
@@ -44,13 +48,8 @@ if [ -z "$program" ]; then
     (cd ../crates/ocpp_board && rt try --cases "$made/cases" -- replay) || status=1
 fi
 
-# The log of the first day has other fields, and its messages are JSON.
-made_by ./log_to_script.py day.jsonl --site-field location --station-field chargePoint --time-field at \
-    --message-field frame --json-message --direction-field from --incoming station > "$made/day.jsonl.script"
-made_by ./log_to_script.py site_day.jsonl > "$made/site_day.jsonl.script"
-same day.jsonl.script site_day.jsonl.script
-
-for day in $with_boards; do
+# The boards become tables and a page.
+for day in day site_day; do
     made_by ./board_to_tables.py --out "$made/$day" "$day.expected"
     same "$day.quarters.csv" "$day.transactions.csv" "$day.html"
 done
