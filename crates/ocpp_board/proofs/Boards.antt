@@ -1,5 +1,5 @@
 -- The boards of the stations of a site, and the totals of its book.
-use Rattle.std.proofs.Common.{◌≡◌, ◌≢◌, ℕ, zero, suc, ◌+◌, ◌<◌, ◌≤◌, ◌||◌, Bool, true, false, cond, eqb, List, [], ◌∷◌, ◌++◌, Option, Some, All, append-nil, length, map, take, get_or, refl, subst, ap, sym, ◌∙◌, bytes_eq, arith, ⊎_elim}
+use Rattle.std.proofs.Common.{◌≡◌, ◌≢◌, ℕ, zero, suc, ◌+◌, ◌<◌, ◌≤◌, Bool, true, false, cond, eqb, List, [], ◌∷◌, ◌++◌, Some, All, append-nil, length, map, take, get_or, refl, subst, ap, sym, ◌∙◌, bytes_eq, arith, ⊎_elim}
 use Rattle.std.specs.Prelude.{filter, slice_get, sum_by, count_by}
 use Rattle.std.specs.List.{list_any, position, range_with_len}
 use Rattle.std.proofs.lemmas.Bool.{cases_eq, eq-eqb, false≢true, ne_eqb}
@@ -8,7 +8,6 @@ use Rattle.std.proofs.lemmas.List.FromFn.{map-range_with_len_more}
 use Rattle.std.proofs.lemmas.List.Sums.{length-filter, sum_by-cons}
 use Rattle.std.proofs.lemmas.Option.{get_or_from_slice_get}
 use Rattle.std.proofs.lemmas.Slice.Eq.{bytes_eq-Decides}
-use Rattle.ledger_model.specs.declared.figures.Figures.{Figures}
 use Rattle.ledger_model.specs.Board.{Board, board, figures, site_board, sum_of_figures}
 use Rattle.ledger_model.specs.Content.{entries}
 use Rattle.ledger_model.specs.Limits.{Bounds}

@@ -1,5 +1,5 @@
 -- Declarations: what they keep, and the script that they are seen as.
-use Rattle.std.proofs.Common.{◌≡◌, ℕ, suc, ◌+◌, ◌<◌, ◌≤◌, ◌||◌, ◌&&◌, Bool, true, false, not, cond, zero, List, [], ◌∷◌, ◌++◌, Option, None, Some, All, length, map, get_or, nat_le, nat_lt, refl, subst, ap, sym, ◌∙◌, bytes_eq, arith, ltb-true}
+use Rattle.std.proofs.Common.{◌≡◌, ℕ, suc, ◌+◌, ◌<◌, ◌≤◌, ◌||◌, ◌&&◌, Bool, true, false, not, cond, zero, List, [], ◌∷◌, ◌++◌, Option, None, Some, All, length, map, nat_le, nat_lt, refl, ap, sym, ◌∙◌, bytes_eq, arith}
 use Rattle.std.specs.Prelude.{sum_by}
 use Rattle.std.specs.List.{position}
 use Rattle.std.specs.Option.{is_some}
@@ -9,14 +9,14 @@ use Rattle.std.proofs.lemmas.List.Elements.{All-append, All-cons, All-nil}
 use Rattle.std.proofs.lemmas.List.Sums.{sum_by-append, sum_by-cons}
 use Rattle.ledger_model.specs.Limits.{Bounds}
 use Rattle.ledger_model.specs.Ranges.{most_sites, most_stations, most_plan_readings}
-use Rattle.ledger_model.specs.World.{Station, World}
+use Rattle.ledger_model.specs.World.{Station}
 use Rattle.site_desk.specs.declared.plan.SitePlan.{SitePlan}
 use Rattle.site_desk.specs.declared.plan.StationPlan.{StationPlan}
 use Rattle.site_desk.specs.Plan.{has_twice}
-use Rattle.ocpp_board.specs.Drafts.{Drafted, IsDraft, IsPlan, planned, planned_world, site_name}
+use Rattle.ocpp_board.specs.Drafts.{Drafted, IsDraft, planned, planned_world, site_name}
 use Rattle.ocpp_board.specs.declared.script_line.LineFault.TheVariants.{PlanLimit, StationTwice}
-use Rattle.ocpp_board.specs.Script.{Script, declared_to, fault_line, is_among, is_past_plan, joined_by, new_station, sites_with, station_named}
-use Rattle.ocpp_board.proofs.Places.{AreAlike, IsPlaced, is_station, neither, none_placed, once_behind, some_placed, unnamed}
+use Rattle.ocpp_board.specs.Script.{declared_to, fault_line, is_among, is_past_plan, joined_by, new_station, sites_with, station_named}
+use Rattle.ocpp_board.proofs.Places.{AreAlike, is_station, neither, none_placed, once_behind, some_placed, unnamed}
 
 -- ---- the worlds of plans
 

@@ -36,8 +36,7 @@ enlisted_step old items i passes more x c p all less items_are passes_are cell_i
     let none : (get_or old i x).counts ≡ [] = all i x less in
     let cell : c ≡ first_given (get_or old i x) = cell_is ∙ (λ j. record (same j) { counts = (same j).counts ++ 0 ∷ [] }) ∙ ap (λ (k : List ℕ). record (get_or old i x) { counts = k ++ 0 ∷ [] }) none in
     let pass : p ≡ new_pass (get_or old i x).station 0 = pass_is ∙ (λ j. new_pass (same j).station (length (same j).counts)) ∙ ap (λ (k : List ℕ). new_pass (get_or old i x).station (length k)) none in
-    let to : Cell → Held = λ d. new_pass d.station 0 in
-    (
+    let to : Cell → Held = λ d. new_pass d.station 0 in (
       (λ j. set (items_are j) i (cell j)) ∙ turned_more first_given old i x less,
       more_is ∙ (λ j. passes_are j ++ pass j ∷ []) ∙ sym (ap (map to) (take_more old i x less) ∙ map-append to (take i old) (get_or old i x ∷ [])),
     )

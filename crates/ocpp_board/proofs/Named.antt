@@ -1,21 +1,18 @@
 -- The station of a name in running ledgers, and what is answered of it.
-use Rattle.std.proofs.Common.{◌≡◌, ℕ, ◌<◌, true, false, List, [], ◌∷◌, ◌++◌, Result, Option, Ok, Err, None, Some, length, refl, subst, ap, sym, ◌∙◌, bytes_eq, arith}
-use Rattle.std.specs.Prelude.{IfSome, OnOk, slice_get}
+use Rattle.std.proofs.Common.{◌≡◌, ℕ, ◌<◌, true, false, List, [], ◌∷◌, Option, None, Some, length, refl, subst, ap, sym, ◌∙◌, bytes_eq, arith}
+use Rattle.std.specs.Prelude.{IfSome, slice_get}
 use Rattle.std.specs.List.{position}
 use Rattle.std.proofs.lemmas.Option.{slice_get_within}
-use Rattle.energy_flow.specs.Flow.{Energy}
 use Rattle.ledger_model.specs.declared.answer.Answer.{Answer}
 use Rattle.ledger_model.specs.declared.command.Command.{Command}
 use Rattle.ledger_model.specs.declared.command.Command.TheVariants.{Deliver}
-use Rattle.ledger_model.specs.Content.{Content}
-use Rattle.ledger_model.specs.Limits.{Bounds}
-use Rattle.ledger_model.specs.World.{Station, World, world_after}
+use Rattle.ledger_model.specs.World.{Station, world_after}
 use Rattle.site_book.specs.Book.{Book}
 use Rattle.site_desk.specs.declared.plan.StationPlan.{StationPlan}
 use Rattle.site_desk.specs.Cell.{Cell, Held}
 use Rattle.transaction_event.specs.declared.message.Message.{Message}
 use Rattle.transaction_event.specs.declared.message.Message.TheVariants as read
-use Rattle.transaction_event.specs.Message.{Meaning, Event, Ready, Silence, message}
+use Rattle.transaction_event.specs.Message.{message}
 use Rattle.transaction_event.specs.MessageMeaning.{IsMeaningOf}
 use Rattle.ocpp_board.specs.Drafts.{Drafted, planned_world, site_name}
 use Rattle.ocpp_board.specs.Received.{TakesMessage}

@@ -1,5 +1,5 @@
 -- What any lines keep of a script's stations.
-use Rattle.std.proofs.Common.{◌≡◌, ℕ, suc, ◌+◌, ◌≤◌, Bool, true, false, cond, List, [], ◌∷◌, ◌++◌, Option, None, Some, length, refl, sym, ap, subst, ◌∙◌, arith}
+use Rattle.std.proofs.Common.{◌≡◌, ℕ, suc, ◌+◌, Bool, true, false, cond, List, [], ◌∷◌, ◌++◌, Option, None, Some, refl, sym, ap, subst, ◌∙◌, arith}
 use Rattle.std.specs.Str.{bytes_eq}
 use Rattle.std.proofs.lemmas.Slice.Eq.{bytes_eq-Decides}
 use Rattle.ledger_model.specs.declared.answer.Answer.{Answer}
@@ -16,7 +16,7 @@ use Rattle.ledger_model.proofs.ReachedContents.{is_counted}
 use Rattle.transaction_event.specs.Message.{Meaning, Event, Ready, Silence, message}
 use Rattle.transaction_event.specs.Request.{Request}
 use Rattle.transaction_event.proofs.AdmissibleRequests.{each_delivery_is_admissible}
-use Rattle.ocpp_board.specs.Laws.{script_after, StationsAreReached, EnergyIsFromScratch, TotalsAreFromScratch, BoardsAreFromScratch, UnacceptedChangesNothing, asked_of, asked_by, sent_by, commanded_by}
+use Rattle.ocpp_board.specs.Laws.{script_after, StationsAreReached, EnergyIsFromScratch, TotalsAreFromScratch, BoardsAreFromScratch}
 use Rattle.ocpp_board.specs.Lines.{Line}
 use Rattle.ocpp_board.specs.Script.{Script, start, are_limits, by_meaning, commanded_to, declared_to, fault_line, is_past_plan, joined_by, limited_to, line_step, new_station, sent_to, station_named, step_by, energy_answer, total_answer, is_among, shown_site, stations_of}
 use Rattle.board_report.specs.Texts.{board_text}

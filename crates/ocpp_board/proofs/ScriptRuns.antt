@@ -1,19 +1,17 @@
 -- The world after lines is the run of the commands that they ask.
-use Rattle.std.proofs.Common.{◌≡◌, ℕ, Bool, true, false, cond, List, [], ◌∷◌, ◌++◌, Option, None, Some, All, bytes_eq, map, refl, sym, ap, subst, ◌∙◌, append-nil, append_assoc, length, suc, arith}
+use Rattle.std.proofs.Common.{◌≡◌, ℕ, Bool, true, false, cond, List, [], ◌∷◌, ◌++◌, Option, None, Some, All, bytes_eq, refl, sym, ap, subst, ◌∙◌, append-nil, append_assoc, suc, arith}
 use Rattle.std.proofs.lemmas.Bool.{false≢true}
 use Rattle.std.proofs.lemmas.List.{map-append}
 use Rattle.std.proofs.lemmas.List.Elements.{All-append, All-cons, All-nil}
 use Rattle.ledger_model.specs.declared.command.Command.{Command}
 use Rattle.ledger_model.specs.declared.command.Command.TheVariants.{Deliver}
 use Rattle.ledger_model.specs.Content.{empty_content}
-use Rattle.ledger_model.specs.Laws.{IsAccepted}
-use Rattle.ledger_model.specs.Step.{answer}
 use Rattle.ledger_model.specs.World.{Station, World, Happens, run, station_after, world_after}
 use Rattle.ledger_model.specs.WorldLaws.{AreReordered, IsDelivery}
 use Rattle.ledger_model.proofs.Runs.{reordered_runs, run_append}
 use Rattle.transaction_event.specs.Message.{Meaning, Event, Ready, Silence, message}
 use Rattle.ocpp_board.specs.declared.script_line.LineFault.TheVariants.{DeclaredLate, PlanLimit}
-use Rattle.ocpp_board.specs.Laws.{script_after, asked_by, asked_of, commanded_by, emptied, happened, sent_by, AreSameDeliveries, IsNoOperation, OrderChangesNoBoard, UnacceptedChangesNothing, WorldsAreRuns}
+use Rattle.ocpp_board.specs.Laws.{script_after, asked_by, asked_of, commanded_by, emptied, happened, sent_by, IsNoOperation, OrderChangesNoBoard, UnacceptedChangesNothing, WorldsAreRuns}
 use Rattle.ocpp_board.specs.Lines.{Line}
 use Rattle.ocpp_board.specs.LineMeaning.{LineMeaning, nothing, fails, sets_limits, declares, tells, sends, commands, asks_energy, asks_total, asks_board, line_meaning}
 use Rattle.ocpp_board.specs.Script.{Script, start, are_limits, board_answer, by_meaning, commanded_to, declared_to, fault_line, is_past_plan, joined_by, limited_to, line_step, sent_to, station_named, step_by}

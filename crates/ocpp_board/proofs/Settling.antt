@@ -1,6 +1,6 @@
 -- Running ledgers: what a settled command keeps of them, and the script that they are seen as.
-use Rattle.std.proofs.Common.{◌≡◌, ◌≢◌, ℕ, zero, suc, ◌+◌, ◌<◌, ◌≤◌, ◌⊎◌, Bool, true, false, cond, List, [], ◌∷◌, Option, None, Some, length, map, set, get_or, refl, subst, ap, sym, ◌∙◌, bytes_eq, arith, ⊎_elim}
-use Rattle.std.specs.Prelude.{IfSome, slice_get, sum_by}
+use Rattle.std.proofs.Common.{◌≡◌, ◌≢◌, ℕ, zero, suc, ◌+◌, ◌<◌, ◌≤◌, true, false, cond, List, [], ◌∷◌, Some, length, map, set, refl, subst, ap, sym, ◌∙◌, bytes_eq, arith, ⊎_elim}
+use Rattle.std.specs.Prelude.{IfSome, slice_get}
 use Rattle.std.specs.List.{list_any}
 use Rattle.std.proofs.lemmas.List.{length-append, length-set}
 use Rattle.std.proofs.lemmas.List.Sums.{sum_by-set}
@@ -19,13 +19,13 @@ use Rattle.site_book.proofs.Named.{get_else, get_here}
 use Rattle.site_desk.specs.declared.plan.SitePlan.{SitePlan}
 use Rattle.site_desk.specs.declared.plan.StationPlan.{StationPlan}
 use Rattle.site_desk.specs.Cell.{Cell, Held, Knows}
-use Rattle.site_desk.specs.Parts.{AreTied, IsTied, limits_at}
+use Rattle.site_desk.specs.Parts.{AreTied, limits_at}
 use Rattle.site_desk.specs.Plan.{has_twice}
-use Rattle.site_desk.specs.Settle.{Holds, Tied, cell_after, pass_after, posts_after}
+use Rattle.site_desk.specs.Settle.{Holds, Tied, cell_after, posts_after}
 use Rattle.site_desk.proofs.Ties.{apart_step, tied_step}
-use Rattle.ocpp_board.specs.Drafts.{Drafted, IsPlan, planned_world, site_name}
+use Rattle.ocpp_board.specs.Drafts.{Drafted, planned_world, site_name}
 use Rattle.ocpp_board.specs.Running.{IsPlaced, IsRunning, IsShown, Settles, filled, posts_in, running}
-use Rattle.ocpp_board.specs.Script.{Script, new_station, station_named}
+use Rattle.ocpp_board.specs.Script.{new_station}
 use Rattle.ocpp_board.proofs.Places.{AreAlike, differ_back, neither}
 
 pub some_same : {X : Type 0} (x y : X) → Some x ≡ Some y → x ≡ y
@@ -90,7 +90,6 @@ module _ (sites : List SitePlan) (stations : List StationPlan) (cells : List Cel
 
   module _ (k : ℕ) (c c' : Cell) (p p' : Held) (b b' : Book) (command : Command) (a : Answer) (at : slice_get cells k ≡ Some c) (held : slice_get passes k ≡ Some p) (book : slice_get books c.site ≡ Some b)
       (cell_is : c' ≡ cell_after c p command) (book_is : b' ≡ record b { posts = posts_after b.posts c' a }) (answer_is : a ≡ answer c.limits c.content command) (known : Knows c' p') where
-
     tied_then : AreTied (set cells k c') (set books c.site b')
     tied_then = tied_step cells books k c c' b b' p command a at book cell_is book_is answer_is are_tied r.apart
 

@@ -1,19 +1,17 @@
 -- The board of a site shows the sums over its stations.
-use Rattle.std.proofs.Common.{◌≡◌, ℕ, List, [], ◌∷◌, ◌++◌, All, map, refl, sym, ap, subst, ◌∙◌}
+use Rattle.std.proofs.Common.{◌≡◌, ℕ, List, [], ◌∷◌, ◌++◌, All, map, refl, ap, subst, ◌∙◌}
 use Rattle.std.specs.List.{flat_map}
 use Rattle.std.proofs.lemmas.List.Elements.{All-cons, All-nil}
-use Rattle.energy_flow.specs.Flow.{Energy}
-use Rattle.ledger_model.specs.declared.figures.Figures.{Figures}
 use Rattle.ledger_model.specs.Board.{Board, Flowed, board, energy_under, figures, site_board}
 use Rattle.ledger_model.specs.BoardLaws.{AreSums, sum_of_energies}
-use Rattle.ledger_model.specs.Content.{Entry, entries}
+use Rattle.ledger_model.specs.Content.{entries}
 use Rattle.ledger_model.specs.Energy.{energy_in, rising}
 use Rattle.ledger_model.specs.Quarter.{quarter_seconds}
 use Rattle.ledger_model.specs.World.{Station, World}
 use Rattle.ledger_model.proofs.EnergyLemmas.{site_quarter}
 use Rattle.ledger_model.proofs.FigureLemmas.{site-AreSums}
-use Rattle.ocpp_board.specs.Laws.{AreSitesSums, SitesAreSums}
-use Rattle.ocpp_board.specs.Script.{shown_site, shown_station}
+use Rattle.ocpp_board.specs.Laws.{SitesAreSums}
+use Rattle.ocpp_board.specs.Script.{shown_station}
 
 -- the figures of the stations' boards
 shown_figures : (w : World) → map (λ (s : List ℕ × Board). s.1.figures) (map shown_station w) ≡ map (λ s. figures (entries s.content)) w

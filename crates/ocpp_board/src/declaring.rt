@@ -55,7 +55,13 @@ impl<X: AllocGlobal + Threads> Declarations for Declaring<'_, X> {
         let sites = draft.plan().sites.len() as u16;
         match Tables::make(rt.alloc(), sites) {
             Ok(tables) => {
-                let opening = Opening { tables, draft, lines, end, reply };
+                let opening = Opening {
+                    tables,
+                    draft,
+                    lines,
+                    end,
+                    reply,
+                };
                 opening.replay::<Brand, X, R, W>(rt, reader, writer)
             }
             Err(_) => Err(ReplayFault::OutOfMemory),
@@ -93,7 +99,13 @@ impl Opening {
             (line_read self.end self.lines.held.items ++ read) written }
         ensures end { OnOk result (ReadToEnd self.end (R.remaining reader.old) (R.remaining reader.new)) }
     {
-        let Opening { tables, draft, lines, end, reply } = self;
+        let Opening {
+            tables,
+            draft,
+            lines,
+            end,
+            reply,
+        } = self;
         let (mut lines, mut reply) = (lines, reply);
         match Ledgers::<J>::open(rt, tables, draft) {
             Ok(mut ledgers) => {

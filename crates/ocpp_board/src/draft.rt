@@ -77,14 +77,22 @@ impl Draft {
     pub fn station(&self, name: &Name) -> Option<usize>
         ensures { result ≡ position (λ s. bytes_eq name.now s.name) self.now.stations }
     {
-        self.plan.stations.as_slice().iter().position(|station| *name == station.name)
+        self.plan
+            .stations
+            .as_slice()
+            .iter()
+            .position(|station| *name == station.name)
     }
 
     /// The number of the site of this name.
     pub fn site(&self, name: &Name) -> Option<usize>
         ensures { result ≡ position (λ s. bytes_eq name.now s.name) self.now.sites }
     {
-        self.plan.sites.as_slice().iter().position(|site| *name == site.name)
+        self.plan
+            .sites
+            .as_slice()
+            .iter()
+            .position(|site| *name == site.name)
     }
 
     /// Answers one line, or tells that it opens the ledgers.
@@ -158,9 +166,7 @@ impl Draft {
         let is_full = self.plan.stations.len() >= MAX_STATIONS;
         let readings = self.readings + u64::from(self.limits.readings());
         let is_new = self.site(site).is_none();
-        is_full
-            || readings > MAX_PLAN_READINGS
-            || (is_new && self.plan.sites.len() >= MAX_SITES)
+        is_full || readings > MAX_PLAN_READINGS || (is_new && self.plan.sites.len() >= MAX_SITES)
     }
 
     // Adds a station of a new name, for which there is room.

@@ -113,7 +113,12 @@ impl<J: Naming> Ledgers<J> {
     }
 
     // Takes an operator's command on a station, and puts the answer into the reply.
-    fn command(&mut self, name: &Name, command: Command, reply: &mut Vec<u8>) -> Result<(), AllocError>
+    fn command(
+        &mut self,
+        name: &Name,
+        command: Command,
+        reply: &mut Vec<u8>,
+    ) -> Result<(), AllocError>
         requires empty { reply.old.items ≡ [] }
         requires few { posts_in self.old.books.items < 2 ^ 62 }
         ensures step { OnOk result (commanded_to (station_named name.now (running self.old.draft self.old.cells.items).world) (running self.old.draft self.old.cells.items) command ≡ (running self.new.draft self.new.cells.items, reply.new.items)) }

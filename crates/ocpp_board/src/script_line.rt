@@ -214,7 +214,12 @@ fn limited_last<'a>(transactions: &str, events: &str, rest: &'a str) -> ScriptLi
     let Some((readings, changes)) = parted(rest) else {
         return ScriptLine::Fails(LineFault::BadLine);
     };
-    let numbers = (number(transactions), number(events), number(readings), number(changes));
+    let numbers = (
+        number(transactions),
+        number(events),
+        number(readings),
+        number(changes),
+    );
     match numbers {
         (Some(transactions), Some(events), Some(readings), Some(changes)) => {
             ScriptLine::Limits(transactions, events, readings, changes)

@@ -5,9 +5,9 @@ ghost use Rattle.ocpp_board.specs.Outcome.{Replays};
 ghost use Rattle.ocpp_board.specs.Ranges.{longest_line, longest_script};
 ghost use Rattle.ocpp_board.specs.Script.{start, script_text};
 
-use crate::fault::ReplayFault;
 use crate::declaring::Declaring;
 use crate::draft::Draft;
+use crate::fault::ReplayFault;
 use crate::replay::replay_lines;
 use std::io::{BufRead, BufWriter, Write};
 use std::thread::Threads;

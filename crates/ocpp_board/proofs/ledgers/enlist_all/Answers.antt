@@ -1,4 +1,4 @@
-use Rattle.std.proofs.Common.{◌≡◌, ◌<◌, ◌∷◌, [], ◌++◌, length, get_or, subst, ap, sym, ◌∙◌}
+use Rattle.std.proofs.Common.{◌≡◌, ◌<◌, length, get_or, subst}
 use Rattle.site_desk.specs.Cell.{Cell, new_pass}
 use Rattle.ocpp_board.proofs.Enlisted.{enlisted_step, told_ok, told_value}
 use Rattle.ocpp_board.proofs.ledgers.enlist_all.Goals as goal

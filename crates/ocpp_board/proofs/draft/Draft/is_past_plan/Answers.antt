@@ -1,4 +1,4 @@
-use Rattle.std.proofs.Common.{rules, sym, ◌∙◌}
+use Rattle.std.proofs.Common.{rules}
 use Rattle.ocpp_board.proofs.Drafting.{past_begun, past_there}
 use Rattle.ocpp_board.proofs.draft.Draft.is_past_plan.Goals as goal
 

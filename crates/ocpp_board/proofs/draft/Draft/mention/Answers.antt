@@ -1,4 +1,4 @@
-use Rattle.std.proofs.Common.{rules, ◌≡◌, ◌<◌, None, All, List, length, map, ap, sym, subst, ◌∙◌, bytes_eq}
+use Rattle.std.proofs.Common.{rules, ◌≡◌, ◌<◌, None, All, length, map, ap, sym, subst, ◌∙◌, bytes_eq}
 use Rattle.std.specs.List.{position}
 use Rattle.ledger_model.specs.Ranges.{most_sites}
 use Rattle.site_desk.specs.declared.plan.SitePlan.{SitePlan}

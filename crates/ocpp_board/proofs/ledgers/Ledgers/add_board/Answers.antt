@@ -1,4 +1,4 @@
-use Rattle.std.proofs.Common.{◌≡◌, ◌∷◌, [], ◌++◌, length, take, get_or, refl, subst, ap, sym, ◌∙◌, arith}
+use Rattle.std.proofs.Common.{◌∷◌, [], ◌++◌, length, take, get_or, refl, subst, ap, sym, ◌∙◌, arith}
 use Rattle.std.proofs.lemmas.Option.{slice_get_read}
 use Rattle.ledger_model.specs.Board.{board}
 use Rattle.ledger_model.specs.Content.{entries}
@@ -7,7 +7,6 @@ use Rattle.ledger_model.specs.Quarter.{quarter_seconds}
 use Rattle.board_report.specs.Plans.{AreBoardsWithin}
 use Rattle.site_desk.specs.Parts.{limits_at}
 use Rattle.site_desk.proofs.Rows.{limits_more_yes}
-use Rattle.ocpp_board.specs.Running.{boards_at}
 use Rattle.ocpp_board.proofs.Boards.{boards_more_no, boards_more_yes, within_more}
 use Rattle.ocpp_board.proofs.Settling.{stands}
 use Rattle.ocpp_board.proofs.ledgers.Ledgers.add_board.Goals as goal

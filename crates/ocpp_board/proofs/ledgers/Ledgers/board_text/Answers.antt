@@ -1,4 +1,4 @@
-use Rattle.std.proofs.Common.{◌≡◌, length, refl, ap, sym, ◌∙◌, arith}
+use Rattle.std.proofs.Common.{length, refl, ap, sym, ◌∙◌, arith}
 use Rattle.std.proofs.lemmas.Option.{slice_get_read}
 use Rattle.ledger_model.specs.Board.{site_board}
 use Rattle.board_report.specs.Texts.{board_text}
@@ -6,7 +6,7 @@ use Rattle.board_report.proofs.PlanLemmas.{plans_fit}
 use Rattle.site_desk.specs.declared.plan.SitePlan.{SitePlan}
 use Rattle.site_desk.specs.Parts.{limits_at}
 use Rattle.ocpp_board.specs.Running.{running}
-use Rattle.ocpp_board.specs.Script.{shown_site, stations_of}
+use Rattle.ocpp_board.specs.Script.{stations_of}
 use Rattle.ocpp_board.proofs.Answered.{value_told}
 use Rattle.ocpp_board.proofs.Boards.{board_is, few_at, site_shown, totals_are}
 use Rattle.ocpp_board.proofs.Places.{some_placed}

@@ -1,4 +1,4 @@
-use Rattle.std.proofs.Common.{◌≡◌, true, length, ap, sym, subst}
+use Rattle.std.proofs.Common.{true, length, ap, sym, subst}
 use Rattle.site_desk.specs.Parts.{AreApart, AreNewBooks, AreNewCells, AreTied}
 use Rattle.ocpp_board.specs.Drafts.{planned}
 use Rattle.ocpp_board.proofs.Opened.{no_posts, none_given, opened_running, opened_world}

@@ -1,4 +1,4 @@
-use Rattle.std.proofs.Common.{◌≡◌, cond, ◌++◌, sym, ap, ◌∙◌}
+use Rattle.std.proofs.Common.{cond, ◌++◌, sym, ap, ◌∙◌}
 use Rattle.board_report.specs.Texts.{board_text}
 use Rattle.site_desk.specs.declared.plan.SitePlan.{SitePlan}
 use Rattle.ocpp_board.specs.declared.script_line.LineFault.TheVariants.{UnknownSite}

@@ -1,8 +1,8 @@
-use Rattle.std.proofs.Common.{◌≡◌, ◌<◌, Some, length, set, refl, sym, ap, subst, ◌∙◌, arith}
+use Rattle.std.proofs.Common.{◌<◌, length, set, refl, sym, ap, subst, ◌∙◌, arith}
 use Rattle.std.specs.Prelude.{slice_get}
 use Rattle.std.proofs.lemmas.Option.{slice_get_read}
 use Rattle.ocpp_board.specs.Running.{IsRunning}
-use Rattle.ocpp_board.proofs.Settling.{one_post_more, posts_of_one, settles, site_in_books, still_running}
+use Rattle.ocpp_board.proofs.Settling.{posts_of_one, settles, site_in_books, still_running}
 use Rattle.ocpp_board.proofs.ledgers.Ledgers.settle.Goals as goal
 
 pub index_mut-requires : goal.index_mut-requires
