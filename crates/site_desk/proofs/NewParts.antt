@@ -5,6 +5,7 @@ use Rattle.std.specs.List.{list_all}
 use Rattle.std.proofs.lemmas.Bool.{cases_eq, leb-true, ltb-true}
 use Rattle.std.proofs.lemmas.List.{take_more, drop_more, length_push, take-append-le, take_all}
 use Rattle.std.proofs.lemmas.List.Sums.{sum_by-cons}
+use Rattle.ledger_model.specs.Ranges.{most_plan_readings}
 use Rattle.ledger_model.specs.Limits.{Bounds}
 use Rattle.site_book.specs.Book.{ArePlanned, Book, Known, known}
 use Rattle.site_book.proofs.Named.{get_front, get_last}
@@ -13,7 +14,7 @@ use Rattle.site_desk.specs.declared.plan.StationPlan.{StationPlan}
 use Rattle.site_desk.specs.declared.fault.DeskFault.{DeskFault}
 use Rattle.site_desk.specs.declared.fault.DeskFault.TheVariants.{PlanLimit, StationTwice}
 use Rattle.site_desk.specs.Cell.{Cell, new_cell}
-use Rattle.site_desk.specs.Plan.{has_twice, is_within_limits, plan_fault, most_planned_readings, most_viewers}
+use Rattle.site_desk.specs.Plan.{has_twice, is_within_limits, plan_fault, most_viewers}
 use Rattle.site_desk.specs.Parts.{AreNewBooks, AreNewCells, limits_at, new_book, new_viewers, row_at}
 
 -- an element of a list with one more is one of the list's, or the last
@@ -125,11 +126,11 @@ within_of : (a twice : Bool) → ◌≡◌ {A = Option DeskFault} (cond (not a) 
 within_of true twice h = refl
 within_of false twice h = absurd (cc (h))
 
-pub planned_readings : (sites : List SitePlan) (stations : List StationPlan) → plan_fault sites stations ≡ None → sum_by (λ s. s.limits.readings) stations ≤ most_planned_readings
+pub planned_readings : (sites : List SitePlan) (stations : List StationPlan) → plan_fault sites stations ≡ None → sum_by (λ s. s.limits.readings) stations ≤ most_plan_readings
 planned_readings sites stations h =
     let within : is_within_limits sites stations ≡ true = within_of (is_within_limits sites stations) (has_twice (map (λ s. s.name) stations)) h in
-    leb-true (sum_by (λ s. s.limits.readings) stations) most_planned_readings
-    (and_left _ _ (and_left _ _ (and_left (leb (sum_by (λ s. s.limits.readings) stations) most_planned_readings && list_all (λ s. leb s.viewers most_viewers) sites && list_all (λ s. ltb s.site (length sites)) stations) _ within)))
+    leb-true (sum_by (λ s. s.limits.readings) stations) most_plan_readings
+    (and_left _ _ (and_left _ _ (and_left (leb (sum_by (λ s. s.limits.readings) stations) most_plan_readings && list_all (λ s. leb s.viewers most_viewers) sites && list_all (λ s. ltb s.site (length sites)) stations) _ within)))
 
 pub planned_at : (sites : List SitePlan) (stations : List StationPlan) (site : ℕ) → length stations ≤ 64 → plan_fault sites stations ≡ None → ArePlanned (limits_at stations site)
 planned_at sites stations site few h = record {
@@ -149,5 +150,5 @@ pub planned_sites : (sites : List SitePlan) (stations : List StationPlan) (k : �
 planned_sites sites stations k s h at =
     let within : is_within_limits sites stations ≡ true = within_of (is_within_limits sites stations) (has_twice (map (λ s. s.name) stations)) h in
     all_below (length sites) stations k s
-    (and_right (leb (sum_by (λ s. s.limits.readings) stations) most_planned_readings && list_all (λ s. leb s.viewers most_viewers) sites) _
-    (and_left (leb (sum_by (λ s. s.limits.readings) stations) most_planned_readings && list_all (λ s. leb s.viewers most_viewers) sites && list_all (λ s. ltb s.site (length sites)) stations) _ within)) at
+    (and_right (leb (sum_by (λ s. s.limits.readings) stations) most_plan_readings && list_all (λ s. leb s.viewers most_viewers) sites) _
+    (and_left (leb (sum_by (λ s. s.limits.readings) stations) most_plan_readings && list_all (λ s. leb s.viewers most_viewers) sites && list_all (λ s. ltb s.site (length sites)) stations) _ within)) at

@@ -1,14 +1,11 @@
 use Rattle.std.specs.Prelude.{ℕ, Bool, false, not, ◌&&◌, ◌||◌, nat_le, nat_lt, List, [], ◌∷◌, map, length, sum_by, Option, None, Some, if◌then◌else◌, codes}
 use Rattle.std.specs.List.{list_all, list_any}
 use Rattle.std.specs.Str.{bytes_eq}
+use Rattle.ledger_model.specs.Ranges.{most_plan_readings}
 use Rattle.site_desk.specs.declared.plan.SitePlan.{SitePlan}
 use Rattle.site_desk.specs.declared.plan.StationPlan.{StationPlan}
 use Rattle.site_desk.specs.declared.fault.DeskFault.{DeskFault}
 use Rattle.site_desk.specs.declared.fault.DeskFault.TheVariants.{PlanLimit, StationTwice}
-
--- How many readings the stations of one plan may keep in all.
-abbrev pub most_planned_readings : ℕ
-most_planned_readings = 1_048_576
 
 -- How many viewers a site may have.
 abbrev pub most_viewers : ℕ
@@ -26,7 +23,7 @@ has_twice (name ∷ names) = list_any (bytes_eq name) names || has_twice names
 -- The stations keep no more readings than a plan may, no site has too many viewers, each station is at one of the sites, and no two sites have one name.
 abbrev pub is_within_limits : List SitePlan → List StationPlan → Bool
 is_within_limits sites stations =
-    nat_le (sum_by (λ s. s.limits.readings) stations) most_planned_readings
+    nat_le (sum_by (λ s. s.limits.readings) stations) most_plan_readings
     && list_all (λ s. nat_le s.viewers most_viewers) sites
     && list_all (λ s. nat_lt s.site (length sites)) stations
     && not (has_twice (map (λ s. s.name) sites))

@@ -47,9 +47,7 @@ pub use fault::{BoardFault, CloseFault, DeskFault, EnlistFault, TooManyPasses};
 pub use gate::{Gate, NoGate};
 pub use parts::Parts;
 pub use pass::Pass;
-pub use plan::{
-    MAX_PLANNED_READINGS, MAX_SITES, MAX_STATIONS, MAX_VIEWERS, Plan, SitePlan, StationPlan,
-};
+pub use plan::{MAX_VIEWERS, Plan, SitePlan, StationPlan};
 pub use steps::{settle, tied};
 
 #[cfg(test)]

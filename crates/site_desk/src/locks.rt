@@ -4,8 +4,8 @@ ghost use Rattle.site_book.specs.Book.{Book};
 ghost use Rattle.site_desk.specs.Close.{AreViewed, Saw};
 
 use crate::cell::StationCell;
-use crate::plan::{MAX_SITES, MAX_STATIONS};
 use crossbeam_utils::CachePadded;
+use ledger_model::{MAX_SITES, MAX_STATIONS};
 use site_book::{Naming, SiteBook, Viewer};
 use std::alloc::{AllocError, Global};
 use std::sync::Mutex;

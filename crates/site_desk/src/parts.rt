@@ -7,9 +7,9 @@ ghost use Rattle.site_desk.specs.Plan.{plan_fault};
 
 use crate::cell::StationCell;
 use crate::fault::DeskFault;
-use crate::plan::{MAX_SITES, MAX_STATIONS, Plan, SitePlan, StationPlan};
+use crate::plan::{Plan, SitePlan, StationPlan};
 use arrayvec::ArrayVec;
-use ledger_model::{Limits, Listed};
+use ledger_model::{Limits, Listed, MAX_STATIONS};
 use site_book::{Naming, SiteBook, Tables, Viewer};
 use std::alloc::{AllocError, Global};
 

@@ -5,19 +5,10 @@ ghost use Rattle.site_desk.specs.Plan.{blank_name, has_twice, is_within_limits, 
 
 use crate::fault::DeskFault;
 use arrayvec::ArrayVec;
-use ledger_model::{Limits, Name};
-
-/// How many sites one plan may have.
-pub const MAX_SITES: usize = 16;
-
-/// How many stations one plan may have, over all its sites.
-pub const MAX_STATIONS: usize = 64;
+use ledger_model::{Limits, MAX_PLAN_READINGS, MAX_SITES, MAX_STATIONS, Name};
 
 /// How many viewers a site may have.
 pub const MAX_VIEWERS: u16 = 64;
-
-/// How many readings the stations of one plan may keep in all.
-pub const MAX_PLANNED_READINGS: u64 = 1_048_576;
 
 /// A site: its name, and how many viewers it has, at most 64.
 #[derive(Debug, Drop)]
@@ -103,7 +94,7 @@ fn is_within_limits(sites: &[SitePlan], stations: &[StationPlan]) -> bool
     requires { length stations.now ≤ 64 }
     ensures { result ≡ is_within_limits sites.now stations.now }
 {
-    readings(stations) <= MAX_PLANNED_READINGS
+    readings(stations) <= MAX_PLAN_READINGS
         && are_viewers_few(sites)
         && are_sites_known(stations, sites.len())
         && !are_sites_twice(sites)
