@@ -1,0 +1,5 @@
+mod Tests
+mod Flats
+mod Sums
+mod Places
+mod Looks

@@ -1,0 +1,97 @@
+-- An index with a place put in or taken out.
+use Rattle.std.proofs.Common.{◌≡◌, ℕ, ◌+◌, ◌<◌, ◌≤◌, nat_lt, nat_eq, ◌==◌, Bool, true, false, not, cond, T, List, [], ◌∷◌, ◌++◌, Option, Some, None, is_some, length, drop, refl, sym, ap, ◌∙◌, subst, arith, inl, inr}
+use Rattle.std.proofs.lemmas.Bool.{cases_lt, cases_eq}
+use Rattle.std.proofs.lemmas.Bool.Decides.{Decides-ltb, Decides-eqb}
+use Rattle.std.specs.List.{filter}
+use Rattle.std.specs.Ordering.{is_eq, is_lt, eq_by_cmp, nat_cmp}
+use Rattle.std.specs.declared.cmp.Ordering.TheVariants.{Less, Equal, Greater}
+use Rattle.std.specs.FinMap.{find, put, is_sorted}
+use Rattle.std.specs.FinMap.Entries.{by_order, below_all}
+use Rattle.key_index.specs.Entries.{below, from, slot_at, AreAbove, AreRising}
+use Rattle.ledger_model.proofs.Callers.{first, second}
+use Rattle.ledger_model.proofs.Rising.{both}
+use Rattle.event_chain.specs.Flat.{Place, place_of}
+use Rattle.event_chain.specs.Kept.{AreRanks}
+use Rattle.event_chain.proofs.Tests.{rank_test, not_so}
+use Rattle.event_chain.proofs.Flats.{nat_less, less_nat}
+
+-- Greater ranks are behind.
+above_below : (r : ℕ) (es : List Place) → AreAbove r es → T (below_all nat_cmp r es)
+above_below r [] h = tt
+above_below r (e ∷ es) h = both _ _ (subst (λ o. T (is_lt o)) (sym (nat_less r e.0 h.0)) tt) (above_below r es h.1)
+
+-- The keys of an index rise.
+pub ranks_of : (es : List Place) → AreRising es → AreRanks es
+ranks_of [] h = tt
+ranks_of (e ∷ es) h = both _ _ (above_below e.0 es h.0) (ranks_of es h.1)
+
+-- A greater number comes after.
+nat_greater : (a b : ℕ) → b < a → nat_cmp a b ≡ Greater
+nat_greater a b lt = ap (λ c. cond c Less (cond (a == b) Equal Greater)) (not_so _ (Decides-ltb a b) (λ h. absurd (omega arith))) ∙ ap (λ c. cond c Equal Greater) (not_so _ (Decides-eqb a b) (λ h. absurd (omega arith)))
+
+-- A rank below all of a list is not found in it.
+none_below : (r : ℕ) (es : List Place) → AreAbove r es → place_of r es ≡ None
+none_below r [] h = refl
+none_below r (e ∷ es) h = ap (λ o. cond (is_eq o) (Some e.1) (place_of r es)) (nat_less r e.0 h.0) ∙ none_below r es h.1
+
+-- More are above a smaller number.
+above_less : (m n : ℕ) (es : List Place) → m < n → AreAbove n es → AreAbove m es
+above_less m n [] lt h = tt
+above_less m n (e ∷ es) lt h = let up = h.0 in (omega arith, above_less m n es lt h.1)
+
+-- What an index finds under a key.
+pub found_at : (key : ℕ) (es : List Place) → AreRising es → slot_at key (from key es) ≡ place_of key es
+found_at key [] h = refl
+found_at key (e ∷ es) h =
+    elim (cases_lt e.0 key) [
+      | inl lt ↦ ap (λ b. slot_at key (cond b (from key es) (e ∷ es))) ((Decides-ltb e.0 key).1 lt) ∙ found_at key es h.1 ∙ sym (ap (λ o. cond (is_eq o) (Some e.1) (place_of key es)) (nat_greater key e.0 lt))
+      | inr le ↦ ap (λ b. slot_at key (cond b (from key es) (e ∷ es))) (not_so _ (Decides-ltb e.0 key) (λ lt. absurd (omega arith))) ∙ elim (cases_eq e.0 key) [
+          | inl is ↦ ap (λ b. cond b (Some e.1) None) ((Decides-eqb e.0 key).1 is) ∙ sym (ap (λ b. cond b (Some e.1) (place_of key es)) ((rank_test key e.0).1 (sym is)))
+          | inr other ↦ ap (λ b. cond b (Some e.1) None) (not_so _ (Decides-eqb e.0 key) other) ∙ sym (none_below key (e ∷ es) (let up : key < e.0 = omega (arith, other) in (up, above_less key e.0 es up h.0)))
+        ]
+    ]
+
+-- An index with a new key.
+pub put_is : (key slot : ℕ) (es : List Place) → slot_at key (from key es) ≡ None → below key es ++ (key, slot) ∷ from key es ≡ put nat_cmp key slot es
+put_is key slot [] absent = refl
+put_is key slot (e ∷ es) absent =
+    elim (cases_lt e.0 key) [
+      | inl lt ↦
+          let yes = (Decides-ltb e.0 key).1 lt in
+          ap (λ b. cond b (e ∷ below key es) [] ++ (key, slot) ∷ cond b (from key es) (e ∷ es)) yes
+          ∙ ap (λ (rest : List Place). e ∷ rest) (put_is key slot es (sym (ap (λ b. slot_at key (cond b (from key es) (e ∷ es))) yes) ∙ absent))
+          ∙ sym (ap (λ o. by_order o ((key, slot) ∷ e ∷ es) ((e.0, slot) ∷ es) (e ∷ put nat_cmp key slot es)) (nat_greater key e.0 lt))
+      | inr le ↦
+          let never = not_so _ (Decides-ltb e.0 key) (λ lt. absurd (omega arith)) in
+          let none : cond (e.0 == key) (Some e.1) None ≡ None = sym (ap (λ b. slot_at key (cond b (from key es) (e ∷ es))) never) ∙ absent in
+          ap (λ b. cond b (e ∷ below key es) [] ++ (key, slot) ∷ cond b (from key es) (e ∷ es)) never
+          ∙ sym (ap (λ o. by_order o ((key, slot) ∷ e ∷ es) ((e.0, slot) ∷ es) (e ∷ put nat_cmp key slot es)) (nat_less key e.0 (elim (cases_eq e.0 key) [
+            | inl is ↦ let f : Some e.1 ≡ None = sym (ap (λ b. cond b (Some e.1) None) ((Decides-eqb e.0 key).1 is)) ∙ none in cc
+            | inr other ↦ omega (arith, other)
+          ])))
+    ]
+
+-- Greater ranks stay where one is left out.
+without_above : (key : ℕ) (es : List Place) → AreAbove key es → filter (λ e. not (eq_by_cmp nat_cmp key e.0)) es ≡ es
+without_above key [] h = refl
+without_above key (e ∷ es) h = ap (λ o. cond (not (is_eq o)) (e ∷ filter (λ x. not (eq_by_cmp nat_cmp key x.0)) es) (filter (λ x. not (eq_by_cmp nat_cmp key x.0)) es)) (nat_less key e.0 h.0) ∙ ap (λ (rest : List Place). e ∷ rest) (without_above key es h.1)
+
+-- An index without a key that was there.
+pub out_is : (key : ℕ) (es : List Place) → AreRising es → is_some (slot_at key (from key es)) ≡ true → below key es ++ drop 1 (from key es) ≡ filter (λ e. not (eq_by_cmp nat_cmp key e.0)) es
+out_is key [] rising there = cc
+out_is key (e ∷ es) rising there =
+    let rest = filter (λ (x : Place). not (eq_by_cmp nat_cmp key x.0)) es in
+    elim (cases_lt e.0 key) [
+      | inl lt ↦
+          let yes = (Decides-ltb e.0 key).1 lt in
+          ap (λ b. cond b (e ∷ below key es) [] ++ drop 1 (cond b (from key es) (e ∷ es))) yes
+          ∙ ap (λ (more : List Place). e ∷ more) (out_is key es rising.1 (sym (ap (λ b. is_some (slot_at key (cond b (from key es) (e ∷ es)))) yes) ∙ there))
+          ∙ sym (ap (λ o. cond (not (is_eq o)) (e ∷ rest) rest) (nat_greater key e.0 lt))
+      | inr le ↦
+          let never = not_so _ (Decides-ltb e.0 key) (λ lt. absurd (omega arith)) in
+          let some : is_some (cond (e.0 == key) (Some e.1) None) ≡ true = sym (ap (λ b. is_some (slot_at key (cond b (from key es) (e ∷ es)))) never) ∙ there in
+          let is : e.0 ≡ key = elim (e.0 == key) as (λ b. (e.0 == key) ≡ b → is_some (cond b (Some e.1) None) ≡ true → e.0 ≡ key) [ true ↦ λ y _. (Decides-eqb e.0 key).0 y | false ↦ λ _ f. cc ] refl some in
+          ap (λ b. cond b (e ∷ below key es) [] ++ drop 1 (cond b (from key es) (e ∷ es))) never
+          ∙ sym (without_above key es (subst (λ k. AreAbove k es) is rising.0))
+          ∙ sym (ap (λ b. cond (not b) (e ∷ rest) rest) ((rank_test key e.0).1 (sym is)))
+    ]

@@ -1,0 +1,3 @@
+pub mod Flat
+pub mod Chains
+pub mod Kept

@@ -1,0 +1,6 @@
+//! The events of a station.
+#![tactic(auto)]
+
+mod chains;
+
+pub use chains::Chains;
