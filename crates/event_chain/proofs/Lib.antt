@@ -1,5 +1,10 @@
 mod Tests
 mod Flats
 mod Sums
+mod Named
 mod Places
 mod Looks
+mod Moves
+mod Subs
+mod Figures
+mod Effects

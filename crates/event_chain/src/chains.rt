@@ -1,12 +1,22 @@
-ghost use Rattle.std.specs.Prelude.{◌≡◌};
+ghost use Rattle.std.specs.Prelude.{◌≡◌, true, false, length, option_map, Some, None, IfOk};
+ghost use Rattle.std.specs.FinMap as finite;
+ghost use Rattle.ledger_model.specs.Step.{marked};
+ghost use Rattle.event_chain.specs.declared.answers.Room.TheVariants.{Fits};
+ghost use Rattle.event_chain.specs.declared.answers.Found.TheVariants.{Live, Voided};
+ghost use Rattle.event_chain.specs.Chains.{stored};
+ghost use Rattle.event_chain.specs.Room.{room_of, found_of};
+ghost use Rattle.event_chain.specs.Kept.{is_end};
 
-use event_store::EventStore;
-use key_index::KeyIndex;
-use ledger_model::Limits;
+use crate::answers::{Found, Room};
+use crate::spots::{enter, leave, locate, out_place, put_place, slot_of};
+use event_store::{EventRef, EventStore};
+use key_index::{IndexKey, KeyIndex};
+use ledger_model::{Event, Key, Kind, Limits, TxId};
+use std::alloc::{AllocError, Global};
 use std::marker::Model;
-use transaction_table::TransactionTable;
+use transaction_table::{TableRow, TransactionTable};
 
-/// The events of a station by their keys, each live or voided.
+/// The events of a station by their keys, each live or voided, within its limits.
 #[derive(Drop)]
 pub struct Chains {
     limits: Limits,
@@ -16,4 +26,159 @@ pub struct Chains {
     live: KeyIndex,
     carriers: KeyIndex,
     naming: KeyIndex,
+}
+
+impl Model for Chains {
+    ghost use Rattle.event_chain.specs.Chains.{Chained, chained_code};
+
+    ghost Value = { Chained };
+
+    ghost coded = { chained_code };
+
+    ghost use Rattle.event_chain.specs.Kept.{IsChains, events_of};
+
+    ghost view = { λ c. record { limits = c.limits; events = events_of c.table c.store c.stored } };
+
+    ghost invariant = { λ c. IsChains c.limits c.table c.store c.stored c.live c.carriers c.naming };
+}
+
+// Tells whether the kind is Started or Ended.
+fn is_end(kind: Kind) -> bool
+    ensures { result ≡ is_end kind }
+{
+    matches!(kind, Kind::Started | Kind::Ended)
+}
+
+impl Chains {
+    /// No events, within these limits. It alone takes memory.
+    pub fn open(alloc: Global, limits: &Limits) -> Result<Self, AllocError>
+        ensures limits { IfOk result (λ c. c.limits ≡ limits.now) }
+        ensures empty { IfOk result (λ c. c.events ≡ finite.empty) }
+    {
+        let (transactions, events) = (limits.transactions(), limits.events());
+        Ok(Chains {
+            limits: *limits,
+            table: TransactionTable::open(alloc, transactions)?,
+            store: EventStore::open(alloc, events, limits.readings())?,
+            stored: KeyIndex::open(alloc, events)?,
+            live: KeyIndex::open(alloc, events)?,
+            carriers: KeyIndex::open(alloc, events)?,
+            naming: KeyIndex::open(alloc, events)?,
+        })
+    }
+
+    /// Whether there is room for an event of this transaction under a new key, with so many readings.
+    pub fn room_for(&self, tx: &TxId, readings: usize) -> Room
+        ensures { result ≡ room_of self.now.limits (stored self.now) tx.now readings }
+    {
+        if self.limits.transactions() <= self.table.len() && self.table.get(tx).is_none() {
+            Room::NoTransaction
+        } else if self.limits.events() <= self.stored.len() {
+            Room::NoEvent
+        } else if (self.store.free_readings() as usize) < readings {
+            Room::NoReading
+        } else {
+            Room::Fits
+        }
+    }
+
+    /// How the event of a key is stored; none where the key is absent.
+    pub fn find(&self, key: &Key) -> Option<Found>
+        ensures { result ≡ found_of (finite.get self.now.events key.now) }
+    {
+        match self.event(key) {
+            Some(event) if event.is_voided() => Some(Found::Voided),
+            Some(_) => Some(Found::Live),
+            None => None,
+        }
+    }
+
+    /// The event of a key; none where the key is absent.
+    pub fn event(&self, key: &Key) -> Option<EventRef<'_>>
+        ensures { option_map (λ e. e.1) result ≡ finite.get self.now.events key.now }
+    {
+        match slot_of(&self.table, &self.stored, key) {
+            Some(slot) => Some(self.store.get(slot)),
+            None => None,
+        }
+    }
+
+    /// Puts in a live event under a new key, for which there is room.
+    pub fn insert(&mut self, key: &Key, event: &Event)
+        requires absent { finite.get self.old.events key.now ≡ None }
+        requires room { room_of self.old.limits (stored self.old) key.now.tx (length event.now.readings) ≡ Fits }
+        ensures limits { self.new.limits ≡ self.old.limits }
+        ensures events { self.new.events ≡ finite.insert self.old.events key.now (record { event = event.now; voided = false }) }
+    {
+        let row = enter(&mut self.table, key.tx());
+        let at = IndexKey::new(row.slot, key.seq());
+        let slot = self.store.put(at, event);
+        put_place(&mut self.stored, at, slot, true);
+        let (carries, names) = (!event.readings().is_empty(), event.evse().is_some());
+        put_place(&mut self.live, at, slot, true);
+        put_place(&mut self.carriers, at, slot, carries);
+        put_place(&mut self.naming, at, slot, names);
+        let after = TableRow {
+            slot: row.slot,
+            live: row.live + 1,
+            ends: row.ends + u32::from(is_end(event.kind())),
+        };
+        self.table.set(key.tx(), after);
+    }
+
+    /// Voids a live event; it keeps its slots.
+    pub fn unlink(&mut self, key: &Key)
+        requires { found_of (finite.get self.old.events key.now) ≡ Some Live }
+        ensures limits { self.new.limits ≡ self.old.limits }
+        ensures events { self.new.events ≡ marked self.old.events key.now true }
+    {
+        let at = locate(&self.table, &self.stored, key);
+        let event = self.store.get(at.slot);
+        let (carries, names) = (event.reading_count() > 0, event.evse().is_some());
+        let ends = u32::from(is_end(event.kind()));
+        self.store.set_voided(at.slot, true);
+        out_place(&mut self.live, at.key, true);
+        out_place(&mut self.carriers, at.key, carries);
+        out_place(&mut self.naming, at.key, names);
+        let after = TableRow {
+            slot: at.row.slot,
+            live: at.row.live - 1,
+            ends: at.row.ends - ends,
+        };
+        self.table.set(key.tx(), after);
+    }
+
+    /// Makes a voided event live again; it takes no slot.
+    pub fn relink(&mut self, key: &Key)
+        requires { found_of (finite.get self.old.events key.now) ≡ Some Voided }
+        ensures limits { self.new.limits ≡ self.old.limits }
+        ensures events { self.new.events ≡ marked self.old.events key.now false }
+    {
+        let at = locate(&self.table, &self.stored, key);
+        let event = self.store.get(at.slot);
+        let (carries, names) = (event.reading_count() > 0, event.evse().is_some());
+        let ends = u32::from(is_end(event.kind()));
+        self.store.set_voided(at.slot, false);
+        put_place(&mut self.live, at.key, at.slot, true);
+        put_place(&mut self.carriers, at.key, at.slot, carries);
+        put_place(&mut self.naming, at.key, at.slot, names);
+        let after = TableRow {
+            slot: at.row.slot,
+            live: at.row.live + 1,
+            ends: at.row.ends + ends,
+        };
+        self.table.set(key.tx(), after);
+    }
+
+    /// Takes out a voided event with its readings; a transaction without events gives its place back.
+    pub fn remove(&mut self, key: &Key)
+        requires { found_of (finite.get self.old.events key.now) ≡ Some Voided }
+        ensures limits { self.new.limits ≡ self.old.limits }
+        ensures events { self.new.events ≡ finite.remove self.old.events key.now }
+    {
+        let at = locate(&self.table, &self.stored, key);
+        out_place(&mut self.stored, at.key, true);
+        self.store.take_out(at.slot);
+        leave(&mut self.table, &self.stored, key.tx(), at.row);
+    }
 }

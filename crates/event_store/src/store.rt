@@ -88,6 +88,13 @@ impl EventStore {
         take_all(&mut self.links, slot as u16, event.first, event.count);
     }
 
+    /// How many more readings it can hold.
+    pub fn free_readings(&self) -> u32
+        ensures { result + self.now.readings ≡ self.now.capacity }
+    {
+        self.links.free()
+    }
+
     /// The event of a slot.
     pub fn get(&self, slot: u32) -> EventRef<'_>
         requires { IsHeld self.now.slots slot }

@@ -1,0 +1,30 @@
+-- Places put into an index and taken out of it.
+use Rattle.std.specs.Prelude.{◌≡◌, ℕ, Bool, not, cond, List, Option, Some, None}
+use Rattle.std.specs.List.{filter}
+use Rattle.std.specs.Ordering.{eq_by_cmp, nat_cmp}
+use Rattle.std.specs.FinMap.{put}
+use Rattle.ledger_model.specs.Key.{KeyName}
+use Rattle.transaction_table.specs.declared.row.TableRow.{TableRow}
+use Rattle.transaction_table.specs.Table.{Row, row_of}
+use Rattle.event_chain.specs.Flat.{Place, number_at}
+
+-- Places with one put in where a test says so.
+abbrev pub put_if : Bool → ℕ → ℕ → List Place → List Place
+put_if b r0 s0 es = cond b (put nat_cmp r0 s0 es) es
+
+-- Places without that of a rank.
+abbrev pub out : ℕ → List Place → List Place
+out r0 es = filter (λ e. not (eq_by_cmp nat_cmp r0 e.0)) es
+
+-- Places with one taken out where a test says so.
+abbrev pub out_if : Bool → ℕ → List Place → List Place
+out_if b r0 es = cond b (out r0 es) es
+
+-- The place of a number, where its transaction is known.
+abbrev pub place_in : List Place → ℕ → Option TableRow → Option ℕ
+place_in es seq None = None
+place_in es seq (Some row) = number_at row.slot seq es
+
+-- The place of a key.
+abbrev pub place_at : List Row → List Place → KeyName → Option ℕ
+place_at rows es key = place_in es key.seq (row_of key.tx rows)
