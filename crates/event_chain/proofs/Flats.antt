@@ -74,7 +74,7 @@ pub number_is : (t seq : ℕ) (es : List Place) → place_of (rank t seq) (segme
 number_is t seq es = in_segment t seq es ∙ ap (λ b. cond b (place_of (rank t seq) es) None) (number_test t seq)
 
 -- Ids below all others are not found.
-missing : (tx : List ℕ) (rows : List Row) → T (below_all id_cmp tx rows) → row_of tx rows ≡ None
+pub missing : (tx : List ℕ) (rows : List Row) → T (below_all id_cmp tx rows) → row_of tx rows ≡ None
 missing tx [] h = refl
 missing tx (r ∷ rows) h = ap (λ o. cond (is_eq o) (Some r.1) (row_of tx rows)) (less _ (first _ _ h)) ∙ missing tx rows (second _ _ h)
 

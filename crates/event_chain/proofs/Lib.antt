@@ -8,3 +8,5 @@ mod Moves
 mod Subs
 mod Figures
 mod Effects
+mod Ids
+mod Ops

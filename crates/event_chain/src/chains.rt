@@ -104,11 +104,11 @@ impl Chains {
     }
 
     /// Puts in a live event under a new key, for which there is room.
-    pub fn insert(&mut self, key: &Key, event: &Event)
-        requires absent { finite.get self.old.events key.now ≡ None }
-        requires room { room_of self.old.limits (stored self.old) key.now.tx (length event.now.readings) ≡ Fits }
+    pub fn insert(&mut self, key: Key, event: &Event)
+        requires absent { finite.get self.old.events key ≡ None }
+        requires room { room_of self.old.limits (stored self.old) key.tx (length event.now.readings) ≡ Fits }
         ensures limits { self.new.limits ≡ self.old.limits }
-        ensures events { self.new.events ≡ finite.insert self.old.events key.now (record { event = event.now; voided = false }) }
+        ensures events { self.new.events ≡ finite.insert self.old.events key (record { event = event.now; voided = false }) }
     {
         let row = enter(&mut self.table, key.tx());
         let at = IndexKey::new(row.slot, key.seq());
@@ -124,6 +124,8 @@ impl Chains {
             ends: row.ends + u32::from(is_end(event.kind())),
         };
         self.table.set(key.tx(), after);
+        // The rows rise, each with a slot of its own.
+        let _transactions = self.table.len();
     }
 
     /// Voids a live event; it keeps its slots.
@@ -146,6 +148,8 @@ impl Chains {
             ends: at.row.ends - ends,
         };
         self.table.set(key.tx(), after);
+        // The rows rise, each with a slot of its own.
+        let _transactions = self.table.len();
     }
 
     /// Makes a voided event live again; it takes no slot.
@@ -168,6 +172,8 @@ impl Chains {
             ends: at.row.ends + ends,
         };
         self.table.set(key.tx(), after);
+        // The rows rise, each with a slot of its own.
+        let _transactions = self.table.len();
     }
 
     /// Takes out a voided event with its readings; a transaction without events gives its place back.
@@ -180,5 +186,7 @@ impl Chains {
         out_place(&mut self.stored, at.key, true);
         self.store.take_out(at.slot);
         leave(&mut self.table, &self.stored, key.tx(), at.row);
+        // The rows rise, each with a slot of its own.
+        let _transactions = self.table.len();
     }
 }
