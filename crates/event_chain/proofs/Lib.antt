@@ -10,3 +10,5 @@ mod Figures
 mod Effects
 mod Ids
 mod Ops
+mod Facts
+mod Inserts

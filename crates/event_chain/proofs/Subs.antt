@@ -85,7 +85,7 @@ fewer (x ∷ xs) ys a b among =
     omega (arith, n, one, rest)
 
 -- What was chosen was there.
-among_chosen : (test : Stored → Bool) (slots : List (Option Held)) (o : Option ℕ) (s : ℕ) → chosen test slots o ≡ Some s → is_some o ≡ true
+pub among_chosen : (test : Stored → Bool) (slots : List (Option Held)) (o : Option ℕ) (s : ℕ) → chosen test slots o ≡ Some s → is_some o ≡ true
 among_chosen test slots None s h = cc
 among_chosen test slots (Some t) s h = refl
 

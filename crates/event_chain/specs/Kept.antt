@@ -73,6 +73,10 @@ is_end Started = true
 is_end Updated = false
 is_end Ended = true
 
+-- Counts an event that is Started or Ended.
+abbrev pub end_count : Kind → ℕ
+end_count kind = cond (is_end kind) 1 0
+
 -- Counts a live event of the transaction.
 abbrev pub live_one : List ℕ → Entry → ℕ
 live_one tx e = cond (bytes_eq tx e.0.tx && not e.1.voided) 1 0

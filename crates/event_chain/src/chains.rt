@@ -1,11 +1,11 @@
-ghost use Rattle.std.specs.Prelude.{◌≡◌, true, false, length, option_map, Some, None, IfOk};
+ghost use Rattle.std.specs.Prelude.{◌≡◌, ◌≤◌, true, false, length, option_map, Some, None, IfOk};
 ghost use Rattle.std.specs.FinMap as finite;
 ghost use Rattle.ledger_model.specs.Step.{marked};
 ghost use Rattle.event_chain.specs.declared.answers.Room.TheVariants.{Fits};
 ghost use Rattle.event_chain.specs.declared.answers.Found.TheVariants.{Live, Voided};
 ghost use Rattle.event_chain.specs.Chains.{stored};
 ghost use Rattle.event_chain.specs.Room.{room_of, found_of};
-ghost use Rattle.event_chain.specs.Kept.{is_end};
+ghost use Rattle.event_chain.specs.Kept.{end_count};
 
 use crate::answers::{Found, Room};
 use crate::spots::{enter, leave, locate, out_place, put_place, slot_of};
@@ -42,11 +42,15 @@ impl Model for Chains {
     ghost invariant = { λ c. IsChains c.limits c.table c.store c.stored c.live c.carriers c.naming };
 }
 
-// Tells whether the kind is Started or Ended.
-fn is_end(kind: Kind) -> bool
-    ensures { result ≡ is_end kind }
+// Counts an event that is Started or Ended.
+fn ends_of(kind: Kind) -> u32
+    ensures value { result ≡ end_count kind }
+    ensures few { result ≤ 1 }
 {
-    matches!(kind, Kind::Started | Kind::Ended)
+    match kind {
+        Kind::Updated => 0,
+        Kind::Started | Kind::Ended => 1,
+    }
 }
 
 impl Chains {
@@ -121,7 +125,7 @@ impl Chains {
         let after = TableRow {
             slot: row.slot,
             live: row.live + 1,
-            ends: row.ends + u32::from(is_end(event.kind())),
+            ends: row.ends + ends_of(event.kind()),
         };
         self.table.set(key.tx(), after);
         // The rows rise, each with a slot of its own.
@@ -137,7 +141,7 @@ impl Chains {
         let at = locate(&self.table, &self.stored, key);
         let event = self.store.get(at.slot);
         let (carries, names) = (event.reading_count() > 0, event.evse().is_some());
-        let ends = u32::from(is_end(event.kind()));
+        let ends = ends_of(event.kind());
         self.store.set_voided(at.slot, true);
         out_place(&mut self.live, at.key, true);
         out_place(&mut self.carriers, at.key, carries);
@@ -161,7 +165,7 @@ impl Chains {
         let at = locate(&self.table, &self.stored, key);
         let event = self.store.get(at.slot);
         let (carries, names) = (event.reading_count() > 0, event.evse().is_some());
-        let ends = u32::from(is_end(event.kind()));
+        let ends = ends_of(event.kind());
         self.store.set_voided(at.slot, false);
         put_place(&mut self.live, at.key, at.slot, true);
         put_place(&mut self.carriers, at.key, at.slot, carries);
