@@ -12,3 +12,4 @@ mod Ids
 mod Ops
 mod Facts
 mod Inserts
+mod Marks
