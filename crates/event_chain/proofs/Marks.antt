@@ -19,12 +19,12 @@ use Rattle.transaction_table.specs.Table.{Table, Row, AreRising, AreApart, row_o
 use Rattle.event_chain.specs.Flat.{Place, place_of, stored_in, stored_at, event_at, flat}
 use Rattle.event_chain.specs.Edits.{put_if, out_if, place_in, place_at}
 use Rattle.event_chain.specs.Kept.{IsSub, chosen, is_live, is_carrier, is_naming, is_end, end_count, live_one, end_one, AreIndexed, IsChains, IsNamed, IsLeft, events_of}
-use Rattle.event_chain.proofs.Facts.{seal, all_rising, get_place}
+use Rattle.event_chain.proofs.Facts.{seal, all_rising, get_place, counts_few}
 use Rattle.event_chain.proofs.Named.{named_after}
 use Rattle.event_chain.proofs.Subs.{room_for_one}
 use Rattle.event_chain.proofs.Places.{place_at_row}
 use Rattle.event_chain.proofs.Sums.{at_key, sum_without}
-use Rattle.event_chain.proofs.Ops.{mark_chains, mark_all, live_mine, end_mine}
+use Rattle.event_chain.proofs.Ops.{mark_in, mark_out, mark_chains, mark_all, live_mine, end_mine}
 use Rattle.event_chain.proofs.Effects.{map_put}
 
 -- What is there is in range.
@@ -32,6 +32,14 @@ there_within : (xs : List (Option Held)) (i : ℕ) (h : Held) → value_at xs i 
 there_within [] i h there = cc
 there_within (x ∷ xs) zero h there = omega arith
 there_within (x ∷ xs) (suc i) h there = omega (arith, there_within xs i h there)
+
+-- A slot holds one event.
+same_held : (o : Option Held) (a b : Held) → o ≡ Some a → o ≡ Some b → a ≡ b
+same_held o a b x y = cc
+
+-- A key has one event.
+pub same_stored : (o : Option Stored) (a b : Stored) → o ≡ Some a → o ≡ Some b → a ≡ b
+same_stored o a b x y = cc
 
 -- What is found has a place.
 some_place : (slots : List (Option Held)) (o : Option ℕ) (s : Stored) → event_at slots o ≡ Some s → is_some o ≡ true
@@ -88,6 +96,12 @@ module _ (limits : Bounds) (table : Table) (store : Slots) (stored live carriers
     find_spot : find key_cmp key all ≡ Some spot_event
     find_spot = sym (finite.get-from_sorted key_cmp all key (all_rising limits table store stored live carriers naming chains)) ∙ spot_get
 
+    -- The counts of its transaction are small.
+    pub spot_few : (row.live ≤ 65536) × (row.ends ≤ 65536)
+    spot_few =
+        let counts = counts_few limits table store stored live carriers naming chains table.rows key.tx row (inl (row_is, refl)) in let few = places_few in let most = chains.counted.events_few in
+        (omega (arith, counts.0, few, most), omega (arith, counts.1, few, most))
+
     -- A live event is counted.
     pub spot_live : cond (not spot_event.voided) 1 0 ≤ row.live
     spot_live =
@@ -99,6 +113,50 @@ module _ (limits : Bounds) (table : Table) (store : Slots) (stored live carriers
     spot_ends =
         let figures = chains.figured key.tx row row_is in let f = end_one key.tx in
         omega (arith, figures.ends, sum_without f key all (all_rising limits table store stored live carriers naming chains), ap (at_key f key) find_spot, end_mine key spot_event)
+
+    -- What its slot shows.
+    pub spot_is : (h : Held) → value_at store.slots s0 ≡ Some h → h.1 ≡ spot_event
+    spot_is h is = let e : h ≡ (r0, spot_event) = same_held (value_at store.slots s0) h (r0, spot_event) is spot_here in ap (λ (x : Held). x.1) e
+
+    module _ (new : List Row) (after : TableRow) (rows : new ≡ with_row key.tx after table.rows) (same : after.slot ≡ row.slot) (rising : AreRising new) (apart : AreApart new) (voided : Bool) where
+      abbrev now : Stored
+      now = record { event = spot_event.event; voided = voided }
+
+      abbrev held : List (Option Held)
+      held = set store.slots s0 (Some (r0, now))
+
+      named_now : IsNamed table.rows new key.tx row after
+      named_now = named_after table.rows table.rows new key.tx row after (inl (row_is, refl)) rows same
+
+      -- An index that takes the place.
+      spot_in : (test : Stored → Bool) (sub is' : List Place) (b : Bool) → is' ≡ put_if b r0 s0 sub → b ≡ test now → test spot_event ≡ false → IsSub test stored.entries store.slots sub → IsSub test stored.entries held is'
+      spot_in test sub is' b is b_is never was = subst (IsSub test stored.entries held) (sym is)
+          (mark_in limits table.rows new stored.entries live.entries carriers.entries naming.entries store.slots key row after r0 s0 table.capacity store.readings store.capacity chains.keyed chains.indexed chains.figured chains.counted named_now number rank_is rising apart
+            spot_event now spot_here spot_within at test sub b b_is never was)
+
+      -- An index that gives the place up.
+      spot_out : (test : Stored → Bool) (sub is' : List Place) (b : Bool) → is' ≡ out_if b r0 sub → b ≡ test spot_event → test now ≡ false → IsSub test stored.entries store.slots sub → IsSub test stored.entries held is'
+      spot_out test sub is' b is b_is never was = subst (IsSub test stored.entries held) (sym is)
+          (mark_out limits table.rows new stored.entries live.entries carriers.entries naming.entries store.slots key row after r0 s0 table.capacity store.readings store.capacity chains.keyed chains.indexed chains.figured chains.counted named_now number rank_is rising apart
+            spot_event now spot_here spot_within at test sub b b_is never was)
+
+      -- The indexes of an event that is live again.
+      pub in_indexes : (l c n : List Place) (carries names : Bool) → voided ≡ false → spot_event.voided ≡ true → l ≡ put_if true r0 s0 live.entries → c ≡ put_if carries r0 s0 carriers.entries → n ≡ put_if names r0 s0 naming.entries
+        → carries ≡ nat_lt 0 (length spot_event.event.readings) → names ≡ is_some spot_event.event.evse → AreIndexed stored.entries held l c n
+      in_indexes l c n carries names no_more was l_is c_is n_is carries_is names_is = record {
+        lives = spot_in is_live live.entries l true l_is (sym (ap not no_more)) (ap not was) chains.indexed.lives;
+        carry = spot_in is_carrier carriers.entries c carries c_is (carries_is ∙ sym (ap (λ v. not v && nat_lt 0 (length spot_event.event.readings)) no_more)) (ap (λ v. not v && nat_lt 0 (length spot_event.event.readings)) was) chains.indexed.carry;
+        names = spot_in is_naming naming.entries n names n_is (names_is ∙ sym (ap (λ v. not v && is_some spot_event.event.evse) no_more)) (ap (λ v. not v && is_some spot_event.event.evse) was) chains.indexed.names;
+      }
+
+      -- The indexes of an event that was voided.
+      pub out_indexes : (l c n : List Place) (carries names : Bool) → voided ≡ true → spot_event.voided ≡ false → l ≡ out_if true r0 live.entries → c ≡ out_if carries r0 carriers.entries → n ≡ out_if names r0 naming.entries
+        → carries ≡ nat_lt 0 (length spot_event.event.readings) → names ≡ is_some spot_event.event.evse → AreIndexed stored.entries held l c n
+      out_indexes l c n carries names now_void was l_is c_is n_is carries_is names_is = record {
+        lives = spot_out is_live live.entries l true l_is (sym (ap not was)) (ap not now_void) chains.indexed.lives;
+        carry = spot_out is_carrier carriers.entries c carries c_is (carries_is ∙ sym (ap (λ v. not v && nat_lt 0 (length spot_event.event.readings)) was)) (ap (λ v. not v && nat_lt 0 (length spot_event.event.readings)) now_void) chains.indexed.carry;
+        names = spot_out is_naming naming.entries n names n_is (names_is ∙ sym (ap (λ v. not v && is_some spot_event.event.evse) was)) (ap (λ v. not v && is_some spot_event.event.evse) now_void) chains.indexed.names;
+      }
 
     -- What a mark did to each part.
     pub record Marked (t : Table) (s : Slots) (l c n : Index) (after : TableRow) (voided : Bool) : Type 0 where

@@ -1,6 +1,7 @@
 //! The places of events: their transactions, their ranks, and the slots that hold them.
 ghost use Rattle.std.specs.Prelude.{◌≡◌, ◌<◌, true, false, length, None, Some, IsSome};
 ghost use Rattle.key_index.specs.Key.{rank};
+ghost use Rattle.ledger_model.specs.Ranges.{sequence_end};
 ghost use Rattle.transaction_table.specs.Table.{row_of};
 ghost use Rattle.event_chain.specs.Flat.{place_of};
 ghost use Rattle.event_chain.specs.Kept.{HasPlace, IsBare, IsEntered, IsLeft};
@@ -36,6 +37,7 @@ pub(crate) fn locate(table: &TransactionTable, stored: &KeyIndex, key: &Key) -> 
     ensures row { row_of key.now.tx table.now.rows ≡ Some result.row }
     ensures key { result.key ≡ rank result.row.slot key.now.seq }
     ensures slot { place_of result.key stored.now.entries ≡ Some result.slot }
+    ensures number { key.now.seq < sequence_end }
 {
     // The indexed keys rise.
     let _count = stored.len();
