@@ -1,10 +1,10 @@
 -- What chains know before an operation.
-use Rattle.std.proofs.Common.{◌≡◌, ℕ, zero, suc, ◌+◌, ◌*◌, ◌<◌, ◌≤◌, ◌/◌, ◌^◌, ◌==◌, nat_lt, nat_le, Bool, true, false, not, cond, ◌&&◌, List, [], ◌∷◌, Option, Some, None, is_some, length, map, sum_by, refl, sym, ap, ◌∙◌, subst, arith, inl, inr, le-leb}
+use Rattle.std.proofs.Common.{◌≡◌, ℕ, zero, suc, ◌+◌, ◌*◌, ◌<◌, ◌≤◌, ◌/◌, ◌^◌, ◌==◌, nat_lt, nat_le, Bool, true, false, not, cond, ◌&&◌, List, [], ◌∷◌, Option, Some, None, is_some, length, map, sum_by, replicate, refl, sym, ap, ◌∙◌, subst, arith, inl, inr, le-leb}
 use Rattle.std.specs.Str.{bytes_eq}
 use Rattle.std.specs.FinMap as finite
 use Rattle.std.specs.FinMap.{FinMap, find}
 use Rattle.std.proofs.lemmas.Bool.{cases_lt}
-use Rattle.std.proofs.lemmas.List.{length-map}
+use Rattle.std.proofs.lemmas.List.{length-map, length-replicate}
 use Rattle.std.proofs.lemmas.Bool.Decides.{Decides-ltb, Decides-eqb}
 use Rattle.std.proofs.lemmas.List.Sums.{sum_by-cons}
 use Rattle.slot_arena.specs.Arena.{value_at, held_count, IsHeld}
@@ -169,3 +169,36 @@ module _ (limits : Bounds) (table : Table) (store : Slots) (stored live carriers
       let was = known_figures table.rows mid stored.entries store.slots tx row row (entered_named table.rows mid tx row entered) chains.figured in
       (omega (arith, was.live, chains.counted.all_are, sum_few (live_one tx) all (λ e. one_at_most (bytes_eq tx e.0.tx && not e.1.voided))),
        omega (arith, was.ends, chains.counted.all_are, sum_few (end_one tx) all (λ e. one_at_most (bytes_eq tx e.0.tx && not e.1.voided && is_end e.1.event.kind))))
+
+  -- The room is told by three tests.
+  pub room_answer : (tx : List ℕ) (n : ℕ) (a b c : Bool) → (not (is_some (row_of tx table.rows)) && nat_le limits.transactions (length table.rows)) ≡ a → nat_le limits.events (length stored.entries) ≡ b → nat_lt limits.readings (readings_stored all + n) ≡ c
+    → room_of limits (finite.entries events) tx n ≡ cond a NoTransaction (cond b NoEvent (cond c NoReading Fits))
+  room_answer tx n a b c a_is b_is c_is =
+      ap (λ es. room_of limits es tx n) entries_all
+      ∙ (λ i. cond (not (has_flat tx table.rows stored.entries store.slots chains.keyed.rising chains.keyed.filled i) && nat_le limits.transactions (ids_count i)) NoTransaction (cond (nat_le limits.events (chains.counted.all_are i)) NoEvent (cond (nat_lt limits.readings (readings_stored all + n)) NoReading Fits)))
+      ∙ (λ i. cond (a_is i) NoTransaction (cond (b_is i) NoEvent (cond (c_is i) NoReading Fits)))
+
+-- No place, no slot.
+none_held : (n : ℕ) → held_count (replicate {A = Option Held} n None) ≡ 0
+none_held zero = refl
+none_held (suc n) = omega (arith, sum_by-cons (λ (o : Option Held). cond {A = ℕ} (is_some o) 1 0) None (replicate n None), none_held n)
+
+-- Chains without events.
+pub opened_chains : (limits : Bounds) → limits.events ≤ 65536 → IsChains limits (record { rows = []; capacity = limits.transactions }) (record { slots = replicate limits.events None; readings = 0; capacity = limits.readings }) (index [] limits.events) (index [] limits.events) (index [] limits.events) (index [] limits.events)
+opened_chains limits few = record {
+  keyed = record { rising = tt; apart = λ tx other a b at there same. cc; ranks = tt; homes = λ r s is. absurd (no_place r s is); filled = λ tx row is. absurd (no_row tx row is) };
+  indexed = record { lives = record { rising = tt; each = λ r. refl }; carry = record { rising = tt; each = λ r. refl }; names = record { rising = tt; each = λ r. refl } };
+  figured = λ tx row is. absurd (no_row tx row is);
+  counted = record { all_are = refl; held_are = none_held limits.events; readings_are = refl; transactions_are = refl; slots_are = length-replicate limits.events None; room_is = refl; events_few = few };
+  roomy = record { for_stored = refl; for_live = refl; for_carriers = refl; for_naming = refl };
+} where
+  no_place : (r s : ℕ) → place_of r [] ≡ Some s → ⊥
+  no_place r s is = cc
+  no_row : (tx : List ℕ) (row : TableRow) → row_of tx [] ≡ Some row → ⊥
+  no_row tx row is = cc
+
+-- No event is stored.
+pub opened_events : finite.from_sorted {R = key_cmp} {X = Stored} [] ≡ finite.empty
+opened_events = finite.same_entries_map _ _ (finite.entries-from_sorted key_cmp [] tt ∙ sym empty_entries) where
+  empty_entries : finite.entries (finite.empty {X = Stored} {R = key_cmp}) ≡ []
+  empty_entries = ?

@@ -1,8 +1,9 @@
-ghost use Rattle.std.specs.Prelude.{◌≡◌, ◌≤◌, true, false, length, option_map, Some, None, IfOk};
+ghost use Rattle.std.specs.Prelude.{◌≡◌, ◌≤◌, ◌&&◌, true, false, not, is_some, nat_le, length, option_map, Some, None, IfOk};
 ghost use Rattle.std.specs.FinMap as finite;
 ghost use Rattle.ledger_model.specs.Step.{marked};
 ghost use Rattle.event_chain.specs.declared.answers.Room.TheVariants.{Fits};
 ghost use Rattle.event_chain.specs.declared.answers.Found.TheVariants.{Live, Voided};
+ghost use Rattle.transaction_table.specs.Table.{row_of};
 ghost use Rattle.event_chain.specs.Chains.{stored};
 ghost use Rattle.event_chain.specs.Room.{room_of, found_of};
 ghost use Rattle.event_chain.specs.Kept.{end_count};
@@ -53,6 +54,13 @@ fn ends_of(kind: Kind) -> u32
     }
 }
 
+// Tells whether a transaction is new and no more may be stored.
+fn lacks_place(table: &TransactionTable, limit: u32, tx: &TxId) -> bool
+    ensures { result ≡ (not (is_some (row_of tx.now table.now.rows)) && nat_le limit (length table.now.rows)) }
+{
+    table.get(tx).is_none() && limit <= table.len()
+}
+
 impl Chains {
     /// No events, within these limits. It alone takes memory.
     pub fn open(alloc: Global, limits: &Limits) -> Result<Self, AllocError>
@@ -75,7 +83,7 @@ impl Chains {
     pub fn room_for(&self, tx: &TxId, readings: usize) -> Room
         ensures { result ≡ room_of self.now.limits (stored self.now) tx.now readings }
     {
-        if self.limits.transactions() <= self.table.len() && self.table.get(tx).is_none() {
+        if lacks_place(&self.table, self.limits.transactions(), tx) {
             Room::NoTransaction
         } else if self.limits.events() <= self.stored.len() {
             Room::NoEvent
