@@ -1,5 +1,5 @@
 -- What chains know before an operation.
-use Rattle.std.proofs.Common.{◌≡◌, ℕ, zero, suc, ◌+◌, ◌*◌, ◌<◌, ◌≤◌, ◌/◌, ◌^◌, ◌==◌, nat_lt, nat_le, Bool, true, false, not, cond, ◌&&◌, List, [], ◌∷◌, Option, Some, None, is_some, length, map, sum_by, replicate, refl, sym, ap, ◌∙◌, subst, arith, inl, inr, le-leb}
+use Rattle.std.proofs.Common.{◌≡◌, ℕ, zero, suc, ◌+◌, ◌*◌, ◌<◌, ◌≤◌, ◌/◌, ◌^◌, ◌==◌, nat_lt, nat_le, Bool, true, false, not, cond, ◌&&◌, List, [], ◌∷◌, Option, Some, None, is_some, length, map, sum_by, replicate, refl, sym, ap, ◌∙◌, subst, arith, inl, inr, le-leb, leb-true}
 use Rattle.std.specs.Str.{bytes_eq}
 use Rattle.std.specs.FinMap as finite
 use Rattle.std.specs.FinMap.{FinMap, find}
@@ -198,7 +198,21 @@ opened_chains limits few = record {
   no_row tx row is = cc
 
 -- No event is stored.
-pub opened_events : finite.from_sorted {R = key_cmp} {X = Stored} [] ≡ finite.empty
-opened_events = finite.same_entries_map _ _ (finite.entries-from_sorted key_cmp [] tt ∙ sym empty_entries) where
-  empty_entries : finite.entries (finite.empty {X = Stored} {R = key_cmp}) ≡ []
-  empty_entries = ?
+pub opened_events : (es : List Entry) → es ≡ [] → finite.from_sorted {R = key_cmp} es ≡ finite.empty
+opened_events es is = ap (λ (xs : List Entry). finite.from_sorted {R = key_cmp} xs) is ∙ finite.empty_of_len (finite.from_sorted {R = key_cmp} []) (finite.len-entries (finite.from_sorted {R = key_cmp} []) ∙ ap length (finite.entries-from_sorted key_cmp [] tt))
+
+-- What is at most another passes the test.
+pub le_test : (a b : ℕ) → a ≤ b → nat_le a b ≡ true
+le_test a b le = le-leb a b le
+
+-- What is more does not.
+pub more_test : (a b : ℕ) → b < a → nat_le a b ≡ false
+more_test a b lt = elim (nat_le a b) as (λ t. nat_le a b ≡ t → t ≡ false) [ false ↦ λ _. refl | true ↦ λ h. let f = leb-true a b h in absurd (omega arith) ] refl
+
+-- What is less passes the other.
+pub lt_test : (a b : ℕ) → a < b → nat_lt a b ≡ true
+lt_test a b lt = (Decides-ltb a b).1 lt
+
+-- What is not does not.
+pub ge_test : (a b : ℕ) → b ≤ a → nat_lt a b ≡ false
+ge_test a b le = not_so _ (Decides-ltb a b) (λ lt. absurd (omega arith))
