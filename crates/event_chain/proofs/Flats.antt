@@ -126,7 +126,7 @@ below_places tx t r slots (e ∷ es) home h =
     ] refl
 
 -- The events of a transaction rise, and what comes after them.
-entries_rising : (tx : List ℕ) (t : ℕ) (slots : List (Option Held)) (es : List Place) (ys : List Entry) → AreRanks es → IsRising ys → ((n : ℕ) → T (below_all key_cmp (record { tx = tx; seq = n }) ys)) → IsRising (map (entry_of tx slots) (segment t es) ++ ys)
+pub entries_rising : (tx : List ℕ) (t : ℕ) (slots : List (Option Held)) (es : List Place) (ys : List Entry) → AreRanks es → IsRising ys → ((n : ℕ) → T (below_all key_cmp (record { tx = tx; seq = n }) ys)) → IsRising (map (entry_of tx slots) (segment t es) ++ ys)
 entries_rising tx t slots [] ys ranks rising below = rising
 entries_rising tx t slots (e ∷ es) ys ranks rising below =
     let rest = entries_rising tx t slots es ys (second _ _ ranks) rising below in

@@ -13,3 +13,4 @@ mod Ops
 mod Facts
 mod Inserts
 mod Marks
+mod Lives

@@ -1,0 +1,130 @@
+-- The live events of a transaction are those of its segment of an index.
+use Rattle.std.proofs.Common.{◌≡◌, ℕ, zero, suc, ◌+◌, ◌<◌, ◌/◌, ◌^◌, ◌==◌, nat_lt, Bool, true, false, not, cond, ◌&&◌, T, List, [], ◌∷◌, ◌++◌, Option, Some, None, is_some, length, map, sum_by, refl, sym, ap, ◌∙◌, subst, arith, append-nil}
+use Rattle.std.specs.List.{filter}
+use Rattle.std.specs.Str.{bytes_eq}
+use Rattle.std.specs.Ordering.{is_eq, is_lt, eq_by_cmp, nat_cmp}
+use Rattle.std.specs.FinMap.{find}
+use Rattle.std.specs.FinMap.Entries.{below_all}
+use Rattle.std.proofs.lemmas.Slice.Eq.{bytes_eq-Decides}
+use Rattle.std.proofs.lemmas.List.Sums.{sum_by-cons}
+use Rattle.key_index.specs.Key.{rank}
+use Rattle.ledger_model.specs.Key.{KeyName, key_cmp}
+use Rattle.ledger_model.specs.Content.{Entry, Stored, live, live_of}
+use Rattle.ledger_model.specs.Entries.{IsRising}
+use Rattle.ledger_model.proofs.Callers.{first, second, find_below, below_at}
+use Rattle.ledger_model.proofs.Rising.{both}
+use Rattle.event_store.specs.Slots.{Held}
+use Rattle.transaction_table.specs.declared.row.TableRow.{TableRow}
+use Rattle.transaction_table.specs.Table.{Row, AreRising, id_cmp, row_of}
+use Rattle.event_chain.specs.Flat.{Place, place_of, stored_at, entry_of, segment, flat, event_at, number_at, look_in, look}
+use Rattle.event_chain.specs.Kept.{AreRanks, IsSub, chosen, is_live, live_one}
+use Rattle.event_chain.proofs.Tests.{key_test, id_test, denied, not_so}
+use Rattle.event_chain.proofs.Flats.{find_entries, number_is, find_flat, flat_rising, same_flat, entries_rising}
+
+-- An event, where it passes a test.
+abbrev pub passing : (Stored → Bool) → Option Stored → Option Stored
+passing test None = None
+passing test (Some s) = cond (test s) (Some s) None
+
+-- The entries of a transaction that pass a test.
+abbrev pub passing_of : (Stored → Bool) → List ℕ → List Entry → List Entry
+passing_of test tx es = filter (λ e. bytes_eq tx e.0.tx && test e.1) es
+
+-- Keys below others are below those that are left.
+below_filter : (p : Entry → Bool) (k : KeyName) (es : List Entry) → T (below_all key_cmp k es) → T (below_all key_cmp k (filter p es))
+below_filter p k [] h = tt
+below_filter p k (e ∷ es) h =
+    let rest = below_filter p k es (second _ _ h) in
+    elim (p e) as (λ b. T (below_all key_cmp k (cond b (e ∷ filter p es) (filter p es)))) [ true ↦ both _ _ (first _ _ h) rest | false ↦ rest ]
+
+-- What is left rises.
+pub filter_rising : (p : Entry → Bool) (es : List Entry) → IsRising es → IsRising (filter p es)
+filter_rising p [] h = tt
+filter_rising p (e ∷ es) h =
+    let rest = filter_rising p es (second _ _ h) in
+    elim (p e) as (λ b. IsRising (cond b (e ∷ filter p es) (filter p es))) [ true ↦ both _ _ (below_filter p e.0 es (first _ _ h)) rest | false ↦ rest ]
+
+-- What is found among those that pass.
+pub find_passing : (test : Stored → Bool) (tx : List ℕ) (q : KeyName) (es : List Entry) → IsRising es → find key_cmp q (passing_of test tx es) ≡ cond (bytes_eq tx q.tx) (passing test (find key_cmp q es)) None
+find_passing test tx q [] h = elim (bytes_eq tx q.tx) as (λ b. ◌≡◌ {A = Option Stored} None (cond b None None)) [ true ↦ refl | false ↦ refl ]
+find_passing test tx q (e ∷ es) h =
+    let rest = find_passing test tx q es (second _ _ h) in let left = passing_of test tx es in
+    elim (eq_by_cmp key_cmp q e.0) as (λ b. eq_by_cmp key_cmp q e.0 ≡ b → find key_cmp q (cond (bytes_eq tx e.0.tx && test e.1) (e ∷ left) left) ≡ cond (bytes_eq tx q.tx) (passing test (cond b (Some e.1) (find key_cmp q es))) None) [
+      | false ↦ λ other. elim (bytes_eq tx e.0.tx && test e.1) as (λ b. find key_cmp q (cond b (e ∷ left) left) ≡ cond (bytes_eq tx q.tx) (passing test (find key_cmp q es)) None) [
+        | true ↦ ap (λ b. cond b (Some e.1) (find key_cmp q left)) other ∙ rest
+        | false ↦ rest
+      ]
+      | true ↦ λ same.
+          let is : q ≡ e.0 = (key_test q e.0).0 same in
+          let gone : find key_cmp q es ≡ None = find_below q es (subst (λ k. T (below_all key_cmp k es)) (sym is) (first _ _ h)) in
+          let none : find key_cmp q left ≡ None = rest ∙ ap (λ o. cond (bytes_eq tx q.tx) (passing test o) None) gone ∙ elim (bytes_eq tx q.tx) as (λ b. ◌≡◌ {A = Option Stored} (cond b None None) None) [ true ↦ refl | false ↦ refl ] in
+          ap (λ (k : KeyName). find key_cmp q (cond (bytes_eq tx k.tx && test e.1) (e ∷ left) left)) (sym is)
+          ∙ elim (bytes_eq tx q.tx) as (λ b. find key_cmp q (cond (b && test e.1) (e ∷ left) left) ≡ cond b (cond (test e.1) (Some e.1) None) None) [
+            | false ↦ none
+            | true ↦ elim (test e.1) as (λ b. find key_cmp q (cond b (e ∷ left) left) ≡ cond b (Some e.1) None) [ true ↦ ap (λ b. cond b (Some e.1) (find key_cmp q left)) same | false ↦ none ]
+          ]
+    ] refl
+
+-- What is and false is false.
+and_false : (b : Bool) → (b && false) ≡ false
+and_false true = refl
+and_false false = refl
+
+-- Tests of two filters.
+pub live_of_is : (tx : List ℕ) (es : List Entry) → live_of tx es ≡ passing_of is_live tx es
+live_of_is tx [] = refl
+live_of_is tx (e ∷ es) =
+    let rest = live_of_is tx es in
+    elim e.1.voided as (λ v. filter (λ x. bytes_eq tx x.0.tx) (cond (not v) (e ∷ live es) (live es)) ≡ cond (bytes_eq tx e.0.tx && not v) (e ∷ passing_of is_live tx es) (passing_of is_live tx es)) [
+      | true ↦ rest ∙ sym (ap (λ b. cond b (e ∷ passing_of is_live tx es) (passing_of is_live tx es)) (and_false (bytes_eq tx e.0.tx)))
+      | false ↦ elim (bytes_eq tx e.0.tx) as (λ b. cond b (e ∷ live_of tx es) (live_of tx es) ≡ cond (b && true) (e ∷ passing_of is_live tx es) (passing_of is_live tx es)) [ true ↦ ap (λ (xs : List Entry). e ∷ xs) rest | false ↦ rest ]
+    ]
+
+module _ (rows : List Row) (es : List Place) (slots : List (Option Held)) (rising : AreRising rows) (ranks : AreRanks es) (test : Stored → Bool) (sub : List Place) (is_sub : IsSub test es slots sub) (tx : List ℕ) (row : TableRow) (row_is : row_of tx rows ≡ Some row) where
+  -- The event of a number in the sub-index.
+  sub_number : (seq : ℕ) → event_at slots (number_at row.slot seq sub) ≡ passing test (event_at slots (number_at row.slot seq es))
+  sub_number seq =
+      elim (nat_lt seq (2 ^ 31)) as (λ b. event_at slots (cond b (place_of (rank row.slot seq) sub) None) ≡ passing test (event_at slots (cond b (place_of (rank row.slot seq) es) None))) [
+        | false ↦ refl
+        | true ↦ ap (event_at slots) (is_sub.each (rank row.slot seq)) ∙ told (place_of (rank row.slot seq) es)
+      ] where
+    told : (o : Option ℕ) → event_at slots (chosen test slots o) ≡ passing test (event_at slots o)
+    told None = refl
+    told (Some s) = elim (test (stored_at slots s)) as (λ b. event_at slots (cond b (Some s) None) ≡ cond b (Some (stored_at slots s)) None) [ true ↦ refl | false ↦ refl ]
+
+  -- Those of the transaction that pass are those of its segment.
+  pub segment_passing : passing_of test tx (flat rows es slots) ≡ map (entry_of tx slots) (segment row.slot sub)
+  segment_passing =
+      let all = flat rows es slots in let seg = map (entry_of tx slots) (segment row.slot sub) in
+      same_flat (passing_of test tx all) seg (filter_rising (λ e. bytes_eq tx e.0.tx && test e.1) all (flat_rising rows es slots rising ranks))
+        (subst IsRising (append-nil seg) (entries_rising tx row.slot slots sub [] is_sub.rising tt (λ n. tt))) (λ q.
+          find_passing test tx q all (flat_rising rows es slots rising ranks) ∙ ap (λ o. cond (bytes_eq tx q.tx) (passing test o) None) (find_flat q rows es slots rising)
+          ∙ elim (bytes_eq tx q.tx) as (λ b. bytes_eq tx q.tx ≡ b → cond b (passing test (look rows es slots q)) None ≡ find key_cmp q seg) [
+            | false ↦ λ other. sym (find_entries q tx row.slot slots sub ∙ ap (λ b. cond b (event_at slots (place_of (rank row.slot q.seq) (segment row.slot sub))) None) (not_so _ (id_test q.tx tx) (λ e. denied _ (bytes_eq-Decides tx q.tx) other (sym e))))
+            | true ↦ λ same. let id : tx ≡ q.tx = (bytes_eq-Decides tx q.tx).0 same in
+                ap (λ t. passing test (look_in es slots q.seq (row_of t rows))) (sym id) ∙ ap (λ o. passing test (look_in es slots q.seq o)) row_is ∙ sym (sub_number q.seq) ∙ ap (event_at slots) (sym (number_is row.slot q.seq sub))
+                ∙ sym (find_entries q tx row.slot slots sub ∙ ap (λ b. cond b (event_at slots (place_of (rank row.slot q.seq) (segment row.slot sub))) None) ((id_test q.tx tx).1 (sym id)))
+          ] refl)
+
+module _ (rows : List Row) (es : List Place) (slots : List (Option Held)) (rising : AreRising rows) (ranks : AreRanks es) (test : Stored → Bool) (tx : List ℕ) (absent : row_of tx rows ≡ None) where
+  -- None of an absent transaction pass.
+  pub none_passing : passing_of test tx (flat rows es slots) ≡ []
+  none_passing =
+      let all = flat rows es slots in
+      same_flat (passing_of test tx all) [] (filter_rising (λ e. bytes_eq tx e.0.tx && test e.1) all (flat_rising rows es slots rising ranks)) tt (λ q.
+        find_passing test tx q all (flat_rising rows es slots rising ranks) ∙ ap (λ o. cond (bytes_eq tx q.tx) (passing test o) None) (find_flat q rows es slots rising)
+        ∙ elim (bytes_eq tx q.tx) as (λ b. bytes_eq tx q.tx ≡ b → cond b (passing test (look rows es slots q)) None ≡ None) [
+          | false ↦ λ _. refl
+          | true ↦ λ same. ap (λ t. passing test (look_in es slots q.seq (row_of t rows))) (sym ((bytes_eq-Decides tx q.tx).0 same)) ∙ ap (λ o. passing test (look_in es slots q.seq o)) absent
+        ] refl)
+
+-- How many live events a transaction has.
+pub live_length : (tx : List ℕ) (es : List Entry) → length (live_of tx es) ≡ sum_by (live_one tx) es
+live_length tx es = ap length (live_of_is tx es) ∙ counted es where
+  counted : (xs : List Entry) → length (passing_of is_live tx xs) ≡ sum_by (live_one tx) xs
+  counted [] = refl
+  counted (e ∷ xs) = let rest = counted xs in
+      elim (bytes_eq tx e.0.tx && not e.1.voided) as (λ b. live_one tx e ≡ cond b 1 0 → length (cond b (e ∷ passing_of is_live tx xs) (passing_of is_live tx xs)) ≡ sum_by (live_one tx) (e ∷ xs)) [
+        | true ↦ λ one. omega (arith, sum_by-cons (live_one tx) e xs, one, rest)
+        | false ↦ λ one. omega (arith, sum_by-cons (live_one tx) e xs, one, rest)
+      ] refl
