@@ -1,6 +1,6 @@
 -- The live events of a transaction are those of its segment of an index.
-use Rattle.std.proofs.Common.{◌≡◌, ℕ, zero, suc, ◌+◌, ◌<◌, ◌/◌, ◌^◌, ◌==◌, nat_lt, Bool, true, false, not, cond, ◌&&◌, T, List, [], ◌∷◌, ◌++◌, Option, Some, None, is_some, length, map, sum_by, refl, sym, ap, ◌∙◌, subst, arith, append-nil}
-use Rattle.std.specs.List.{filter}
+use Rattle.std.proofs.Common.{◌≡◌, ℕ, zero, suc, ◌+◌, ◌<◌, ◌/◌, ◌^◌, ◌==◌, nat_lt, Bool, true, false, not, cond, ◌&&◌, T, List, [], ◌∷◌, ◌++◌, Option, Some, None, is_some, length, map, sum_by, refl, sym, ap, ◌∙◌, subst, arith, append-nil, slice_get, option_map, ◌%◌}
+use Rattle.std.specs.List.{filter, count_by}
 use Rattle.std.specs.Str.{bytes_eq}
 use Rattle.std.specs.Ordering.{is_eq, is_lt, eq_by_cmp, nat_cmp}
 use Rattle.std.specs.FinMap.{find}
@@ -17,7 +17,11 @@ use Rattle.event_store.specs.Slots.{Held}
 use Rattle.transaction_table.specs.declared.row.TableRow.{TableRow}
 use Rattle.transaction_table.specs.Table.{Row, AreRising, id_cmp, row_of}
 use Rattle.event_chain.specs.Flat.{Place, place_of, stored_at, entry_of, segment, flat, event_at, number_at, look_in, look}
-use Rattle.event_chain.specs.Kept.{AreRanks, IsSub, chosen, is_live, live_one}
+use Rattle.event_chain.specs.Kept.{AreRanks, IsSub, chosen, is_live, is_end, live_one, end_one}
+use Rattle.event_chain.specs.Edits.{first_under}
+use Rattle.ledger_model.specs.declared.kind.Kind.{Kind}
+use Rattle.ledger_model.specs.Complete.{kinds_of}
+use Rattle.ledger_model.specs.Gaps.{numbers_of}
 use Rattle.event_chain.proofs.Tests.{key_test, id_test, denied, not_so}
 use Rattle.event_chain.proofs.Flats.{find_entries, number_is, find_flat, flat_rising, same_flat, entries_rising}
 
@@ -64,6 +68,11 @@ find_passing test tx q (e ∷ es) h =
             | true ↦ elim (test e.1) as (λ b. find key_cmp q (cond b (e ∷ left) left) ≡ cond b (Some e.1) None) [ true ↦ ap (λ b. cond b (Some e.1) (find key_cmp q left)) same | false ↦ none ]
           ]
     ] refl
+
+-- Three tests.
+and_assoc : (a b c : Bool) → cond {A = ℕ} (a && b && c) 1 0 ≡ cond ((a && b) && c) 1 0
+and_assoc true b c = refl
+and_assoc false b c = refl
 
 -- What is and false is false.
 and_false : (b : Bool) → (b && false) ≡ false
@@ -128,3 +137,37 @@ live_length tx es = ap length (live_of_is tx es) ∙ counted es where
         | true ↦ λ one. omega (arith, sum_by-cons (live_one tx) e xs, one, rest)
         | false ↦ λ one. omega (arith, sum_by-cons (live_one tx) e xs, one, rest)
       ] refl
+
+-- How many of them are Started or Ended.
+pub ends_length : (tx : List ℕ) (es : List Entry) → count_by is_end (kinds_of tx es) ≡ sum_by (end_one tx) es
+ends_length tx es = ap (λ (xs : List Entry). count_by is_end (map (λ e. e.1.event.kind) xs)) (live_of_is tx es) ∙ counted es where
+  counted : (xs : List Entry) → count_by is_end (map (λ (e : Entry). e.1.event.kind) (passing_of is_live tx xs)) ≡ sum_by (end_one tx) xs
+  counted [] = refl
+  counted (e ∷ xs) = let rest = counted xs in
+      elim (bytes_eq tx e.0.tx && not e.1.voided) as (λ b. end_one tx e ≡ cond (b && is_end e.1.event.kind) 1 0 → count_by is_end (map (λ (x : Entry). x.1.event.kind) (cond b (e ∷ passing_of is_live tx xs) (passing_of is_live tx xs))) ≡ sum_by (end_one tx) (e ∷ xs)) [
+        | true ↦ λ one. omega (arith, sum_by-cons (end_one tx) e xs, one, rest, sum_by-cons (λ (k : Kind). cond {A = ℕ} (is_end k) 1 0) e.1.event.kind (map (λ (x : Entry). x.1.event.kind) (passing_of is_live tx xs)))
+        | false ↦ λ one. omega (arith, sum_by-cons (end_one tx) e xs, one, rest)
+      ] (and_assoc (bytes_eq tx e.0.tx) (not e.1.voided) (is_end e.1.event.kind))
+
+-- The first of what a list is turned into.
+first_map : {X Y : Type 0} (f : X → Y) (xs : List X) → slice_get (map f xs) 0 ≡ option_map f (slice_get xs 0)
+first_map f [] = refl
+first_map f (x ∷ xs) = refl
+
+-- The number of a place.
+abbrev pub number_in : Place → ℕ
+number_in e = e.0 % 2 ^ 31
+
+-- The numbers of places are those of their events.
+numbers_map : (tx : List ℕ) (slots : List (Option Held)) (ps : List Place) → map (λ (e : Entry). e.0.seq) (map (entry_of tx slots) ps) ≡ map number_in ps
+numbers_map tx slots [] = refl
+numbers_map tx slots (p ∷ ps) = ap (λ (ns : List ℕ). number_in p ∷ ns) (numbers_map tx slots ps)
+
+-- The first live number of a transaction is that of its first live place.
+pub first_number : (rows : List Row) (es lives : List Place) (slots : List (Option Held)) → AreRising rows → AreRanks es → IsSub is_live es slots lives → (tx : List ℕ) → slice_get (numbers_of tx (flat rows es slots)) 0 ≡ option_map number_in (first_under lives (row_of tx rows))
+first_number rows es lives slots rising ranks sub tx = told (row_of tx rows) refl where
+  told : (o : Option TableRow) → row_of tx rows ≡ o → slice_get (numbers_of tx (flat rows es slots)) 0 ≡ option_map number_in (first_under lives o)
+  told None is = ap (λ (xs : List Entry). slice_get (map (λ e. e.0.seq) xs) 0) (live_of_is tx (flat rows es slots) ∙ none_passing rows es slots rising ranks is_live tx is)
+  told (Some row) is =
+      ap (λ (xs : List Entry). slice_get (map (λ e. e.0.seq) xs) 0) (live_of_is tx (flat rows es slots) ∙ segment_passing rows es slots rising ranks is_live lives sub tx row is)
+      ∙ ap (λ ns. slice_get ns 0) (numbers_map tx slots (segment row.slot lives)) ∙ first_map number_in (segment row.slot lives)

@@ -1,5 +1,5 @@
 -- An index with a place put in or taken out.
-use Rattle.std.proofs.Common.{◌≡◌, ℕ, ◌+◌, ◌<◌, ◌≤◌, ◌/◌, ◌^◌, nat_lt, nat_eq, ◌==◌, Bool, true, false, not, cond, T, List, [], ◌∷◌, ◌++◌, Option, Some, None, is_some, length, drop, refl, sym, ap, ◌∙◌, subst, arith, inl, inr}
+use Rattle.std.proofs.Common.{◌≡◌, ℕ, ◌+◌, ◌<◌, ◌≤◌, ◌/◌, ◌^◌, nat_lt, nat_eq, ◌==◌, Bool, true, false, not, cond, T, List, [], ◌∷◌, ◌++◌, Option, Some, None, is_some, length, drop, slice_get, refl, sym, ap, ◌∙◌, subst, arith, inl, inr}
 use Rattle.std.proofs.lemmas.Bool.{cases_lt, cases_eq}
 use Rattle.std.proofs.lemmas.Bool.Decides.{Decides-ltb, Decides-eqb}
 use Rattle.std.specs.List.{filter}
@@ -11,13 +11,13 @@ use Rattle.key_index.specs.Entries.{below, from, slot_at, first_of, AreAbove, Ar
 use Rattle.key_index.specs.Key.{rank}
 use Rattle.ledger_model.proofs.Callers.{first, second}
 use Rattle.ledger_model.proofs.Rising.{both}
-use Rattle.event_chain.specs.Flat.{Place, place_of}
+use Rattle.event_chain.specs.Flat.{Place, place_of, segment}
 use Rattle.ledger_model.specs.Key.{KeyName}
 use Rattle.transaction_table.specs.declared.row.TableRow.{TableRow}
 use Rattle.transaction_table.specs.Table.{Row, row_of}
 use Rattle.event_chain.specs.Kept.{AreRanks, HasPlace, IsBare}
 use Rattle.event_chain.specs.Edits.{place_in, place_at}
-use Rattle.event_chain.proofs.Tests.{rank_test, not_so}
+use Rattle.event_chain.proofs.Tests.{rank_test, not_so, denied}
 use Rattle.event_chain.proofs.Flats.{nat_less, less_nat}
 
 -- Greater ranks are behind.
@@ -162,3 +162,28 @@ no_place es t r0 o rising is first other r s found home =
 -- One place is the other.
 pub same_some : (a b : Place) → Some a ≡ Some b → a ≡ b
 same_some a b e = cc
+
+-- A place, where it is of the slot's transaction.
+abbrev pub at_home : ℕ → Option Place → Option Place
+at_home t None = None
+at_home t (Some e) = cond (e.0 / 2 ^ 31 == t) (Some e) None
+
+-- None above a greater slot's ranks is of the transaction.
+seg_above : (t n : ℕ) (es : List Place) → AreAbove n es → t < n / 2 ^ 31 → segment t es ≡ []
+seg_above t n [] h lt = refl
+seg_above t n (e ∷ es) h lt = let up = h.0 in
+    ap (λ b. cond b (e ∷ segment t es) (segment t es)) (not_so _ (Decides-eqb (e.0 / 2 ^ 31) t) (λ is. absurd (omega arith))) ∙ seg_above t n es h.1 lt
+
+-- The first of a segment is the first place from its slot's ranks on, where that is its.
+pub first_seg : (t : ℕ) (es : List Place) → AreRising es → at_home t (first_of (from (rank t 0) es)) ≡ slice_get (segment t es) 0
+first_seg t [] h = refl
+first_seg t (e ∷ es) h =
+    elim (nat_lt e.0 (rank t 0)) as (λ b. nat_lt e.0 (rank t 0) ≡ b → at_home t (first_of (cond b (from (rank t 0) es) (e ∷ es))) ≡ slice_get (cond (e.0 / 2 ^ 31 == t) (e ∷ segment t es) (segment t es)) 0) [
+      | true ↦ λ y. let lt : e.0 < rank t 0 = (Decides-ltb e.0 (rank t 0)).0 y in
+          first_seg t es h.1 ∙ sym (ap (λ b. slice_get (cond b (e ∷ segment t es) (segment t es)) 0) (not_so _ (Decides-eqb (e.0 / 2 ^ 31) t) (λ is. absurd (omega arith))))
+      | false ↦ λ never. let ge : rank t 0 ≤ e.0 = not_less e.0 (rank t 0) never in
+          elim (e.0 / 2 ^ 31 == t) as (λ b. (e.0 / 2 ^ 31 == t) ≡ b → cond b (Some e) None ≡ slice_get (cond b (e ∷ segment t es) (segment t es)) 0) [
+            | true ↦ λ _. refl
+            | false ↦ λ other. let no_more : e.0 / 2 ^ 31 ≡ t → ⊥ = denied _ (Decides-eqb (e.0 / 2 ^ 31) t) other in let up : t < e.0 / 2 ^ 31 = omega (arith, no_more) in sym (ap (λ xs. slice_get xs 0) (seg_above t e.0 es h.0 up))
+          ] refl
+    ] refl

@@ -1,12 +1,12 @@
 -- Places put into an index and taken out of it.
-use Rattle.std.specs.Prelude.{◌≡◌, ℕ, Bool, not, cond, List, Option, Some, None}
+use Rattle.std.specs.Prelude.{◌≡◌, ℕ, Bool, not, cond, List, Option, Some, None, slice_get}
 use Rattle.std.specs.List.{filter}
 use Rattle.std.specs.Ordering.{eq_by_cmp, nat_cmp}
 use Rattle.std.specs.FinMap.{put}
 use Rattle.ledger_model.specs.Key.{KeyName}
 use Rattle.transaction_table.specs.declared.row.TableRow.{TableRow}
 use Rattle.transaction_table.specs.Table.{Row, row_of}
-use Rattle.event_chain.specs.Flat.{Place, number_at}
+use Rattle.event_chain.specs.Flat.{Place, number_at, segment}
 
 -- Places with one put in where a test says so.
 abbrev pub put_if : Bool → ℕ → ℕ → List Place → List Place
@@ -28,3 +28,8 @@ place_in es seq (Some row) = number_at row.slot seq es
 -- The place of a key.
 abbrev pub place_at : List Row → List Place → KeyName → Option ℕ
 place_at rows es key = place_in es key.seq (row_of key.tx rows)
+
+-- The first place of a transaction in an index, where it is known.
+abbrev pub first_under : List Place → Option TableRow → Option Place
+first_under es None = None
+first_under es (Some row) = slice_get (segment row.slot es) 0

@@ -1,16 +1,20 @@
-ghost use Rattle.std.specs.Prelude.{◌≡◌, ◌≤◌, ◌&&◌, true, false, not, is_some, nat_le, length, option_map, Some, None, IfOk};
+ghost use Rattle.std.specs.Prelude.{◌≡◌, ◌≤◌, ◌&&◌, true, false, not, is_some, nat_le, length, slice_get, option_map, Some, None, IfOk};
 ghost use Rattle.std.specs.FinMap as finite;
-ghost use Rattle.ledger_model.specs.Step.{marked};
+ghost use Rattle.std.specs.List.{count_by};
+ghost use Rattle.ledger_model.specs.Content.{live_of};
+ghost use Rattle.ledger_model.specs.Step.{marked, readings_stored};
+ghost use Rattle.ledger_model.specs.Complete.{kinds_of};
+ghost use Rattle.ledger_model.specs.Gaps.{numbers_of};
 ghost use Rattle.event_chain.specs.declared.answers.Room.TheVariants.{Fits};
 ghost use Rattle.event_chain.specs.declared.answers.Found.TheVariants.{Live, Voided};
 ghost use Rattle.transaction_table.specs.Table.{row_of};
 ghost use Rattle.event_chain.specs.Chains.{stored};
-ghost use Rattle.event_chain.specs.Room.{room_of, found_of};
-ghost use Rattle.event_chain.specs.Kept.{end_count};
+ghost use Rattle.event_chain.specs.Room.{room_of, found_of, readings_under};
+ghost use Rattle.event_chain.specs.Kept.{end_count, is_end};
 
 use crate::answers::{Found, Room};
-use crate::spots::{enter, leave, locate, out_place, put_place, slot_of};
-use event_store::{EventRef, EventStore};
+use crate::spots::{enter, first_of, leave, locate, out_place, put_place, slot_of};
+use event_store::{EventRef, EventStore, Readings};
 use key_index::{IndexKey, KeyIndex};
 use ledger_model::{Event, Key, Kind, Limits, TxId};
 use std::alloc::{AllocError, Global};
@@ -200,5 +204,60 @@ impl Chains {
         leave(&mut self.table, &self.stored, key.tx(), at.row);
         // The rows rise, each with a slot of its own.
         let _transactions = self.table.len();
+    }
+
+    /// The readings of the event of a key, in the order in which they were sent; none where the key is
+    /// absent.
+    pub fn readings(&self, key: &Key) -> Readings<'_>
+        ensures { result ≡ readings_under (finite.get self.now.events key.now) }
+    {
+        match self.event(key) {
+            Some(event) => event.readings(),
+            None => self.store.no_readings(),
+        }
+    }
+
+    /// How many events are stored, voided ones among them.
+    pub fn stored_events(&self) -> u32
+        ensures { result ≡ length (stored self.now) }
+    {
+        self.stored.len()
+    }
+
+    /// How many readings are stored, those of voided events among them.
+    pub fn stored_readings(&self) -> u32
+        ensures { result ≡ readings_stored (stored self.now) }
+    {
+        self.limits.readings() - self.store.free_readings()
+    }
+
+    /// How many live events a transaction has.
+    pub fn live_count(&self, tx: &TxId) -> u32
+        ensures { result ≡ length (live_of tx.now (stored self.now)) }
+    {
+        match self.table.get(tx) {
+            Some(row) => row.live,
+            None => 0,
+        }
+    }
+
+    /// How many live events of a transaction are Started or Ended.
+    pub fn end_count(&self, tx: &TxId) -> u32
+        ensures { result ≡ count_by is_end (kinds_of tx.now (stored self.now)) }
+    {
+        match self.table.get(tx) {
+            Some(row) => row.ends,
+            None => 0,
+        }
+    }
+
+    /// The lowest live number of a transaction.
+    pub fn first(&self, tx: &TxId) -> Option<u32>
+        ensures { result ≡ slice_get (numbers_of tx.now (stored self.now)) 0 }
+    {
+        match first_of(&self.table, &self.live, tx) {
+            Some(place) => Some(place.0.number()),
+            None => None,
+        }
     }
 }

@@ -1,11 +1,11 @@
 //! The places of events: their transactions, their ranks, and the slots that hold them.
-ghost use Rattle.std.specs.Prelude.{◌≡◌, ◌<◌, true, false, length, None, Some, IsSome};
+ghost use Rattle.std.specs.Prelude.{◌≡◌, ◌<◌, true, false, length, None, Some, IsSome, slice_get};
 ghost use Rattle.key_index.specs.Key.{rank};
 ghost use Rattle.ledger_model.specs.Ranges.{sequence_end};
 ghost use Rattle.transaction_table.specs.Table.{row_of};
-ghost use Rattle.event_chain.specs.Flat.{place_of};
+ghost use Rattle.event_chain.specs.Flat.{place_of, segment};
 ghost use Rattle.event_chain.specs.Kept.{HasPlace, IsBare, IsEntered, IsLeft};
-ghost use Rattle.event_chain.specs.Edits.{put_if, out_if, place_at};
+ghost use Rattle.event_chain.specs.Edits.{put_if, out_if, place_at, first_under};
 
 use key_index::{IndexKey, KeyIndex};
 use ledger_model::{Key, TxId};
@@ -75,6 +75,34 @@ fn has_place(stored: &KeyIndex, slot: u32) -> bool
     match stored.at_or_after(IndexKey::new(slot, 0)) {
         Some(next) => next.0.transaction() == slot,
         None => false,
+    }
+}
+
+// The first place of the transaction of a slot.
+pub(crate) fn first_place(index: &KeyIndex, slot: u32) -> Option<(IndexKey, u32)>
+    ensures { result ≡ slice_get (segment slot index.now.entries) 0 }
+{
+    // The indexed keys rise.
+    let _count = index.len();
+    match index.at_or_after(IndexKey::new(slot, 0)) {
+        Some(place) => {
+            if place.0.transaction() == slot {
+                Some(place)
+            } else {
+                None
+            }
+        }
+        None => None,
+    }
+}
+
+// The first place of a transaction; none where it has none there.
+pub(crate) fn first_of(table: &TransactionTable, index: &KeyIndex, tx: &TxId) -> Option<(IndexKey, u32)>
+    ensures { result ≡ first_under index.now.entries (row_of tx.now table.now.rows) }
+{
+    match table.get(tx) {
+        Some(row) => first_place(index, row.slot),
+        None => None,
     }
 }
 

@@ -1,4 +1,4 @@
-ghost use Rattle.std.specs.Prelude.{◌≡◌, ◌+◌, ◌<◌, ◌≤◌, false, length, slice_set, replicate, None, Some, IfOk};
+ghost use Rattle.std.specs.Prelude.{◌≡◌, ◌+◌, ◌<◌, ◌≤◌, false, [], length, slice_set, replicate, None, Some, IfOk};
 ghost use Rattle.slot_arena.specs.Arena.{value_at, held_count, IsHeld};
 ghost use Rattle.event_store.specs.Slots.{voided_at, readings_at};
 ghost use Rattle.event_store.specs.Store.{new_slot, run_set};
@@ -6,6 +6,7 @@ ghost use Rattle.event_store.specs.Store.{new_slot, run_set};
 use crate::event_ref::EventRef;
 use crate::event_slot::EventSlot;
 use crate::links::{ReadingLink, put_all, take_all};
+use crate::readings::Readings;
 use key_index::IndexKey;
 use ledger_model::Event;
 use slot_arena::{MAX_SLOTS, SlotArena, SlotId};
@@ -93,6 +94,13 @@ impl EventStore {
         ensures { result + self.now.readings ≡ self.now.capacity }
     {
         self.links.free()
+    }
+
+    /// No readings.
+    pub fn no_readings(&self) -> Readings<'_>
+        ensures { result ≡ [] }
+    {
+        Readings::of(&self.links, 0, 0)
     }
 
     /// The event of a slot.
