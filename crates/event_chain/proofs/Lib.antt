@@ -14,3 +14,4 @@ mod Facts
 mod Inserts
 mod Marks
 mod Lives
+mod Drops

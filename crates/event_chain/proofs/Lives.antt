@@ -1,6 +1,9 @@
 -- The live events of a transaction are those of its segment of an index.
-use Rattle.std.proofs.Common.{◌≡◌, ℕ, zero, suc, ◌+◌, ◌<◌, ◌/◌, ◌^◌, ◌==◌, nat_lt, Bool, true, false, not, cond, ◌&&◌, T, List, [], ◌∷◌, ◌++◌, Option, Some, None, is_some, length, map, sum_by, refl, sym, ap, ◌∙◌, subst, arith, append-nil, slice_get, option_map, ◌%◌}
-use Rattle.std.specs.List.{filter, count_by}
+use Rattle.std.proofs.Common.{◌≡◌, ℕ, zero, suc, ◌+◌, ◌<◌, ◌/◌, ◌^◌, ◌==◌, nat_lt, Bool, true, false, not, cond, ◌&&◌, T, List, [], ◌∷◌, ◌++◌, Option, Some, None, is_some, length, map, sum_by, refl, sym, ap, ◌∙◌, subst, arith, append-nil, slice_get, option_map, unwrap_or, ◌%◌, ◌-◌}
+use Rattle.std.specs.List.{filter, count_by, filter_map, cons_option}
+use Rattle.std.proofs.lemmas.List.{length-map}
+use Rattle.key_index.specs.Entries.{last_of}
+use Rattle.ledger_model.specs.Evse.{first_or_none, evse_of}
 use Rattle.std.specs.Str.{bytes_eq}
 use Rattle.std.specs.Ordering.{is_eq, is_lt, eq_by_cmp, nat_cmp}
 use Rattle.std.specs.FinMap.{find}
@@ -17,13 +20,13 @@ use Rattle.event_store.specs.Slots.{Held}
 use Rattle.transaction_table.specs.declared.row.TableRow.{TableRow}
 use Rattle.transaction_table.specs.Table.{Row, AreRising, id_cmp, row_of}
 use Rattle.event_chain.specs.Flat.{Place, place_of, stored_at, entry_of, segment, flat, event_at, number_at, look_in, look}
-use Rattle.event_chain.specs.Kept.{AreRanks, IsSub, chosen, is_live, is_end, live_one, end_one}
-use Rattle.event_chain.specs.Edits.{first_under}
+use Rattle.event_chain.specs.Kept.{AreRanks, IsSub, chosen, is_live, is_naming, is_end, live_one, end_one}
+use Rattle.event_chain.specs.Edits.{first_under, last_under, evse_at}
 use Rattle.ledger_model.specs.declared.kind.Kind.{Kind}
 use Rattle.ledger_model.specs.Complete.{kinds_of}
 use Rattle.ledger_model.specs.Gaps.{numbers_of}
-use Rattle.event_chain.proofs.Tests.{key_test, id_test, denied, not_so}
-use Rattle.event_chain.proofs.Flats.{find_entries, number_is, find_flat, flat_rising, same_flat, entries_rising}
+use Rattle.event_chain.proofs.Tests.{key_test, id_test, rank_test, denied, not_so}
+use Rattle.event_chain.proofs.Flats.{find_entries, number_is, find_flat, flat_rising, same_flat, entries_rising, nat_less, less_nat}
 
 -- An event, where it passes a test.
 abbrev pub passing : (Stored → Bool) → Option Stored → Option Stored
@@ -171,3 +174,80 @@ first_number rows es lives slots rising ranks sub tx = told (row_of tx rows) ref
   told (Some row) is =
       ap (λ (xs : List Entry). slice_get (map (λ e. e.0.seq) xs) 0) (live_of_is tx (flat rows es slots) ∙ segment_passing rows es slots rising ranks is_live lives sub tx row is)
       ∙ ap (λ ns. slice_get ns 0) (numbers_map tx slots (segment row.slot lives)) ∙ first_map number_in (segment row.slot lives)
+
+-- The last of what a list is turned into.
+last_map : {X Y : Type 0} (f : X → Y) (xs : List X) (n : ℕ) → slice_get (map f xs) n ≡ option_map f (slice_get xs n)
+last_map f [] n = refl
+last_map f (x ∷ xs) zero = refl
+last_map f (x ∷ xs) (suc n) = last_map f xs n
+
+-- The last number of a list of numbers.
+last_of_numbers : (ps : List Place) → slice_get (map number_in ps) (length (map number_in ps) - 1) ≡ option_map number_in (last_of ps)
+last_of_numbers ps = ap (λ n. slice_get (map number_in ps) (n - 1)) (length-map ps number_in) ∙ last_map number_in ps (length ps - 1)
+
+-- The last live number of a transaction is that of its last live place.
+pub last_number : (rows : List Row) (es lives : List Place) (slots : List (Option Held)) → AreRising rows → AreRanks es → IsSub is_live es slots lives → (tx : List ℕ) → let numbers = numbers_of tx (flat rows es slots) in slice_get numbers (length numbers - 1) ≡ option_map number_in (last_under lives (row_of tx rows))
+last_number rows es lives slots rising ranks sub tx = told (row_of tx rows) refl where
+  told : (o : Option TableRow) → row_of tx rows ≡ o → let numbers = numbers_of tx (flat rows es slots) in slice_get numbers (length numbers - 1) ≡ option_map number_in (last_under lives o)
+  told None is = ap (λ (xs : List Entry). slice_get (map (λ e. e.0.seq) xs) (length (map (λ e. e.0.seq) xs) - 1)) (live_of_is tx (flat rows es slots) ∙ none_passing rows es slots rising ranks is_live tx is)
+  told (Some row) is =
+      ap (λ (xs : List Entry). slice_get (map (λ e. e.0.seq) xs) (length (map (λ e. e.0.seq) xs) - 1)) (live_of_is tx (flat rows es slots) ∙ segment_passing rows es slots rising ranks is_live lives sub tx row is)
+      ∙ ap (λ ns. slice_get ns (length ns - 1)) (numbers_map tx slots (segment row.slot lives)) ∙ last_of_numbers (segment row.slot lives)
+
+-- The EVSE of an entry, or 0.
+abbrev evse_first : Option Entry → ℕ
+evse_first None = 0
+evse_first (Some e) = unwrap_or e.1.event.evse 0
+
+-- One entry more.
+named : (e : Entry) (mine voided : Bool) (evse : Option ℕ) → e.1.event.evse ≡ evse → (lives names : List Entry) → first_or_none (filter_map (λ x. x.1.event.evse) lives) ≡ evse_first (slice_get names 0)
+  → first_or_none (filter_map (λ x. x.1.event.evse) (cond (mine && not voided) (e ∷ lives) lives)) ≡ evse_first (slice_get (cond (mine && (not voided && is_some evse)) (e ∷ names) names) 0)
+named e false voided evse is lives names rest = rest
+named e true true evse is lives names rest = rest
+named e true false None is lives names rest = ap (λ (o : Option ℕ). first_or_none (cons_option o (filter_map (λ (x : Entry). x.1.event.evse) lives))) is ∙ rest
+named e true false (Some n) is lives names rest = ap (λ (o : Option ℕ). first_or_none (cons_option o (filter_map (λ (x : Entry). x.1.event.evse) lives))) is ∙ sym (ap (λ (o : Option ℕ). unwrap_or o 0) is)
+
+-- The first EVSE that is named is that of the first event that names one.
+evse_naming : (tx : List ℕ) (es : List Entry) → first_or_none (filter_map (λ e. e.1.event.evse) (passing_of is_live tx es)) ≡ evse_first (slice_get (passing_of is_naming tx es) 0)
+evse_naming tx [] = refl
+evse_naming tx (e ∷ es) = let rest = evse_naming tx es in named e (bytes_eq tx e.0.tx) e.1.voided e.1.event.evse refl (passing_of is_live tx es) (passing_of is_naming tx es) rest
+
+-- The EVSE of a transaction is that of its first naming place.
+pub evse_number : (rows : List Row) (es names : List Place) (slots : List (Option Held)) → AreRising rows → AreRanks es → IsSub is_naming es slots names → (tx : List ℕ) → evse_of tx (flat rows es slots) ≡ evse_at slots (first_under names (row_of tx rows))
+evse_number rows es names slots rising ranks sub tx =
+    ap (λ (xs : List Entry). first_or_none (filter_map (λ e. e.1.event.evse) xs)) (live_of_is tx (flat rows es slots)) ∙ evse_naming tx (flat rows es slots) ∙ told (row_of tx rows) refl where
+  placed : (ps : List Place) → evse_first (slice_get (map (entry_of tx slots) ps) 0) ≡ evse_at slots (slice_get ps 0)
+  placed [] = refl
+  placed (p ∷ ps) = refl
+  told : (o : Option TableRow) → row_of tx rows ≡ o → evse_first (slice_get (passing_of is_naming tx (flat rows es slots)) 0) ≡ evse_at slots (first_under names o)
+  told None is = ap (λ (xs : List Entry). evse_first (slice_get xs 0)) (none_passing rows es slots rising ranks is_naming tx is)
+  told (Some row) is = ap (λ (xs : List Entry). evse_first (slice_get xs 0)) (segment_passing rows es slots rising ranks is_naming names sub tx row is) ∙ placed (segment row.slot names)
+
+-- A rank below all is not found.
+below_none : (r : ℕ) (es : List Place) → T (below_all nat_cmp r es) → place_of r es ≡ None
+below_none r [] h = refl
+below_none r (e ∷ es) h = ap (λ o. cond (is_eq o) (Some e.1) (place_of r es)) (nat_less r e.0 (less_nat r e.0 (first _ _ h))) ∙ below_none r es (second _ _ h)
+
+-- What is found is not absent.
+never : (o : Option ℕ) (s : ℕ) → o ≡ Some s → o ≡ None → ⊥
+never o s a b = cc
+
+-- The first of a segment is found.
+seg_found : (t : ℕ) (es : List Place) (p : Place) → AreRanks es → slice_get (segment t es) 0 ≡ Some p → place_of p.0 es ≡ Some p.1
+seg_found t [] p h is = cc
+seg_found t (e ∷ es) p h is =
+    elim (e.0 / 2 ^ 31 == t) as (λ b. slice_get (cond b (e ∷ segment t es) (segment t es)) 0 ≡ Some p → place_of p.0 (e ∷ es) ≡ Some p.1) [
+      | true ↦ λ some. let same : e ≡ p = cc in subst (λ (k : Place). place_of k.0 (e ∷ es) ≡ Some k.1) same (ap (λ b. cond b (Some e.1) (place_of e.0 es)) ((rank_test e.0 e.0).1 refl))
+      | false ↦ λ some. let rest = seg_found t es p (second _ _ h) some in
+          ap (λ b. cond b (Some e.1) (place_of p.0 es)) (not_so _ (rank_test p.0 e.0) (λ k. never (place_of p.0 es) p.1 rest (ap (λ r. place_of r es) k ∙ below_none e.0 es (first _ _ h)))) ∙ rest
+    ] is
+
+-- What was chosen was that place.
+chosen_place : (test : Stored → Bool) (slots : List (Option Held)) (o : Option ℕ) (s : ℕ) → chosen test slots o ≡ Some s → o ≡ Some s
+chosen_place test slots None s h = cc
+chosen_place test slots (Some n) s h = elim (test (stored_at slots n)) as (λ b. cond b (Some n) None ≡ Some s → Some n ≡ Some s) [ true ↦ λ e. e | false ↦ λ e. cc ] h
+
+-- The first place of a transaction in a sub-index is one of all places.
+pub first_stored : (test : Stored → Bool) (es sub : List Place) (slots : List (Option Held)) (o : Option TableRow) (p : Place) → IsSub test es slots sub → first_under sub o ≡ Some p → place_of p.0 es ≡ Some p.1
+first_stored test es sub slots None p is h = cc
+first_stored test es sub slots (Some row) p is h = chosen_place test slots (place_of p.0 es) p.1 (sym (is.each p.0) ∙ seg_found row.slot sub p is.rising h)

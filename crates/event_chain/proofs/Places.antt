@@ -1,5 +1,5 @@
 -- An index with a place put in or taken out.
-use Rattle.std.proofs.Common.{◌≡◌, ℕ, ◌+◌, ◌<◌, ◌≤◌, ◌/◌, ◌^◌, nat_lt, nat_eq, ◌==◌, Bool, true, false, not, cond, T, List, [], ◌∷◌, ◌++◌, Option, Some, None, is_some, length, drop, slice_get, refl, sym, ap, ◌∙◌, subst, arith, inl, inr}
+use Rattle.std.proofs.Common.{◌≡◌, ℕ, suc, ◌+◌, ◌-◌, ◌<◌, ◌≤◌, ◌/◌, ◌^◌, nat_lt, nat_eq, ◌==◌, Bool, true, false, not, cond, T, List, [], ◌∷◌, ◌++◌, Option, Some, None, is_some, length, drop, slice_get, refl, sym, ap, ◌∙◌, subst, arith, inl, inr}
 use Rattle.std.proofs.lemmas.Bool.{cases_lt, cases_eq}
 use Rattle.std.proofs.lemmas.Bool.Decides.{Decides-ltb, Decides-eqb}
 use Rattle.std.specs.List.{filter}
@@ -7,7 +7,7 @@ use Rattle.std.specs.Ordering.{is_eq, is_lt, eq_by_cmp, nat_cmp}
 use Rattle.std.specs.declared.cmp.Ordering.TheVariants.{Less, Equal, Greater}
 use Rattle.std.specs.FinMap.{find, put, is_sorted}
 use Rattle.std.specs.FinMap.Entries.{by_order, below_all}
-use Rattle.key_index.specs.Entries.{below, from, slot_at, first_of, AreAbove, AreRising}
+use Rattle.key_index.specs.Entries.{below, from, slot_at, first_of, last_of, AreAbove, AreRising}
 use Rattle.key_index.specs.Key.{rank}
 use Rattle.ledger_model.proofs.Callers.{first, second}
 use Rattle.ledger_model.proofs.Rising.{both}
@@ -187,3 +187,57 @@ first_seg t (e ∷ es) h =
             | false ↦ λ other. let no_more : e.0 / 2 ^ 31 ≡ t → ⊥ = denied _ (Decides-eqb (e.0 / 2 ^ 31) t) other in let up : t < e.0 / 2 ^ 31 = omega (arith, no_more) in sym (ap (λ xs. slice_get xs 0) (seg_above t e.0 es h.0 up))
           ] refl
     ] refl
+
+-- The last of a list is that of its rest, where it has one.
+last_cons : (e f : Place) (es : List Place) → last_of (e ∷ f ∷ es) ≡ last_of (f ∷ es)
+last_cons e f es =
+    let a : suc (suc (length es)) - 1 ≡ suc (length es) = omega arith in let b : suc (length es) - 1 ≡ length es = omega arith in
+    ap (slice_get (e ∷ f ∷ es)) a ∙ sym (ap (slice_get (f ∷ es)) b)
+
+-- Ranks below the end of a slot's.
+abbrev AllUnder : ℕ → List Place → Type 0
+AllUnder n [] = Unit {0}
+AllUnder n (e ∷ es) = (e.0 < n) × AllUnder n es
+
+-- The last of a segment, among ranks below its end.
+last_under_seg : (t : ℕ) (es : List Place) → AreRising es → AllUnder (rank (t + 1) 0) es → at_home t (last_of es) ≡ last_of (segment t es)
+last_under_seg t [] h u = refl
+last_under_seg t (e ∷ []) h u = elim (e.0 / 2 ^ 31 == t) as (λ b. cond b (Some e) None ≡ last_of (cond b (e ∷ []) [])) [ true ↦ refl | false ↦ refl ]
+last_under_seg t (e ∷ f ∷ es) h u =
+    let rest = last_under_seg t (f ∷ es) h.1 u.1 in
+    ap (at_home t) (last_cons e f es) ∙ rest
+    ∙ elim (e.0 / 2 ^ 31 == t) as (λ b. (e.0 / 2 ^ 31 == t) ≡ b → last_of (segment t (f ∷ es)) ≡ last_of (cond b (e ∷ segment t (f ∷ es)) (segment t (f ∷ es)))) [
+      | false ↦ λ _. refl
+      | true ↦ λ y. let home = (Decides-eqb (e.0 / 2 ^ 31) t).0 y in let up = h.0.0 in let under = u.1.0 in let same : f.0 / 2 ^ 31 ≡ t = omega arith in
+          let seg : segment t (f ∷ es) ≡ f ∷ segment t es = ap (λ b. cond b (f ∷ segment t es) (segment t es)) ((Decides-eqb (f.0 / 2 ^ 31) t).1 same) in
+          ap last_of seg ∙ sym (last_cons e f (segment t es)) ∙ sym (ap (λ (xs : List Place). last_of (e ∷ xs)) seg)
+    ] refl
+
+-- What stands below a rank is under it.
+below_under : (n : ℕ) (es : List Place) → AllUnder n (below n es)
+below_under n [] = tt
+below_under n (e ∷ es) = elim (nat_lt e.0 n) as (λ b. nat_lt e.0 n ≡ b → AllUnder n (cond b (e ∷ below n es) [])) [ true ↦ λ y. ((Decides-ltb e.0 n).0 y, below_under n es) | false ↦ λ _. tt ] refl
+
+-- It stays above a number.
+below_above : (m n : ℕ) (es : List Place) → AreAbove m es → AreAbove m (below n es)
+below_above m n [] h = tt
+below_above m n (e ∷ es) h = elim (nat_lt e.0 n) as (λ b. AreAbove m (cond b (e ∷ below n es) [])) [ true ↦ (h.0, below_above m n es h.1) | false ↦ tt ]
+
+-- It rises.
+below_rising : (n : ℕ) (es : List Place) → AreRising es → AreRising (below n es)
+below_rising n [] h = tt
+below_rising n (e ∷ es) h = elim (nat_lt e.0 n) as (λ b. AreRising (cond b (e ∷ below n es) [])) [ true ↦ (below_above e.0 n es h.0, below_rising n es h.1) | false ↦ tt ]
+
+-- No place from the end of a slot's ranks on is of its transaction.
+below_seg : (t : ℕ) (es : List Place) → AreRising es → segment t (below (rank (t + 1) 0) es) ≡ segment t es
+below_seg t [] h = refl
+below_seg t (e ∷ es) h =
+    elim (nat_lt e.0 (rank (t + 1) 0)) as (λ b. nat_lt e.0 (rank (t + 1) 0) ≡ b → segment t (cond b (e ∷ below (rank (t + 1) 0) es) []) ≡ segment t (e ∷ es)) [
+      | true ↦ λ _. elim (e.0 / 2 ^ 31 == t) as (λ b. cond b (e ∷ segment t (below (rank (t + 1) 0) es)) (segment t (below (rank (t + 1) 0) es)) ≡ cond b (e ∷ segment t es) (segment t es)) [ true ↦ ap (λ (xs : List Place). e ∷ xs) (below_seg t es h.1) | false ↦ below_seg t es h.1 ]
+      | false ↦ λ never. let ge : rank (t + 1) 0 ≤ e.0 = not_less e.0 (rank (t + 1) 0) never in let up : t < e.0 / 2 ^ 31 = omega arith in
+          sym (ap (λ b. cond b (e ∷ segment t es) (segment t es)) (not_so _ (Decides-eqb (e.0 / 2 ^ 31) t) (λ is. absurd (omega arith))) ∙ seg_above t e.0 es h.0 up)
+    ] refl
+
+-- The last of a segment is the last place before the end of its slot's ranks, where that is its.
+pub last_seg : (t : ℕ) (es : List Place) → AreRising es → at_home t (last_of (below (rank (t + 1) 0) es)) ≡ last_of (segment t es)
+last_seg t es h = last_under_seg t (below (rank (t + 1) 0) es) (below_rising (rank (t + 1) 0) es h) (below_under (rank (t + 1) 0) es) ∙ ap last_of (below_seg t es h)

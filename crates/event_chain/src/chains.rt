@@ -1,8 +1,9 @@
-ghost use Rattle.std.specs.Prelude.{◌≡◌, ◌≤◌, ◌&&◌, true, false, not, is_some, nat_le, length, slice_get, option_map, Some, None, IfOk};
+ghost use Rattle.std.specs.Prelude.{◌≡◌, ◌-◌, ◌≤◌, ◌&&◌, true, false, not, is_some, nat_le, length, slice_get, option_map, Some, None, IfOk};
 ghost use Rattle.std.specs.FinMap as finite;
 ghost use Rattle.std.specs.List.{count_by};
-ghost use Rattle.ledger_model.specs.Content.{live_of};
+ghost use Rattle.ledger_model.specs.Content.{live_of, transactions_of};
 ghost use Rattle.ledger_model.specs.Step.{marked, readings_stored};
+ghost use Rattle.ledger_model.specs.Evse.{evse_of};
 ghost use Rattle.ledger_model.specs.Complete.{kinds_of};
 ghost use Rattle.ledger_model.specs.Gaps.{numbers_of};
 ghost use Rattle.event_chain.specs.declared.answers.Room.TheVariants.{Fits};
@@ -13,10 +14,11 @@ ghost use Rattle.event_chain.specs.Room.{room_of, found_of, readings_under};
 ghost use Rattle.event_chain.specs.Kept.{end_count, is_end};
 
 use crate::answers::{Found, Room};
-use crate::spots::{enter, first_of, leave, locate, out_place, put_place, slot_of};
+use crate::tx_ids::TxIds;
+use crate::spots::{enter, first_of, last_of, leave, locate, out_place, put_place, slot_of};
 use event_store::{EventRef, EventStore, Readings};
 use key_index::{IndexKey, KeyIndex};
-use ledger_model::{Event, Key, Kind, Limits, TxId};
+use ledger_model::{Event, EvseId, Key, Kind, Limits, TxId};
 use std::alloc::{AllocError, Global};
 use std::marker::Model;
 use transaction_table::{TableRow, TransactionTable};
@@ -259,5 +261,32 @@ impl Chains {
             Some(place) => Some(place.0.number()),
             None => None,
         }
+    }
+
+    /// The highest live number of a transaction.
+    pub fn last(&self, tx: &TxId) -> Option<u32>
+        ensures { let numbers = numbers_of tx.now (stored self.now) in result ≡ slice_get numbers (length numbers - 1) }
+    {
+        match last_of(&self.table, &self.live, tx) {
+            Some(place) => Some(place.0.number()),
+            None => None,
+        }
+    }
+
+    /// The EVSE that the lowest live event of a transaction names which names one, else 0.
+    pub fn evse(&self, tx: &TxId) -> EvseId
+        ensures { result ≡ evse_of tx.now (stored self.now) }
+    {
+        match first_of(&self.table, &self.naming, tx) {
+            Some(place) => self.store.get(place.1).evse().unwrap_or(EvseId::unnamed()),
+            None => EvseId::unnamed(),
+        }
+    }
+
+    /// The ids of the transactions that have an event, live or voided, in order.
+    pub fn transactions(&self) -> TxIds<'_>
+        ensures { result ≡ transactions_of (stored self.now) }
+    {
+        TxIds::of(&self.table)
     }
 }

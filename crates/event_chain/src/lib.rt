@@ -3,7 +3,9 @@
 
 mod answers;
 mod chains;
+mod tx_ids;
 mod spots;
 
 pub use answers::{Found, Room};
 pub use chains::Chains;
+pub use tx_ids::TxIds;

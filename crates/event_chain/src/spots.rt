@@ -1,11 +1,12 @@
 //! The places of events: their transactions, their ranks, and the slots that hold them.
 ghost use Rattle.std.specs.Prelude.{◌≡◌, ◌<◌, true, false, length, None, Some, IsSome, slice_get};
+ghost use Rattle.key_index.specs.Entries.{last_of};
 ghost use Rattle.key_index.specs.Key.{rank};
 ghost use Rattle.ledger_model.specs.Ranges.{sequence_end};
 ghost use Rattle.transaction_table.specs.Table.{row_of};
 ghost use Rattle.event_chain.specs.Flat.{place_of, segment};
 ghost use Rattle.event_chain.specs.Kept.{HasPlace, IsBare, IsEntered, IsLeft};
-ghost use Rattle.event_chain.specs.Edits.{put_if, out_if, place_at, first_under};
+ghost use Rattle.event_chain.specs.Edits.{put_if, out_if, place_at, first_under, last_under};
 
 use key_index::{IndexKey, KeyIndex};
 use ledger_model::{Key, TxId};
@@ -102,6 +103,37 @@ pub(crate) fn first_of(table: &TransactionTable, index: &KeyIndex, tx: &TxId) ->
 {
     match table.get(tx) {
         Some(row) => first_place(index, row.slot),
+        None => None,
+    }
+}
+
+// The last place of the transaction of a slot.
+pub(crate) fn last_place(index: &KeyIndex, slot: u32) -> Option<(IndexKey, u32)>
+    requires { slot < 4294967295 }
+    ensures { result ≡ last_of (segment slot index.now.entries) }
+{
+    // The indexed keys rise.
+    let _count = index.len();
+    match index.before(IndexKey::new(slot + 1, 0)) {
+        Some(place) => {
+            if place.0.transaction() == slot {
+                Some(place)
+            } else {
+                None
+            }
+        }
+        None => None,
+    }
+}
+
+// The last place of a transaction; none where it has none there.
+pub(crate) fn last_of(table: &TransactionTable, index: &KeyIndex, tx: &TxId) -> Option<(IndexKey, u32)>
+    ensures { result ≡ last_under index.now.entries (row_of tx.now table.now.rows) }
+{
+    // Slots are below the table's capacity.
+    let (_count, _capacity) = (table.len(), table.capacity());
+    match table.get(tx) {
+        Some(row) => last_place(index, row.slot),
         None => None,
     }
 }
