@@ -21,6 +21,8 @@ mod event_slot;
 mod links;
 mod readings;
 mod store;
+#[cfg(test)]
+mod tests;
 
 pub use event_ref::EventRef;
 #[doc(hidden)]

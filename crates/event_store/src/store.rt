@@ -1,4 +1,4 @@
-ghost use Rattle.std.specs.Prelude.{◌≡◌, ◌+◌, ◌<◌, ◌≤◌, false, [], length, slice_set, replicate, None, Some, IfOk};
+ghost use Rattle.std.specs.Prelude.{◌≡◌, ◌↔◌, ◌+◌, ◌<◌, ◌≤◌, IsTrue, false, [], length, slice_set, replicate, None, Some, IfOk};
 ghost use Rattle.slot_arena.specs.Arena.{value_at, held_count, IsHeld};
 ghost use Rattle.event_store.specs.Slots.{voided_at, readings_at};
 ghost use Rattle.event_store.specs.Store.{new_slot, run_set};
@@ -87,6 +87,20 @@ impl EventStore {
         let _capacity = self.events.capacity();
         let event = self.events.give(SlotId::new(slot));
         take_all(&mut self.links, slot as u16, event.first, event.count);
+    }
+
+    /// How many more events it can hold.
+    pub fn free_slots(&self) -> u32
+        ensures { result + held_count self.now.slots ≡ length self.now.slots }
+    {
+        self.events.free()
+    }
+
+    /// Tells whether a slot holds an event.
+    pub fn is_held(&self, slot: u32) -> bool
+        ensures { IsTrue result ↔ IsHeld self.now.slots slot }
+    {
+        self.events.is_held(SlotId::new(slot))
     }
 
     /// How many more readings it can hold.

@@ -17,6 +17,8 @@
 
 mod row;
 mod table;
+#[cfg(test)]
+mod tests;
 
 #[doc(hidden)]
 pub use row::NamedRow;
