@@ -16,7 +16,7 @@ use Rattle.event_store.specs.Slots.{Held}
 use Rattle.transaction_table.specs.Table.{Row, AreRising, row_of}
 use Rattle.event_chain.specs.Flat.{Place, place_of, stored_at, flat, event_at, number_at, look}
 use Rattle.event_chain.specs.Kept.{AreRanks}
-use Rattle.event_chain.proofs.Tests.{key_test, not_so, denied}
+use Rattle.event_chain.proofs.Decided.{key_test, not_so, denied}
 use Rattle.event_chain.proofs.Flats.{find_flat, flat_rising, same_flat}
 use Rattle.event_chain.proofs.Looks.{IsMove, look_other, look_here}
 
@@ -58,11 +58,11 @@ pub map_put : (es more : List Entry) (key : KeyName) (v : Stored) → IsRising e
 map_put es more key v rising is =
     let ok = is_sorted-put key_cmp key_total key v es rising in
     finite.same_entries_map _ _ (ap (λ xs. finite.entries (finite.from_sorted {R = key_cmp} xs)) is ∙ finite.entries-from_sorted key_cmp (put key_cmp key v es) ok
-      ∙ sym (finite.entries-insert key_total (finite.from_sorted {R = key_cmp} es) key v ∙ ap (put key_cmp key v) (finite.entries-from_sorted key_cmp es rising)))
+    ∙ sym (finite.entries-insert key_total (finite.from_sorted {R = key_cmp} es) key v ∙ ap (put key_cmp key v) (finite.entries-from_sorted key_cmp es rising)))
 
 -- The map of entries with one taken out.
 pub map_out : (es more : List Entry) (key : KeyName) → IsRising es → more ≡ entries_without key es → finite.from_sorted {R = key_cmp} more ≡ finite.remove (finite.from_sorted {R = key_cmp} es) key
 map_out es more key rising is =
     let ok = is_sorted-where_key key_cmp (λ x. not (eq_by_cmp key_cmp key x)) es rising in
     ap (λ xs. finite.from_sorted {R = key_cmp} xs) is ∙ finite.same_map key_total exact_keys (finite.from_sorted {R = key_cmp} (entries_without key es)) (finite.remove (finite.from_sorted {R = key_cmp} es) key) (λ q.
-      finite.get-from_sorted key_cmp (entries_without key es) q ok ∙ find_without q key es ∙ ap (cond (eq_by_cmp key_cmp q key) None) (sym (finite.get-from_sorted key_cmp es q rising)) ∙ sym (finite.get-remove key_total (finite.from_sorted {R = key_cmp} es) key q))
+    finite.get-from_sorted key_cmp (entries_without key es) q ok ∙ find_without q key es ∙ ap (cond (eq_by_cmp key_cmp q key) None) (sym (finite.get-from_sorted key_cmp es q rising)) ∙ sym (finite.get-remove key_total (finite.from_sorted {R = key_cmp} es) key q))

@@ -26,7 +26,7 @@ use Rattle.event_chain.specs.Room.{room_of, found_of}
 use Rattle.event_chain.specs.Flat.{Place, place_of, stored_in, stored_at, event_at, number_at, flat, look_in, look}
 use Rattle.event_chain.specs.Edits.{place_in, place_at}
 use Rattle.event_chain.specs.Kept.{AreRanks, IsSub, chosen, IsHome, IsKeyed, live_one, end_one, is_end, AreFigured, IsCounted, AreRoomy, IsChains, IsNew, IsNamed, IsEntered, events_of}
-use Rattle.event_chain.proofs.Tests.{not_so, denied, same_test}
+use Rattle.event_chain.proofs.Decided.{not_so, denied, same_test}
 use Rattle.event_chain.proofs.Flats.{find_flat, flat_rising}
 use Rattle.event_chain.proofs.Subs.{fewer, among_chosen}
 use Rattle.event_chain.proofs.Moves.{before_named}
@@ -36,8 +36,8 @@ use Rattle.event_chain.proofs.Ids.{ids_flat, has_flat}
 
 -- Chains of equal parts.
 pub seal : (limits : Bounds) (t : Table) (s : Slots) (st l c n : Index) (rows : List Row) (transactions : ℕ) (slots : List (Option Held)) (readings room : ℕ) (es le ce ne : List Place) (events : ℕ)
-  → t.rows ≡ rows → t.capacity ≡ transactions → s.slots ≡ slots → s.readings ≡ readings → s.capacity ≡ room → st.entries ≡ es → l.entries ≡ le → c.entries ≡ ce → n.entries ≡ ne → st.capacity ≡ events → l.capacity ≡ events → c.capacity ≡ events → n.capacity ≡ events
-  → IsChains limits (record { rows = rows; capacity = transactions }) (record { slots = slots; readings = readings; capacity = room }) (index es events) (index le events) (index ce events) (index ne events) → IsChains limits t s st l c n
+    → t.rows ≡ rows → t.capacity ≡ transactions → s.slots ≡ slots → s.readings ≡ readings → s.capacity ≡ room → st.entries ≡ es → l.entries ≡ le → c.entries ≡ ce → n.entries ≡ ne → st.capacity ≡ events → l.capacity ≡ events → c.capacity ≡ events → n.capacity ≡ events
+    → IsChains limits (record { rows = rows; capacity = transactions }) (record { slots = slots; readings = readings; capacity = room }) (index es events) (index le events) (index ce events) (index ne events) → IsChains limits t s st l c n
 seal limits t s st l c n rows transactions slots readings room es le ce ne events tr tc ss sr sc ste le_is ce_is ne_is stc lc cc_is nc h =
     subst (λ (x : Table). IsChains limits x s st l c n) (sym (λ i. record { rows = tr i; capacity = tc i }))
     (subst (λ (x : Slots). IsChains limits (record { rows = rows; capacity = transactions }) x st l c n) (sym (λ i. record { slots = ss i; readings = sr i; capacity = sc i }))
@@ -158,21 +158,22 @@ module _ (limits : Bounds) (table : Table) (store : Slots) (stored live carriers
   none_at mid key row r0 absent entered number is =
       let before = before_named table.rows stored.entries store.slots chains.keyed mid key.tx row row (entered_named table.rows mid key.tx row entered) key.seq in
       no_event (place_of r0 stored.entries) (ap (λ r. event_at store.slots (place_of r stored.entries)) is
-        ∙ sym (ap (λ b. event_at store.slots (cond b (place_of (rank row.slot key.seq) stored.entries) None)) ((Decides-ltb key.seq (2 ^ 31)).1 number)) ∙ sym before ∙ sym (get_look key) ∙ absent) where
-    no_event : (o : Option ℕ) → event_at store.slots o ≡ None → o ≡ None
-    no_event None h = refl
-    no_event (Some s) h = cc
+      ∙ sym (ap (λ b. event_at store.slots (cond b (place_of (rank row.slot key.seq) stored.entries) None)) ((Decides-ltb key.seq (2 ^ 31)).1 number)) ∙ sym before ∙ sym (get_look key) ∙ absent) where
+        no_event : (o : Option ℕ) → event_at store.slots o ≡ None → o ≡ None
+        no_event None h = refl
+        no_event (Some s) h = cc
 
   -- The counts of a transaction that was entered are small.
   pub counts_few : (mid : List Row) (tx : List ℕ) (row : TableRow) → IsEntered table.rows mid tx row → (row.live ≤ length stored.entries) × (row.ends ≤ length stored.entries)
   counts_few mid tx row entered =
-      let was = known_figures table.rows mid stored.entries store.slots tx row row (entered_named table.rows mid tx row entered) chains.figured in
-      (omega (arith, was.live, chains.counted.all_are, sum_few (live_one tx) all (λ e. one_at_most (bytes_eq tx e.0.tx && not e.1.voided))),
-       omega (arith, was.ends, chains.counted.all_are, sum_few (end_one tx) all (λ e. one_at_most (bytes_eq tx e.0.tx && not e.1.voided && is_end e.1.event.kind))))
+      let was = known_figures table.rows mid stored.entries store.slots tx row row (entered_named table.rows mid tx row entered) chains.figured in (
+        omega (arith, was.live, chains.counted.all_are, sum_few (live_one tx) all (λ e. one_at_most (bytes_eq tx e.0.tx && not e.1.voided))),
+        omega (arith, was.ends, chains.counted.all_are, sum_few (end_one tx) all (λ e. one_at_most (bytes_eq tx e.0.tx && not e.1.voided && is_end e.1.event.kind))),
+      )
 
   -- The room is told by three tests.
   pub room_answer : (tx : List ℕ) (n : ℕ) (a b c : Bool) → (not (is_some (row_of tx table.rows)) && nat_le limits.transactions (length table.rows)) ≡ a → nat_le limits.events (length stored.entries) ≡ b → nat_lt limits.readings (readings_stored all + n) ≡ c
-    → room_of limits (finite.entries events) tx n ≡ cond a NoTransaction (cond b NoEvent (cond c NoReading Fits))
+      → room_of limits (finite.entries events) tx n ≡ cond a NoTransaction (cond b NoEvent (cond c NoReading Fits))
   room_answer tx n a b c a_is b_is c_is =
       ap (λ es. room_of limits es tx n) entries_all
       ∙ (λ i. cond (not (has_flat tx table.rows stored.entries store.slots chains.keyed.rising chains.keyed.filled i) && nat_le limits.transactions (ids_count i)) NoTransaction (cond (nat_le limits.events (chains.counted.all_are i)) NoEvent (cond (nat_lt limits.readings (readings_stored all + n)) NoReading Fits)))
@@ -194,6 +195,7 @@ opened_chains limits few = record {
 } where
   no_place : (r s : ℕ) → place_of r [] ≡ Some s → ⊥
   no_place r s is = cc
+
   no_row : (tx : List ℕ) (row : TableRow) → row_of tx [] ≡ Some row → ⊥
   no_row tx row is = cc
 

@@ -13,7 +13,7 @@ use Rattle.transaction_table.specs.declared.row.TableRow.{TableRow}
 use Rattle.transaction_table.specs.Table.{Row, id_cmp, row_of}
 use Rattle.event_chain.specs.Flat.{Place, entry_of, segment, entries_of, flat}
 use Rattle.event_chain.specs.Kept.{live_one, end_one, is_end, IsFigured, AreFigured, IsNamed, IsNew}
-use Rattle.event_chain.proofs.Tests.{id_test, not_so, denied}
+use Rattle.event_chain.proofs.Decided.{id_test, not_so, denied}
 use Rattle.event_chain.proofs.Sums.{at_key, sum_put, sum_without}
 
 module _ (f : Entry → ℕ) (tx : List ℕ) (zero_if : (e : Entry) → bytes_eq tx e.0.tx ≡ false → f e ≡ 0) where
@@ -42,9 +42,9 @@ end_zero tx e apart = ap (λ b. cond {A = ℕ} (b && not e.1.voided && is_end e.
 -- What is counted of a transaction before the edit, where it may be new.
 pub known_figures : (rows new : List Row) (es : List Place) (slots : List (Option Held)) (tx : List ℕ) (row after : TableRow) → IsNamed rows new tx row after → AreFigured rows (flat rows es slots) → IsFigured rows (flat rows es slots) tx row
 known_figures rows new es slots tx row after named figured = elim named.known [
-    | inl was ↦ figured tx row was
-    | inr fresh ↦ record { live = fresh.none_live ∙ sym (none_flat (live_one tx) tx (live_zero tx) rows es slots fresh.absent); ends = fresh.no_ends ∙ sym (none_flat (end_one tx) tx (end_zero tx) rows es slots fresh.absent) }
-  ]
+  | inl was ↦ figured tx row was
+  | inr fresh ↦ record { live = fresh.none_live ∙ sym (none_flat (live_one tx) tx (live_zero tx) rows es slots fresh.absent); ends = fresh.no_ends ∙ sym (none_flat (end_one tx) tx (end_zero tx) rows es slots fresh.absent) }
+]
 
 -- A voided event does not count as live.
 pub void_live : (tx : List ℕ) (key : KeyName) (s : Stored) → s.voided ≡ true → live_one tx (key, s) ≡ 0
@@ -65,7 +65,7 @@ key_zero f key (Some s) zero_all = zero_all s
 
 -- The counts after an event was put in or written.
 pub figured_put : (rows new : List Row) (es : List Place) (slots : List (Option Held)) (key : KeyName) (v : Stored) (row after : TableRow) → let all = flat rows es slots in IsRising all → AreFigured rows all → IsNamed rows new key.tx row after
-  → after.live + at_key (live_one key.tx) key (find key_cmp key all) ≡ row.live + live_one key.tx (key, v) → after.ends + at_key (end_one key.tx) key (find key_cmp key all) ≡ row.ends + end_one key.tx (key, v) → AreFigured new (put key_cmp key v all)
+    → after.live + at_key (live_one key.tx) key (find key_cmp key all) ≡ row.live + live_one key.tx (key, v) → after.ends + at_key (end_one key.tx) key (find key_cmp key all) ≡ row.ends + end_one key.tx (key, v) → AreFigured new (put key_cmp key v all)
 figured_put rows new es slots key v row after rising figured named live ends q of is =
     let all = flat rows es slots in
     elim (eq_by_cmp id_cmp q key.tx) as (λ b. eq_by_cmp id_cmp q key.tx ≡ b → IsFigured new (put key_cmp key v all) q of) [

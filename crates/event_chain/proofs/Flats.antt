@@ -22,7 +22,7 @@ use Rattle.transaction_table.specs.declared.row.TableRow.{TableRow}
 use Rattle.transaction_table.specs.Table.{Row, AreRising, id_cmp, row_of}
 use Rattle.event_chain.specs.Flat.{Place, place_of, stored_at, entry_of, segment, entries_of, flat, event_at, number_at, look_in, look}
 use Rattle.event_chain.specs.Kept.{AreRanks}
-use Rattle.event_chain.proofs.Tests.{key_test, id_test, rank_test, not_so, denied, same_test}
+use Rattle.event_chain.proofs.Decided.{key_test, id_test, rank_test, not_so, denied, same_test}
 
 -- The first of two that is there.
 abbrev pub either : {X : Type 0} → Option X → Option X → Option X
@@ -43,8 +43,8 @@ key_place : (q : KeyName) (tx : List ℕ) (t : ℕ) (e : Place) → e.0 / 2 ^ 31
 key_place q tx t e home is =
     let id : q.tx ≡ tx = (id_test q.tx tx).0 is in let split = rank_split e.0 t home in
     same_test _ _ (key_test q (record { tx = tx; seq = e.0 % 2 ^ 31 })) (rank_test (rank t q.seq) e.0)
-      (λ k. ap (λ (n : ℕ). rank t n) (ap (λ (x : KeyName). x.seq) k) ∙ sym split)
-      (λ k. let n : q.seq ≡ e.0 % 2 ^ 31 = omega (arith, split, k) in λ i. record { tx = id i; seq = n i })
+    (λ k. ap (λ (n : ℕ). rank t n) (ap (λ (x : KeyName). x.seq) k) ∙ sym split)
+    (λ k. let n : q.seq ≡ e.0 % 2 ^ 31 = omega (arith, split, k) in λ i. record { tx = id i; seq = n i })
 
 -- What is found among the events of a transaction.
 pub find_entries : (q : KeyName) (tx : List ℕ) (t : ℕ) (slots : List (Option Held)) (es : List Place) → find key_cmp q (map (entry_of tx slots) (segment t es)) ≡ cond (eq_by_cmp id_cmp q.tx tx) (event_at slots (place_of (rank t q.seq) (segment t es))) None
@@ -55,10 +55,10 @@ find_entries q tx t slots (e ∷ es) =
       | false ↦ λ _. rest
       | true ↦ λ home. elim (eq_by_cmp id_cmp q.tx tx) as (λ b. eq_by_cmp id_cmp q.tx tx ≡ b → find key_cmp q (map (entry_of tx slots) (segment t es)) ≡ cond b (event_at slots (place_of (rank t q.seq) (segment t es))) None
           → cond (eq_by_cmp key_cmp q (record { tx = tx; seq = e.0 % 2 ^ 31 })) (Some (stored_at slots e.1)) (find key_cmp q (map (entry_of tx slots) (segment t es))) ≡ cond b (event_at slots (cond (eq_by_cmp nat_cmp (rank t q.seq) e.0) (Some e.1) (place_of (rank t q.seq) (segment t es)))) None) [
-        | true ↦ λ is same. ap (λ b. cond b (Some (stored_at slots e.1)) (find key_cmp q (map (entry_of tx slots) (segment t es)))) (key_place q tx t e ((Decides-eqb (e.0 / 2 ^ 31) t).0 home) is)
-            ∙ elim (eq_by_cmp nat_cmp (rank t q.seq) e.0) as (λ b. cond b (Some (stored_at slots e.1)) (find key_cmp q (map (entry_of tx slots) (segment t es))) ≡ event_at slots (cond b (Some e.1) (place_of (rank t q.seq) (segment t es)))) [ true ↦ refl | false ↦ same ]
-        | false ↦ λ other same. ap (λ b. cond b (Some (stored_at slots e.1)) (find key_cmp q (map (entry_of tx slots) (segment t es)))) (not_so _ (key_test q _) (λ k. denied _ (id_test q.tx tx) other (ap (λ (x : KeyName). x.tx) k))) ∙ same
-      ] refl rest
+            | true ↦ λ is same. ap (λ b. cond b (Some (stored_at slots e.1)) (find key_cmp q (map (entry_of tx slots) (segment t es)))) (key_place q tx t e ((Decides-eqb (e.0 / 2 ^ 31) t).0 home) is)
+                ∙ elim (eq_by_cmp nat_cmp (rank t q.seq) e.0) as (λ b. cond b (Some (stored_at slots e.1)) (find key_cmp q (map (entry_of tx slots) (segment t es))) ≡ event_at slots (cond b (Some e.1) (place_of (rank t q.seq) (segment t es)))) [ true ↦ refl | false ↦ same ]
+            | false ↦ λ other same. ap (λ b. cond b (Some (stored_at slots e.1)) (find key_cmp q (map (entry_of tx slots) (segment t es)))) (not_so _ (key_test q _) (λ k. denied _ (id_test q.tx tx) other (ap (λ (x : KeyName). x.tx) k))) ∙ same
+          ] refl rest
     ] refl
 
 -- A rank of a segment is that of all places, where its number is one.

@@ -19,7 +19,7 @@ use Rattle.transaction_table.specs.declared.row.TableRow.{TableRow}
 use Rattle.transaction_table.specs.Table.{Row, AreRising, id_cmp, row_of}
 use Rattle.event_chain.specs.Flat.{Place, place_of, entry_of, segment, entries_of, flat}
 use Rattle.event_chain.specs.Kept.{HasPlace}
-use Rattle.event_chain.proofs.Tests.{id_test, not_so, denied}
+use Rattle.event_chain.proofs.Decided.{id_test, not_so, denied}
 use Rattle.event_chain.proofs.Flats.{missing}
 
 -- The ids of entries.
@@ -38,9 +38,9 @@ others x ys = filter (λ y. not (bytes_eq x y)) ys
 others_twice : (x : List ℕ) (ys : List (List ℕ)) → others x (others x ys) ≡ others x ys
 others_twice x [] = refl
 others_twice x (y ∷ ys) = elim (bytes_eq x y) as (λ b. bytes_eq x y ≡ b → others x (cond (not b) (y ∷ others x ys) (others x ys)) ≡ cond (not b) (y ∷ others x ys) (others x ys)) [
-    | true ↦ λ _. others_twice x ys
-    | false ↦ λ e. ap (λ b. cond (not b) (y ∷ others x (others x ys)) (others x (others x ys))) e ∙ ap (λ (zs : List (List ℕ)). y ∷ zs) (others_twice x ys)
-  ] refl
+  | true ↦ λ _. others_twice x ys
+  | false ↦ λ e. ap (λ b. cond (not b) (y ∷ others x (others x ys)) (others x (others x ys))) e ∙ ap (λ (zs : List (List ℕ)). y ∷ zs) (others_twice x ys)
+] refl
 
 -- The ids of one transaction's events, and what follows.
 run_distinct : (x : List ℕ) (slots : List (Option Held)) (p : Place) (ps : List Place) (ys : List (List ℕ)) → distinct (ids (map (entry_of x slots) (p ∷ ps)) ++ ys) ≡ x ∷ others x (distinct ys)
@@ -68,9 +68,10 @@ AllFilled (r ∷ rows) es = HasPlace es r.1.slot × AllFilled rows es
 -- That is so where each transaction found has one.
 all_filled : (rows : List Row) (es : List Place) → AreRising rows → ((tx : List ℕ) (row : TableRow) → row_of tx rows ≡ Some row → HasPlace es row.slot) → AllFilled rows es
 all_filled [] es rising filled = tt
-all_filled (r ∷ rows) es rising filled =
-    (filled r.0 r.1 (ap (λ b. cond b (Some r.1) (row_of r.0 rows)) ((id_test r.0 r.0).1 refl)),
-     all_filled rows es (second _ _ rising) (λ tx row is. filled tx row (ap (λ b. cond b (Some r.1) (row_of tx rows)) (not_so _ (id_test tx r.0) (λ e. gone (row_of tx rows) row is (ap (λ k. row_of k rows) e ∙ missing r.0 rows (first _ _ rising)))) ∙ is)))
+all_filled (r ∷ rows) es rising filled = (
+  filled r.0 r.1 (ap (λ b. cond b (Some r.1) (row_of r.0 rows)) ((id_test r.0 r.0).1 refl)),
+  all_filled rows es (second _ _ rising) (λ tx row is. filled tx row (ap (λ b. cond b (Some r.1) (row_of tx rows)) (not_so _ (id_test tx r.0) (λ e. gone (row_of tx rows) row is (ap (λ k. row_of k rows) e ∙ missing r.0 rows (first _ _ rising)))) ∙ is)),
+)
 
 -- What is found in a list makes it no empty one.
 split : (ps : List Place) → (r : ℕ) × ((s : ℕ) × (place_of r ps ≡ Some s)) → (p : Place) × ((rest : List Place) × (ps ≡ p ∷ rest))
@@ -79,8 +80,13 @@ split (p ∷ ps) some = (p, (ps, refl))
 
 -- A slot that has a place has a segment.
 pub some_segment : (t : ℕ) (es : List Place) → HasPlace es t → (p : Place) × ((ps : List Place) × (segment t es ≡ p ∷ ps))
-some_segment t es has = split (segment t es) (has.rank, (has.place,
-    find-where_key nat_cmp (λ r. r / 2 ^ 31 == t) has.rank (λ x e. ap (λ r. r / 2 ^ 31 == t) (sym (nat_cmp-IsAntisymmetric has.rank x e))) es ∙ ap (λ b. cond b (place_of has.rank es) None) ((Decides-eqb (has.rank / 2 ^ 31) t).1 has.slot_is) ∙ has.found))
+some_segment t es has = split (segment t es) (
+  has.rank,
+  (
+    has.place,
+    find-where_key nat_cmp (λ r. r / 2 ^ 31 == t) has.rank (λ x e. ap (λ r. r / 2 ^ 31 == t) (sym (nat_cmp-IsAntisymmetric has.rank x e))) es ∙ ap (λ b. cond b (place_of has.rank es) None) ((Decides-eqb (has.rank / 2 ^ 31) t).1 has.slot_is) ∙ has.found,
+  ),
+)
 
 -- The transactions are those of the table.
 ids_rows : (rows : List Row) (es : List Place) (slots : List (Option Held)) → AreRising rows → AllFilled rows es → transactions_of (flat rows es slots) ≡ names rows

@@ -98,11 +98,11 @@ module _ (limits : Bounds) (table : Table) (store : Slots) (stored live carriers
         (put nat_cmp r0 s0 stored.entries) (put nat_cmp r0 s0 live.entries) (put_if carries r0 s0 carriers.entries) (put_if names r0 s0 naming.entries) limits.events
         refl did.transactions did.slots did.readings did.room did.stored_is did.live_is did.carriers_is did.naming_is (did.stored_cap ∙ r.for_stored) (did.live_cap ∙ r.for_live) (did.carriers_cap ∙ r.for_carriers) (did.naming_cap ∙ r.for_naming)
         (put_chains limits table.rows t.rows stored.entries live.entries carriers.entries naming.entries store.slots key row after r0 s0 table.capacity store.readings store.capacity chains.keyed chains.indexed chains.figured chains.counted named number rank_is did.rising did.apart
-          event did.free did.within none carries names did.carries_is did.names_is did.one_more did.ends (record { for_stored = refl; for_live = refl; for_carriers = refl; for_naming = refl }))
+        event did.free did.within none carries names did.carries_is did.names_is did.one_more did.ends (record { for_stored = refl; for_live = refl; for_carriers = refl; for_naming = refl }))
 
     -- The event was put in.
     pub inserted_events : events_of t s st ≡ finite.insert (events_of table store stored) key (record { event = event; voided = false })
     inserted_events =
         (λ i. finite.from_sorted {R = key_cmp} (flat t.rows (did.stored_is i) (did.slots i)))
         ∙ map_put (flat table.rows stored.entries store.slots) (flat t.rows (put nat_cmp r0 s0 stored.entries) (set store.slots s0 (Some (r0, record { event = event; voided = false })))) key (record { event = event; voided = false }) (all_rising limits table store stored live carriers naming chains)
-          (put_all limits table.rows t.rows stored.entries live.entries carriers.entries naming.entries store.slots key row after r0 s0 table.capacity store.readings store.capacity chains.keyed chains.indexed chains.figured chains.counted named number rank_is did.rising did.apart event did.free did.within none)
+        (put_all limits table.rows t.rows stored.entries live.entries carriers.entries naming.entries store.slots key row after r0 s0 table.capacity store.readings store.capacity chains.keyed chains.indexed chains.figured chains.counted named number rank_is did.rising did.apart event did.free did.within none)

@@ -1,4 +1,4 @@
-mod Tests
+mod Decided
 mod Flats
 mod Sums
 mod Named

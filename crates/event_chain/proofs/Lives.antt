@@ -25,7 +25,7 @@ use Rattle.event_chain.specs.Edits.{first_under, last_under, evse_at}
 use Rattle.ledger_model.specs.declared.kind.Kind.{Kind}
 use Rattle.ledger_model.specs.Complete.{kinds_of}
 use Rattle.ledger_model.specs.Gaps.{numbers_of}
-use Rattle.event_chain.proofs.Tests.{key_test, id_test, rank_test, denied, not_so}
+use Rattle.event_chain.proofs.Decided.{key_test, id_test, rank_test, denied, not_so}
 use Rattle.event_chain.proofs.Flats.{find_entries, number_is, find_flat, flat_rising, same_flat, entries_rising, nat_less, less_nat}
 
 -- An event, where it passes a test.
@@ -100,23 +100,23 @@ module _ (rows : List Row) (es : List Place) (slots : List (Option Held)) (risin
         | false ↦ refl
         | true ↦ ap (event_at slots) (is_sub.each (rank row.slot seq)) ∙ told (place_of (rank row.slot seq) es)
       ] where
-    told : (o : Option ℕ) → event_at slots (chosen test slots o) ≡ passing test (event_at slots o)
-    told None = refl
-    told (Some s) = elim (test (stored_at slots s)) as (λ b. event_at slots (cond b (Some s) None) ≡ cond b (Some (stored_at slots s)) None) [ true ↦ refl | false ↦ refl ]
+        told : (o : Option ℕ) → event_at slots (chosen test slots o) ≡ passing test (event_at slots o)
+        told None = refl
+        told (Some s) = elim (test (stored_at slots s)) as (λ b. event_at slots (cond b (Some s) None) ≡ cond b (Some (stored_at slots s)) None) [ true ↦ refl | false ↦ refl ]
 
   -- Those of the transaction that pass are those of its segment.
   pub segment_passing : passing_of test tx (flat rows es slots) ≡ map (entry_of tx slots) (segment row.slot sub)
   segment_passing =
       let all = flat rows es slots in let seg = map (entry_of tx slots) (segment row.slot sub) in
       same_flat (passing_of test tx all) seg (filter_rising (λ e. bytes_eq tx e.0.tx && test e.1) all (flat_rising rows es slots rising ranks))
-        (subst IsRising (append-nil seg) (entries_rising tx row.slot slots sub [] is_sub.rising tt (λ n. tt))) (λ q.
-          find_passing test tx q all (flat_rising rows es slots rising ranks) ∙ ap (λ o. cond (bytes_eq tx q.tx) (passing test o) None) (find_flat q rows es slots rising)
-          ∙ elim (bytes_eq tx q.tx) as (λ b. bytes_eq tx q.tx ≡ b → cond b (passing test (look rows es slots q)) None ≡ find key_cmp q seg) [
-            | false ↦ λ other. sym (find_entries q tx row.slot slots sub ∙ ap (λ b. cond b (event_at slots (place_of (rank row.slot q.seq) (segment row.slot sub))) None) (not_so _ (id_test q.tx tx) (λ e. denied _ (bytes_eq-Decides tx q.tx) other (sym e))))
-            | true ↦ λ same. let id : tx ≡ q.tx = (bytes_eq-Decides tx q.tx).0 same in
-                ap (λ t. passing test (look_in es slots q.seq (row_of t rows))) (sym id) ∙ ap (λ o. passing test (look_in es slots q.seq o)) row_is ∙ sym (sub_number q.seq) ∙ ap (event_at slots) (sym (number_is row.slot q.seq sub))
-                ∙ sym (find_entries q tx row.slot slots sub ∙ ap (λ b. cond b (event_at slots (place_of (rank row.slot q.seq) (segment row.slot sub))) None) ((id_test q.tx tx).1 (sym id)))
-          ] refl)
+      (subst IsRising (append-nil seg) (entries_rising tx row.slot slots sub [] is_sub.rising tt (λ n. tt))) (λ q.
+      find_passing test tx q all (flat_rising rows es slots rising ranks) ∙ ap (λ o. cond (bytes_eq tx q.tx) (passing test o) None) (find_flat q rows es slots rising)
+      ∙ elim (bytes_eq tx q.tx) as (λ b. bytes_eq tx q.tx ≡ b → cond b (passing test (look rows es slots q)) None ≡ find key_cmp q seg) [
+        | false ↦ λ other. sym (find_entries q tx row.slot slots sub ∙ ap (λ b. cond b (event_at slots (place_of (rank row.slot q.seq) (segment row.slot sub))) None) (not_so _ (id_test q.tx tx) (λ e. denied _ (bytes_eq-Decides tx q.tx) other (sym e))))
+        | true ↦ λ same. let id : tx ≡ q.tx = (bytes_eq-Decides tx q.tx).0 same in
+            ap (λ t. passing test (look_in es slots q.seq (row_of t rows))) (sym id) ∙ ap (λ o. passing test (look_in es slots q.seq o)) row_is ∙ sym (sub_number q.seq) ∙ ap (event_at slots) (sym (number_is row.slot q.seq sub))
+            ∙ sym (find_entries q tx row.slot slots sub ∙ ap (λ b. cond b (event_at slots (place_of (rank row.slot q.seq) (segment row.slot sub))) None) ((id_test q.tx tx).1 (sym id)))
+      ] refl)
 
 module _ (rows : List Row) (es : List Place) (slots : List (Option Held)) (rising : AreRising rows) (ranks : AreRanks es) (test : Stored → Bool) (tx : List ℕ) (absent : row_of tx rows ≡ None) where
   -- None of an absent transaction pass.
@@ -124,11 +124,11 @@ module _ (rows : List Row) (es : List Place) (slots : List (Option Held)) (risin
   none_passing =
       let all = flat rows es slots in
       same_flat (passing_of test tx all) [] (filter_rising (λ e. bytes_eq tx e.0.tx && test e.1) all (flat_rising rows es slots rising ranks)) tt (λ q.
-        find_passing test tx q all (flat_rising rows es slots rising ranks) ∙ ap (λ o. cond (bytes_eq tx q.tx) (passing test o) None) (find_flat q rows es slots rising)
-        ∙ elim (bytes_eq tx q.tx) as (λ b. bytes_eq tx q.tx ≡ b → cond b (passing test (look rows es slots q)) None ≡ None) [
-          | false ↦ λ _. refl
-          | true ↦ λ same. ap (λ t. passing test (look_in es slots q.seq (row_of t rows))) (sym ((bytes_eq-Decides tx q.tx).0 same)) ∙ ap (λ o. passing test (look_in es slots q.seq o)) absent
-        ] refl)
+      find_passing test tx q all (flat_rising rows es slots rising ranks) ∙ ap (λ o. cond (bytes_eq tx q.tx) (passing test o) None) (find_flat q rows es slots rising)
+      ∙ elim (bytes_eq tx q.tx) as (λ b. bytes_eq tx q.tx ≡ b → cond b (passing test (look rows es slots q)) None ≡ None) [
+        | false ↦ λ _. refl
+        | true ↦ λ same. ap (λ t. passing test (look_in es slots q.seq (row_of t rows))) (sym ((bytes_eq-Decides tx q.tx).0 same)) ∙ ap (λ o. passing test (look_in es slots q.seq o)) absent
+      ] refl)
 
 -- How many live events a transaction has.
 pub live_length : (tx : List ℕ) (es : List Entry) → length (live_of tx es) ≡ sum_by (live_one tx) es
@@ -201,7 +201,7 @@ evse_first (Some e) = unwrap_or e.1.event.evse 0
 
 -- One entry more.
 named : (e : Entry) (mine voided : Bool) (evse : Option ℕ) → e.1.event.evse ≡ evse → (lives names : List Entry) → first_or_none (filter_map (λ x. x.1.event.evse) lives) ≡ evse_first (slice_get names 0)
-  → first_or_none (filter_map (λ x. x.1.event.evse) (cond (mine && not voided) (e ∷ lives) lives)) ≡ evse_first (slice_get (cond (mine && (not voided && is_some evse)) (e ∷ names) names) 0)
+    → first_or_none (filter_map (λ x. x.1.event.evse) (cond (mine && not voided) (e ∷ lives) lives)) ≡ evse_first (slice_get (cond (mine && (not voided && is_some evse)) (e ∷ names) names) 0)
 named e false voided evse is lives names rest = rest
 named e true true evse is lives names rest = rest
 named e true false None is lives names rest = ap (λ (o : Option ℕ). first_or_none (cons_option o (filter_map (λ (x : Entry). x.1.event.evse) lives))) is ∙ rest
@@ -216,12 +216,13 @@ evse_naming tx (e ∷ es) = let rest = evse_naming tx es in named e (bytes_eq tx
 pub evse_number : (rows : List Row) (es names : List Place) (slots : List (Option Held)) → AreRising rows → AreRanks es → IsSub is_naming es slots names → (tx : List ℕ) → evse_of tx (flat rows es slots) ≡ evse_at slots (first_under names (row_of tx rows))
 evse_number rows es names slots rising ranks sub tx =
     ap (λ (xs : List Entry). first_or_none (filter_map (λ e. e.1.event.evse) xs)) (live_of_is tx (flat rows es slots)) ∙ evse_naming tx (flat rows es slots) ∙ told (row_of tx rows) refl where
-  placed : (ps : List Place) → evse_first (slice_get (map (entry_of tx slots) ps) 0) ≡ evse_at slots (slice_get ps 0)
-  placed [] = refl
-  placed (p ∷ ps) = refl
-  told : (o : Option TableRow) → row_of tx rows ≡ o → evse_first (slice_get (passing_of is_naming tx (flat rows es slots)) 0) ≡ evse_at slots (first_under names o)
-  told None is = ap (λ (xs : List Entry). evse_first (slice_get xs 0)) (none_passing rows es slots rising ranks is_naming tx is)
-  told (Some row) is = ap (λ (xs : List Entry). evse_first (slice_get xs 0)) (segment_passing rows es slots rising ranks is_naming names sub tx row is) ∙ placed (segment row.slot names)
+      placed : (ps : List Place) → evse_first (slice_get (map (entry_of tx slots) ps) 0) ≡ evse_at slots (slice_get ps 0)
+      placed [] = refl
+      placed (p ∷ ps) = refl
+
+      told : (o : Option TableRow) → row_of tx rows ≡ o → evse_first (slice_get (passing_of is_naming tx (flat rows es slots)) 0) ≡ evse_at slots (first_under names o)
+      told None is = ap (λ (xs : List Entry). evse_first (slice_get xs 0)) (none_passing rows es slots rising ranks is_naming tx is)
+      told (Some row) is = ap (λ (xs : List Entry). evse_first (slice_get xs 0)) (segment_passing rows es slots rising ranks is_naming names sub tx row is) ∙ placed (segment row.slot names)
 
 -- A rank below all is not found.
 below_none : (r : ℕ) (es : List Place) → T (below_all nat_cmp r es) → place_of r es ≡ None

@@ -10,7 +10,7 @@ use Rattle.event_store.specs.Slots.{Held}
 use Rattle.transaction_table.specs.declared.row.TableRow.{TableRow}
 use Rattle.transaction_table.specs.Table.{Row, id_cmp, row_of}
 use Rattle.event_chain.specs.Flat.{Place, place_of, stored_at, event_at, number_at, look_in, look}
-use Rattle.event_chain.proofs.Tests.{id_test, denied}
+use Rattle.event_chain.proofs.Decided.{id_test, denied}
 
 -- One place, one slot and one transaction may differ.
 pub record IsMove (rows new : List Row) (es more : List Place) (slots held : List (Option Held)) (key : KeyName) (slot r0 s0 : ℕ) : Type 0 where

@@ -132,17 +132,17 @@ module _ (limits : Bounds) (table : Table) (store : Slots) (stored live carriers
       spot_in : (test : Stored → Bool) (sub is' : List Place) (b : Bool) → is' ≡ put_if b r0 s0 sub → b ≡ test now → test spot_event ≡ false → IsSub test stored.entries store.slots sub → IsSub test stored.entries held is'
       spot_in test sub is' b is b_is never was = subst (IsSub test stored.entries held) (sym is)
           (mark_in limits table.rows new stored.entries live.entries carriers.entries naming.entries store.slots key row after r0 s0 table.capacity store.readings store.capacity chains.keyed chains.indexed chains.figured chains.counted named_now number rank_is rising apart
-            spot_event now spot_here spot_within at test sub b b_is never was)
+          spot_event now spot_here spot_within at test sub b b_is never was)
 
       -- An index that gives the place up.
       spot_out : (test : Stored → Bool) (sub is' : List Place) (b : Bool) → is' ≡ out_if b r0 sub → b ≡ test spot_event → test now ≡ false → IsSub test stored.entries store.slots sub → IsSub test stored.entries held is'
       spot_out test sub is' b is b_is never was = subst (IsSub test stored.entries held) (sym is)
           (mark_out limits table.rows new stored.entries live.entries carriers.entries naming.entries store.slots key row after r0 s0 table.capacity store.readings store.capacity chains.keyed chains.indexed chains.figured chains.counted named_now number rank_is rising apart
-            spot_event now spot_here spot_within at test sub b b_is never was)
+          spot_event now spot_here spot_within at test sub b b_is never was)
 
       -- The indexes of an event that is live again.
       pub in_indexes : (l c n : List Place) (carries names : Bool) → voided ≡ false → spot_event.voided ≡ true → l ≡ put_if true r0 s0 live.entries → c ≡ put_if carries r0 s0 carriers.entries → n ≡ put_if names r0 s0 naming.entries
-        → carries ≡ nat_lt 0 (length spot_event.event.readings) → names ≡ is_some spot_event.event.evse → AreIndexed stored.entries held l c n
+          → carries ≡ nat_lt 0 (length spot_event.event.readings) → names ≡ is_some spot_event.event.evse → AreIndexed stored.entries held l c n
       in_indexes l c n carries names no_more was l_is c_is n_is carries_is names_is = record {
         lives = spot_in is_live live.entries l true l_is (sym (ap not no_more)) (ap not was) chains.indexed.lives;
         carry = spot_in is_carrier carriers.entries c carries c_is (carries_is ∙ sym (ap (λ v. not v && nat_lt 0 (length spot_event.event.readings)) no_more)) (ap (λ v. not v && nat_lt 0 (length spot_event.event.readings)) was) chains.indexed.carry;
@@ -151,7 +151,7 @@ module _ (limits : Bounds) (table : Table) (store : Slots) (stored live carriers
 
       -- The indexes of an event that was voided.
       pub out_indexes : (l c n : List Place) (carries names : Bool) → voided ≡ true → spot_event.voided ≡ false → l ≡ out_if true r0 live.entries → c ≡ out_if carries r0 carriers.entries → n ≡ out_if names r0 naming.entries
-        → carries ≡ nat_lt 0 (length spot_event.event.readings) → names ≡ is_some spot_event.event.evse → AreIndexed stored.entries held l c n
+          → carries ≡ nat_lt 0 (length spot_event.event.readings) → names ≡ is_some spot_event.event.evse → AreIndexed stored.entries held l c n
       out_indexes l c n carries names now_void was l_is c_is n_is carries_is names_is = record {
         lives = spot_out is_live live.entries l true l_is (sym (ap not was)) (ap not now_void) chains.indexed.lives;
         carry = spot_out is_carrier carriers.entries c carries c_is (carries_is ∙ sym (ap (λ v. not v && nat_lt 0 (length spot_event.event.readings)) was)) (ap (λ v. not v && nat_lt 0 (length spot_event.event.readings)) now_void) chains.indexed.carry;
@@ -191,15 +191,15 @@ module _ (limits : Bounds) (table : Table) (store : Slots) (stored live carriers
           seal limits t s stored l c n t.rows table.capacity (set store.slots s0 (Some (r0, st))) store.readings store.capacity stored.entries l.entries c.entries n.entries limits.events
           refl did.transactions slots_are did.readings did.room refl refl refl refl r.for_stored (did.live_cap ∙ r.for_live) (did.carriers_cap ∙ r.for_carriers) (did.naming_cap ∙ r.for_naming)
           (mark_chains limits table.rows t.rows stored.entries live.entries carriers.entries naming.entries store.slots key row after r0 s0 table.capacity store.readings store.capacity chains.keyed chains.indexed chains.figured chains.counted named number rank_is did.rising did.apart
-            spot_event st spot_here spot_within at l.entries c.entries n.entries did.indexes refl did.lives did.ends (record { for_stored = refl; for_live = refl; for_carriers = refl; for_naming = refl }))
+          spot_event st spot_here spot_within at l.entries c.entries n.entries did.indexes refl did.lives did.ends (record { for_stored = refl; for_live = refl; for_carriers = refl; for_naming = refl }))
 
       -- The event was marked.
       pub marked_events : events_of t s stored ≡ marked (events_of table store stored) key voided
       marked_events =
           (λ i. finite.from_sorted {R = key_cmp} (flat t.rows stored.entries (slots_are i)))
           ∙ map_put all (flat t.rows stored.entries (set store.slots s0 (Some (r0, st)))) key st (all_rising limits table store stored live carriers naming chains)
-            (mark_all limits table.rows t.rows stored.entries live.entries carriers.entries naming.entries store.slots key row after r0 s0 table.capacity store.readings store.capacity chains.keyed chains.indexed chains.figured chains.counted named number rank_is did.rising did.apart
-              spot_event st spot_here spot_within at)
+          (mark_all limits table.rows t.rows stored.entries live.entries carriers.entries naming.entries store.slots key row after r0 s0 table.capacity store.readings store.capacity chains.keyed chains.indexed chains.figured chains.counted named number rank_is did.rising did.apart
+          spot_event st spot_here spot_within at)
           ∙ sym (ap (marked_at (events_of table store stored) key voided) spot_get)
 
 module _ (limits : Bounds) (table : Table) (store : Slots) (stored live carriers naming : Index) (chains : IsChains limits table store stored live carriers naming) (key : KeyName) (s0 : ℕ) where
@@ -209,6 +209,6 @@ module _ (limits : Bounds) (table : Table) (store : Slots) (stored live carriers
     found : (o : Option TableRow) → place_in stored.entries key.seq o ≡ Some s0 → is_some (value_at store.slots s0) ≡ true
     found None h = cc
     found (Some row) h = elim (nat_lt key.seq (2 ^ 31)) as (λ b. cond b (place_of (rank row.slot key.seq) stored.entries) None ≡ Some s0 → is_some (value_at store.slots s0) ≡ true) [
-        | true ↦ λ at. ap is_some (chains.keyed.homes (rank row.slot key.seq) s0 at).held_is
-        | false ↦ λ f. cc
-      ] h
+      | true ↦ λ at. ap is_some (chains.keyed.homes (rank row.slot key.seq) s0 at).held_is
+      | false ↦ λ f. cc
+    ] h

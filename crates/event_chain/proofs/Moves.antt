@@ -17,7 +17,7 @@ use Rattle.transaction_table.specs.Table.{Row, AreRising, AreApart, IsFresh, id_
 use Rattle.event_chain.specs.Flat.{Place, place_of, stored_in, stored_at, event_at, number_at, look_in, look}
 use Rattle.event_chain.specs.Kept.{AreRanks, IsHome, HasPlace, IsKeyed, IsNew, IsNamed, IsBare, IsLeft}
 use Rattle.event_chain.specs.Edits.{out}
-use Rattle.event_chain.proofs.Tests.{id_test, rank_test, denied, not_so}
+use Rattle.event_chain.proofs.Decided.{id_test, rank_test, denied, not_so}
 use Rattle.event_chain.proofs.Looks.{IsMove}
 
 -- What is found under a rank after one was put in.
@@ -110,16 +110,16 @@ module _ (rows : List Row) (es : List Place) (slots : List (Option Held)) (keyed
     -- The slot is the transaction's alone.
     pub apart_named : (q : List ℕ) (other : TableRow) → row_of q rows ≡ Some other → other.slot ≡ row.slot → q ≡ tx
     apart_named q other is same = elim named.known [
-        | inl was ↦ keyed.apart q tx other row is was same
-        | inr fresh ↦ absurd (fresh.fresh q other is same)
-      ]
+      | inl was ↦ keyed.apart q tx other row is was same
+      | inr fresh ↦ absurd (fresh.fresh q other is same)
+    ]
 
     -- What was found of the transaction is what its slot's numbers tell.
     pub before_named : (seq : ℕ) → look_in es slots seq (row_of tx rows) ≡ event_at slots (number_at row.slot seq es)
     before_named seq = elim named.known [
-        | inl was ↦ ap (look_in es slots seq) was
-        | inr fresh ↦ ap (look_in es slots seq) fresh.absent ∙ sym (ap (event_at slots) (no_number row.slot seq fresh.fresh))
-      ]
+      | inl was ↦ ap (look_in es slots seq) was
+      | inr fresh ↦ ap (look_in es slots seq) fresh.absent ∙ sym (ap (event_at slots) (no_number row.slot seq fresh.fresh))
+    ]
 
     -- So is what is found after.
     pub after_named : (more : List Place) (held : List (Option Held)) (seq : ℕ) → look_in more held seq (row_of tx new) ≡ event_at held (number_at row.slot seq more)
@@ -176,20 +176,20 @@ module _ (rows : List Row) (es : List Place) (slots : List (Option Held)) (keyed
 
   -- The places of a transaction after a place was put in under its rank.
   pub put_keyed : (new : List Row) (tx : List ℕ) (row after : TableRow) (r0 s0 : ℕ) (st : Stored) → IsNamed rows new tx row after → r0 / 2 ^ 31 ≡ row.slot → value_at slots s0 ≡ None → s0 < length slots → AreRising new → AreApart new → AreRanks (put nat_cmp r0 s0 es)
-    → IsKeyed new (put nat_cmp r0 s0 es) (set slots s0 (Some (r0, st)))
+      → IsKeyed new (put nat_cmp r0 s0 es) (set slots s0 (Some (r0, st)))
   put_keyed new tx row after r0 s0 st named home free lt rising apart ranks = record {
     rising = rising;
     apart = apart;
     ranks = ranks;
     homes = λ r s is. elim (cases_eq r r0) [
       | inl same ↦ let at : Some s ≡ Some s0 = sym is ∙ ap (λ k. place_of k (put nat_cmp r0 s0 es)) same ∙ put_here r0 s0 es in let e : s ≡ s0 = cc in record {
-          tx = tx;
-          row = after;
-          row_is = named.there;
-          slot_is = ap (λ k. k / 2 ^ 31) same ∙ home ∙ sym named.same;
-          stored = st;
-          held_is = ap (value_at (set slots s0 (Some (r0, st)))) e ∙ get_or-set_same slots s0 (Some (r0, st)) None lt ∙ ap (λ k. Some (k, st)) (sym same);
-        }
+        tx = tx;
+        row = after;
+        row_is = named.there;
+        slot_is = ap (λ k. k / 2 ^ 31) same ∙ home ∙ sym named.same;
+        stored = st;
+        held_is = ap (value_at (set slots s0 (Some (r0, st)))) e ∙ get_or-set_same slots s0 (Some (r0, st)) None lt ∙ ap (λ k. Some (k, st)) (sym same);
+      }
       | inr other ↦ moved_home new s0 (Some (r0, st)) r s (λ q of at _. kept_row new tx row after named q of at) (sym (put_other r r0 s0 es other) ∙ is) (λ e. other (own_none r r0 s0 free (sym (put_other r r0 s0 es other) ∙ is ∙ ap Some e)))
     ];
     filled = λ q of is. elim (eq_by_cmp id_cmp q tx) as (λ b. eq_by_cmp id_cmp q tx ≡ b → HasPlace (put nat_cmp r0 s0 es) of.slot) [
@@ -208,13 +208,13 @@ module _ (rows : List Row) (es : List Place) (slots : List (Option Held)) (keyed
     ranks = keyed.ranks;
     homes = λ r s is. elim (cases_eq r r0) [
       | inl same ↦ let there : Some s ≡ Some s0 = sym is ∙ ap (λ k. place_of k es) same ∙ at in let e : s ≡ s0 = cc in record {
-          tx = tx;
-          row = after;
-          row_is = named.there;
-          slot_is = ap (λ k. k / 2 ^ 31) same ∙ home ∙ sym named.same;
-          stored = st;
-          held_is = ap (value_at (set slots s0 (Some (r0, st)))) e ∙ get_or-set_same slots s0 (Some (r0, st)) None lt ∙ ap (λ k. Some (k, st)) (sym same);
-        }
+        tx = tx;
+        row = after;
+        row_is = named.there;
+        slot_is = ap (λ k. k / 2 ^ 31) same ∙ home ∙ sym named.same;
+        stored = st;
+        held_is = ap (value_at (set slots s0 (Some (r0, st)))) e ∙ get_or-set_same slots s0 (Some (r0, st)) None lt ∙ ap (λ k. Some (k, st)) (sym same);
+      }
       | inr other ↦ moved_home new s0 (Some (r0, st)) r s (λ q of at _. kept_row new tx row after named q of at) is (λ e. other (own_rank r r0 s0 was here (is ∙ ap Some e)))
     ];
     filled = λ q of is. elim (eq_by_cmp id_cmp q tx) as (λ b. eq_by_cmp id_cmp q tx ≡ b → HasPlace es of.slot) [
@@ -227,9 +227,9 @@ module _ (rows : List Row) (es : List Place) (slots : List (Option Held)) (keyed
   -- A transaction that went is found no more.
   pub after_left : (new : List Row) (left : List Place) (held : List (Option Held)) (tx : List ℕ) (row : TableRow) → IsLeft rows new left tx row → (seq : ℕ) → look_in left held seq (row_of tx new) ≡ event_at held (number_at row.slot seq left)
   after_left new left held tx row is seq = elim is.end [
-      | inl kept ↦ ap (look_in left held seq) kept.0
-      | inr gone ↦ ap (look_in left held seq) gone.0 ∙ sym (ap (event_at held) (bare_number left row.slot seq gone.1))
-    ]
+    | inl kept ↦ ap (look_in left held seq) kept.0
+    | inr gone ↦ ap (look_in left held seq) gone.0 ∙ sym (ap (event_at held) (bare_number left row.slot seq gone.1))
+  ]
 
   -- An event taken out is such a move.
   pub out_move : (new : List Row) (key : KeyName) (row : TableRow) (r0 s0 : ℕ) (st : Stored) → IsLeft rows new (out r0 es) key.tx row → key.seq < 2 ^ 31 → r0 ≡ rank row.slot key.seq → value_at slots s0 ≡ Some (r0, st) → IsMove rows new es (out r0 es) slots (set slots s0 None) key row.slot r0 s0
@@ -256,17 +256,17 @@ module _ (rows : List Row) (es : List Place) (slots : List (Option Held)) (keyed
       | inr other ↦ let old = sym (out_other r r0 es other) ∙ is in
           moved_home new s0 None r s (λ q of at on. elim (eq_by_cmp id_cmp q tx) as (λ b. eq_by_cmp id_cmp q tx ≡ b → (now : TableRow) × ((row_of q new ≡ Some now) × (now.slot ≡ of.slot))) [
             | true ↦ λ e. let id = (id_test q tx).0 e in let same = same_slot (row_of tx rows) row of left.was (sym (ap (λ k. row_of k rows) id) ∙ at) in elim left.end [
-                | inl kept ↦ (row, (ap (λ k. row_of k new) id ∙ kept.0, same))
-                | inr gone ↦ absurd (gone.1 r s is (on ∙ sym same))
-              ]
+              | inl kept ↦ (row, (ap (λ k. row_of k new) id ∙ kept.0, same))
+              | inr gone ↦ absurd (gone.1 r s is (on ∙ sym same))
+            ]
             | false ↦ λ e. (of, (left.others q (denied _ (id_test q tx) e) ∙ at, refl))
           ] refl) old (λ e. other (own_rank r r0 s0 st here (old ∙ ap Some e)))
     ];
     filled = λ q of is. elim (eq_by_cmp id_cmp q tx) as (λ b. eq_by_cmp id_cmp q tx ≡ b → HasPlace (out r0 es) of.slot) [
       | true ↦ λ e. let there = sym (ap (λ k. row_of k new) ((id_test q tx).0 e)) ∙ is in elim left.end [
-          | inl kept ↦ subst (HasPlace (out r0 es)) (same_slot (row_of tx new) row of kept.0 there) kept.1
-          | inr gone ↦ absurd (no_row (row_of tx new) of there gone.0)
-        ]
+        | inl kept ↦ subst (HasPlace (out r0 es)) (same_slot (row_of tx new) row of kept.0 there) kept.1
+        | inr gone ↦ absurd (no_row (row_of tx new) of there gone.0)
+      ]
       | false ↦ λ e. let apart_ids = denied _ (id_test q tx) e in let was = sym (left.others q apart_ids) ∙ is in let old = keyed.filled q of was in
           record { rank = old.rank; place = old.place; found = out_other old.rank r0 es (λ k. apart_ids (keyed.apart q tx of row was left.was (sym old.slot_is ∙ ap (λ z. z / 2 ^ 31) k ∙ home))) ∙ old.found; slot_is = old.slot_is }
     ] refl;

@@ -8,7 +8,7 @@ use Rattle.transaction_table.specs.declared.row.TableRow.{TableRow}
 use Rattle.transaction_table.specs.Table.{Row, id_cmp, row_of, with_row, without_row}
 use Rattle.event_chain.specs.Flat.{Place}
 use Rattle.event_chain.specs.Kept.{HasPlace, IsBare, IsNew, IsNamed, IsEntered, IsLeft}
-use Rattle.event_chain.proofs.Tests.{id_test, not_so}
+use Rattle.event_chain.proofs.Decided.{id_test, not_so}
 
 turned : {A : Type 0} (b : Bool) (x y : A) → cond (not b) x y ≡ cond b y x
 turned true x y = refl
@@ -31,19 +31,19 @@ row_out q tx rows =
 -- A transaction that was taken out, as no place of it is left.
 pub left_out : (rows new : List Row) (left : List Place) (tx : List ℕ) (row : TableRow) → new ≡ without_row tx rows → row_of tx rows ≡ Some row → IsBare left row.slot → IsLeft rows new left tx row
 left_out rows new left tx row is was bare = subst (λ rs. IsLeft rows rs left tx row) (sym is) (record {
-    was = was;
-    others = λ q other. row_out q tx rows ∙ ap (λ b. cond b None (row_of q rows)) (not_so _ (id_test q tx) other);
-    end = inr (row_out tx tx rows ∙ ap (λ b. cond b None (row_of tx rows)) ((id_test tx tx).1 refl), bare);
-  })
+  was = was;
+  others = λ q other. row_out q tx rows ∙ ap (λ b. cond b None (row_of q rows)) (not_so _ (id_test q tx) other);
+  end = inr (row_out tx tx rows ∙ ap (λ b. cond b None (row_of tx rows)) ((id_test tx tx).1 refl), bare);
+})
 
 -- A transaction that was entered, and its row written.
 pub named_after : (rows mid new : List Row) (tx : List ℕ) (row after : TableRow) → IsEntered rows mid tx row → new ≡ with_row tx after mid → after.slot ≡ row.slot → IsNamed rows new tx row after
 named_after rows mid new tx row after entered is same = subst (λ rs. IsNamed rows rs tx row after) (sym is) (record {
-    there = row_here tx after mid;
-    same = same;
-    others = λ q other. row_other q tx after mid other ∙ elim entered [
-      | inl was ↦ ap (row_of q) was.1
-      | inr fresh ↦ ap (row_of q) fresh.1 ∙ row_other q tx row rows other
-    ];
-    known = elim entered [ inl was ↦ inl was.0 | inr fresh ↦ inr fresh.0 ];
-  })
+  there = row_here tx after mid;
+  same = same;
+  others = λ q other. row_other q tx after mid other ∙ elim entered [
+    | inl was ↦ ap (row_of q) was.1
+    | inr fresh ↦ ap (row_of q) fresh.1 ∙ row_other q tx row rows other
+  ];
+  known = elim entered [ inl was ↦ inl was.0 | inr fresh ↦ inr fresh.0 ];
+})

@@ -7,7 +7,7 @@ use Rattle.std.specs.FinMap.{FinMap, find, put}
 use Rattle.std.specs.FinMap.Entries.{is_sorted-put, length-put, length_without}
 use Rattle.std.proofs.lemmas.Slice.Eq.{bytes_eq-Decides}
 use Rattle.std.proofs.lemmas.List.Sums.{sum_by-set}
-use Rattle.event_chain.proofs.Tests.{id_test, denied}
+use Rattle.event_chain.proofs.Decided.{id_test, denied}
 use Rattle.slot_arena.specs.Arena.{value_at, held_count}
 use Rattle.key_index.specs.Key.{rank}
 use Rattle.key_index.specs.Index.{Index, index}
@@ -122,19 +122,26 @@ module _ (limits : Bounds) (rows new : List Row) (es live carriers naming : List
     put_sub test sub b is was =
         let move = put_moved in
         sub_move test es more sub (put_if b r0 s0 sub) slots held r0 s0 was move.ranks (put_if_others b r0 s0 sub) move.own move.stays (put_if_ranks b r0 s0 sub was.rising)
-          (put_if_here b r0 s0 sub (was.each r0 ∙ ap (chosen test slots) none) ∙ ap (λ c. cond c (Some s0) None) (is ∙ sym (ap test put_stored)) ∙ sym (ap (chosen test held) (put_here r0 s0 es)))
+        (put_if_here b r0 s0 sub (was.each r0 ∙ ap (chosen test slots) none) ∙ ap (λ c. cond c (Some s0) None) (is ∙ sym (ap test put_stored)) ∙ sym (ap (chosen test held) (put_here r0 s0 es)))
 
     -- Chains with an event put in.
     pub put_chains : (carries names : Bool) → carries ≡ is_carrier st → names ≡ is_naming st → after.live ≡ row.live + 1 → after.ends ≡ row.ends + cond (is_end event.kind) 1 0 → AreRoomy limits.events limits.events limits.events limits.events limits.events
-      → IsChains limits (record { rows = new; capacity = transactions }) (record { slots = held; readings = readings + length event.readings; capacity = room }) (index more limits.events) (index (put_if true r0 s0 live) limits.events) (index (put_if carries r0 s0 carriers) limits.events) (index (put_if names r0 s0 naming) limits.events)
+        → IsChains limits (record { rows = new; capacity = transactions }) (record { slots = held; readings = readings + length event.readings; capacity = room }) (index more limits.events) (index (put_if true r0 s0 live) limits.events) (index (put_if carries r0 s0 carriers) limits.events) (index (put_if names r0 s0 naming) limits.events)
     put_chains carries names carries_is names_is live_is ends_is roomy = record {
       keyed = put_keyed rows es slots keyed new key.tx row after r0 s0 st named home free within rising apart put_ranks;
       indexed = record { lives = put_sub is_live live true refl indexed.lives; carry = put_sub is_carrier carriers carries carries_is indexed.carry; names = put_sub is_naming naming names names_is indexed.names };
       figured = subst (AreFigured new) (sym put_flat) (figured_put rows new es slots key st row after all_rising figured named
-        (omega (arith, ap (at_key (live_one key.tx) key) put_absent, live_mine key st, live_is)) (omega (arith, ap (at_key (end_one key.tx) key) put_absent, end_mine key st, ends_is)));
+          (omega (arith, ap (at_key (live_one key.tx) key) put_absent, live_mine key st, live_is)) (omega (arith, ap (at_key (end_one key.tx) key) put_absent, end_mine key st, ends_is)));
       counted = record {
-        all_are = omega (arith, ap length put_flat, length-put key_cmp key_total key st all all_rising, ap (λ (o : Option Stored). cond (is_some o) (length all) (length all + 1)) put_absent,
-          length-put nat_cmp nat_cmp_total r0 s0 es keyed.ranks, ap (λ (o : Option ℕ). cond (is_some o) (length es) (length es + 1)) none, counted.all_are);
+        all_are = omega (
+          arith,
+          ap length put_flat,
+          length-put key_cmp key_total key st all all_rising,
+          ap (λ (o : Option Stored). cond (is_some o) (length all) (length all + 1)) put_absent,
+          length-put nat_cmp nat_cmp_total r0 s0 es keyed.ranks,
+          ap (λ (o : Option ℕ). cond (is_some o) (length es) (length es + 1)) none,
+          counted.all_are,
+        );
         held_are = omega (arith, count_put slots s0 (r0, st) free within, length-put nat_cmp nat_cmp_total r0 s0 es keyed.ranks, ap (λ (o : Option ℕ). cond (is_some o) (length es) (length es + 1)) none, counted.held_are);
         readings_are = omega (arith, counted.readings_are, sum_put size key st all all_rising, ap (at_key size key) put_absent, ap (sum_by size) put_flat);
         transactions_are = counted.transactions_are;
@@ -180,24 +187,24 @@ module _ (limits : Bounds) (rows new : List Row) (es live carriers naming : List
     mark_in test sub b is not_old was =
         let move = mark_moved in
         sub_move test es es sub (put_if b r0 s0 sub) slots marked_slots r0 s0 was move.ranks (put_if_others b r0 s0 sub) move.own move.stays (put_if_ranks b r0 s0 sub was.rising)
-          (put_if_here b r0 s0 sub (was_chosen test sub was ∙ ap (λ c. cond c (Some s0) None) not_old) ∙ ap (λ c. cond c (Some s0) None) is ∙ sym (mark_chosen test))
+        (put_if_here b r0 s0 sub (was_chosen test sub was ∙ ap (λ c. cond c (Some s0) None) not_old) ∙ ap (λ c. cond c (Some s0) None) is ∙ sym (mark_chosen test))
 
     -- An index that gives the place up.
     pub mark_out : (test : Stored → Bool) (sub : List Place) (b : Bool) → b ≡ test old → test st ≡ false → IsSub test es slots sub → IsSub test es marked_slots (out_if b r0 sub)
     mark_out test sub b is not_new was =
         let move = mark_moved in
         sub_move test es es sub (out_if b r0 sub) slots marked_slots r0 s0 was move.ranks (out_if_others b r0 sub) move.own move.stays (out_if_ranks b r0 sub was.rising)
-          (out_if_here b r0 s0 sub (was_chosen test sub was ∙ ap (λ c. cond c (Some s0) None) (sym is)) ∙ sym (mark_chosen test ∙ ap (λ c. cond c (Some s0) None) not_new))
+        (out_if_here b r0 s0 sub (was_chosen test sub was ∙ ap (λ c. cond c (Some s0) None) (sym is)) ∙ sym (mark_chosen test ∙ ap (λ c. cond c (Some s0) None) not_new))
 
     -- Chains with an event marked.
     pub mark_chains : (l c n : List Place) → AreIndexed es marked_slots l c n → st.event ≡ old.event → after.live + cond (not old.voided) 1 0 ≡ row.live + cond (not st.voided) 1 0
-      → after.ends + cond (not old.voided && is_end old.event.kind) 1 0 ≡ row.ends + cond (not st.voided && is_end st.event.kind) 1 0 → AreRoomy limits.events limits.events limits.events limits.events limits.events
-      → IsChains limits (record { rows = new; capacity = transactions }) (record { slots = marked_slots; readings = readings; capacity = room }) (index es limits.events) (index l limits.events) (index c limits.events) (index n limits.events)
+        → after.ends + cond (not old.voided && is_end old.event.kind) 1 0 ≡ row.ends + cond (not st.voided && is_end st.event.kind) 1 0 → AreRoomy limits.events limits.events limits.events limits.events limits.events
+        → IsChains limits (record { rows = new; capacity = transactions }) (record { slots = marked_slots; readings = readings; capacity = room }) (index es limits.events) (index l limits.events) (index c limits.events) (index n limits.events)
     mark_chains l c n indexes same live_is ends_is roomy = record {
       keyed = mark_keyed rows es slots keyed new key.tx row after r0 s0 old st named home at here within rising apart;
       indexed = indexes;
       figured = subst (AreFigured new) (sym mark_all) (figured_put rows new es slots key st row after all_rising figured named
-        (omega (arith, ap (at_key (live_one key.tx) key) mark_found, live_mine key st, live_mine key old, live_is)) (omega (arith, ap (at_key (end_one key.tx) key) mark_found, end_mine key st, end_mine key old, ends_is)));
+          (omega (arith, ap (at_key (live_one key.tx) key) mark_found, live_mine key st, live_mine key old, live_is)) (omega (arith, ap (at_key (end_one key.tx) key) mark_found, end_mine key st, end_mine key old, ends_is)));
       counted = record {
         all_are = omega (arith, ap length mark_all, length-put key_cmp key_total key st all all_rising, ap (λ (o : Option Stored). cond (is_some o) (length all) (length all + 1)) mark_found, counted.all_are);
         held_are = count_write slots s0 (r0, old) (r0, st) here within ∙ counted.held_are;
@@ -244,19 +251,19 @@ module _ (limits : Bounds) (rows new : List Row) (es live carriers naming : List
   out_sub test sub never was =
       let move = out_moved in
       sub_move test es (out r0 es) sub sub slots bare r0 s0 was move.ranks (λ r _. refl) move.own move.stays was.rising
-        (was.each r0 ∙ ap (chosen test slots) at ∙ ap (λ o. cond (test (stored_in o)) (Some s0) None) here ∙ ap (λ c. cond c (Some s0) None) never ∙ sym (ap (chosen test bare) (out_here r0 es)))
+      (was.each r0 ∙ ap (chosen test slots) at ∙ ap (λ o. cond (test (stored_in o)) (Some s0) None) here ∙ ap (λ c. cond c (Some s0) None) never ∙ sym (ap (chosen test bare) (out_here r0 es)))
 
   -- A transaction that is left was there.
   left_back : (q : List ℕ) (of : TableRow) → row_of q new ≡ Some of → row_of q rows ≡ Some of
   left_back q of is = elim (eq_by_cmp id_cmp q key.tx) as (λ b. eq_by_cmp id_cmp q key.tx ≡ b → row_of q rows ≡ Some of) [
-      | false ↦ λ e. sym (gone.others q (denied _ (id_test q key.tx) e)) ∙ is
-      | true ↦ λ e. let same = (id_test q key.tx).0 e in let there : row_of key.tx new ≡ Some of = sym (ap (λ k. row_of k new) same) ∙ is in
-          ap (λ k. row_of k rows) same ∙ elim gone.end [ inl kept ↦ gone.was ∙ sym kept.0 ∙ there | inr went ↦ absurd (no_row (row_of key.tx new) of there went.0) ]
-    ] refl
+    | false ↦ λ e. sym (gone.others q (denied _ (id_test q key.tx) e)) ∙ is
+    | true ↦ λ e. let same = (id_test q key.tx).0 e in let there : row_of key.tx new ≡ Some of = sym (ap (λ k. row_of k new) same) ∙ is in
+        ap (λ k. row_of k rows) same ∙ elim gone.end [ inl kept ↦ gone.was ∙ sym kept.0 ∙ there | inr went ↦ absurd (no_row (row_of key.tx new) of there went.0) ]
+  ] refl
 
   -- Chains with a voided event taken out.
   pub out_chains : left + length st.event.readings ≡ readings → AreRoomy limits.events limits.events limits.events limits.events limits.events
-    → IsChains limits (record { rows = new; capacity = transactions }) (record { slots = bare; readings = left; capacity = room }) (index (out r0 es) limits.events) (index live limits.events) (index carriers limits.events) (index naming limits.events)
+      → IsChains limits (record { rows = new; capacity = transactions }) (record { slots = bare; readings = left; capacity = room }) (index (out r0 es) limits.events) (index live limits.events) (index carriers limits.events) (index naming limits.events)
   out_chains fewer roomy =
       let n = length_without nat_cmp nat_cmp_total r0 es keyed.ranks in let one = ap (λ (o : Option ℕ). cond {A = ℕ} (is_some o) 1 0) at in
       record {

@@ -17,7 +17,7 @@ use Rattle.transaction_table.specs.declared.row.TableRow.{TableRow}
 use Rattle.transaction_table.specs.Table.{Row, row_of}
 use Rattle.event_chain.specs.Kept.{AreRanks, HasPlace, IsBare}
 use Rattle.event_chain.specs.Edits.{place_in, place_at}
-use Rattle.event_chain.proofs.Tests.{rank_test, not_so, denied}
+use Rattle.event_chain.proofs.Decided.{rank_test, not_so, denied}
 use Rattle.event_chain.proofs.Flats.{nat_less, less_nat}
 
 -- Greater ranks are behind.
@@ -51,9 +51,9 @@ found_at key (e ∷ es) h =
     elim (cases_lt e.0 key) [
       | inl lt ↦ ap (λ b. slot_at key (cond b (from key es) (e ∷ es))) ((Decides-ltb e.0 key).1 lt) ∙ found_at key es h.1 ∙ sym (ap (λ o. cond (is_eq o) (Some e.1) (place_of key es)) (nat_greater key e.0 lt))
       | inr le ↦ ap (λ b. slot_at key (cond b (from key es) (e ∷ es))) (not_so _ (Decides-ltb e.0 key) (λ lt. absurd (omega arith))) ∙ elim (cases_eq e.0 key) [
-          | inl is ↦ ap (λ b. cond b (Some e.1) None) ((Decides-eqb e.0 key).1 is) ∙ sym (ap (λ b. cond b (Some e.1) (place_of key es)) ((rank_test key e.0).1 (sym is)))
-          | inr other ↦ ap (λ b. cond b (Some e.1) None) (not_so _ (Decides-eqb e.0 key) other) ∙ sym (none_below key (e ∷ es) (let up : key < e.0 = omega (arith, other) in (up, above_less key e.0 es up h.0)))
-        ]
+        | inl is ↦ ap (λ b. cond b (Some e.1) None) ((Decides-eqb e.0 key).1 is) ∙ sym (ap (λ b. cond b (Some e.1) (place_of key es)) ((rank_test key e.0).1 (sym is)))
+        | inr other ↦ ap (λ b. cond b (Some e.1) None) (not_so _ (Decides-eqb e.0 key) other) ∙ sym (none_below key (e ∷ es) (let up : key < e.0 = omega (arith, other) in (up, above_less key e.0 es up h.0)))
+      ]
     ]
 
 -- An index with a new key.
@@ -139,11 +139,16 @@ has_first t r s (x ∷ es) rising is home =
       | true ↦ λ y. let lt : x.0 < rank t 0 = (Decides-ltb x.0 (rank t 0)).0 y in
           let rest : place_of r es ≡ Some s = sym (ap (λ b. cond b (Some x.1) (place_of r es)) (not_so _ (rank_test r x.0) (λ k. absurd (omega arith)))) ∙ is in
           has_first t r s es rising.1 rest home
-      | false ↦ λ never. let ge : rank t 0 ≤ x.0 = not_less x.0 (rank t 0) never in (x, (refl,
+      | false ↦ λ never. let ge : rank t 0 ≤ x.0 = not_less x.0 (rank t 0) never in (
+        x,
+        (
+          refl,
           elim (eq_by_cmp nat_cmp r x.0) as (λ b. eq_by_cmp nat_cmp r x.0 ≡ b → cond b (Some x.1) (place_of r es) ≡ Some s → x.0 / 2 ^ 31 ≡ t) [
             | true ↦ λ y _. ap (λ k. k / 2 ^ 31) (sym ((rank_test r x.0).0 y)) ∙ home
             | false ↦ λ _ rest. let up = found_above x.0 r s es rising.0 rest in omega arith
-          ] refl is))
+          ] refl is,
+        ),
+      )
     ] refl
 
 -- The place of a key whose transaction is known.

@@ -13,7 +13,7 @@ use Rattle.event_chain.specs.Kept.{AreRanks, IsSub, chosen}
 use Rattle.event_chain.specs.Edits.{put_if, out, out_if}
 use Rattle.event_chain.proofs.Moves.{put_here, put_other, out_here, out_other}
 use Rattle.event_chain.proofs.Flats.{nat_less, less_nat}
-use Rattle.event_chain.proofs.Tests.{rank_test, not_so}
+use Rattle.event_chain.proofs.Decided.{rank_test, not_so}
 
 -- Each place but one is as it was.
 abbrev pub OthersSame : ℕ → List Place → List Place → Type 0
@@ -21,7 +21,7 @@ OthersSame r0 old new = (r : ℕ) → (r ≡ r0 → ⊥) → place_of r new ≡ 
 
 -- A sub-index after a move.
 pub sub_move : (test : Stored → Bool) (es more sub after : List Place) (slots held : List (Option Held)) (r0 s0 : ℕ) → IsSub test es slots sub → OthersSame r0 es more → OthersSame r0 sub after → ((r : ℕ) → place_of r es ≡ Some s0 → r ≡ r0) → ((s : ℕ) → (s ≡ s0 → ⊥) → stored_at held s ≡ stored_at slots s)
-  → AreRanks after → place_of r0 after ≡ chosen test held (place_of r0 more) → IsSub test more held after
+    → AreRanks after → place_of r0 after ≡ chosen test held (place_of r0 more) → IsSub test more held after
 sub_move test es more sub after slots held r0 s0 was moved same own stays ranks here = record {
   rising = ranks;
   each = λ r. elim (cases_eq r r0) [
@@ -63,7 +63,6 @@ pub out_if_here : (b : Bool) (r0 s0 : ℕ) (es : List Place) → place_of r0 es 
 out_if_here true r0 s0 es is = out_here r0 es
 out_if_here false r0 s0 es is = is
 
-
 -- A rank below all is not found.
 below_none : (r : ℕ) (es : List Place) → T (below_all nat_cmp r es) → place_of r es ≡ None
 below_none r [] h = refl
@@ -81,7 +80,7 @@ fewer (x ∷ xs) ys a b among =
     let n = length_without nat_cmp nat_cmp_total x.0 ys b in let one = ap (λ (c : Bool). cond {A = ℕ} c 1 0) there in
     let other : (r s : ℕ) → place_of r xs ≡ Some s → r ≡ x.0 → ⊥ = λ r s is e. not_none (place_of r xs) s is (ap (λ k. place_of k xs) e ∙ below_none x.0 xs (first _ _ a)) in
     let rest = fewer xs (out x.0 ys) (second _ _ a) (is_sorted-where_key nat_cmp (λ k. not (eq_by_cmp nat_cmp x.0 k)) ys b)
-      (λ r s is. ap is_some (out_other r x.0 ys (other r s is)) ∙ among r s (ap (λ c. cond c (Some x.1) (place_of r xs)) (not_so _ (rank_test r x.0) (other r s is)) ∙ is)) in
+    (λ r s is. ap is_some (out_other r x.0 ys (other r s is)) ∙ among r s (ap (λ c. cond c (Some x.1) (place_of r xs)) (not_so _ (rank_test r x.0) (other r s is)) ∙ is)) in
     omega (arith, n, one, rest)
 
 -- What was chosen was there.

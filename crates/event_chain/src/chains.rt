@@ -14,8 +14,8 @@ ghost use Rattle.event_chain.specs.Room.{room_of, found_of, readings_under};
 ghost use Rattle.event_chain.specs.Kept.{end_count, is_end};
 
 use crate::answers::{Found, Room};
-use crate::tx_ids::TxIds;
 use crate::spots::{enter, first_of, last_of, leave, locate, out_place, put_place, slot_of};
+use crate::tx_ids::TxIds;
 use event_store::{EventRef, EventStore, Readings};
 use key_index::{IndexKey, KeyIndex};
 use ledger_model::{Event, EvseId, Key, Kind, Limits, TxId};

@@ -98,7 +98,11 @@ pub(crate) fn first_place(index: &KeyIndex, slot: u32) -> Option<(IndexKey, u32)
 }
 
 // The first place of a transaction; none where it has none there.
-pub(crate) fn first_of(table: &TransactionTable, index: &KeyIndex, tx: &TxId) -> Option<(IndexKey, u32)>
+pub(crate) fn first_of(
+    table: &TransactionTable,
+    index: &KeyIndex,
+    tx: &TxId,
+) -> Option<(IndexKey, u32)>
     ensures { result ≡ first_under index.now.entries (row_of tx.now table.now.rows) }
 {
     match table.get(tx) {
@@ -127,7 +131,11 @@ pub(crate) fn last_place(index: &KeyIndex, slot: u32) -> Option<(IndexKey, u32)>
 }
 
 // The last place of a transaction; none where it has none there.
-pub(crate) fn last_of(table: &TransactionTable, index: &KeyIndex, tx: &TxId) -> Option<(IndexKey, u32)>
+pub(crate) fn last_of(
+    table: &TransactionTable,
+    index: &KeyIndex,
+    tx: &TxId,
+) -> Option<(IndexKey, u32)>
     ensures { result ≡ last_under index.now.entries (row_of tx.now table.now.rows) }
 {
     // Slots are below the table's capacity.

@@ -1,7 +1,7 @@
 use Rattle.std.proofs.Common.{◌≡◌, ℕ, ◌/◌, ◌^◌, ◌==◌, nat_eq, Some, None, true, false, cond, ap, sym, ◌∙◌}
 use Rattle.std.proofs.lemmas.Bool.Decides.{Decides-eqb}
 use Rattle.event_chain.specs.Flat.{Place}
-use Rattle.event_chain.proofs.Tests.{not_so}
+use Rattle.event_chain.proofs.Decided.{not_so}
 use Rattle.key_index.specs.Entries.{first_of, from}
 use Rattle.event_chain.proofs.Places.{first_seg, at_home}
 use Rattle.event_chain.proofs.spots.first_place.Goals as goal

@@ -124,29 +124,29 @@ invariant_of-self c =
     let ev = c.args.event.now in let after : TableRow = record { slot = row.slot; live = row.live + 1; ends = row.ends + c.ends_of.result } in
     let carries = not c.is_empty.result in let names = c.is_some-names.result in
     inserted m.limits m.table m.store m.stored m.live m.carriers m.naming c.self.invariant c.args.key mid row c.new-at.result entered number is absent c.set.new.self c.put-slot.new.self c.put_place.new.index c.put_place-2.new.index c.put_place-3.new.index c.put_place-4.new.index after c.put-slot.result ev carries names (record {
-        rows = c.set.ensures.rows ∙ ap (λ t. with_row t after mid) c.tx-2.ensures;
-        transactions = c.set.ensures.capacity ∙ c.enter-row.ensures.capacity;
-        rising = c.len-transactions.ensures.rising;
-        apart = c.len-transactions.ensures.apart;
-        free = c.put-slot.ensures.was_free;
-        within = c.put-slot.ensures.within;
-        slots = c.put-slot.ensures.slots;
-        readings = c.put-slot.ensures.readings;
-        room = c.put-slot.ensures.capacity;
-        stored_is = c.put_place.ensures.entries;
-        live_is = c.put_place-2.ensures.entries;
-        carriers_is = c.put_place-3.ensures.entries;
-        naming_is = c.put_place-4.ensures.entries;
-        stored_cap = c.put_place.ensures.capacity;
-        live_cap = c.put_place-2.ensures.capacity;
-        carriers_cap = c.put_place-3.ensures.capacity;
-        naming_cap = c.put_place-4.ensures.capacity;
-        carries_is = ap not (c.is_empty.ensures ∙ ap (λ rs. length rs == 0) c.readings.ensures.value) ∙ some_readings (length ev.readings);
-        names_is = c.is_some-names.ensures ∙ ap is_some c.evse.ensures.value;
-        same = refl;
-        one_more = refl;
-        ends = ap (λ n. row.ends + n) (c.ends_of.ensures.value ∙ ap end_count c.kind.ensures);
-      })
+      rows = c.set.ensures.rows ∙ ap (λ t. with_row t after mid) c.tx-2.ensures;
+      transactions = c.set.ensures.capacity ∙ c.enter-row.ensures.capacity;
+      rising = c.len-transactions.ensures.rising;
+      apart = c.len-transactions.ensures.apart;
+      free = c.put-slot.ensures.was_free;
+      within = c.put-slot.ensures.within;
+      slots = c.put-slot.ensures.slots;
+      readings = c.put-slot.ensures.readings;
+      room = c.put-slot.ensures.capacity;
+      stored_is = c.put_place.ensures.entries;
+      live_is = c.put_place-2.ensures.entries;
+      carriers_is = c.put_place-3.ensures.entries;
+      naming_is = c.put_place-4.ensures.entries;
+      stored_cap = c.put_place.ensures.capacity;
+      live_cap = c.put_place-2.ensures.capacity;
+      carriers_cap = c.put_place-3.ensures.capacity;
+      naming_cap = c.put_place-4.ensures.capacity;
+      carries_is = ap not (c.is_empty.ensures ∙ ap (λ rs. length rs == 0) c.readings.ensures.value) ∙ some_readings (length ev.readings);
+      names_is = c.is_some-names.ensures ∙ ap is_some c.evse.ensures.value;
+      same = refl;
+      one_more = refl;
+      ends = ap (λ n. row.ends + n) (c.ends_of.ensures.value ∙ ap end_count c.kind.ensures);
+    })
 
 pub returns-clause-events : goal.returns-clause-events
 returns-clause-events c =
@@ -157,27 +157,27 @@ returns-clause-events c =
     let ev = c.args.event.now in let after : TableRow = record { slot = row.slot; live = row.live + 1; ends = row.ends + c.ends_of.result } in
     let carries = not c.is_empty.result in let names = c.is_some-names.result in
     inserted_events m.limits m.table m.store m.stored m.live m.carriers m.naming c.self.invariant c.args.key mid row c.new-at.result entered number is absent c.set.new.self c.put-slot.new.self c.put_place.new.index c.put_place-2.new.index c.put_place-3.new.index c.put_place-4.new.index after c.put-slot.result ev carries names (record {
-        rows = c.set.ensures.rows ∙ ap (λ t. with_row t after mid) c.tx-2.ensures;
-        transactions = c.set.ensures.capacity ∙ c.enter-row.ensures.capacity;
-        rising = c.len-transactions.ensures.rising;
-        apart = c.len-transactions.ensures.apart;
-        free = c.put-slot.ensures.was_free;
-        within = c.put-slot.ensures.within;
-        slots = c.put-slot.ensures.slots;
-        readings = c.put-slot.ensures.readings;
-        room = c.put-slot.ensures.capacity;
-        stored_is = c.put_place.ensures.entries;
-        live_is = c.put_place-2.ensures.entries;
-        carriers_is = c.put_place-3.ensures.entries;
-        naming_is = c.put_place-4.ensures.entries;
-        stored_cap = c.put_place.ensures.capacity;
-        live_cap = c.put_place-2.ensures.capacity;
-        carriers_cap = c.put_place-3.ensures.capacity;
-        naming_cap = c.put_place-4.ensures.capacity;
-        carries_is = ap not (c.is_empty.ensures ∙ ap (λ rs. length rs == 0) c.readings.ensures.value) ∙ some_readings (length ev.readings);
-        names_is = c.is_some-names.ensures ∙ ap is_some c.evse.ensures.value;
-        same = refl;
-        one_more = refl;
-        ends = ap (λ n. row.ends + n) (c.ends_of.ensures.value ∙ ap end_count c.kind.ensures);
-      })
+      rows = c.set.ensures.rows ∙ ap (λ t. with_row t after mid) c.tx-2.ensures;
+      transactions = c.set.ensures.capacity ∙ c.enter-row.ensures.capacity;
+      rising = c.len-transactions.ensures.rising;
+      apart = c.len-transactions.ensures.apart;
+      free = c.put-slot.ensures.was_free;
+      within = c.put-slot.ensures.within;
+      slots = c.put-slot.ensures.slots;
+      readings = c.put-slot.ensures.readings;
+      room = c.put-slot.ensures.capacity;
+      stored_is = c.put_place.ensures.entries;
+      live_is = c.put_place-2.ensures.entries;
+      carriers_is = c.put_place-3.ensures.entries;
+      naming_is = c.put_place-4.ensures.entries;
+      stored_cap = c.put_place.ensures.capacity;
+      live_cap = c.put_place-2.ensures.capacity;
+      carriers_cap = c.put_place-3.ensures.capacity;
+      naming_cap = c.put_place-4.ensures.capacity;
+      carries_is = ap not (c.is_empty.ensures ∙ ap (λ rs. length rs == 0) c.readings.ensures.value) ∙ some_readings (length ev.readings);
+      names_is = c.is_some-names.ensures ∙ ap is_some c.evse.ensures.value;
+      same = refl;
+      one_more = refl;
+      ends = ap (λ n. row.ends + n) (c.ends_of.ensures.value ∙ ap end_count c.kind.ensures);
+    })
     ∙ ap (λ (x : Chained). finite.insert x.events c.args.key (record { event = ev; voided = false })) c.self.view_is

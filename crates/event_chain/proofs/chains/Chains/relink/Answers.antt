@@ -80,21 +80,21 @@ invariant_of-self c =
     let after : TableRow = record { slot = at.row.slot; live = at.row.live + 1; ends = at.row.ends + c.ends_of-ends.result } in
     let rows = c.set.ensures.rows ∙ ap (λ t. with_row t after m.table.rows) c.tx.ensures in
     marked_chains m.limits m.table m.store m.stored m.live m.carriers m.naming c.self.invariant c.args.key.now at.row at.key at.slot c.locate-at.ensures.row c.locate-at.ensures.number c.locate-at.ensures.key c.locate-at.ensures.slot c.set.new.self c.set_voided.new.self c.put_place.new.index c.put_place-2.new.index c.put_place-3.new.index after false (record {
-        rows = rows;
-        transactions = c.set.ensures.capacity;
-        rising = c.len-transactions.ensures.rising;
-        apart = c.len-transactions.ensures.apart;
-        slots = c.set_voided.ensures.slots;
-        readings = c.set_voided.ensures.readings;
-        room = c.set_voided.ensures.capacity;
-        indexes = in_indexes m.limits m.table m.store m.stored m.live m.carriers m.naming c.self.invariant c.args.key.now at.row at.key at.slot c.locate-at.ensures.row c.locate-at.ensures.number c.locate-at.ensures.key c.locate-at.ensures.slot c.set.new.self.rows after rows refl c.len-transactions.ensures.rising c.len-transactions.ensures.apart false c.put_place.new.index.entries c.put_place-2.new.index.entries c.put_place-3.new.index.entries (nat_lt 0 c.reading_count.result) c.is_some-names.result refl void c.put_place.ensures.entries c.put_place-2.ensures.entries c.put_place-3.ensures.entries carries names;
-        live_cap = c.put_place.ensures.capacity;
-        carriers_cap = c.put_place-2.ensures.capacity;
-        naming_cap = c.put_place-3.ensures.capacity;
-        same = refl;
-        lives = (let one = spot_live m.limits m.table m.store m.stored m.live m.carriers m.naming c.self.invariant c.args.key.now at.row at.key at.slot c.locate-at.ensures.row c.locate-at.ensures.number c.locate-at.ensures.key c.locate-at.ensures.slot in let is = ap (λ v. cond {A = ℕ} (not v) 1 0) void in omega (arith, one, is));
-        ends = (let one = spot_ends m.limits m.table m.store m.stored m.live m.carriers m.naming c.self.invariant c.args.key.now at.row at.key at.slot c.locate-at.ensures.row c.locate-at.ensures.number c.locate-at.ensures.key c.locate-at.ensures.slot in let is = ap (λ v. cond {A = ℕ} (not v && is_end (spot_event m.limits m.table m.store m.stored m.live m.carriers m.naming c.self.invariant c.args.key.now at.row at.key at.slot c.locate-at.ensures.row c.locate-at.ensures.number c.locate-at.ensures.key c.locate-at.ensures.slot).event.kind) 1 0) void in omega (arith, one, is, ends));
-      })
+      rows = rows;
+      transactions = c.set.ensures.capacity;
+      rising = c.len-transactions.ensures.rising;
+      apart = c.len-transactions.ensures.apart;
+      slots = c.set_voided.ensures.slots;
+      readings = c.set_voided.ensures.readings;
+      room = c.set_voided.ensures.capacity;
+      indexes = in_indexes m.limits m.table m.store m.stored m.live m.carriers m.naming c.self.invariant c.args.key.now at.row at.key at.slot c.locate-at.ensures.row c.locate-at.ensures.number c.locate-at.ensures.key c.locate-at.ensures.slot c.set.new.self.rows after rows refl c.len-transactions.ensures.rising c.len-transactions.ensures.apart false c.put_place.new.index.entries c.put_place-2.new.index.entries c.put_place-3.new.index.entries (nat_lt 0 c.reading_count.result) c.is_some-names.result refl void c.put_place.ensures.entries c.put_place-2.ensures.entries c.put_place-3.ensures.entries carries names;
+      live_cap = c.put_place.ensures.capacity;
+      carriers_cap = c.put_place-2.ensures.capacity;
+      naming_cap = c.put_place-3.ensures.capacity;
+      same = refl;
+      lives = (let one = spot_live m.limits m.table m.store m.stored m.live m.carriers m.naming c.self.invariant c.args.key.now at.row at.key at.slot c.locate-at.ensures.row c.locate-at.ensures.number c.locate-at.ensures.key c.locate-at.ensures.slot in let is = ap (λ v. cond {A = ℕ} (not v) 1 0) void in omega (arith, one, is));
+      ends = (let one = spot_ends m.limits m.table m.store m.stored m.live m.carriers m.naming c.self.invariant c.args.key.now at.row at.key at.slot c.locate-at.ensures.row c.locate-at.ensures.number c.locate-at.ensures.key c.locate-at.ensures.slot in let is = ap (λ v. cond {A = ℕ} (not v && is_end (spot_event m.limits m.table m.store m.stored m.live m.carriers m.naming c.self.invariant c.args.key.now at.row at.key at.slot c.locate-at.ensures.row c.locate-at.ensures.number c.locate-at.ensures.key c.locate-at.ensures.slot).event.kind) 1 0) void in omega (arith, one, is, ends));
+    })
 
 pub returns-clause-events : goal.returns-clause-events
 returns-clause-events c =
@@ -107,19 +107,19 @@ returns-clause-events c =
     let after : TableRow = record { slot = at.row.slot; live = at.row.live + 1; ends = at.row.ends + c.ends_of-ends.result } in
     let rows = c.set.ensures.rows ∙ ap (λ t. with_row t after m.table.rows) c.tx.ensures in
     marked_events m.limits m.table m.store m.stored m.live m.carriers m.naming c.self.invariant c.args.key.now at.row at.key at.slot c.locate-at.ensures.row c.locate-at.ensures.number c.locate-at.ensures.key c.locate-at.ensures.slot c.set.new.self c.set_voided.new.self c.put_place.new.index c.put_place-2.new.index c.put_place-3.new.index after false (record {
-        rows = rows;
-        transactions = c.set.ensures.capacity;
-        rising = c.len-transactions.ensures.rising;
-        apart = c.len-transactions.ensures.apart;
-        slots = c.set_voided.ensures.slots;
-        readings = c.set_voided.ensures.readings;
-        room = c.set_voided.ensures.capacity;
-        indexes = in_indexes m.limits m.table m.store m.stored m.live m.carriers m.naming c.self.invariant c.args.key.now at.row at.key at.slot c.locate-at.ensures.row c.locate-at.ensures.number c.locate-at.ensures.key c.locate-at.ensures.slot c.set.new.self.rows after rows refl c.len-transactions.ensures.rising c.len-transactions.ensures.apart false c.put_place.new.index.entries c.put_place-2.new.index.entries c.put_place-3.new.index.entries (nat_lt 0 c.reading_count.result) c.is_some-names.result refl void c.put_place.ensures.entries c.put_place-2.ensures.entries c.put_place-3.ensures.entries carries names;
-        live_cap = c.put_place.ensures.capacity;
-        carriers_cap = c.put_place-2.ensures.capacity;
-        naming_cap = c.put_place-3.ensures.capacity;
-        same = refl;
-        lives = (let one = spot_live m.limits m.table m.store m.stored m.live m.carriers m.naming c.self.invariant c.args.key.now at.row at.key at.slot c.locate-at.ensures.row c.locate-at.ensures.number c.locate-at.ensures.key c.locate-at.ensures.slot in let is = ap (λ v. cond {A = ℕ} (not v) 1 0) void in omega (arith, one, is));
-        ends = (let one = spot_ends m.limits m.table m.store m.stored m.live m.carriers m.naming c.self.invariant c.args.key.now at.row at.key at.slot c.locate-at.ensures.row c.locate-at.ensures.number c.locate-at.ensures.key c.locate-at.ensures.slot in let is = ap (λ v. cond {A = ℕ} (not v && is_end (spot_event m.limits m.table m.store m.stored m.live m.carriers m.naming c.self.invariant c.args.key.now at.row at.key at.slot c.locate-at.ensures.row c.locate-at.ensures.number c.locate-at.ensures.key c.locate-at.ensures.slot).event.kind) 1 0) void in omega (arith, one, is, ends));
-      })
+      rows = rows;
+      transactions = c.set.ensures.capacity;
+      rising = c.len-transactions.ensures.rising;
+      apart = c.len-transactions.ensures.apart;
+      slots = c.set_voided.ensures.slots;
+      readings = c.set_voided.ensures.readings;
+      room = c.set_voided.ensures.capacity;
+      indexes = in_indexes m.limits m.table m.store m.stored m.live m.carriers m.naming c.self.invariant c.args.key.now at.row at.key at.slot c.locate-at.ensures.row c.locate-at.ensures.number c.locate-at.ensures.key c.locate-at.ensures.slot c.set.new.self.rows after rows refl c.len-transactions.ensures.rising c.len-transactions.ensures.apart false c.put_place.new.index.entries c.put_place-2.new.index.entries c.put_place-3.new.index.entries (nat_lt 0 c.reading_count.result) c.is_some-names.result refl void c.put_place.ensures.entries c.put_place-2.ensures.entries c.put_place-3.ensures.entries carries names;
+      live_cap = c.put_place.ensures.capacity;
+      carriers_cap = c.put_place-2.ensures.capacity;
+      naming_cap = c.put_place-3.ensures.capacity;
+      same = refl;
+      lives = (let one = spot_live m.limits m.table m.store m.stored m.live m.carriers m.naming c.self.invariant c.args.key.now at.row at.key at.slot c.locate-at.ensures.row c.locate-at.ensures.number c.locate-at.ensures.key c.locate-at.ensures.slot in let is = ap (λ v. cond {A = ℕ} (not v) 1 0) void in omega (arith, one, is));
+      ends = (let one = spot_ends m.limits m.table m.store m.stored m.live m.carriers m.naming c.self.invariant c.args.key.now at.row at.key at.slot c.locate-at.ensures.row c.locate-at.ensures.number c.locate-at.ensures.key c.locate-at.ensures.slot in let is = ap (λ v. cond {A = ℕ} (not v && is_end (spot_event m.limits m.table m.store m.stored m.live m.carriers m.naming c.self.invariant c.args.key.now at.row at.key at.slot c.locate-at.ensures.row c.locate-at.ensures.number c.locate-at.ensures.key c.locate-at.ensures.slot).event.kind) 1 0) void in omega (arith, one, is, ends));
+    })
     ∙ ap (λ (x : Chained). marked x.events c.args.key.now false) c.self.view_is

@@ -15,9 +15,9 @@ use Rattle.transaction_table.specs.Table.{id_cmp}
 -- A test by an order whose ties are equal decides equality.
 tied : {K : Type 0} (R : K → K → Ordering) (o : IsTotalOrder R) (same : IsAntisymmetric R) (x y : K) → Decides (eq_by_cmp R x y) (x ≡ y)
 tied R o same x y = (
-    λ e. elim (R x y) as (λ (r : Ordering). R x y ≡ r → is_eq r ≡ true → x ≡ y) [ Less ↦ λ _ f. cc | Equal ↦ λ p _. same x y p | Greater ↦ λ _ f. cc ] refl e,
-    λ e. ap (λ z. eq_by_cmp R z y) e ∙ (eq_by_cmp_equiv o).refl y,
-  )
+  λ e. elim (R x y) as (λ (r : Ordering). R x y ≡ r → is_eq r ≡ true → x ≡ y) [ Less ↦ λ _ f. cc | Equal ↦ λ p _. same x y p | Greater ↦ λ _ f. cc ] refl e,
+  λ e. ap (λ z. eq_by_cmp R z y) e ∙ (eq_by_cmp_equiv o).refl y,
+)
 
 -- The test of keys.
 pub key_test : (x y : KeyName) → Decides (eq_by_cmp key_cmp x y) (x ≡ y)
