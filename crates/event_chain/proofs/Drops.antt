@@ -1,5 +1,5 @@
 -- What is left of a list.
-use Rattle.std.proofs.Common.{◌≡◌, ℕ, zero, suc, ◌+◌, List, [], ◌∷◌, Some, None, drop, slice_get, refl, ap, ◌∙◌, sym, arith}
+use Rattle.std.proofs.Common.{◌≡◌, ℕ, zero, suc, List, [], ◌∷◌, Some, None, drop, slice_get, refl, ap, ◌∙◌, sym}
 
 -- One more is taken.
 pub drop_some : (xs : List (List ℕ)) (n m : ℕ) (x : List ℕ) → m ≡ suc n → slice_get xs n ≡ Some x → drop n xs ≡ x ∷ drop m xs

@@ -1,10 +1,9 @@
 -- All events after a move: one put in, written or taken out.
-use Rattle.std.proofs.Common.{◌≡◌, ℕ, ◌+◌, ◌<◌, ◌^◌, Bool, true, false, not, cond, List, Option, Some, None, is_some, length, refl, sym, ap, ◌∙◌, subst, arith}
-use Rattle.std.specs.List.{filter}
-use Rattle.std.specs.Ordering.{is_eq, eq_by_cmp, nat_cmp}
+use Rattle.std.proofs.Common.{◌≡◌, ℕ, ◌^◌, Bool, true, false, not, cond, List, Option, Some, None, refl, sym, ap, ◌∙◌}
+use Rattle.std.specs.Ordering.{is_eq, eq_by_cmp}
 use Rattle.std.specs.Cmp.{eq_by_cmp_equiv, alike_right}
 use Rattle.std.specs.FinMap as finite
-use Rattle.std.specs.FinMap.{FinMap, find, put}
+use Rattle.std.specs.FinMap.{find, put}
 use Rattle.std.specs.FinMap.Entries.{find-put, find-where_key, is_sorted-put, is_sorted-where_key}
 use Rattle.std.proofs.lemmas.Bool.Decides.{Decides-ltb}
 use Rattle.key_index.specs.Key.{rank}
@@ -13,10 +12,10 @@ use Rattle.ledger_model.specs.Content.{Entry, Stored}
 use Rattle.ledger_model.specs.Entries.{IsRising, entries_without}
 use Rattle.ledger_model.proofs.Callers.{key_total, exact_keys}
 use Rattle.event_store.specs.Slots.{Held}
-use Rattle.transaction_table.specs.Table.{Row, AreRising, row_of}
-use Rattle.event_chain.specs.Flat.{Place, place_of, stored_at, flat, event_at, number_at, look}
+use Rattle.transaction_table.specs.Table.{Row, AreRising}
+use Rattle.event_chain.specs.Flat.{Place, place_of, flat, event_at, look}
 use Rattle.event_chain.specs.Kept.{AreRanks}
-use Rattle.event_chain.proofs.Decided.{key_test, not_so, denied}
+use Rattle.event_chain.proofs.Decided.{key_test, denied}
 use Rattle.event_chain.proofs.Flats.{find_flat, flat_rising, same_flat}
 use Rattle.event_chain.proofs.Looks.{IsMove, look_other, look_here}
 

@@ -1,13 +1,13 @@
 -- What chains know before an operation.
-use Rattle.std.proofs.Common.{◌≡◌, ℕ, zero, suc, ◌+◌, ◌*◌, ◌<◌, ◌≤◌, ◌/◌, ◌^◌, ◌==◌, nat_lt, nat_le, Bool, true, false, not, cond, ◌&&◌, List, [], ◌∷◌, Option, Some, None, is_some, length, map, sum_by, replicate, refl, sym, ap, ◌∙◌, subst, arith, inl, inr, le-leb, leb-true}
+use Rattle.std.proofs.Common.{◌≡◌, ℕ, zero, suc, ◌+◌, ◌<◌, ◌≤◌, ◌^◌, ◌==◌, nat_lt, nat_le, Bool, true, false, not, cond, ◌&&◌, List, [], ◌∷◌, Option, Some, None, is_some, length, sum_by, replicate, refl, sym, ap, ◌∙◌, subst, arith, inl, inr, le-leb, leb-true}
 use Rattle.std.specs.Str.{bytes_eq}
 use Rattle.std.specs.FinMap as finite
-use Rattle.std.specs.FinMap.{FinMap, find}
+use Rattle.std.specs.FinMap.{FinMap}
 use Rattle.std.proofs.lemmas.Bool.{cases_lt}
 use Rattle.std.proofs.lemmas.List.{length-map, length-replicate}
 use Rattle.std.proofs.lemmas.Bool.Decides.{Decides-ltb, Decides-eqb}
 use Rattle.std.proofs.lemmas.List.Sums.{sum_by-cons}
-use Rattle.slot_arena.specs.Arena.{value_at, held_count, IsHeld}
+use Rattle.slot_arena.specs.Arena.{held_count}
 use Rattle.key_index.specs.Key.{rank}
 use Rattle.key_index.specs.Index.{Index, index}
 use Rattle.ledger_model.specs.Key.{KeyName, key_cmp}
@@ -17,16 +17,14 @@ use Rattle.ledger_model.specs.Step.{readings_stored}
 use Rattle.ledger_model.specs.Entries.{IsRising}
 use Rattle.event_store.specs.Slots.{Held, Slots}
 use Rattle.transaction_table.specs.declared.row.TableRow.{TableRow}
-use Rattle.transaction_table.specs.Table.{Table, Row, row_of, with_row}
-use Rattle.event_chain.specs.declared.answers.Room.{Room}
+use Rattle.transaction_table.specs.Table.{Table, Row, row_of}
 use Rattle.event_chain.specs.declared.answers.Room.TheVariants.{Fits, NoTransaction, NoEvent, NoReading}
-use Rattle.event_chain.specs.declared.answers.Found.{Found}
 use Rattle.event_chain.specs.declared.answers.Found.TheVariants.{Live, Voided}
 use Rattle.event_chain.specs.Room.{room_of, found_of}
-use Rattle.event_chain.specs.Flat.{Place, place_of, stored_in, stored_at, event_at, number_at, flat, look_in, look}
+use Rattle.event_chain.specs.Flat.{Place, place_of, event_at, flat, look_in, look}
 use Rattle.event_chain.specs.Edits.{place_in, place_at}
-use Rattle.event_chain.specs.Kept.{AreRanks, IsSub, chosen, IsHome, IsKeyed, live_one, end_one, is_end, AreFigured, IsCounted, AreRoomy, IsChains, IsNew, IsNamed, IsEntered, events_of}
-use Rattle.event_chain.proofs.Decided.{not_so, denied, same_test}
+use Rattle.event_chain.specs.Kept.{IsSub, chosen, live_one, end_one, is_end, IsChains, IsNamed, IsEntered, events_of}
+use Rattle.event_chain.proofs.Decided.{not_so}
 use Rattle.event_chain.proofs.Flats.{find_flat, flat_rising}
 use Rattle.event_chain.proofs.Subs.{fewer, among_chosen}
 use Rattle.event_chain.proofs.Moves.{before_named}

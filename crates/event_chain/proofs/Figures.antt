@@ -1,8 +1,8 @@
 -- What is counted of each transaction, under the edits of its events.
-use Rattle.std.proofs.Common.{◌≡◌, ℕ, zero, suc, ◌+◌, ◌<◌, ◌≤◌, Bool, true, false, not, cond, ◌&&◌, T, List, [], ◌∷◌, ◌++◌, Option, Some, None, is_some, length, map, sum_by, refl, sym, ap, ◌∙◌, subst, arith, inl, inr}
+use Rattle.std.proofs.Common.{◌≡◌, ℕ, ◌+◌, true, false, not, cond, ◌&&◌, List, [], ◌∷◌, Option, Some, None, map, sum_by, refl, sym, ap, ◌∙◌, subst, arith, inl, inr}
 use Rattle.std.specs.Str.{bytes_eq}
 use Rattle.std.proofs.lemmas.Slice.Eq.{bytes_eq-Decides}
-use Rattle.std.specs.Ordering.{is_eq, eq_by_cmp}
+use Rattle.std.specs.Ordering.{eq_by_cmp}
 use Rattle.std.specs.FinMap.{find, put}
 use Rattle.std.proofs.lemmas.List.Sums.{sum_by-cons, sum_by-append}
 use Rattle.ledger_model.specs.Key.{KeyName, key_cmp}
@@ -12,7 +12,7 @@ use Rattle.event_store.specs.Slots.{Held}
 use Rattle.transaction_table.specs.declared.row.TableRow.{TableRow}
 use Rattle.transaction_table.specs.Table.{Row, id_cmp, row_of}
 use Rattle.event_chain.specs.Flat.{Place, entry_of, segment, entries_of, flat}
-use Rattle.event_chain.specs.Kept.{live_one, end_one, is_end, IsFigured, AreFigured, IsNamed, IsNew}
+use Rattle.event_chain.specs.Kept.{live_one, end_one, is_end, IsFigured, AreFigured, IsNamed}
 use Rattle.event_chain.proofs.Decided.{id_test, not_so, denied}
 use Rattle.event_chain.proofs.Sums.{at_key, sum_put, sum_without}
 

@@ -1,11 +1,10 @@
 -- All stored events rise by key, and are found by transaction and rank.
-use Rattle.std.proofs.Common.{◌≡◌, ℕ, zero, suc, ◌+◌, ◌*◌, ◌<◌, ◌≤◌, ◌/◌, ◌%◌, ◌^◌, ◌==◌, nat_lt, Bool, true, false, not, cond, ◌&&◌, T, List, [], ◌∷◌, ◌++◌, Option, Some, None, map, length, refl, sym, ap, ◌∙◌, subst, arith}
-use Rattle.std.specs.List.{filter, flat_map}
+use Rattle.std.proofs.Common.{◌≡◌, ℕ, ◌<◌, ◌/◌, ◌%◌, ◌^◌, ◌==◌, nat_lt, true, false, cond, T, List, [], ◌∷◌, ◌++◌, Option, Some, None, map, refl, sym, ap, ◌∙◌, subst, arith}
 use Rattle.std.proofs.lemmas.Bool.Decides.{Decides-eqb, Decides-ltb}
 use Rattle.std.specs.Ordering.{is_eq, is_lt, eq_by_cmp, nat_cmp, ordering_then}
 use Rattle.std.specs.declared.cmp.Ordering.{Ordering}
 use Rattle.std.specs.declared.cmp.Ordering.TheVariants.{Less, Equal, Greater}
-use Rattle.std.specs.FinMap.{find, is_sorted}
+use Rattle.std.specs.FinMap.{find}
 use Rattle.std.specs.FinMap.Entries.{below_all, find-where_key, same_entries}
 use Rattle.std.specs.FinMap.{nat_cmp-IsAntisymmetric}
 use Rattle.ledger_model.proofs.Callers.{first, second, less, key_total, exact_keys}
@@ -13,12 +12,10 @@ use Rattle.ledger_model.proofs.Rising.{both}
 use Rattle.ledger_model.specs.Entries.{IsRising}
 use Rattle.std.specs.Cmp.{tied_itself, nat_cmp_total}
 use Rattle.std.specs.Cmp.Lexicographic.{nat_list_cmp_total}
-use Rattle.slot_arena.specs.Arena.{value_at}
 use Rattle.key_index.specs.Key.{rank}
 use Rattle.ledger_model.specs.Key.{KeyName, key_cmp}
 use Rattle.ledger_model.specs.Content.{Entry, Stored}
 use Rattle.event_store.specs.Slots.{Held}
-use Rattle.transaction_table.specs.declared.row.TableRow.{TableRow}
 use Rattle.transaction_table.specs.Table.{Row, AreRising, id_cmp, row_of}
 use Rattle.event_chain.specs.Flat.{Place, place_of, stored_at, entry_of, segment, entries_of, flat, event_at, number_at, look_in, look}
 use Rattle.event_chain.specs.Kept.{AreRanks}

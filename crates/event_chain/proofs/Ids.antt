@@ -1,16 +1,14 @@
 -- The transactions of all events are those of the table.
-use Rattle.std.proofs.Common.{◌≡◌, ℕ, suc, ◌/◌, ◌^◌, ◌==◌, Bool, true, false, not, cond, T, List, [], ◌∷◌, ◌++◌, Option, Some, None, is_some, length, map, refl, sym, ap, ◌∙◌, subst}
+use Rattle.std.proofs.Common.{◌≡◌, ℕ, ◌/◌, ◌^◌, ◌==◌, true, false, not, cond, T, List, [], ◌∷◌, ◌++◌, Option, Some, None, is_some, map, refl, sym, ap, ◌∙◌}
 use Rattle.std.specs.List.{filter, list_any}
 use Rattle.std.specs.Str.{bytes_eq}
 use Rattle.std.proofs.lemmas.List.{map-append}
-use Rattle.std.specs.Ordering.{is_eq, eq_by_cmp, nat_cmp}
-use Rattle.std.specs.declared.cmp.Ordering.TheVariants.{Less}
+use Rattle.std.specs.Ordering.{is_eq, nat_cmp}
 use Rattle.std.specs.FinMap.Entries.{below_all, is_some-find, find-where_key}
 use Rattle.std.specs.FinMap.{nat_cmp-IsAntisymmetric}
 use Rattle.std.proofs.lemmas.Slice.Eq.{bytes_eq-Decides}
 use Rattle.std.proofs.lemmas.Map.Text.{is_eq-slice_cmp}
 use Rattle.std.proofs.lemmas.Bool.Decides.{Decides-eqb}
-use Rattle.key_index.specs.Key.{rank}
 use Rattle.ledger_model.specs.Content.{Entry, distinct, transactions_of, has_transaction}
 use Rattle.ledger_model.proofs.TransactionLemmas.{transactions-any}
 use Rattle.ledger_model.proofs.Callers.{first, second, less}
@@ -19,7 +17,7 @@ use Rattle.transaction_table.specs.declared.row.TableRow.{TableRow}
 use Rattle.transaction_table.specs.Table.{Row, AreRising, id_cmp, row_of}
 use Rattle.event_chain.specs.Flat.{Place, place_of, entry_of, segment, entries_of, flat}
 use Rattle.event_chain.specs.Kept.{HasPlace}
-use Rattle.event_chain.proofs.Decided.{id_test, not_so, denied}
+use Rattle.event_chain.proofs.Decided.{id_test, not_so}
 use Rattle.event_chain.proofs.Flats.{missing}
 
 -- The ids of entries.

@@ -1,24 +1,23 @@
 -- What an insertion may rely on, and what it leaves.
-use Rattle.std.proofs.Common.{◌≡◌, ℕ, ◌+◌, ◌<◌, ◌≤◌, ◌^◌, false, Bool, cond, List, Option, Some, None, option_map, length, set, refl, sym, ap, ◌∙◌, subst, arith}
+use Rattle.std.proofs.Common.{◌≡◌, ℕ, ◌+◌, ◌<◌, ◌^◌, false, Bool, cond, List, Some, None, length, set, refl, ◌∙◌, arith}
 use Rattle.std.specs.Ordering.{nat_cmp}
 use Rattle.std.specs.FinMap as finite
-use Rattle.std.specs.FinMap.{FinMap, put}
+use Rattle.std.specs.FinMap.{put}
 use Rattle.slot_arena.specs.Arena.{value_at}
 use Rattle.key_index.specs.Key.{rank}
-use Rattle.key_index.specs.Index.{Index, index}
+use Rattle.key_index.specs.Index.{Index}
 use Rattle.ledger_model.specs.Event.{EventContent}
 use Rattle.ledger_model.specs.Key.{KeyName, key_cmp}
 use Rattle.ledger_model.specs.Limits.{Bounds}
-use Rattle.ledger_model.specs.Content.{Stored}
-use Rattle.event_store.specs.Slots.{Held, Slots}
+use Rattle.event_store.specs.Slots.{Slots}
 use Rattle.transaction_table.specs.declared.row.TableRow.{TableRow}
-use Rattle.transaction_table.specs.Table.{Table, Row, AreRising, AreApart, row_of, with_row}
+use Rattle.transaction_table.specs.Table.{Table, Row, AreRising, AreApart, with_row}
 use Rattle.event_chain.specs.declared.answers.Room.TheVariants.{Fits}
 use Rattle.event_chain.specs.Room.{room_of}
-use Rattle.event_chain.specs.Flat.{Place, place_of, flat}
+use Rattle.event_chain.specs.Flat.{place_of, flat}
 use Rattle.event_chain.specs.Edits.{put_if}
-use Rattle.event_chain.specs.Kept.{is_live, is_carrier, is_naming, is_end, IsChains, IsNamed, IsEntered, events_of, AreRoomy}
-use Rattle.event_chain.proofs.Facts.{seal, entered_named, event_room, none_at, sub_few, sub_none, counts_few, all_rising}
+use Rattle.event_chain.specs.Kept.{is_live, is_carrier, is_naming, is_end, IsChains, IsNamed, IsEntered, events_of}
+use Rattle.event_chain.proofs.Facts.{seal, event_room, none_at, sub_few, sub_none, counts_few, all_rising}
 use Rattle.event_chain.proofs.Named.{named_after}
 use Rattle.event_chain.proofs.Ops.{put_chains, put_all}
 use Rattle.event_chain.proofs.Effects.{map_put}

@@ -1,11 +1,11 @@
 -- The live events of a transaction are those of its segment of an index.
-use Rattle.std.proofs.Common.{◌≡◌, ℕ, zero, suc, ◌+◌, ◌<◌, ◌/◌, ◌^◌, ◌==◌, nat_lt, Bool, true, false, not, cond, ◌&&◌, T, List, [], ◌∷◌, ◌++◌, Option, Some, None, is_some, length, map, sum_by, refl, sym, ap, ◌∙◌, subst, arith, append-nil, slice_get, option_map, unwrap_or, ◌%◌, ◌-◌}
+use Rattle.std.proofs.Common.{◌≡◌, ℕ, zero, suc, ◌/◌, ◌^◌, ◌==◌, nat_lt, Bool, true, false, not, cond, ◌&&◌, T, List, [], ◌∷◌, Option, Some, None, is_some, length, map, sum_by, refl, sym, ap, ◌∙◌, subst, arith, append-nil, slice_get, option_map, unwrap_or, ◌%◌, ◌-◌}
 use Rattle.std.specs.List.{filter, count_by, filter_map, cons_option}
 use Rattle.std.proofs.lemmas.List.{length-map}
 use Rattle.key_index.specs.Entries.{last_of}
 use Rattle.ledger_model.specs.Evse.{first_or_none, evse_of}
 use Rattle.std.specs.Str.{bytes_eq}
-use Rattle.std.specs.Ordering.{is_eq, is_lt, eq_by_cmp, nat_cmp}
+use Rattle.std.specs.Ordering.{is_eq, eq_by_cmp, nat_cmp}
 use Rattle.std.specs.FinMap.{find}
 use Rattle.std.specs.FinMap.Entries.{below_all}
 use Rattle.std.proofs.lemmas.Slice.Eq.{bytes_eq-Decides}
@@ -14,11 +14,11 @@ use Rattle.key_index.specs.Key.{rank}
 use Rattle.ledger_model.specs.Key.{KeyName, key_cmp}
 use Rattle.ledger_model.specs.Content.{Entry, Stored, live, live_of}
 use Rattle.ledger_model.specs.Entries.{IsRising}
-use Rattle.ledger_model.proofs.Callers.{first, second, find_below, below_at}
+use Rattle.ledger_model.proofs.Callers.{first, second, find_below}
 use Rattle.ledger_model.proofs.Rising.{both}
 use Rattle.event_store.specs.Slots.{Held}
 use Rattle.transaction_table.specs.declared.row.TableRow.{TableRow}
-use Rattle.transaction_table.specs.Table.{Row, AreRising, id_cmp, row_of}
+use Rattle.transaction_table.specs.Table.{Row, AreRising, row_of}
 use Rattle.event_chain.specs.Flat.{Place, place_of, stored_at, entry_of, segment, flat, event_at, number_at, look_in, look}
 use Rattle.event_chain.specs.Kept.{AreRanks, IsSub, chosen, is_live, is_naming, is_end, live_one, end_one}
 use Rattle.event_chain.specs.Edits.{first_under, last_under, evse_at}

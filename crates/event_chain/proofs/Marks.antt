@@ -1,14 +1,11 @@
 -- What a mark or a removal may rely on, and what a mark leaves.
-use Rattle.std.proofs.Common.{◌≡◌, ℕ, zero, suc, ◌+◌, ◌-◌, ◌<◌, ◌≤◌, ◌^◌, nat_lt, Bool, true, false, not, cond, ◌&&◌, List, [], ◌∷◌, Option, Some, None, is_some, length, set, sum_by, refl, sym, ap, ◌∙◌, subst, arith, inl, inr}
-use Rattle.std.proofs.lemmas.Bool.Decides.{Decides-ltb}
+use Rattle.std.proofs.Common.{◌≡◌, ℕ, zero, suc, ◌+◌, ◌<◌, ◌≤◌, ◌^◌, nat_lt, Bool, true, false, not, cond, ◌&&◌, List, [], ◌∷◌, Option, Some, None, is_some, length, set, refl, sym, ap, ◌∙◌, subst, arith, inl}
 use Rattle.std.proofs.lemmas.List.Sums.{count_by-le-length}
-use Rattle.std.specs.Ordering.{nat_cmp}
 use Rattle.std.specs.FinMap as finite
-use Rattle.std.specs.FinMap.{FinMap, find, put}
-use Rattle.slot_arena.specs.Arena.{value_at, held_count}
+use Rattle.std.specs.FinMap.{find}
+use Rattle.slot_arena.specs.Arena.{value_at}
 use Rattle.key_index.specs.Key.{rank}
-use Rattle.key_index.specs.Index.{Index, index}
-use Rattle.ledger_model.specs.Event.{EventContent}
+use Rattle.key_index.specs.Index.{Index}
 use Rattle.ledger_model.specs.Key.{KeyName, key_cmp}
 use Rattle.ledger_model.specs.Limits.{Bounds}
 use Rattle.ledger_model.specs.Content.{Entry, Stored}
@@ -16,9 +13,9 @@ use Rattle.ledger_model.specs.Step.{marked, marked_at}
 use Rattle.event_store.specs.Slots.{Held, Slots, voided_as, voided_at}
 use Rattle.transaction_table.specs.declared.row.TableRow.{TableRow}
 use Rattle.transaction_table.specs.Table.{Table, Row, AreRising, AreApart, row_of, with_row}
-use Rattle.event_chain.specs.Flat.{Place, place_of, stored_in, stored_at, event_at, flat}
+use Rattle.event_chain.specs.Flat.{Place, place_of, stored_in, event_at, flat}
 use Rattle.event_chain.specs.Edits.{put_if, out_if, place_in, place_at}
-use Rattle.event_chain.specs.Kept.{IsSub, chosen, is_live, is_carrier, is_naming, is_end, end_count, live_one, end_one, AreIndexed, IsChains, IsNamed, IsLeft, events_of}
+use Rattle.event_chain.specs.Kept.{IsSub, chosen, is_live, is_carrier, is_naming, is_end, live_one, end_one, AreIndexed, IsChains, IsNamed, events_of}
 use Rattle.event_chain.proofs.Facts.{seal, all_rising, get_place, counts_few}
 use Rattle.event_chain.proofs.Named.{named_after}
 use Rattle.event_chain.proofs.Subs.{room_for_one}

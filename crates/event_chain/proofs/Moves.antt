@@ -1,8 +1,7 @@
 -- An event put in, marked or taken out, as a move of one place, one slot and one transaction.
-use Rattle.std.proofs.Common.{◌≡◌, ℕ, ◌+◌, ◌*◌, ◌<◌, ◌/◌, ◌%◌, ◌^◌, nat_lt, Bool, true, false, not, cond, List, [], ◌∷◌, Option, Some, None, length, set, refl, sym, ap, ◌∙◌, subst, arith, inl, inr, ◌⊎◌, get_or-set_other, get_or-set_same}
+use Rattle.std.proofs.Common.{◌≡◌, ℕ, ◌<◌, ◌/◌, ◌^◌, nat_lt, Bool, true, false, not, cond, List, Option, Some, None, length, set, refl, sym, ap, ◌∙◌, subst, arith, inl, inr, get_or-set_other, get_or-set_same}
 use Rattle.std.proofs.lemmas.Bool.{cases_eq}
 use Rattle.std.proofs.lemmas.Bool.Decides.{Decides-ltb}
-use Rattle.std.specs.List.{filter}
 use Rattle.std.specs.Ordering.{is_eq, eq_by_cmp, nat_cmp}
 use Rattle.std.specs.Cmp.{nat_cmp_total, eq_by_cmp_equiv, alike_right}
 use Rattle.std.specs.FinMap.{put}
@@ -14,8 +13,8 @@ use Rattle.ledger_model.specs.Content.{Stored}
 use Rattle.event_store.specs.Slots.{Held}
 use Rattle.transaction_table.specs.declared.row.TableRow.{TableRow}
 use Rattle.transaction_table.specs.Table.{Row, AreRising, AreApart, IsFresh, id_cmp, row_of}
-use Rattle.event_chain.specs.Flat.{Place, place_of, stored_in, stored_at, event_at, number_at, look_in, look}
-use Rattle.event_chain.specs.Kept.{AreRanks, IsHome, HasPlace, IsKeyed, IsNew, IsNamed, IsBare, IsLeft}
+use Rattle.event_chain.specs.Flat.{Place, place_of, stored_in, stored_at, event_at, number_at, look_in}
+use Rattle.event_chain.specs.Kept.{AreRanks, IsHome, HasPlace, IsKeyed, IsNamed, IsBare, IsLeft}
 use Rattle.event_chain.specs.Edits.{out}
 use Rattle.event_chain.proofs.Decided.{id_test, rank_test, denied, not_so}
 use Rattle.event_chain.proofs.Looks.{IsMove}

@@ -1,15 +1,15 @@
 -- An index with a place put in or taken out.
-use Rattle.std.proofs.Common.{◌≡◌, ℕ, suc, ◌+◌, ◌-◌, ◌<◌, ◌≤◌, ◌/◌, ◌^◌, nat_lt, nat_eq, ◌==◌, Bool, true, false, not, cond, T, List, [], ◌∷◌, ◌++◌, Option, Some, None, is_some, length, drop, slice_get, refl, sym, ap, ◌∙◌, subst, arith, inl, inr}
+use Rattle.std.proofs.Common.{◌≡◌, ℕ, suc, ◌+◌, ◌-◌, ◌<◌, ◌≤◌, ◌/◌, ◌^◌, nat_lt, ◌==◌, true, false, not, cond, T, List, [], ◌∷◌, ◌++◌, Option, Some, None, is_some, length, drop, slice_get, refl, sym, ap, ◌∙◌, subst, arith, inl, inr}
 use Rattle.std.proofs.lemmas.Bool.{cases_lt, cases_eq}
 use Rattle.std.proofs.lemmas.Bool.Decides.{Decides-ltb, Decides-eqb}
 use Rattle.std.specs.List.{filter}
 use Rattle.std.specs.Ordering.{is_eq, is_lt, eq_by_cmp, nat_cmp}
 use Rattle.std.specs.declared.cmp.Ordering.TheVariants.{Less, Equal, Greater}
-use Rattle.std.specs.FinMap.{find, put, is_sorted}
+use Rattle.std.specs.FinMap.{put}
 use Rattle.std.specs.FinMap.Entries.{by_order, below_all}
 use Rattle.key_index.specs.Entries.{below, from, slot_at, first_of, last_of, AreAbove, AreRising}
 use Rattle.key_index.specs.Key.{rank}
-use Rattle.ledger_model.proofs.Callers.{first, second}
+use Rattle.ledger_model.proofs.Callers.{first}
 use Rattle.ledger_model.proofs.Rising.{both}
 use Rattle.event_chain.specs.Flat.{Place, place_of, segment}
 use Rattle.ledger_model.specs.Key.{KeyName}
@@ -18,7 +18,7 @@ use Rattle.transaction_table.specs.Table.{Row, row_of}
 use Rattle.event_chain.specs.Kept.{AreRanks, HasPlace, IsBare}
 use Rattle.event_chain.specs.Edits.{place_in, place_at}
 use Rattle.event_chain.proofs.Decided.{rank_test, not_so, denied}
-use Rattle.event_chain.proofs.Flats.{nat_less, less_nat}
+use Rattle.event_chain.proofs.Flats.{nat_less}
 
 -- Greater ranks are behind.
 above_below : (r : ℕ) (es : List Place) → AreAbove r es → T (below_all nat_cmp r es)

@@ -3,7 +3,7 @@ use Rattle.std.specs.Prelude.{ℕ, List, refl}
 use Rattle.std.specs.Coded.{Coded, code_by, coded×, coded_ℕ}
 use Rattle.std.specs.FinMap as finite
 use Rattle.std.specs.FinMap.{FinMap}
-use Rattle.event_store.specs.Slots.{Held, stored_code}
+use Rattle.event_store.specs.Slots.{stored_code}
 use Rattle.ledger_model.specs.Key.{key_cmp, key_code}
 use Rattle.ledger_model.specs.Limits.{Bounds}
 use Rattle.ledger_model.specs.Content.{Stored, Entry}

@@ -1,5 +1,5 @@
 -- Places put into an index and taken out of it.
-use Rattle.std.specs.Prelude.{◌≡◌, ℕ, Bool, not, cond, List, Option, Some, None, slice_get, unwrap_or}
+use Rattle.std.specs.Prelude.{ℕ, Bool, not, cond, List, Option, Some, None, slice_get, unwrap_or}
 use Rattle.std.specs.List.{filter}
 use Rattle.std.specs.Ordering.{eq_by_cmp, nat_cmp}
 use Rattle.std.specs.FinMap.{put}

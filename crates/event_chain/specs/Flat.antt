@@ -1,11 +1,11 @@
 -- The stored events of a station, as its tables and slots hold them.
-use Rattle.std.specs.Prelude.{◌≡◌, ℕ, ◌/◌, ◌%◌, ◌^◌, ◌==◌, nat_lt, Bool, true, false, not, cond, List, [], ◌∷◌, Option, Some, None, map, length}
+use Rattle.std.specs.Prelude.{ℕ, ◌/◌, ◌%◌, ◌^◌, ◌==◌, nat_lt, true, cond, List, [], Option, Some, None, map}
 use Rattle.std.specs.List.{filter, flat_map}
 use Rattle.std.specs.Ordering.{nat_cmp}
 use Rattle.std.specs.FinMap.{find}
 use Rattle.slot_arena.specs.Arena.{value_at}
 use Rattle.key_index.specs.Key.{rank}
-use Rattle.ledger_model.specs.declared.kind.Kind.TheVariants.{Started, Updated, Ended}
+use Rattle.ledger_model.specs.declared.kind.Kind.TheVariants.{Updated}
 use Rattle.ledger_model.specs.Key.{KeyName}
 use Rattle.ledger_model.specs.Content.{Entry, Stored}
 use Rattle.event_store.specs.Slots.{Held}

@@ -1,4 +1,4 @@
-use Rattle.std.proofs.Common.{◌≡◌, ℕ, ◌/◌, ◌^◌, Some, None, true, false, ap, sym, refl, ◌∙◌}
+use Rattle.std.proofs.Common.{◌/◌, ◌^◌, Some, None, ap, sym, ◌∙◌}
 use Rattle.std.proofs.lemmas.Bool.Decides.{Decides-eqb}
 use Rattle.event_chain.specs.Flat.{Place}
 use Rattle.event_chain.proofs.Decided.{denied}

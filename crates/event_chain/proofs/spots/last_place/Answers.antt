@@ -1,6 +1,5 @@
-use Rattle.std.proofs.Common.{◌≡◌, ℕ, ◌/◌, ◌^◌, ◌==◌, nat_eq, Some, None, true, false, cond, ap, sym, ◌∙◌}
+use Rattle.std.proofs.Common.{◌/◌, ◌^◌, Some, None, cond, ap, sym, ◌∙◌}
 use Rattle.std.proofs.lemmas.Bool.Decides.{Decides-eqb}
-use Rattle.event_chain.specs.Flat.{Place}
 use Rattle.event_chain.proofs.Decided.{not_so}
 use Rattle.key_index.specs.Entries.{last_of, below}
 use Rattle.event_chain.proofs.Places.{last_seg, at_home}

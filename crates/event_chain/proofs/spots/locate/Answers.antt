@@ -1,4 +1,4 @@
-use Rattle.std.proofs.Common.{◌≡◌, ◌<◌, ◌^◌, Some, None, true, false, is_some, ap, sym, ◌∙◌, arith}
+use Rattle.std.proofs.Common.{◌≡◌, ◌<◌, ◌^◌, true, false, is_some, ap, sym, ◌∙◌, arith}
 use Rattle.key_index.specs.Key.{rank}
 use Rattle.transaction_table.specs.Table.{row_of}
 use Rattle.event_chain.specs.Flat.{place_of}

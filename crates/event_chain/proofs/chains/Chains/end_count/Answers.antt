@@ -1,4 +1,4 @@
-use Rattle.std.proofs.Common.{length, sym, ap, ◌∙◌}
+use Rattle.std.proofs.Common.{sym, ap, ◌∙◌}
 use Rattle.std.specs.List.{count_by}
 use Rattle.ledger_model.specs.Complete.{kinds_of}
 use Rattle.event_chain.specs.Kept.{is_end}

@@ -1,4 +1,4 @@
-use Rattle.std.proofs.Common.{◌≡◌, Option, Some, None, true, is_some, refl, sym, ap, ◌∙◌}
+use Rattle.std.proofs.Common.{Option, Some, sym, ap, ◌∙◌}
 use Rattle.std.specs.FinMap as finite
 use Rattle.event_store.specs.Slots.{Held}
 use Rattle.event_chain.specs.Chains.{Chained}

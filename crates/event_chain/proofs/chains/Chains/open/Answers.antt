@@ -1,4 +1,4 @@
-use Rattle.std.proofs.Common.{◌≡◌, ℕ, ◌≤◌, [], None, replicate, sym, ap, ◌∙◌, arith}
+use Rattle.std.proofs.Common.{◌≤◌, [], None, replicate, ap, ◌∙◌, arith}
 use Rattle.key_index.specs.Index.{Index}
 use Rattle.event_chain.specs.Flat.{flat}
 use Rattle.event_chain.proofs.Facts.{seal, opened_chains, opened_events}

@@ -1,7 +1,7 @@
-use Rattle.std.proofs.Common.{◌≡◌, ℕ, ◌+◌, ◌<◌, ◌^◌, List, Option, Some, None, true, is_some, set, length, refl, sym, ap, ◌∙◌, subst, arith}
+use Rattle.std.proofs.Common.{◌+◌, List, None, is_some, set, refl, sym, ap, ◌∙◌, subst}
 use Rattle.std.specs.FinMap as finite
 use Rattle.ledger_model.specs.Content.{Stored}
-use Rattle.event_store.specs.Slots.{Held, readings_in}
+use Rattle.event_store.specs.Slots.{readings_in}
 use Rattle.event_chain.specs.Chains.{Chained}
 use Rattle.event_chain.specs.Room.{found_of}
 use Rattle.event_chain.specs.Edits.{out}

@@ -1,4 +1,4 @@
-use Rattle.std.proofs.Common.{◌≡◌, ℕ, ◌+◌, ◌<◌, ◌≤◌, not, ◌&&◌, is_some, nat_le, true, false, length, refl, sym, ap, ◌∙◌, arith}
+use Rattle.std.proofs.Common.{not, ◌&&◌, is_some, nat_le, true, false, length, refl, sym, ap, ◌∙◌, arith}
 use Rattle.std.specs.FinMap as finite
 use Rattle.transaction_table.specs.Table.{row_of}
 use Rattle.event_chain.specs.Chains.{Chained}

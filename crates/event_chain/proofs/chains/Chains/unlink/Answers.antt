@@ -1,15 +1,14 @@
-use Rattle.std.proofs.Common.{◌≡◌, ℕ, ◌+◌, ◌-◌, ◌<◌, ◌≤◌, ◌^◌, nat_lt, List, Option, Some, None, true, false, not, cond, ◌&&◌, is_some, option_map, length, refl, sym, ap, ◌∙◌, subst, arith}
+use Rattle.std.proofs.Common.{◌≡◌, ℕ, ◌-◌, nat_lt, true, not, cond, ◌&&◌, is_some, length, refl, sym, ap, ◌∙◌, arith}
 use Rattle.std.specs.FinMap as finite
 use Rattle.ledger_model.specs.Content.{Stored}
 use Rattle.ledger_model.specs.Step.{marked}
-use Rattle.event_store.specs.Slots.{Held}
 use Rattle.transaction_table.specs.declared.row.TableRow.{TableRow}
-use Rattle.transaction_table.specs.Table.{row_of, with_row}
+use Rattle.transaction_table.specs.Table.{with_row}
 use Rattle.event_chain.specs.Chains.{Chained}
 use Rattle.event_chain.specs.Room.{found_of}
 use Rattle.event_chain.specs.Kept.{events_of, end_count, is_end, is_live, is_carrier, is_naming}
-use Rattle.event_chain.proofs.Facts.{found_live, found_voided}
-use Rattle.event_chain.proofs.Marks.{is_placed, spot_event, spot_here, spot_within, spot_get, spot_is, spot_there, spot_absent, spot_room, places_few, spot_live, spot_ends, in_indexes, out_indexes, marked_chains, marked_events, same_stored}
+use Rattle.event_chain.proofs.Facts.{found_live}
+use Rattle.event_chain.proofs.Marks.{is_placed, spot_event, spot_here, spot_get, spot_is, spot_there, spot_live, spot_ends, out_indexes, marked_chains, marked_events, same_stored}
 use Rattle.event_chain.proofs.chains.Chains.unlink.Goals as goal
 
 pub locate-at-requires : goal.locate-at-requires
