@@ -1,14 +1,15 @@
-//! The events of a station by transaction and number, live and voided, found without a walk.
+//! The events of a station by transaction and number, live and voided, found by look-ups.
 //!
 //! Events and their readings lie in two arenas; a sorted table has the transactions; four ordered
-//! indexes have the places of all events, of the live ones, of those with a reading, and of those that
-//! name an EVSE. [`Chains::open`] asks the allocator, and nothing else here asks it again. Each call
-//! is a number of look-ups in an index and in the table, whatever is stored.
+//! indexes have the places of all events, of the live ones, of the live ones with a reading, and of the
+//! live ones that name an EVSE. [`Chains::open`] asks the allocator, and nothing else here asks it
+//! again. Each call is a number of look-ups in an index and in the table, and goes over no events.
 //!
 //! The crate's one contract: chains are a map from keys to stored events, each live or voided, within
 //! the station's limits. [`Chains::insert`] puts in a live event, [`Chains::unlink`] voids one,
-//! [`Chains::relink`] makes it live again, [`Chains::remove`] takes a voided one out; what is asked of
-//! a transaction is answered for its live events in the order of their numbers.
+//! [`Chains::relink`] makes it live again, [`Chains::remove`] takes a voided one out. Of a transaction
+//! it answers the lowest and the highest live number, two counts, and the EVSE; the events between
+//! the two ends are found by their keys alone.
 //!
 //! ```text
 //! let mut chains = Chains::open(rt.alloc(), &limits)?;
