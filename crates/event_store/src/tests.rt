@@ -56,27 +56,61 @@ fn void(store: &mut EventStore, slot: u32) {
     }
 }
 
+// Tells whether so many slots and places for readings are free.
+fn has_free(store: &EventStore, slots: u32, readings: u32) -> bool {
+    store.free_slots() == slots && store.free_readings() == readings
+}
+
+// Puts both events in where the second must find no room a second time, and answers their slots.
+fn fill(store: &mut EventStore, three: &Event, one: &Event) -> Option<(u32, u32)> {
+    let first = put(store, 1, three)?;
+    if store.free_readings() != 1 || put(store, 2, three).is_some() {
+        return None;
+    }
+    let second = put(store, 2, one)?;
+    if put(store, 3, one).is_some() {
+        return None;
+    }
+    Some((first, second))
+}
+
+// Voids an event of three readings beside one of one reading; both keep theirs.
+fn keeps_readings(store: &mut EventStore, slots: (u32, u32), three: &Event, one: &Event) -> bool {
+    void(store, slots.0);
+    is_same(store, slots.0, three, true)
+        && is_same(store, slots.1, one, false)
+        && has_free(store, 0, 0)
+}
+
+// Takes the event of three readings out and puts it in again, beside the other.
+fn gives_back(store: &mut EventStore, slots: (u32, u32), three: &Event, one: &Event) -> bool {
+    let is_out = cut(store, slots.0) && !cut(store, slots.0) && has_free(store, 1, 3);
+    match put(store, 4, three) {
+        Some(again) => {
+            is_out
+                && is_same(store, again, three, false)
+                && is_same(store, slots.1, one, false)
+                && !is_same(store, slots.1, three, false)
+        }
+        None => false,
+    }
+}
+
+// Goes through the life of two events in a store for two events and four readings.
+fn chains_and_gives_back(store: &mut EventStore, three: &Event, one: &Event) -> bool {
+    match fill(store, three, one) {
+        Some(slots) => {
+            keeps_readings(store, slots, three, one) && gives_back(store, slots, three, one)
+        }
+        None => false,
+    }
+}
+
 #[test]
 fn readings_are_chained_and_given_back(rt: HostRuntime) -> Result<(), Fail> {
-    let alloc = rt.alloc();
-    let mut store = EventStore::open(alloc, 2, 4)?;
-    let three = event(alloc, &[5, 6, 7])?.ok_or("no event")?;
-    let one = event(alloc, &[8])?.ok_or("no event")?;
-    let first = put(&mut store, 1, &three).ok_or("no room")?;
-    assert_eq!(rt; store.free_readings(), 1);
-    assert_eq!(rt; put(&mut store, 2, &three), None);
-    let second = put(&mut store, 2, &one).ok_or("no room")?;
-    assert_eq!(rt; put(&mut store, 3, &one), None);
-    void(&mut store, first);
-    assert!(rt; is_same(&store, first, &three, true));
-    assert!(rt; is_same(&store, second, &one, false));
-    assert_eq!(rt; store.free_readings(), 0);
-    assert!(rt; cut(&mut store, first));
-    assert!(rt; !cut(&mut store, first));
-    assert_eq!(rt; (store.free_slots(), store.free_readings()), (1, 3));
-    let again = put(&mut store, 4, &three).ok_or("no room")?;
-    assert!(rt; is_same(&store, again, &three, false));
-    assert!(rt; is_same(&store, second, &one, false));
-    assert!(rt; !is_same(&store, second, &three, false));
+    let three = event(rt.alloc(), &[5, 6, 7])?.ok_or("no event")?;
+    let one = event(rt.alloc(), &[8])?.ok_or("no event")?;
+    let mut store = EventStore::open(rt.alloc(), 2, 4)?;
+    assert!(rt; chains_and_gives_back(&mut store, &three, &one));
     Ok(())
 }
