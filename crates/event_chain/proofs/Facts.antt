@@ -1,0 +1,218 @@
+-- What chains know before an operation.
+use Rattle.std.proofs.Common.{◌≡◌, ℕ, zero, suc, ◌+◌, ◌<◌, ◌≤◌, ◌^◌, ◌==◌, nat_lt, nat_le, Bool, true, false, not, cond, ◌&&◌, List, [], ◌∷◌, Option, Some, None, is_some, length, sum_by, replicate, refl, sym, ap, ◌∙◌, subst, arith, inl, inr, le-leb, leb-true}
+use Rattle.std.specs.Str.{bytes_eq}
+use Rattle.std.specs.FinMap as finite
+use Rattle.std.specs.FinMap.{FinMap}
+use Rattle.std.proofs.lemmas.Bool.{cases_lt}
+use Rattle.std.proofs.lemmas.List.{length-map, length-replicate}
+use Rattle.std.proofs.lemmas.Bool.Decides.{Decides-ltb, Decides-eqb}
+use Rattle.std.proofs.lemmas.List.Sums.{sum_by-cons}
+use Rattle.slot_arena.specs.Arena.{held_count}
+use Rattle.key_index.specs.Key.{rank}
+use Rattle.key_index.specs.Index.{Index, index}
+use Rattle.ledger_model.specs.Key.{KeyName, key_cmp}
+use Rattle.ledger_model.specs.Limits.{Bounds}
+use Rattle.ledger_model.specs.Content.{Entry, Stored, has_transaction, transactions_of}
+use Rattle.ledger_model.specs.Step.{readings_stored}
+use Rattle.ledger_model.specs.Entries.{IsRising}
+use Rattle.event_store.specs.Slots.{Held, Slots}
+use Rattle.transaction_table.specs.declared.row.TableRow.{TableRow}
+use Rattle.transaction_table.specs.Table.{Table, Row, row_of}
+use Rattle.event_chain.specs.declared.answers.Room.TheVariants.{Fits, NoTransaction, NoEvent, NoReading}
+use Rattle.event_chain.specs.declared.answers.Found.TheVariants.{Live, Voided}
+use Rattle.event_chain.specs.Room.{room_of, found_of}
+use Rattle.event_chain.specs.Flat.{Place, place_of, event_at, flat, look_in, look}
+use Rattle.event_chain.specs.Edits.{place_in, place_at}
+use Rattle.event_chain.specs.Kept.{IsSub, chosen, live_one, end_one, is_end, IsChains, IsNamed, IsEntered, events_of}
+use Rattle.event_chain.proofs.Decided.{not_so}
+use Rattle.event_chain.proofs.Flats.{find_flat, flat_rising}
+use Rattle.event_chain.proofs.Subs.{fewer, among_chosen}
+use Rattle.event_chain.proofs.Moves.{before_named}
+use Rattle.event_chain.proofs.Named.{row_here, row_other}
+use Rattle.event_chain.proofs.Figures.{known_figures}
+use Rattle.event_chain.proofs.Ids.{ids_flat, has_flat}
+
+-- Chains of equal parts.
+pub seal : (limits : Bounds) (t : Table) (s : Slots) (st l c n : Index) (rows : List Row) (transactions : ℕ) (slots : List (Option Held)) (readings room : ℕ) (es le ce ne : List Place) (events : ℕ)
+    → t.rows ≡ rows → t.capacity ≡ transactions → s.slots ≡ slots → s.readings ≡ readings → s.capacity ≡ room → st.entries ≡ es → l.entries ≡ le → c.entries ≡ ce → n.entries ≡ ne → st.capacity ≡ events → l.capacity ≡ events → c.capacity ≡ events → n.capacity ≡ events
+    → IsChains limits (record { rows = rows; capacity = transactions }) (record { slots = slots; readings = readings; capacity = room }) (index es events) (index le events) (index ce events) (index ne events) → IsChains limits t s st l c n
+seal limits t s st l c n rows transactions slots readings room es le ce ne events tr tc ss sr sc ste le_is ce_is ne_is stc lc cc_is nc h =
+    subst (λ (x : Table). IsChains limits x s st l c n) (sym (λ i. record { rows = tr i; capacity = tc i }))
+    (subst (λ (x : Slots). IsChains limits (record { rows = rows; capacity = transactions }) x st l c n) (sym (λ i. record { slots = ss i; readings = sr i; capacity = sc i }))
+    (subst (λ (x : Index). IsChains limits (record { rows = rows; capacity = transactions }) (record { slots = slots; readings = readings; capacity = room }) x l c n) (sym (λ i. record { entries = ste i; capacity = stc i }))
+    (subst (λ (x : Index). IsChains limits (record { rows = rows; capacity = transactions }) (record { slots = slots; readings = readings; capacity = room }) (index es events) x c n) (sym (λ i. record { entries = le_is i; capacity = lc i }))
+    (subst (λ (x : Index). IsChains limits (record { rows = rows; capacity = transactions }) (record { slots = slots; readings = readings; capacity = room }) (index es events) (index le events) x n) (sym (λ i. record { entries = ce_is i; capacity = cc_is i }))
+    (subst (λ (x : Index). IsChains limits (record { rows = rows; capacity = transactions }) (record { slots = slots; readings = readings; capacity = room }) (index es events) (index le events) (index ce events) x) (sym (λ i. record { entries = ne_is i; capacity = nc i })) h)))))
+
+-- No limit is reached.
+fits_all : (a b c : Bool) → cond a NoTransaction (cond b NoEvent (cond c NoReading Fits)) ≡ Fits → (a ≡ false) × ((b ≡ false) × (c ≡ false))
+fits_all true b c h = cc
+fits_all false true c h = cc
+fits_all false false true h = cc
+fits_all false false false h = (refl, (refl, refl))
+
+-- What is not at most another is more.
+more_than : (a b : ℕ) → nat_le a b ≡ false → b < a
+more_than a b h = elim (cases_lt b a) [ inl lt ↦ lt | inr le ↦ let f : true ≡ false = sym (le-leb a b le) ∙ h in cc ]
+
+-- What is not less than another is at least it.
+at_least : (a b : ℕ) → nat_lt a b ≡ false → b ≤ a
+at_least a b h = elim (cases_lt a b) [ inl lt ↦ let f : true ≡ false = sym ((Decides-ltb a b).1 lt) ∙ h in cc | inr le ↦ le ]
+
+-- A count of at most one each is at most the length.
+sum_few : (f : Entry → ℕ) (es : List Entry) → ((e : Entry) → f e ≤ 1) → sum_by f es ≤ length es
+sum_few f [] each = omega arith
+sum_few f (e ∷ es) each = omega (arith, sum_by-cons f e es, each e, sum_few f es each)
+
+-- A test counts at most one.
+one_at_most : (b : Bool) → cond b 1 0 ≤ 1
+one_at_most true = omega arith
+one_at_most false = omega arith
+
+-- An entered transaction is named.
+pub entered_named : (rows mid : List Row) (tx : List ℕ) (row : TableRow) → IsEntered rows mid tx row → IsNamed rows mid tx row row
+entered_named rows mid tx row entered = record {
+  there = elim entered [ inl was ↦ ap (row_of tx) was.1 ∙ was.0 | inr fresh ↦ ap (row_of tx) fresh.1 ∙ row_here tx row rows ];
+  same = refl;
+  others = λ q other. elim entered [ inl was ↦ ap (row_of q) was.1 | inr fresh ↦ ap (row_of q) fresh.1 ∙ row_other q tx row rows other ];
+  known = elim entered [ inl was ↦ inl was.0 | inr fresh ↦ inr fresh.0 ];
+}
+
+-- Whether there are readings.
+pub some_readings : (n : ℕ) → not (n == 0) ≡ nat_lt 0 n
+some_readings zero = refl
+some_readings (suc n) = ap not (not_so _ (Decides-eqb (suc n) 0) (λ e. absurd (omega arith))) ∙ sym ((Decides-ltb 0 (suc n)).1 (omega arith))
+
+-- A found event is live or voided as it is marked.
+pub found_live : (o : Option Stored) → found_of o ≡ Some Live → (s : Stored) × ((o ≡ Some s) × (s.voided ≡ false))
+found_live None h = cc
+found_live (Some s) h = elim s.voided as (λ v. s.voided ≡ v → Some (cond v Voided Live) ≡ Some Live → (t : Stored) × ((Some s ≡ Some t) × (t.voided ≡ false))) [ true ↦ λ _ f. cc | false ↦ λ e _. (s, (refl, e)) ] refl h
+
+-- The same of a voided one.
+pub found_voided : (o : Option Stored) → found_of o ≡ Some Voided → (s : Stored) × ((o ≡ Some s) × (s.voided ≡ true))
+found_voided None h = cc
+found_voided (Some s) h = elim s.voided as (λ v. s.voided ≡ v → Some (cond v Voided Live) ≡ Some Voided → (t : Stored) × ((Some s ≡ Some t) × (t.voided ≡ true))) [ false ↦ λ _ f. cc | true ↦ λ e _. (s, (refl, e)) ] refl h
+
+module _ (limits : Bounds) (table : Table) (store : Slots) (stored live carriers naming : Index) (chains : IsChains limits table store stored live carriers naming) where
+  -- All events.
+  abbrev all : List Entry
+  all = flat table.rows stored.entries store.slots
+
+  -- The map of them.
+  abbrev events : FinMap key_cmp Stored
+  events = events_of table store stored
+
+  pub all_rising : IsRising all
+  all_rising = flat_rising table.rows stored.entries store.slots chains.keyed.rising chains.keyed.ranks
+
+  -- The entries of the map are all events.
+  pub entries_all : finite.entries events ≡ all
+  entries_all = finite.entries-from_sorted key_cmp all all_rising
+
+  -- The map finds what the tables tell.
+  pub get_look : (q : KeyName) → finite.get events q ≡ look table.rows stored.entries store.slots q
+  get_look q = finite.get-from_sorted key_cmp all q all_rising ∙ find_flat q table.rows stored.entries store.slots chains.keyed.rising
+
+  -- The event of a key is that of its place.
+  pub get_place : (q : KeyName) → finite.get events q ≡ event_at store.slots (place_at table.rows stored.entries q)
+  get_place q = get_look q ∙ placed (row_of q.tx table.rows) where
+    placed : (o : Option TableRow) → look_in stored.entries store.slots q.seq o ≡ event_at store.slots (place_in stored.entries q.seq o)
+    placed None = refl
+    placed (Some row) = refl
+
+  -- No more than all places are in a sub-index.
+  pub sub_few : (test : Stored → Bool) (sub : List Place) → IsSub test stored.entries store.slots sub → length sub ≤ length stored.entries
+  sub_few test sub is = fewer sub stored.entries is.rising chains.keyed.ranks (λ r s at. among_chosen test store.slots (place_of r stored.entries) s (sym (is.each r) ∙ at))
+
+  -- Where there is no place, a sub-index has none.
+  pub sub_none : (test : Stored → Bool) (sub : List Place) (r0 : ℕ) → IsSub test stored.entries store.slots sub → place_of r0 stored.entries ≡ None → place_of r0 sub ≡ None
+  sub_none test sub r0 is none = is.each r0 ∙ ap (chosen test store.slots) none
+
+  -- As many transactions as the table has rows.
+  pub ids_count : length (transactions_of all) ≡ length table.rows
+  ids_count = ap length (ids_flat table.rows stored.entries store.slots chains.keyed.rising chains.keyed.filled) ∙ length-map table.rows (λ (r : Row). r.0)
+
+  module _ (tx : List ℕ) (readings : ℕ) (fits : room_of limits (finite.entries events) tx readings ≡ Fits) where
+    parts : (not (has_transaction tx all) && nat_le limits.transactions (length (transactions_of all)) ≡ false) × ((nat_le limits.events (length all) ≡ false) × (nat_lt limits.readings (readings_stored all + readings) ≡ false))
+    parts = fits_all _ _ _ (ap (λ es. room_of limits es tx readings) (sym entries_all) ∙ fits)
+
+    -- There is room for a new transaction.
+    pub enter_room : row_of tx table.rows ≡ None → length table.rows < table.capacity
+    enter_room absent =
+        let new : has_transaction tx all ≡ false = has_flat tx table.rows stored.entries store.slots chains.keyed.rising chains.keyed.filled ∙ ap is_some absent in
+        let more = more_than limits.transactions (length (transactions_of all)) (sym (ap (λ b. not b && nat_le limits.transactions (length (transactions_of all))) new) ∙ parts.0) in
+        omega (arith, more, ids_count, chains.counted.transactions_are)
+
+    -- For an event.
+    pub event_room : length stored.entries < limits.events
+    event_room = omega (arith, more_than limits.events (length all) parts.1.0, chains.counted.all_are)
+
+    -- And for its readings.
+    pub reading_room : store.readings + readings ≤ store.capacity
+    reading_room = omega (arith, at_least limits.readings (readings_stored all + readings) parts.1.1, chains.counted.readings_are, chains.counted.room_is)
+
+  -- A new key has no place.
+  pub none_at : (mid : List Row) (key : KeyName) (row : TableRow) (r0 : ℕ) → finite.get events key ≡ None → IsEntered table.rows mid key.tx row → key.seq < 2 ^ 31 → r0 ≡ rank row.slot key.seq → place_of r0 stored.entries ≡ None
+  none_at mid key row r0 absent entered number is =
+      let before = before_named table.rows stored.entries store.slots chains.keyed mid key.tx row row (entered_named table.rows mid key.tx row entered) key.seq in
+      no_event (place_of r0 stored.entries) (ap (λ r. event_at store.slots (place_of r stored.entries)) is
+      ∙ sym (ap (λ b. event_at store.slots (cond b (place_of (rank row.slot key.seq) stored.entries) None)) ((Decides-ltb key.seq (2 ^ 31)).1 number)) ∙ sym before ∙ sym (get_look key) ∙ absent) where
+        no_event : (o : Option ℕ) → event_at store.slots o ≡ None → o ≡ None
+        no_event None h = refl
+        no_event (Some s) h = cc
+
+  -- The counts of a transaction that was entered are small.
+  pub counts_few : (mid : List Row) (tx : List ℕ) (row : TableRow) → IsEntered table.rows mid tx row → (row.live ≤ length stored.entries) × (row.ends ≤ length stored.entries)
+  counts_few mid tx row entered =
+      let was = known_figures table.rows mid stored.entries store.slots tx row row (entered_named table.rows mid tx row entered) chains.figured in (
+        omega (arith, was.live, chains.counted.all_are, sum_few (live_one tx) all (λ e. one_at_most (bytes_eq tx e.0.tx && not e.1.voided))),
+        omega (arith, was.ends, chains.counted.all_are, sum_few (end_one tx) all (λ e. one_at_most (bytes_eq tx e.0.tx && not e.1.voided && is_end e.1.event.kind))),
+      )
+
+  -- The room is told by three tests.
+  pub room_answer : (tx : List ℕ) (n : ℕ) (a b c : Bool) → (not (is_some (row_of tx table.rows)) && nat_le limits.transactions (length table.rows)) ≡ a → nat_le limits.events (length stored.entries) ≡ b → nat_lt limits.readings (readings_stored all + n) ≡ c
+      → room_of limits (finite.entries events) tx n ≡ cond a NoTransaction (cond b NoEvent (cond c NoReading Fits))
+  room_answer tx n a b c a_is b_is c_is =
+      ap (λ es. room_of limits es tx n) entries_all
+      ∙ (λ i. cond (not (has_flat tx table.rows stored.entries store.slots chains.keyed.rising chains.keyed.filled i) && nat_le limits.transactions (ids_count i)) NoTransaction (cond (nat_le limits.events (chains.counted.all_are i)) NoEvent (cond (nat_lt limits.readings (readings_stored all + n)) NoReading Fits)))
+      ∙ (λ i. cond (a_is i) NoTransaction (cond (b_is i) NoEvent (cond (c_is i) NoReading Fits)))
+
+-- No place, no slot.
+none_held : (n : ℕ) → held_count (replicate {A = Option Held} n None) ≡ 0
+none_held zero = refl
+none_held (suc n) = omega (arith, sum_by-cons (λ (o : Option Held). cond {A = ℕ} (is_some o) 1 0) None (replicate n None), none_held n)
+
+-- Chains without events.
+pub opened_chains : (limits : Bounds) → limits.events ≤ 65536 → IsChains limits (record { rows = []; capacity = limits.transactions }) (record { slots = replicate limits.events None; readings = 0; capacity = limits.readings }) (index [] limits.events) (index [] limits.events) (index [] limits.events) (index [] limits.events)
+opened_chains limits few = record {
+  keyed = record { rising = tt; apart = λ tx other a b at there same. cc; ranks = tt; homes = λ r s is. absurd (no_place r s is); filled = λ tx row is. absurd (no_row tx row is) };
+  indexed = record { lives = record { rising = tt; each = λ r. refl }; carry = record { rising = tt; each = λ r. refl }; names = record { rising = tt; each = λ r. refl } };
+  figured = λ tx row is. absurd (no_row tx row is);
+  counted = record { all_are = refl; held_are = none_held limits.events; readings_are = refl; transactions_are = refl; slots_are = length-replicate limits.events None; room_is = refl; events_few = few };
+  roomy = record { for_stored = refl; for_live = refl; for_carriers = refl; for_naming = refl };
+} where
+  no_place : (r s : ℕ) → place_of r [] ≡ Some s → ⊥
+  no_place r s is = cc
+
+  no_row : (tx : List ℕ) (row : TableRow) → row_of tx [] ≡ Some row → ⊥
+  no_row tx row is = cc
+
+-- No event is stored.
+pub opened_events : (es : List Entry) → es ≡ [] → finite.from_sorted {R = key_cmp} es ≡ finite.empty
+opened_events es is = ap (λ (xs : List Entry). finite.from_sorted {R = key_cmp} xs) is ∙ finite.empty_of_len (finite.from_sorted {R = key_cmp} []) (finite.len-entries (finite.from_sorted {R = key_cmp} []) ∙ ap length (finite.entries-from_sorted key_cmp [] tt))
+
+-- What is at most another passes the test.
+pub le_test : (a b : ℕ) → a ≤ b → nat_le a b ≡ true
+le_test a b le = le-leb a b le
+
+-- What is more does not.
+pub more_test : (a b : ℕ) → b < a → nat_le a b ≡ false
+more_test a b lt = elim (nat_le a b) as (λ t. nat_le a b ≡ t → t ≡ false) [ false ↦ λ _. refl | true ↦ λ h. let f = leb-true a b h in absurd (omega arith) ] refl
+
+-- What is less passes the other.
+pub lt_test : (a b : ℕ) → a < b → nat_lt a b ≡ true
+lt_test a b lt = (Decides-ltb a b).1 lt
+
+-- What is not does not.
+pub ge_test : (a b : ℕ) → b ≤ a → nat_lt a b ≡ false
+ge_test a b le = not_so _ (Decides-ltb a b) (λ lt. absurd (omega arith))

@@ -1,0 +1,17 @@
+mod Decided
+mod Flats
+mod Sums
+mod Named
+mod Places
+mod Looks
+mod Moves
+mod Subs
+mod Figures
+mod Effects
+mod Ids
+mod Ops
+mod Facts
+mod Inserts
+mod Marks
+mod Lives
+mod Drops

@@ -1,0 +1,254 @@
+-- The live events of a transaction are those of its segment of an index.
+use Rattle.std.proofs.Common.{◌≡◌, ℕ, zero, suc, ◌/◌, ◌^◌, ◌==◌, nat_lt, Bool, true, false, not, cond, ◌&&◌, T, List, [], ◌∷◌, Option, Some, None, is_some, length, map, sum_by, refl, sym, ap, ◌∙◌, subst, arith, append-nil, slice_get, option_map, unwrap_or, ◌%◌, ◌-◌}
+use Rattle.std.specs.List.{filter, count_by, filter_map, cons_option}
+use Rattle.std.proofs.lemmas.List.{length-map}
+use Rattle.key_index.specs.Entries.{last_of}
+use Rattle.ledger_model.specs.Evse.{first_or_none, evse_of}
+use Rattle.std.specs.Str.{bytes_eq}
+use Rattle.std.specs.Ordering.{is_eq, eq_by_cmp, nat_cmp}
+use Rattle.std.specs.FinMap.{find}
+use Rattle.std.specs.FinMap.Entries.{below_all}
+use Rattle.std.proofs.lemmas.Slice.Eq.{bytes_eq-Decides}
+use Rattle.std.proofs.lemmas.List.Sums.{sum_by-cons}
+use Rattle.key_index.specs.Key.{rank}
+use Rattle.ledger_model.specs.Key.{KeyName, key_cmp}
+use Rattle.ledger_model.specs.Content.{Entry, Stored, live, live_of}
+use Rattle.ledger_model.specs.Entries.{IsRising}
+use Rattle.ledger_model.proofs.Callers.{first, second, find_below}
+use Rattle.ledger_model.proofs.Rising.{both}
+use Rattle.event_store.specs.Slots.{Held}
+use Rattle.transaction_table.specs.declared.row.TableRow.{TableRow}
+use Rattle.transaction_table.specs.Table.{Row, AreRising, row_of}
+use Rattle.event_chain.specs.Flat.{Place, place_of, stored_at, entry_of, segment, flat, event_at, number_at, look_in, look}
+use Rattle.event_chain.specs.Kept.{AreRanks, IsSub, chosen, is_live, is_naming, is_end, live_one, end_one}
+use Rattle.event_chain.specs.Edits.{first_under, last_under, evse_at}
+use Rattle.ledger_model.specs.declared.kind.Kind.{Kind}
+use Rattle.ledger_model.specs.Complete.{kinds_of}
+use Rattle.ledger_model.specs.Gaps.{numbers_of}
+use Rattle.event_chain.proofs.Decided.{key_test, id_test, rank_test, denied, not_so}
+use Rattle.event_chain.proofs.Flats.{find_entries, number_is, find_flat, flat_rising, same_flat, entries_rising, nat_less, less_nat}
+
+-- An event, where it passes a test.
+abbrev pub passing : (Stored → Bool) → Option Stored → Option Stored
+passing test None = None
+passing test (Some s) = cond (test s) (Some s) None
+
+-- The entries of a transaction that pass a test.
+abbrev pub passing_of : (Stored → Bool) → List ℕ → List Entry → List Entry
+passing_of test tx es = filter (λ e. bytes_eq tx e.0.tx && test e.1) es
+
+-- Keys below others are below those that are left.
+below_filter : (p : Entry → Bool) (k : KeyName) (es : List Entry) → T (below_all key_cmp k es) → T (below_all key_cmp k (filter p es))
+below_filter p k [] h = tt
+below_filter p k (e ∷ es) h =
+    let rest = below_filter p k es (second _ _ h) in
+    elim (p e) as (λ b. T (below_all key_cmp k (cond b (e ∷ filter p es) (filter p es)))) [ true ↦ both _ _ (first _ _ h) rest | false ↦ rest ]
+
+-- What is left rises.
+pub filter_rising : (p : Entry → Bool) (es : List Entry) → IsRising es → IsRising (filter p es)
+filter_rising p [] h = tt
+filter_rising p (e ∷ es) h =
+    let rest = filter_rising p es (second _ _ h) in
+    elim (p e) as (λ b. IsRising (cond b (e ∷ filter p es) (filter p es))) [ true ↦ both _ _ (below_filter p e.0 es (first _ _ h)) rest | false ↦ rest ]
+
+-- What is found among those that pass.
+pub find_passing : (test : Stored → Bool) (tx : List ℕ) (q : KeyName) (es : List Entry) → IsRising es → find key_cmp q (passing_of test tx es) ≡ cond (bytes_eq tx q.tx) (passing test (find key_cmp q es)) None
+find_passing test tx q [] h = elim (bytes_eq tx q.tx) as (λ b. ◌≡◌ {A = Option Stored} None (cond b None None)) [ true ↦ refl | false ↦ refl ]
+find_passing test tx q (e ∷ es) h =
+    let rest = find_passing test tx q es (second _ _ h) in let left = passing_of test tx es in
+    elim (eq_by_cmp key_cmp q e.0) as (λ b. eq_by_cmp key_cmp q e.0 ≡ b → find key_cmp q (cond (bytes_eq tx e.0.tx && test e.1) (e ∷ left) left) ≡ cond (bytes_eq tx q.tx) (passing test (cond b (Some e.1) (find key_cmp q es))) None) [
+      | false ↦ λ other. elim (bytes_eq tx e.0.tx && test e.1) as (λ b. find key_cmp q (cond b (e ∷ left) left) ≡ cond (bytes_eq tx q.tx) (passing test (find key_cmp q es)) None) [
+        | true ↦ ap (λ b. cond b (Some e.1) (find key_cmp q left)) other ∙ rest
+        | false ↦ rest
+      ]
+      | true ↦ λ same.
+          let is : q ≡ e.0 = (key_test q e.0).0 same in
+          let gone : find key_cmp q es ≡ None = find_below q es (subst (λ k. T (below_all key_cmp k es)) (sym is) (first _ _ h)) in
+          let none : find key_cmp q left ≡ None = rest ∙ ap (λ o. cond (bytes_eq tx q.tx) (passing test o) None) gone ∙ elim (bytes_eq tx q.tx) as (λ b. ◌≡◌ {A = Option Stored} (cond b None None) None) [ true ↦ refl | false ↦ refl ] in
+          ap (λ (k : KeyName). find key_cmp q (cond (bytes_eq tx k.tx && test e.1) (e ∷ left) left)) (sym is)
+          ∙ elim (bytes_eq tx q.tx) as (λ b. find key_cmp q (cond (b && test e.1) (e ∷ left) left) ≡ cond b (cond (test e.1) (Some e.1) None) None) [
+            | false ↦ none
+            | true ↦ elim (test e.1) as (λ b. find key_cmp q (cond b (e ∷ left) left) ≡ cond b (Some e.1) None) [ true ↦ ap (λ b. cond b (Some e.1) (find key_cmp q left)) same | false ↦ none ]
+          ]
+    ] refl
+
+-- Three tests.
+and_assoc : (a b c : Bool) → cond {A = ℕ} (a && b && c) 1 0 ≡ cond ((a && b) && c) 1 0
+and_assoc true b c = refl
+and_assoc false b c = refl
+
+-- What is and false is false.
+and_false : (b : Bool) → (b && false) ≡ false
+and_false true = refl
+and_false false = refl
+
+-- Tests of two filters.
+pub live_of_is : (tx : List ℕ) (es : List Entry) → live_of tx es ≡ passing_of is_live tx es
+live_of_is tx [] = refl
+live_of_is tx (e ∷ es) =
+    let rest = live_of_is tx es in
+    elim e.1.voided as (λ v. filter (λ x. bytes_eq tx x.0.tx) (cond (not v) (e ∷ live es) (live es)) ≡ cond (bytes_eq tx e.0.tx && not v) (e ∷ passing_of is_live tx es) (passing_of is_live tx es)) [
+      | true ↦ rest ∙ sym (ap (λ b. cond b (e ∷ passing_of is_live tx es) (passing_of is_live tx es)) (and_false (bytes_eq tx e.0.tx)))
+      | false ↦ elim (bytes_eq tx e.0.tx) as (λ b. cond b (e ∷ live_of tx es) (live_of tx es) ≡ cond (b && true) (e ∷ passing_of is_live tx es) (passing_of is_live tx es)) [ true ↦ ap (λ (xs : List Entry). e ∷ xs) rest | false ↦ rest ]
+    ]
+
+module _ (rows : List Row) (es : List Place) (slots : List (Option Held)) (rising : AreRising rows) (ranks : AreRanks es) (test : Stored → Bool) (sub : List Place) (is_sub : IsSub test es slots sub) (tx : List ℕ) (row : TableRow) (row_is : row_of tx rows ≡ Some row) where
+  -- The event of a number in the sub-index.
+  sub_number : (seq : ℕ) → event_at slots (number_at row.slot seq sub) ≡ passing test (event_at slots (number_at row.slot seq es))
+  sub_number seq =
+      elim (nat_lt seq (2 ^ 31)) as (λ b. event_at slots (cond b (place_of (rank row.slot seq) sub) None) ≡ passing test (event_at slots (cond b (place_of (rank row.slot seq) es) None))) [
+        | false ↦ refl
+        | true ↦ ap (event_at slots) (is_sub.each (rank row.slot seq)) ∙ told (place_of (rank row.slot seq) es)
+      ] where
+        told : (o : Option ℕ) → event_at slots (chosen test slots o) ≡ passing test (event_at slots o)
+        told None = refl
+        told (Some s) = elim (test (stored_at slots s)) as (λ b. event_at slots (cond b (Some s) None) ≡ cond b (Some (stored_at slots s)) None) [ true ↦ refl | false ↦ refl ]
+
+  -- Those of the transaction that pass are those of its segment.
+  pub segment_passing : passing_of test tx (flat rows es slots) ≡ map (entry_of tx slots) (segment row.slot sub)
+  segment_passing =
+      let all = flat rows es slots in let seg = map (entry_of tx slots) (segment row.slot sub) in
+      same_flat (passing_of test tx all) seg (filter_rising (λ e. bytes_eq tx e.0.tx && test e.1) all (flat_rising rows es slots rising ranks))
+      (subst IsRising (append-nil seg) (entries_rising tx row.slot slots sub [] is_sub.rising tt (λ n. tt))) (λ q.
+      find_passing test tx q all (flat_rising rows es slots rising ranks) ∙ ap (λ o. cond (bytes_eq tx q.tx) (passing test o) None) (find_flat q rows es slots rising)
+      ∙ elim (bytes_eq tx q.tx) as (λ b. bytes_eq tx q.tx ≡ b → cond b (passing test (look rows es slots q)) None ≡ find key_cmp q seg) [
+        | false ↦ λ other. sym (find_entries q tx row.slot slots sub ∙ ap (λ b. cond b (event_at slots (place_of (rank row.slot q.seq) (segment row.slot sub))) None) (not_so _ (id_test q.tx tx) (λ e. denied _ (bytes_eq-Decides tx q.tx) other (sym e))))
+        | true ↦ λ same. let id : tx ≡ q.tx = (bytes_eq-Decides tx q.tx).0 same in
+            ap (λ t. passing test (look_in es slots q.seq (row_of t rows))) (sym id) ∙ ap (λ o. passing test (look_in es slots q.seq o)) row_is ∙ sym (sub_number q.seq) ∙ ap (event_at slots) (sym (number_is row.slot q.seq sub))
+            ∙ sym (find_entries q tx row.slot slots sub ∙ ap (λ b. cond b (event_at slots (place_of (rank row.slot q.seq) (segment row.slot sub))) None) ((id_test q.tx tx).1 (sym id)))
+      ] refl)
+
+module _ (rows : List Row) (es : List Place) (slots : List (Option Held)) (rising : AreRising rows) (ranks : AreRanks es) (test : Stored → Bool) (tx : List ℕ) (absent : row_of tx rows ≡ None) where
+  -- None of an absent transaction pass.
+  pub none_passing : passing_of test tx (flat rows es slots) ≡ []
+  none_passing =
+      let all = flat rows es slots in
+      same_flat (passing_of test tx all) [] (filter_rising (λ e. bytes_eq tx e.0.tx && test e.1) all (flat_rising rows es slots rising ranks)) tt (λ q.
+      find_passing test tx q all (flat_rising rows es slots rising ranks) ∙ ap (λ o. cond (bytes_eq tx q.tx) (passing test o) None) (find_flat q rows es slots rising)
+      ∙ elim (bytes_eq tx q.tx) as (λ b. bytes_eq tx q.tx ≡ b → cond b (passing test (look rows es slots q)) None ≡ None) [
+        | false ↦ λ _. refl
+        | true ↦ λ same. ap (λ t. passing test (look_in es slots q.seq (row_of t rows))) (sym ((bytes_eq-Decides tx q.tx).0 same)) ∙ ap (λ o. passing test (look_in es slots q.seq o)) absent
+      ] refl)
+
+-- How many live events a transaction has.
+pub live_length : (tx : List ℕ) (es : List Entry) → length (live_of tx es) ≡ sum_by (live_one tx) es
+live_length tx es = ap length (live_of_is tx es) ∙ counted es where
+  counted : (xs : List Entry) → length (passing_of is_live tx xs) ≡ sum_by (live_one tx) xs
+  counted [] = refl
+  counted (e ∷ xs) = let rest = counted xs in
+      elim (bytes_eq tx e.0.tx && not e.1.voided) as (λ b. live_one tx e ≡ cond b 1 0 → length (cond b (e ∷ passing_of is_live tx xs) (passing_of is_live tx xs)) ≡ sum_by (live_one tx) (e ∷ xs)) [
+        | true ↦ λ one. omega (arith, sum_by-cons (live_one tx) e xs, one, rest)
+        | false ↦ λ one. omega (arith, sum_by-cons (live_one tx) e xs, one, rest)
+      ] refl
+
+-- How many of them are Started or Ended.
+pub ends_length : (tx : List ℕ) (es : List Entry) → count_by is_end (kinds_of tx es) ≡ sum_by (end_one tx) es
+ends_length tx es = ap (λ (xs : List Entry). count_by is_end (map (λ e. e.1.event.kind) xs)) (live_of_is tx es) ∙ counted es where
+  counted : (xs : List Entry) → count_by is_end (map (λ (e : Entry). e.1.event.kind) (passing_of is_live tx xs)) ≡ sum_by (end_one tx) xs
+  counted [] = refl
+  counted (e ∷ xs) = let rest = counted xs in
+      elim (bytes_eq tx e.0.tx && not e.1.voided) as (λ b. end_one tx e ≡ cond (b && is_end e.1.event.kind) 1 0 → count_by is_end (map (λ (x : Entry). x.1.event.kind) (cond b (e ∷ passing_of is_live tx xs) (passing_of is_live tx xs))) ≡ sum_by (end_one tx) (e ∷ xs)) [
+        | true ↦ λ one. omega (arith, sum_by-cons (end_one tx) e xs, one, rest, sum_by-cons (λ (k : Kind). cond {A = ℕ} (is_end k) 1 0) e.1.event.kind (map (λ (x : Entry). x.1.event.kind) (passing_of is_live tx xs)))
+        | false ↦ λ one. omega (arith, sum_by-cons (end_one tx) e xs, one, rest)
+      ] (and_assoc (bytes_eq tx e.0.tx) (not e.1.voided) (is_end e.1.event.kind))
+
+-- The first of what a list is turned into.
+first_map : {X Y : Type 0} (f : X → Y) (xs : List X) → slice_get (map f xs) 0 ≡ option_map f (slice_get xs 0)
+first_map f [] = refl
+first_map f (x ∷ xs) = refl
+
+-- The number of a place.
+abbrev pub number_in : Place → ℕ
+number_in e = e.0 % 2 ^ 31
+
+-- The numbers of places are those of their events.
+numbers_map : (tx : List ℕ) (slots : List (Option Held)) (ps : List Place) → map (λ (e : Entry). e.0.seq) (map (entry_of tx slots) ps) ≡ map number_in ps
+numbers_map tx slots [] = refl
+numbers_map tx slots (p ∷ ps) = ap (λ (ns : List ℕ). number_in p ∷ ns) (numbers_map tx slots ps)
+
+-- The first live number of a transaction is that of its first live place.
+pub first_number : (rows : List Row) (es lives : List Place) (slots : List (Option Held)) → AreRising rows → AreRanks es → IsSub is_live es slots lives → (tx : List ℕ) → slice_get (numbers_of tx (flat rows es slots)) 0 ≡ option_map number_in (first_under lives (row_of tx rows))
+first_number rows es lives slots rising ranks sub tx = told (row_of tx rows) refl where
+  told : (o : Option TableRow) → row_of tx rows ≡ o → slice_get (numbers_of tx (flat rows es slots)) 0 ≡ option_map number_in (first_under lives o)
+  told None is = ap (λ (xs : List Entry). slice_get (map (λ e. e.0.seq) xs) 0) (live_of_is tx (flat rows es slots) ∙ none_passing rows es slots rising ranks is_live tx is)
+  told (Some row) is =
+      ap (λ (xs : List Entry). slice_get (map (λ e. e.0.seq) xs) 0) (live_of_is tx (flat rows es slots) ∙ segment_passing rows es slots rising ranks is_live lives sub tx row is)
+      ∙ ap (λ ns. slice_get ns 0) (numbers_map tx slots (segment row.slot lives)) ∙ first_map number_in (segment row.slot lives)
+
+-- The last of what a list is turned into.
+last_map : {X Y : Type 0} (f : X → Y) (xs : List X) (n : ℕ) → slice_get (map f xs) n ≡ option_map f (slice_get xs n)
+last_map f [] n = refl
+last_map f (x ∷ xs) zero = refl
+last_map f (x ∷ xs) (suc n) = last_map f xs n
+
+-- The last number of a list of numbers.
+last_of_numbers : (ps : List Place) → slice_get (map number_in ps) (length (map number_in ps) - 1) ≡ option_map number_in (last_of ps)
+last_of_numbers ps = ap (λ n. slice_get (map number_in ps) (n - 1)) (length-map ps number_in) ∙ last_map number_in ps (length ps - 1)
+
+-- The last live number of a transaction is that of its last live place.
+pub last_number : (rows : List Row) (es lives : List Place) (slots : List (Option Held)) → AreRising rows → AreRanks es → IsSub is_live es slots lives → (tx : List ℕ) → let numbers = numbers_of tx (flat rows es slots) in slice_get numbers (length numbers - 1) ≡ option_map number_in (last_under lives (row_of tx rows))
+last_number rows es lives slots rising ranks sub tx = told (row_of tx rows) refl where
+  told : (o : Option TableRow) → row_of tx rows ≡ o → let numbers = numbers_of tx (flat rows es slots) in slice_get numbers (length numbers - 1) ≡ option_map number_in (last_under lives o)
+  told None is = ap (λ (xs : List Entry). slice_get (map (λ e. e.0.seq) xs) (length (map (λ e. e.0.seq) xs) - 1)) (live_of_is tx (flat rows es slots) ∙ none_passing rows es slots rising ranks is_live tx is)
+  told (Some row) is =
+      ap (λ (xs : List Entry). slice_get (map (λ e. e.0.seq) xs) (length (map (λ e. e.0.seq) xs) - 1)) (live_of_is tx (flat rows es slots) ∙ segment_passing rows es slots rising ranks is_live lives sub tx row is)
+      ∙ ap (λ ns. slice_get ns (length ns - 1)) (numbers_map tx slots (segment row.slot lives)) ∙ last_of_numbers (segment row.slot lives)
+
+-- The EVSE of an entry, or 0.
+abbrev evse_first : Option Entry → ℕ
+evse_first None = 0
+evse_first (Some e) = unwrap_or e.1.event.evse 0
+
+-- One entry more.
+named : (e : Entry) (mine voided : Bool) (evse : Option ℕ) → e.1.event.evse ≡ evse → (lives names : List Entry) → first_or_none (filter_map (λ x. x.1.event.evse) lives) ≡ evse_first (slice_get names 0)
+    → first_or_none (filter_map (λ x. x.1.event.evse) (cond (mine && not voided) (e ∷ lives) lives)) ≡ evse_first (slice_get (cond (mine && (not voided && is_some evse)) (e ∷ names) names) 0)
+named e false voided evse is lives names rest = rest
+named e true true evse is lives names rest = rest
+named e true false None is lives names rest = ap (λ (o : Option ℕ). first_or_none (cons_option o (filter_map (λ (x : Entry). x.1.event.evse) lives))) is ∙ rest
+named e true false (Some n) is lives names rest = ap (λ (o : Option ℕ). first_or_none (cons_option o (filter_map (λ (x : Entry). x.1.event.evse) lives))) is ∙ sym (ap (λ (o : Option ℕ). unwrap_or o 0) is)
+
+-- The first EVSE that is named is that of the first event that names one.
+evse_naming : (tx : List ℕ) (es : List Entry) → first_or_none (filter_map (λ e. e.1.event.evse) (passing_of is_live tx es)) ≡ evse_first (slice_get (passing_of is_naming tx es) 0)
+evse_naming tx [] = refl
+evse_naming tx (e ∷ es) = let rest = evse_naming tx es in named e (bytes_eq tx e.0.tx) e.1.voided e.1.event.evse refl (passing_of is_live tx es) (passing_of is_naming tx es) rest
+
+-- The EVSE of a transaction is that of its first naming place.
+pub evse_number : (rows : List Row) (es names : List Place) (slots : List (Option Held)) → AreRising rows → AreRanks es → IsSub is_naming es slots names → (tx : List ℕ) → evse_of tx (flat rows es slots) ≡ evse_at slots (first_under names (row_of tx rows))
+evse_number rows es names slots rising ranks sub tx =
+    ap (λ (xs : List Entry). first_or_none (filter_map (λ e. e.1.event.evse) xs)) (live_of_is tx (flat rows es slots)) ∙ evse_naming tx (flat rows es slots) ∙ told (row_of tx rows) refl where
+      placed : (ps : List Place) → evse_first (slice_get (map (entry_of tx slots) ps) 0) ≡ evse_at slots (slice_get ps 0)
+      placed [] = refl
+      placed (p ∷ ps) = refl
+
+      told : (o : Option TableRow) → row_of tx rows ≡ o → evse_first (slice_get (passing_of is_naming tx (flat rows es slots)) 0) ≡ evse_at slots (first_under names o)
+      told None is = ap (λ (xs : List Entry). evse_first (slice_get xs 0)) (none_passing rows es slots rising ranks is_naming tx is)
+      told (Some row) is = ap (λ (xs : List Entry). evse_first (slice_get xs 0)) (segment_passing rows es slots rising ranks is_naming names sub tx row is) ∙ placed (segment row.slot names)
+
+-- A rank below all is not found.
+below_none : (r : ℕ) (es : List Place) → T (below_all nat_cmp r es) → place_of r es ≡ None
+below_none r [] h = refl
+below_none r (e ∷ es) h = ap (λ o. cond (is_eq o) (Some e.1) (place_of r es)) (nat_less r e.0 (less_nat r e.0 (first _ _ h))) ∙ below_none r es (second _ _ h)
+
+-- What is found is not absent.
+never : (o : Option ℕ) (s : ℕ) → o ≡ Some s → o ≡ None → ⊥
+never o s a b = cc
+
+-- The first of a segment is found.
+seg_found : (t : ℕ) (es : List Place) (p : Place) → AreRanks es → slice_get (segment t es) 0 ≡ Some p → place_of p.0 es ≡ Some p.1
+seg_found t [] p h is = cc
+seg_found t (e ∷ es) p h is =
+    elim (e.0 / 2 ^ 31 == t) as (λ b. slice_get (cond b (e ∷ segment t es) (segment t es)) 0 ≡ Some p → place_of p.0 (e ∷ es) ≡ Some p.1) [
+      | true ↦ λ some. let same : e ≡ p = cc in subst (λ (k : Place). place_of k.0 (e ∷ es) ≡ Some k.1) same (ap (λ b. cond b (Some e.1) (place_of e.0 es)) ((rank_test e.0 e.0).1 refl))
+      | false ↦ λ some. let rest = seg_found t es p (second _ _ h) some in
+          ap (λ b. cond b (Some e.1) (place_of p.0 es)) (not_so _ (rank_test p.0 e.0) (λ k. never (place_of p.0 es) p.1 rest (ap (λ r. place_of r es) k ∙ below_none e.0 es (first _ _ h)))) ∙ rest
+    ] is
+
+-- What was chosen was that place.
+chosen_place : (test : Stored → Bool) (slots : List (Option Held)) (o : Option ℕ) (s : ℕ) → chosen test slots o ≡ Some s → o ≡ Some s
+chosen_place test slots None s h = cc
+chosen_place test slots (Some n) s h = elim (test (stored_at slots n)) as (λ b. cond b (Some n) None ≡ Some s → Some n ≡ Some s) [ true ↦ λ e. e | false ↦ λ e. cc ] h
+
+-- The first place of a transaction in a sub-index is one of all places.
+pub first_stored : (test : Stored → Bool) (es sub : List Place) (slots : List (Option Held)) (o : Option TableRow) (p : Place) → IsSub test es slots sub → first_under sub o ≡ Some p → place_of p.0 es ≡ Some p.1
+first_stored test es sub slots None p is h = cc
+first_stored test es sub slots (Some row) p is h = chosen_place test slots (place_of p.0 es) p.1 (sym (is.each p.0) ∙ seg_found row.slot sub p is.rising h)

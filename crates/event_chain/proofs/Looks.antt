@@ -1,0 +1,63 @@
+-- What is found of each key after one place, one slot and one transaction changed.
+use Rattle.std.proofs.Common.{◌≡◌, ℕ, ◌<◌, ◌^◌, nat_lt, true, false, cond, List, Option, Some, None, refl, sym, ap, ◌∙◌, arith}
+use Rattle.std.proofs.lemmas.Bool.Decides.{Decides-ltb}
+use Rattle.std.specs.Ordering.{eq_by_cmp}
+use Rattle.key_index.specs.Key.{rank}
+use Rattle.ledger_model.specs.Key.{KeyName}
+use Rattle.event_store.specs.Slots.{Held}
+use Rattle.transaction_table.specs.declared.row.TableRow.{TableRow}
+use Rattle.transaction_table.specs.Table.{Row, id_cmp, row_of}
+use Rattle.event_chain.specs.Flat.{Place, place_of, stored_at, event_at, number_at, look_in, look}
+use Rattle.event_chain.proofs.Decided.{id_test, denied}
+
+-- One place, one slot and one transaction may differ.
+pub record IsMove (rows new : List Row) (es more : List Place) (slots held : List (Option Held)) (key : KeyName) (slot r0 s0 : ℕ) : Type 0 where
+  pub rank_is : r0 ≡ rank slot key.seq
+  pub number : key.seq < 2 ^ 31
+  pub ranks : (r : ℕ) → (r ≡ r0 → ⊥) → place_of r more ≡ place_of r es
+  pub stays : (s : ℕ) → (s ≡ s0 → ⊥) → stored_at held s ≡ stored_at slots s
+  pub others : (q : List ℕ) → (q ≡ key.tx → ⊥) → row_of q new ≡ row_of q rows
+  pub own : (r : ℕ) → place_of r es ≡ Some s0 → r ≡ r0
+  pub apart : (q : List ℕ) (row : TableRow) → row_of q rows ≡ Some row → row.slot ≡ slot → q ≡ key.tx
+  pub before : (seq : ℕ) → look_in es slots seq (row_of key.tx rows) ≡ event_at slots (number_at slot seq es)
+  pub after : (seq : ℕ) → look_in more held seq (row_of key.tx new) ≡ event_at held (number_at slot seq more)
+
+module _ (rows new : List Row) (es more : List Place) (slots held : List (Option Held)) (key : KeyName) (slot r0 s0 : ℕ) (move : IsMove rows new es more slots held key slot r0 s0) where
+  -- The event of another place is the same.
+  same_event : (r : ℕ) → (r ≡ r0 → ⊥) → event_at held (place_of r more) ≡ event_at slots (place_of r es)
+  same_event r other = ap (event_at held) (move.ranks r other) ∙ kept (place_of r es) refl where
+    kept : (o : Option ℕ) → place_of r es ≡ o → event_at held o ≡ event_at slots o
+    kept None _ = refl
+    kept (Some s) is = ap Some (move.stays s (λ e. other (move.own r (is ∙ ap Some e))))
+
+  -- The event of a number whose place is another is the same.
+  same_number : (t seq : ℕ) → (seq < 2 ^ 31 → rank t seq ≡ r0 → ⊥) → event_at held (number_at t seq more) ≡ event_at slots (number_at t seq es)
+  same_number t seq other =
+      elim (nat_lt seq (2 ^ 31)) as (λ b. nat_lt seq (2 ^ 31) ≡ b → event_at held (cond b (place_of (rank t seq) more) None) ≡ event_at slots (cond b (place_of (rank t seq) es) None)) [
+        | true ↦ λ e. same_event (rank t seq) (other ((Decides-ltb seq (2 ^ 31)).0 e))
+        | false ↦ λ _. refl
+      ] refl
+
+  -- The event of another key of the transaction is the same.
+  same_here : (seq : ℕ) → (seq ≡ key.seq → ⊥) → look_in more held seq (row_of key.tx new) ≡ look_in es slots seq (row_of key.tx rows)
+  same_here seq other = move.after seq ∙ same_number slot seq (λ lt e. let is = move.rank_is in other (omega arith)) ∙ sym (move.before seq)
+
+  -- The event of another transaction is the same.
+  same_there : (q : List ℕ) (seq : ℕ) → (q ≡ key.tx → ⊥) → look_in more held seq (row_of q new) ≡ look_in es slots seq (row_of q rows)
+  same_there q seq other = ap (look_in more held seq) (move.others q other) ∙ kept (row_of q rows) refl where
+    kept : (o : Option TableRow) → row_of q rows ≡ o → look_in more held seq o ≡ look_in es slots seq o
+    kept None _ = refl
+    kept (Some row) is = same_number row.slot seq (λ lt e. let r = move.rank_is in let n = move.number in other (move.apart q row is (omega arith)))
+
+  -- The event of another key is the same.
+  pub look_other : (q : KeyName) → (q ≡ key → ⊥) → look new more held q ≡ look rows es slots q
+  look_other q other =
+      elim (eq_by_cmp id_cmp q.tx key.tx) as (λ b. eq_by_cmp id_cmp q.tx key.tx ≡ b → look new more held q ≡ look rows es slots q) [
+        | false ↦ λ no. same_there q.tx q.seq (denied _ (id_test q.tx key.tx) no)
+        | true ↦ λ yes. let is = (id_test q.tx key.tx).0 yes in
+            ap (λ t. look_in more held q.seq (row_of t new)) is ∙ same_here q.seq (λ n. other (λ i. record { tx = is i; seq = n i })) ∙ sym (ap (λ t. look_in es slots q.seq (row_of t rows)) is)
+      ] refl
+
+  -- The event of the key is that of its place.
+  pub look_here : look new more held key ≡ event_at held (place_of r0 more)
+  look_here = move.after key.seq ∙ ap (λ b. event_at held (cond b (place_of (rank slot key.seq) more) None)) ((Decides-ltb key.seq (2 ^ 31)).1 move.number) ∙ ap (λ r. event_at held (place_of r more)) (sym move.rank_is)

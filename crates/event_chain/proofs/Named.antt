@@ -1,0 +1,49 @@
+-- Rows of transactions, after one was put in, written or taken out.
+use Rattle.std.proofs.Common.{◌≡◌, ℕ, Bool, true, false, not, cond, List, Some, None, refl, sym, ap, ◌∙◌, subst, inl, inr}
+use Rattle.std.specs.Ordering.{is_eq, eq_by_cmp}
+use Rattle.std.specs.Cmp.{eq_by_cmp_equiv, alike_right}
+use Rattle.std.specs.Cmp.Lexicographic.{nat_list_cmp_total}
+use Rattle.std.specs.FinMap.Entries.{find-put, find-where_key}
+use Rattle.transaction_table.specs.declared.row.TableRow.{TableRow}
+use Rattle.transaction_table.specs.Table.{Row, id_cmp, row_of, with_row, without_row}
+use Rattle.event_chain.specs.Flat.{Place}
+use Rattle.event_chain.specs.Kept.{IsBare, IsNamed, IsEntered, IsLeft}
+use Rattle.event_chain.proofs.Decided.{id_test, not_so}
+
+turned : {A : Type 0} (b : Bool) (x y : A) → cond (not b) x y ≡ cond b y x
+turned true x y = refl
+turned false x y = refl
+
+-- The row of the transaction that was put in.
+pub row_here : (tx : List ℕ) (r : TableRow) (rows : List Row) → row_of tx (with_row tx r rows) ≡ Some r
+row_here tx r rows = find-put id_cmp nat_list_cmp_total tx tx r rows ∙ ap (λ b. cond b (Some r) (row_of tx rows)) ((id_test tx tx).1 refl)
+
+-- The row of another.
+pub row_other : (q tx : List ℕ) (r : TableRow) (rows : List Row) → (q ≡ tx → ⊥) → row_of q (with_row tx r rows) ≡ row_of q rows
+row_other q tx r rows other = find-put id_cmp nat_list_cmp_total q tx r rows ∙ ap (λ b. cond b (Some r) (row_of q rows)) (not_so _ (id_test q tx) other)
+
+-- What is found where a row was taken out.
+row_out : (q tx : List ℕ) (rows : List Row) → row_of q (without_row tx rows) ≡ cond (eq_by_cmp id_cmp q tx) None (row_of q rows)
+row_out q tx rows =
+    find-where_key id_cmp (λ x. not (eq_by_cmp id_cmp tx x)) q (λ x t. ap (λ r. not (is_eq r)) (sym (alike_right nat_list_cmp_total q x tx t))) rows
+    ∙ turned (eq_by_cmp id_cmp tx q) (row_of q rows) None ∙ ap (λ b. cond b None (row_of q rows)) ((eq_by_cmp_equiv nat_list_cmp_total).symm tx q)
+
+-- A transaction that was taken out, as no place of it is left.
+pub left_out : (rows new : List Row) (left : List Place) (tx : List ℕ) (row : TableRow) → new ≡ without_row tx rows → row_of tx rows ≡ Some row → IsBare left row.slot → IsLeft rows new left tx row
+left_out rows new left tx row is was bare = subst (λ rs. IsLeft rows rs left tx row) (sym is) (record {
+  was = was;
+  others = λ q other. row_out q tx rows ∙ ap (λ b. cond b None (row_of q rows)) (not_so _ (id_test q tx) other);
+  end = inr (row_out tx tx rows ∙ ap (λ b. cond b None (row_of tx rows)) ((id_test tx tx).1 refl), bare);
+})
+
+-- A transaction that was entered, and its row written.
+pub named_after : (rows mid new : List Row) (tx : List ℕ) (row after : TableRow) → IsEntered rows mid tx row → new ≡ with_row tx after mid → after.slot ≡ row.slot → IsNamed rows new tx row after
+named_after rows mid new tx row after entered is same = subst (λ rs. IsNamed rows rs tx row after) (sym is) (record {
+  there = row_here tx after mid;
+  same = same;
+  others = λ q other. row_other q tx after mid other ∙ elim entered [
+    | inl was ↦ ap (row_of q) was.1
+    | inr fresh ↦ ap (row_of q) fresh.1 ∙ row_other q tx row rows other
+  ];
+  known = elim entered [ inl was ↦ inl was.0 | inr fresh ↦ inr fresh.0 ];
+})

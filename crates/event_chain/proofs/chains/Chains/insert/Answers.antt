@@ -1,0 +1,181 @@
+use Rattle.std.proofs.Common.{◌+◌, ◌<◌, ◌^◌, false, not, is_some, ◌==◌, option_map, length, refl, sym, ap, ◌∙◌, subst, arith}
+use Rattle.std.specs.FinMap as finite
+use Rattle.key_index.specs.Key.{rank}
+use Rattle.transaction_table.specs.declared.row.TableRow.{TableRow}
+use Rattle.transaction_table.specs.Table.{row_of, with_row}
+use Rattle.event_chain.specs.Chains.{Chained}
+use Rattle.event_chain.specs.Room.{room_of}
+use Rattle.event_chain.specs.Kept.{IsEntered, end_count}
+use Rattle.event_chain.proofs.Facts.{enter_room, event_room, reading_room, some_readings, entered_named}
+use Rattle.event_chain.proofs.Inserts.{opened, inserted, inserted_events}
+use Rattle.event_chain.proofs.chains.Chains.insert.Goals as goal
+
+pub enter-row-requires : goal.enter-row-requires
+enter-row-requires c absent = let m = c.self.inside in enter_room m.limits m.table m.store m.stored m.live m.carriers m.naming c.self.invariant c.args.key.tx (length c.args.event.now.readings) (ap (λ (x : Chained). room_of x.limits (finite.entries x.events) c.args.key.tx (length c.args.event.now.readings)) c.self.view_is ∙ c.requires.room) (ap (λ t. row_of t m.table.rows) (sym c.tx.ensures) ∙ absent)
+
+pub put-slot-requires-clause-free : goal.put-slot-requires-clause-free
+put-slot-requires-clause-free c = let m = c.self.inside in let lt = event_room m.limits m.table m.store m.stored m.live m.carriers m.naming c.self.invariant c.args.key.tx (length c.args.event.now.readings) (ap (λ (x : Chained). room_of x.limits (finite.entries x.events) c.args.key.tx (length c.args.event.now.readings)) c.self.view_is ∙ c.requires.room) in omega (arith, lt, c.self.invariant.counted.held_are, c.self.invariant.counted.slots_are)
+
+pub put-slot-requires-clause-room : goal.put-slot-requires-clause-room
+put-slot-requires-clause-room c = let m = c.self.inside in reading_room m.limits m.table m.store m.stored m.live m.carriers m.naming c.self.invariant c.args.key.tx (length c.args.event.now.readings) (ap (λ (x : Chained). room_of x.limits (finite.entries x.events) c.args.key.tx (length c.args.event.now.readings)) c.self.view_is ∙ c.requires.room)
+
+pub put_place-requires-clause-absent : goal.put_place-requires-clause-absent
+put_place-requires-clause-absent c =
+    let m = c.self.inside in let row = c.enter-row.result in let mid = c.enter-row.new.table.rows in
+    let entered = subst (λ t. IsEntered m.table.rows mid t row) c.tx.ensures c.enter-row.ensures.entered in
+    let number : c.args.key.seq < 2 ^ 31 = omega (arith, c.seq.ensures.value, c.seq.ensures.range) in let is = c.new-at.ensures ∙ ap (rank row.slot) c.seq.ensures.value in
+    let absent = ap (λ (x : Chained). finite.get x.events c.args.key) c.self.view_is ∙ c.requires.absent in
+    let ready = opened m.limits m.table m.store m.stored m.live m.carriers m.naming c.self.invariant c.args.key mid row c.new-at.result entered number is absent c.args.key.tx (length c.args.event.now.readings) (ap (λ (x : Chained). room_of x.limits (finite.entries x.events) c.args.key.tx (length c.args.event.now.readings)) c.self.view_is ∙ c.requires.room) in
+    ready.stored_absent
+
+pub put_place-requires-clause-room : goal.put_place-requires-clause-room
+put_place-requires-clause-room c =
+    let m = c.self.inside in let row = c.enter-row.result in let mid = c.enter-row.new.table.rows in
+    let entered = subst (λ t. IsEntered m.table.rows mid t row) c.tx.ensures c.enter-row.ensures.entered in
+    let number : c.args.key.seq < 2 ^ 31 = omega (arith, c.seq.ensures.value, c.seq.ensures.range) in let is = c.new-at.ensures ∙ ap (rank row.slot) c.seq.ensures.value in
+    let absent = ap (λ (x : Chained). finite.get x.events c.args.key) c.self.view_is ∙ c.requires.absent in
+    let ready = opened m.limits m.table m.store m.stored m.live m.carriers m.naming c.self.invariant c.args.key mid row c.new-at.result entered number is absent c.args.key.tx (length c.args.event.now.readings) (ap (λ (x : Chained). room_of x.limits (finite.entries x.events) c.args.key.tx (length c.args.event.now.readings)) c.self.view_is ∙ c.requires.room) in
+    ready.stored_room
+
+pub put_place-requires-2-clause-absent : goal.put_place-requires-2-clause-absent
+put_place-requires-2-clause-absent c =
+    let m = c.self.inside in let row = c.enter-row.result in let mid = c.enter-row.new.table.rows in
+    let entered = subst (λ t. IsEntered m.table.rows mid t row) c.tx.ensures c.enter-row.ensures.entered in
+    let number : c.args.key.seq < 2 ^ 31 = omega (arith, c.seq.ensures.value, c.seq.ensures.range) in let is = c.new-at.ensures ∙ ap (rank row.slot) c.seq.ensures.value in
+    let absent = ap (λ (x : Chained). finite.get x.events c.args.key) c.self.view_is ∙ c.requires.absent in
+    let ready = opened m.limits m.table m.store m.stored m.live m.carriers m.naming c.self.invariant c.args.key mid row c.new-at.result entered number is absent c.args.key.tx (length c.args.event.now.readings) (ap (λ (x : Chained). room_of x.limits (finite.entries x.events) c.args.key.tx (length c.args.event.now.readings)) c.self.view_is ∙ c.requires.room) in
+    ready.live_absent
+
+pub put_place-requires-2-clause-room : goal.put_place-requires-2-clause-room
+put_place-requires-2-clause-room c =
+    let m = c.self.inside in let row = c.enter-row.result in let mid = c.enter-row.new.table.rows in
+    let entered = subst (λ t. IsEntered m.table.rows mid t row) c.tx.ensures c.enter-row.ensures.entered in
+    let number : c.args.key.seq < 2 ^ 31 = omega (arith, c.seq.ensures.value, c.seq.ensures.range) in let is = c.new-at.ensures ∙ ap (rank row.slot) c.seq.ensures.value in
+    let absent = ap (λ (x : Chained). finite.get x.events c.args.key) c.self.view_is ∙ c.requires.absent in
+    let ready = opened m.limits m.table m.store m.stored m.live m.carriers m.naming c.self.invariant c.args.key mid row c.new-at.result entered number is absent c.args.key.tx (length c.args.event.now.readings) (ap (λ (x : Chained). room_of x.limits (finite.entries x.events) c.args.key.tx (length c.args.event.now.readings)) c.self.view_is ∙ c.requires.room) in
+    ready.live_room
+
+pub put_place-requires-3-clause-absent : goal.put_place-requires-3-clause-absent
+put_place-requires-3-clause-absent c =
+    let m = c.self.inside in let row = c.enter-row.result in let mid = c.enter-row.new.table.rows in
+    let entered = subst (λ t. IsEntered m.table.rows mid t row) c.tx.ensures c.enter-row.ensures.entered in
+    let number : c.args.key.seq < 2 ^ 31 = omega (arith, c.seq.ensures.value, c.seq.ensures.range) in let is = c.new-at.ensures ∙ ap (rank row.slot) c.seq.ensures.value in
+    let absent = ap (λ (x : Chained). finite.get x.events c.args.key) c.self.view_is ∙ c.requires.absent in
+    let ready = opened m.limits m.table m.store m.stored m.live m.carriers m.naming c.self.invariant c.args.key mid row c.new-at.result entered number is absent c.args.key.tx (length c.args.event.now.readings) (ap (λ (x : Chained). room_of x.limits (finite.entries x.events) c.args.key.tx (length c.args.event.now.readings)) c.self.view_is ∙ c.requires.room) in
+    ready.carriers_absent
+
+pub put_place-requires-3-clause-room : goal.put_place-requires-3-clause-room
+put_place-requires-3-clause-room c =
+    let m = c.self.inside in let row = c.enter-row.result in let mid = c.enter-row.new.table.rows in
+    let entered = subst (λ t. IsEntered m.table.rows mid t row) c.tx.ensures c.enter-row.ensures.entered in
+    let number : c.args.key.seq < 2 ^ 31 = omega (arith, c.seq.ensures.value, c.seq.ensures.range) in let is = c.new-at.ensures ∙ ap (rank row.slot) c.seq.ensures.value in
+    let absent = ap (λ (x : Chained). finite.get x.events c.args.key) c.self.view_is ∙ c.requires.absent in
+    let ready = opened m.limits m.table m.store m.stored m.live m.carriers m.naming c.self.invariant c.args.key mid row c.new-at.result entered number is absent c.args.key.tx (length c.args.event.now.readings) (ap (λ (x : Chained). room_of x.limits (finite.entries x.events) c.args.key.tx (length c.args.event.now.readings)) c.self.view_is ∙ c.requires.room) in
+    ready.carriers_room
+
+pub put_place-requires-4-clause-absent : goal.put_place-requires-4-clause-absent
+put_place-requires-4-clause-absent c =
+    let m = c.self.inside in let row = c.enter-row.result in let mid = c.enter-row.new.table.rows in
+    let entered = subst (λ t. IsEntered m.table.rows mid t row) c.tx.ensures c.enter-row.ensures.entered in
+    let number : c.args.key.seq < 2 ^ 31 = omega (arith, c.seq.ensures.value, c.seq.ensures.range) in let is = c.new-at.ensures ∙ ap (rank row.slot) c.seq.ensures.value in
+    let absent = ap (λ (x : Chained). finite.get x.events c.args.key) c.self.view_is ∙ c.requires.absent in
+    let ready = opened m.limits m.table m.store m.stored m.live m.carriers m.naming c.self.invariant c.args.key mid row c.new-at.result entered number is absent c.args.key.tx (length c.args.event.now.readings) (ap (λ (x : Chained). room_of x.limits (finite.entries x.events) c.args.key.tx (length c.args.event.now.readings)) c.self.view_is ∙ c.requires.room) in
+    ready.naming_absent
+
+pub put_place-requires-4-clause-room : goal.put_place-requires-4-clause-room
+put_place-requires-4-clause-room c =
+    let m = c.self.inside in let row = c.enter-row.result in let mid = c.enter-row.new.table.rows in
+    let entered = subst (λ t. IsEntered m.table.rows mid t row) c.tx.ensures c.enter-row.ensures.entered in
+    let number : c.args.key.seq < 2 ^ 31 = omega (arith, c.seq.ensures.value, c.seq.ensures.range) in let is = c.new-at.ensures ∙ ap (rank row.slot) c.seq.ensures.value in
+    let absent = ap (λ (x : Chained). finite.get x.events c.args.key) c.self.view_is ∙ c.requires.absent in
+    let ready = opened m.limits m.table m.store m.stored m.live m.carriers m.naming c.self.invariant c.args.key mid row c.new-at.result entered number is absent c.args.key.tx (length c.args.event.now.readings) (ap (λ (x : Chained). room_of x.limits (finite.entries x.events) c.args.key.tx (length c.args.event.now.readings)) c.self.view_is ∙ c.requires.room) in
+    ready.naming_room
+
+pub overflow_add-after : goal.overflow_add-after
+overflow_add-after c =
+    let m = c.self.inside in let row = c.enter-row.result in let mid = c.enter-row.new.table.rows in
+    let entered = subst (λ t. IsEntered m.table.rows mid t row) c.tx.ensures c.enter-row.ensures.entered in
+    let number : c.args.key.seq < 2 ^ 31 = omega (arith, c.seq.ensures.value, c.seq.ensures.range) in let is = c.new-at.ensures ∙ ap (rank row.slot) c.seq.ensures.value in
+    let absent = ap (λ (x : Chained). finite.get x.events c.args.key) c.self.view_is ∙ c.requires.absent in
+    let ready = opened m.limits m.table m.store m.stored m.live m.carriers m.naming c.self.invariant c.args.key mid row c.new-at.result entered number is absent c.args.key.tx (length c.args.event.now.readings) (ap (λ (x : Chained). room_of x.limits (finite.entries x.events) c.args.key.tx (length c.args.event.now.readings)) c.self.view_is ∙ c.requires.room) in
+    let few = ready.live_few in omega arith
+
+pub overflow_add-after-2 : goal.overflow_add-after-2
+overflow_add-after-2 c =
+    let m = c.self.inside in let row = c.enter-row.result in let mid = c.enter-row.new.table.rows in
+    let entered = subst (λ t. IsEntered m.table.rows mid t row) c.tx.ensures c.enter-row.ensures.entered in
+    let number : c.args.key.seq < 2 ^ 31 = omega (arith, c.seq.ensures.value, c.seq.ensures.range) in let is = c.new-at.ensures ∙ ap (rank row.slot) c.seq.ensures.value in
+    let absent = ap (λ (x : Chained). finite.get x.events c.args.key) c.self.view_is ∙ c.requires.absent in
+    let ready = opened m.limits m.table m.store m.stored m.live m.carriers m.naming c.self.invariant c.args.key mid row c.new-at.result entered number is absent c.args.key.tx (length c.args.event.now.readings) (ap (λ (x : Chained). room_of x.limits (finite.entries x.events) c.args.key.tx (length c.args.event.now.readings)) c.self.view_is ∙ c.requires.room) in
+    let few = ready.ends_few in let one = c.ends_of.ensures.few in omega arith
+
+pub set-requires : goal.set-requires
+set-requires c = ap (λ t. option_map (λ (r : TableRow). r.slot) (row_of t c.enter-row.new.table.rows)) c.tx-2.ensures ∙ ap (option_map (λ (r : TableRow). r.slot))
+    (entered_named c.self.inside.table.rows c.enter-row.new.table.rows c.args.key.tx c.enter-row.result (subst (λ t. IsEntered c.self.inside.table.rows c.enter-row.new.table.rows t c.enter-row.result) c.tx.ensures c.enter-row.ensures.entered)).there
+
+pub invariant_of-self : goal.invariant_of-self
+invariant_of-self c =
+    let m = c.self.inside in let row = c.enter-row.result in let mid = c.enter-row.new.table.rows in
+    let entered = subst (λ t. IsEntered m.table.rows mid t row) c.tx.ensures c.enter-row.ensures.entered in
+    let number : c.args.key.seq < 2 ^ 31 = omega (arith, c.seq.ensures.value, c.seq.ensures.range) in let is = c.new-at.ensures ∙ ap (rank row.slot) c.seq.ensures.value in
+    let absent = ap (λ (x : Chained). finite.get x.events c.args.key) c.self.view_is ∙ c.requires.absent in
+    let ev = c.args.event.now in let after : TableRow = record { slot = row.slot; live = row.live + 1; ends = row.ends + c.ends_of.result } in
+    let carries = not c.is_empty.result in let names = c.is_some-names.result in
+    inserted m.limits m.table m.store m.stored m.live m.carriers m.naming c.self.invariant c.args.key mid row c.new-at.result entered number is absent c.set.new.self c.put-slot.new.self c.put_place.new.index c.put_place-2.new.index c.put_place-3.new.index c.put_place-4.new.index after c.put-slot.result ev carries names (record {
+      rows = c.set.ensures.rows ∙ ap (λ t. with_row t after mid) c.tx-2.ensures;
+      transactions = c.set.ensures.capacity ∙ c.enter-row.ensures.capacity;
+      rising = c.len-transactions.ensures.rising;
+      apart = c.len-transactions.ensures.apart;
+      free = c.put-slot.ensures.was_free;
+      within = c.put-slot.ensures.within;
+      slots = c.put-slot.ensures.slots;
+      readings = c.put-slot.ensures.readings;
+      room = c.put-slot.ensures.capacity;
+      stored_is = c.put_place.ensures.entries;
+      live_is = c.put_place-2.ensures.entries;
+      carriers_is = c.put_place-3.ensures.entries;
+      naming_is = c.put_place-4.ensures.entries;
+      stored_cap = c.put_place.ensures.capacity;
+      live_cap = c.put_place-2.ensures.capacity;
+      carriers_cap = c.put_place-3.ensures.capacity;
+      naming_cap = c.put_place-4.ensures.capacity;
+      carries_is = ap not (c.is_empty.ensures ∙ ap (λ rs. length rs == 0) c.readings.ensures.value) ∙ some_readings (length ev.readings);
+      names_is = c.is_some-names.ensures ∙ ap is_some c.evse.ensures.value;
+      same = refl;
+      one_more = refl;
+      ends = ap (λ n. row.ends + n) (c.ends_of.ensures.value ∙ ap end_count c.kind.ensures);
+    })
+
+pub returns-clause-events : goal.returns-clause-events
+returns-clause-events c =
+    let m = c.self.inside in let row = c.enter-row.result in let mid = c.enter-row.new.table.rows in
+    let entered = subst (λ t. IsEntered m.table.rows mid t row) c.tx.ensures c.enter-row.ensures.entered in
+    let number : c.args.key.seq < 2 ^ 31 = omega (arith, c.seq.ensures.value, c.seq.ensures.range) in let is = c.new-at.ensures ∙ ap (rank row.slot) c.seq.ensures.value in
+    let absent = ap (λ (x : Chained). finite.get x.events c.args.key) c.self.view_is ∙ c.requires.absent in
+    let ev = c.args.event.now in let after : TableRow = record { slot = row.slot; live = row.live + 1; ends = row.ends + c.ends_of.result } in
+    let carries = not c.is_empty.result in let names = c.is_some-names.result in
+    inserted_events m.limits m.table m.store m.stored m.live m.carriers m.naming c.self.invariant c.args.key mid row c.new-at.result entered number is absent c.set.new.self c.put-slot.new.self c.put_place.new.index c.put_place-2.new.index c.put_place-3.new.index c.put_place-4.new.index after c.put-slot.result ev carries names (record {
+      rows = c.set.ensures.rows ∙ ap (λ t. with_row t after mid) c.tx-2.ensures;
+      transactions = c.set.ensures.capacity ∙ c.enter-row.ensures.capacity;
+      rising = c.len-transactions.ensures.rising;
+      apart = c.len-transactions.ensures.apart;
+      free = c.put-slot.ensures.was_free;
+      within = c.put-slot.ensures.within;
+      slots = c.put-slot.ensures.slots;
+      readings = c.put-slot.ensures.readings;
+      room = c.put-slot.ensures.capacity;
+      stored_is = c.put_place.ensures.entries;
+      live_is = c.put_place-2.ensures.entries;
+      carriers_is = c.put_place-3.ensures.entries;
+      naming_is = c.put_place-4.ensures.entries;
+      stored_cap = c.put_place.ensures.capacity;
+      live_cap = c.put_place-2.ensures.capacity;
+      carriers_cap = c.put_place-3.ensures.capacity;
+      naming_cap = c.put_place-4.ensures.capacity;
+      carries_is = ap not (c.is_empty.ensures ∙ ap (λ rs. length rs == 0) c.readings.ensures.value) ∙ some_readings (length ev.readings);
+      names_is = c.is_some-names.ensures ∙ ap is_some c.evse.ensures.value;
+      same = refl;
+      one_more = refl;
+      ends = ap (λ n. row.ends + n) (c.ends_of.ensures.value ∙ ap end_count c.kind.ensures);
+    })
+    ∙ ap (λ (x : Chained). finite.insert x.events c.args.key (record { event = ev; voided = false })) c.self.view_is

@@ -1,0 +1,68 @@
+-- The stored events of a station, as its tables and slots hold them.
+use Rattle.std.specs.Prelude.{ℕ, ◌/◌, ◌%◌, ◌^◌, ◌==◌, nat_lt, true, cond, List, [], Option, Some, None, map}
+use Rattle.std.specs.List.{filter, flat_map}
+use Rattle.std.specs.Ordering.{nat_cmp}
+use Rattle.std.specs.FinMap.{find}
+use Rattle.slot_arena.specs.Arena.{value_at}
+use Rattle.key_index.specs.Key.{rank}
+use Rattle.ledger_model.specs.declared.kind.Kind.TheVariants.{Updated}
+use Rattle.ledger_model.specs.Key.{KeyName}
+use Rattle.ledger_model.specs.Content.{Entry, Stored}
+use Rattle.event_store.specs.Slots.{Held}
+use Rattle.transaction_table.specs.declared.row.TableRow.{TableRow}
+use Rattle.transaction_table.specs.Table.{Row, row_of}
+
+-- A rank in an index with the slot number of its event.
+abbrev pub Place : Type 0
+Place = ℕ × ℕ
+
+-- The slot number under a rank.
+abbrev pub place_of : ℕ → List Place → Option ℕ
+place_of r es = find nat_cmp r es
+
+-- What stands in for an event where there is none.
+abbrev pub no_stored : Stored
+no_stored = record { event = record { kind = Updated; moment = 0; evse = None; readings = [] }; voided = true }
+
+-- The stored event of a slot.
+abbrev pub stored_in : Option Held → Stored
+stored_in None = no_stored
+stored_in (Some held) = held.1
+
+-- The same, by the slot's number.
+abbrev pub stored_at : List (Option Held) → ℕ → Stored
+stored_at slots s = stored_in (value_at slots s)
+
+-- The entry of an event of this transaction.
+abbrev pub entry_of : List ℕ → List (Option Held) → Place → Entry
+entry_of tx slots e = (record { tx = tx; seq = e.0 % 2 ^ 31 }, stored_at slots e.1)
+
+-- The places of the transaction of a slot.
+abbrev pub segment : ℕ → List Place → List Place
+segment t es = filter (λ e. e.0 / 2 ^ 31 == t) es
+
+-- The events of a transaction.
+abbrev pub entries_of : List Place → List (Option Held) → Row → List Entry
+entries_of es slots row = map (entry_of row.0 slots) (segment row.1.slot es)
+
+-- All stored events, transaction by transaction.
+abbrev pub flat : List Row → List Place → List (Option Held) → List Entry
+flat rows es slots = flat_map (entries_of es slots) rows
+
+-- The event of a place, where there is one.
+abbrev pub event_at : List (Option Held) → Option ℕ → Option Stored
+event_at slots None = None
+event_at slots (Some s) = Some (stored_at slots s)
+
+-- The place of a number of the transaction of a slot.
+abbrev pub number_at : ℕ → ℕ → List Place → Option ℕ
+number_at t seq es = cond (nat_lt seq (2 ^ 31)) (place_of (rank t seq) es) None
+
+-- The event of a number, where its transaction is known.
+abbrev pub look_in : List Place → List (Option Held) → ℕ → Option TableRow → Option Stored
+look_in es slots seq None = None
+look_in es slots seq (Some row) = event_at slots (number_at row.slot seq es)
+
+-- The event of a key.
+abbrev pub look : List Row → List Place → List (Option Held) → KeyName → Option Stored
+look rows es slots key = look_in es slots key.seq (row_of key.tx rows)

@@ -1,0 +1,5 @@
+pub mod Flat
+pub mod Chains
+pub mod Kept
+pub mod Edits
+pub mod Room

@@ -1,0 +1,292 @@
+ghost use Rattle.std.specs.Prelude.{◌≡◌, ◌-◌, ◌≤◌, ◌&&◌, true, false, not, is_some, nat_le, length, slice_get, option_map, Some, None, IfOk};
+ghost use Rattle.std.specs.FinMap as finite;
+ghost use Rattle.std.specs.List.{count_by};
+ghost use Rattle.ledger_model.specs.Content.{live_of, transactions_of};
+ghost use Rattle.ledger_model.specs.Step.{marked, readings_stored};
+ghost use Rattle.ledger_model.specs.Evse.{evse_of};
+ghost use Rattle.ledger_model.specs.Complete.{kinds_of};
+ghost use Rattle.ledger_model.specs.Gaps.{numbers_of};
+ghost use Rattle.event_chain.specs.declared.answers.Room.TheVariants.{Fits};
+ghost use Rattle.event_chain.specs.declared.answers.Found.TheVariants.{Live, Voided};
+ghost use Rattle.transaction_table.specs.Table.{row_of};
+ghost use Rattle.event_chain.specs.Chains.{stored};
+ghost use Rattle.event_chain.specs.Room.{room_of, found_of, readings_under};
+ghost use Rattle.event_chain.specs.Kept.{end_count, is_end};
+
+use crate::answers::{Found, Room};
+use crate::spots::{enter, first_of, last_of, leave, locate, out_place, put_place, slot_of};
+use crate::tx_ids::TxIds;
+use event_store::{EventRef, EventStore, Readings};
+use key_index::{IndexKey, KeyIndex};
+use ledger_model::{Event, EvseId, Key, Kind, Limits, TxId};
+use std::alloc::{AllocError, Global};
+use std::marker::Model;
+use transaction_table::{TableRow, TransactionTable};
+
+/// The events of a station by their keys, each live or voided, within its limits.
+#[derive(Drop)]
+pub struct Chains {
+    limits: Limits,
+    table: TransactionTable,
+    store: EventStore,
+    stored: KeyIndex,
+    live: KeyIndex,
+    carriers: KeyIndex,
+    naming: KeyIndex,
+}
+
+impl Model for Chains {
+    ghost use Rattle.event_chain.specs.Chains.{Chained, chained_code};
+
+    ghost Value = { Chained };
+
+    ghost coded = { chained_code };
+
+    ghost use Rattle.event_chain.specs.Kept.{IsChains, events_of};
+
+    ghost view = { λ c. record { limits = c.limits; events = events_of c.table c.store c.stored } };
+
+    ghost invariant = { λ c. IsChains c.limits c.table c.store c.stored c.live c.carriers c.naming };
+}
+
+// Counts an event that is Started or Ended.
+fn ends_of(kind: Kind) -> u32
+    ensures value { result ≡ end_count kind }
+    ensures few { result ≤ 1 }
+{
+    match kind {
+        Kind::Updated => 0,
+        Kind::Started | Kind::Ended => 1,
+    }
+}
+
+// Tells whether a transaction is new and no more may be stored.
+fn lacks_place(table: &TransactionTable, limit: u32, tx: &TxId) -> bool
+    ensures { result ≡ (not (is_some (row_of tx.now table.now.rows)) && nat_le limit (length table.now.rows)) }
+{
+    table.get(tx).is_none() && limit <= table.len()
+}
+
+impl Chains {
+    /// No events, within these limits. It alone takes memory.
+    pub fn open(alloc: Global, limits: &Limits) -> Result<Self, AllocError>
+        ensures limits { IfOk result (λ c. c.limits ≡ limits.now) }
+        ensures empty { IfOk result (λ c. c.events ≡ finite.empty) }
+    {
+        let (transactions, events) = (limits.transactions(), limits.events());
+        Ok(Chains {
+            limits: *limits,
+            table: TransactionTable::open(alloc, transactions)?,
+            store: EventStore::open(alloc, events, limits.readings())?,
+            stored: KeyIndex::open(alloc, events)?,
+            live: KeyIndex::open(alloc, events)?,
+            carriers: KeyIndex::open(alloc, events)?,
+            naming: KeyIndex::open(alloc, events)?,
+        })
+    }
+
+    /// Whether there is room for an event of this transaction under a new key, with so many readings.
+    pub fn room_for(&self, tx: &TxId, readings: usize) -> Room
+        ensures { result ≡ room_of self.now.limits (stored self.now) tx.now readings }
+    {
+        if lacks_place(&self.table, self.limits.transactions(), tx) {
+            Room::NoTransaction
+        } else if self.limits.events() <= self.stored.len() {
+            Room::NoEvent
+        } else if (self.store.free_readings() as usize) < readings {
+            Room::NoReading
+        } else {
+            Room::Fits
+        }
+    }
+
+    /// How the event of a key is stored; none where the key is absent.
+    pub fn find(&self, key: &Key) -> Option<Found>
+        ensures { result ≡ found_of (finite.get self.now.events key.now) }
+    {
+        match self.event(key) {
+            Some(event) if event.is_voided() => Some(Found::Voided),
+            Some(_) => Some(Found::Live),
+            None => None,
+        }
+    }
+
+    /// The event of a key; none where the key is absent.
+    pub fn event(&self, key: &Key) -> Option<EventRef<'_>>
+        ensures { option_map (λ e. e.1) result ≡ finite.get self.now.events key.now }
+    {
+        match slot_of(&self.table, &self.stored, key) {
+            Some(slot) => Some(self.store.get(slot)),
+            None => None,
+        }
+    }
+
+    /// Puts in a live event under a new key, for which there is room.
+    pub fn insert(&mut self, key: Key, event: &Event)
+        requires absent { finite.get self.old.events key ≡ None }
+        requires room { room_of self.old.limits (stored self.old) key.tx (length event.now.readings) ≡ Fits }
+        ensures limits { self.new.limits ≡ self.old.limits }
+        ensures events { self.new.events ≡ finite.insert self.old.events key (record { event = event.now; voided = false }) }
+    {
+        let row = enter(&mut self.table, key.tx());
+        let at = IndexKey::new(row.slot, key.seq());
+        let slot = self.store.put(at, event);
+        put_place(&mut self.stored, at, slot, true);
+        let (carries, names) = (!event.readings().is_empty(), event.evse().is_some());
+        put_place(&mut self.live, at, slot, true);
+        put_place(&mut self.carriers, at, slot, carries);
+        put_place(&mut self.naming, at, slot, names);
+        let after = TableRow {
+            slot: row.slot,
+            live: row.live + 1,
+            ends: row.ends + ends_of(event.kind()),
+        };
+        self.table.set(key.tx(), after);
+        // The rows rise, each with a slot of its own.
+        let _transactions = self.table.len();
+    }
+
+    /// Voids a live event; it keeps its slots.
+    pub fn unlink(&mut self, key: &Key)
+        requires { found_of (finite.get self.old.events key.now) ≡ Some Live }
+        ensures limits { self.new.limits ≡ self.old.limits }
+        ensures events { self.new.events ≡ marked self.old.events key.now true }
+    {
+        let at = locate(&self.table, &self.stored, key);
+        let event = self.store.get(at.slot);
+        let (carries, names) = (event.reading_count() > 0, event.evse().is_some());
+        let ends = ends_of(event.kind());
+        self.store.set_voided(at.slot, true);
+        out_place(&mut self.live, at.key, true);
+        out_place(&mut self.carriers, at.key, carries);
+        out_place(&mut self.naming, at.key, names);
+        let after = TableRow {
+            slot: at.row.slot,
+            live: at.row.live - 1,
+            ends: at.row.ends - ends,
+        };
+        self.table.set(key.tx(), after);
+        // The rows rise, each with a slot of its own.
+        let _transactions = self.table.len();
+    }
+
+    /// Makes a voided event live again; it takes no slot.
+    pub fn relink(&mut self, key: &Key)
+        requires { found_of (finite.get self.old.events key.now) ≡ Some Voided }
+        ensures limits { self.new.limits ≡ self.old.limits }
+        ensures events { self.new.events ≡ marked self.old.events key.now false }
+    {
+        let at = locate(&self.table, &self.stored, key);
+        let event = self.store.get(at.slot);
+        let (carries, names) = (event.reading_count() > 0, event.evse().is_some());
+        let ends = ends_of(event.kind());
+        self.store.set_voided(at.slot, false);
+        put_place(&mut self.live, at.key, at.slot, true);
+        put_place(&mut self.carriers, at.key, at.slot, carries);
+        put_place(&mut self.naming, at.key, at.slot, names);
+        let after = TableRow {
+            slot: at.row.slot,
+            live: at.row.live + 1,
+            ends: at.row.ends + ends,
+        };
+        self.table.set(key.tx(), after);
+        // The rows rise, each with a slot of its own.
+        let _transactions = self.table.len();
+    }
+
+    /// Takes out a voided event with its readings; a transaction without events gives its place back.
+    pub fn remove(&mut self, key: &Key)
+        requires { found_of (finite.get self.old.events key.now) ≡ Some Voided }
+        ensures limits { self.new.limits ≡ self.old.limits }
+        ensures events { self.new.events ≡ finite.remove self.old.events key.now }
+    {
+        let at = locate(&self.table, &self.stored, key);
+        out_place(&mut self.stored, at.key, true);
+        self.store.take_out(at.slot);
+        leave(&mut self.table, &self.stored, key.tx(), at.row);
+        // The rows rise, each with a slot of its own.
+        let _transactions = self.table.len();
+    }
+
+    /// The readings of the event of a key, in the order in which they were sent; none where the key is
+    /// absent.
+    pub fn readings(&self, key: &Key) -> Readings<'_>
+        ensures { result ≡ readings_under (finite.get self.now.events key.now) }
+    {
+        match self.event(key) {
+            Some(event) => event.readings(),
+            None => self.store.no_readings(),
+        }
+    }
+
+    /// How many events are stored, voided ones among them.
+    pub fn stored_events(&self) -> u32
+        ensures { result ≡ length (stored self.now) }
+    {
+        self.stored.len()
+    }
+
+    /// How many readings are stored, those of voided events among them.
+    pub fn stored_readings(&self) -> u32
+        ensures { result ≡ readings_stored (stored self.now) }
+    {
+        self.limits.readings() - self.store.free_readings()
+    }
+
+    /// How many live events a transaction has.
+    pub fn live_count(&self, tx: &TxId) -> u32
+        ensures { result ≡ length (live_of tx.now (stored self.now)) }
+    {
+        match self.table.get(tx) {
+            Some(row) => row.live,
+            None => 0,
+        }
+    }
+
+    /// How many live events of a transaction are Started or Ended.
+    pub fn end_count(&self, tx: &TxId) -> u32
+        ensures { result ≡ count_by is_end (kinds_of tx.now (stored self.now)) }
+    {
+        match self.table.get(tx) {
+            Some(row) => row.ends,
+            None => 0,
+        }
+    }
+
+    /// The lowest live number of a transaction.
+    pub fn first(&self, tx: &TxId) -> Option<u32>
+        ensures { result ≡ slice_get (numbers_of tx.now (stored self.now)) 0 }
+    {
+        match first_of(&self.table, &self.live, tx) {
+            Some(place) => Some(place.0.number()),
+            None => None,
+        }
+    }
+
+    /// The highest live number of a transaction.
+    pub fn last(&self, tx: &TxId) -> Option<u32>
+        ensures { let numbers = numbers_of tx.now (stored self.now) in result ≡ slice_get numbers (length numbers - 1) }
+    {
+        match last_of(&self.table, &self.live, tx) {
+            Some(place) => Some(place.0.number()),
+            None => None,
+        }
+    }
+
+    /// The EVSE that the lowest live event of a transaction names which names one, else 0.
+    pub fn evse(&self, tx: &TxId) -> EvseId
+        ensures { result ≡ evse_of tx.now (stored self.now) }
+    {
+        match first_of(&self.table, &self.naming, tx) {
+            Some(place) => self.store.get(place.1).evse().unwrap_or(EvseId::unnamed()),
+            None => EvseId::unnamed(),
+        }
+    }
+
+    /// The ids of the transactions that have an event, live or voided, in order.
+    pub fn transactions(&self) -> TxIds<'_>
+        ensures { result ≡ transactions_of (stored self.now) }
+    {
+        TxIds::of(&self.table)
+    }
+}

@@ -1,0 +1,185 @@
+//! The places of events: their transactions, their ranks, and the slots that hold them.
+ghost use Rattle.std.specs.Prelude.{◌≡◌, ◌<◌, true, false, length, None, Some, IsSome, slice_get};
+ghost use Rattle.key_index.specs.Entries.{last_of};
+ghost use Rattle.key_index.specs.Key.{rank};
+ghost use Rattle.ledger_model.specs.Ranges.{sequence_end};
+ghost use Rattle.transaction_table.specs.Table.{row_of};
+ghost use Rattle.event_chain.specs.Flat.{place_of, segment};
+ghost use Rattle.event_chain.specs.Kept.{HasPlace, IsBare, IsEntered, IsLeft};
+ghost use Rattle.event_chain.specs.Edits.{put_if, out_if, place_at, first_under, last_under};
+
+use key_index::{IndexKey, KeyIndex};
+use ledger_model::{Key, TxId};
+use transaction_table::{TableRow, TransactionTable};
+
+// Where an event is: its transaction's row, the key under which the indexes have it, and its slot.
+#[derive(Clone, Copy)]
+pub(crate) struct Spot {
+    pub(crate) row: TableRow,
+    pub(crate) key: IndexKey,
+    pub(crate) slot: u32,
+}
+
+// Finds a key; none where it is absent.
+pub(crate) fn slot_of(table: &TransactionTable, stored: &KeyIndex, key: &Key) -> Option<u32>
+    ensures { result ≡ place_at table.now.rows stored.now.entries key.now }
+{
+    // The indexed keys rise.
+    let _count = stored.len();
+    match table.get(key.tx()) {
+        Some(row) => stored.get(IndexKey::new(row.slot, key.seq())),
+        None => None,
+    }
+}
+
+// Finds a key that is there.
+pub(crate) fn locate(table: &TransactionTable, stored: &KeyIndex, key: &Key) -> Spot
+    requires { IsSome (place_at table.now.rows stored.now.entries key.now) }
+    ensures row { row_of key.now.tx table.now.rows ≡ Some result.row }
+    ensures key { result.key ≡ rank result.row.slot key.now.seq }
+    ensures slot { place_of result.key stored.now.entries ≡ Some result.slot }
+    ensures number { key.now.seq < sequence_end }
+{
+    // The indexed keys rise.
+    let _count = stored.len();
+    let row = match table.get(key.tx()) {
+        Some(row) => row,
+        None => unreachable!(),
+    };
+    let at = IndexKey::new(row.slot, key.seq());
+    let slot = match stored.get(at) {
+        Some(slot) => slot,
+        None => unreachable!(),
+    };
+    Spot { row, key: at, slot }
+}
+
+// The row of a transaction, put in where it is new.
+pub(crate) fn enter(table: &mut TransactionTable, tx: &TxId) -> TableRow
+    requires { row_of tx.now table.old.rows ≡ None → length table.old.rows < table.old.capacity }
+    ensures entered { IsEntered table.old.rows table.new.rows tx.now result }
+    ensures capacity { table.new.capacity ≡ table.old.capacity }
+{
+    match table.get(tx) {
+        Some(row) => row,
+        None => table.add(tx),
+    }
+}
+
+// Tells whether the transaction of a slot has a place.
+fn has_place(stored: &KeyIndex, slot: u32) -> bool
+    ensures some { result ≡ true → HasPlace stored.now.entries slot }
+    ensures bare { result ≡ false → IsBare stored.now.entries slot }
+{
+    // The indexed keys rise.
+    let _count = stored.len();
+    match stored.at_or_after(IndexKey::new(slot, 0)) {
+        Some(next) => next.0.transaction() == slot,
+        None => false,
+    }
+}
+
+// The first place of the transaction of a slot.
+pub(crate) fn first_place(index: &KeyIndex, slot: u32) -> Option<(IndexKey, u32)>
+    ensures { result ≡ slice_get (segment slot index.now.entries) 0 }
+{
+    // The indexed keys rise.
+    let _count = index.len();
+    match index.at_or_after(IndexKey::new(slot, 0)) {
+        Some(place) => {
+            if place.0.transaction() == slot {
+                Some(place)
+            } else {
+                None
+            }
+        }
+        None => None,
+    }
+}
+
+// The first place of a transaction; none where it has none there.
+pub(crate) fn first_of(
+    table: &TransactionTable,
+    index: &KeyIndex,
+    tx: &TxId,
+) -> Option<(IndexKey, u32)>
+    ensures { result ≡ first_under index.now.entries (row_of tx.now table.now.rows) }
+{
+    match table.get(tx) {
+        Some(row) => first_place(index, row.slot),
+        None => None,
+    }
+}
+
+// The last place of the transaction of a slot.
+pub(crate) fn last_place(index: &KeyIndex, slot: u32) -> Option<(IndexKey, u32)>
+    requires { slot < 4294967295 }
+    ensures { result ≡ last_of (segment slot index.now.entries) }
+{
+    // The indexed keys rise.
+    let _count = index.len();
+    match index.before(IndexKey::new(slot + 1, 0)) {
+        Some(place) => {
+            if place.0.transaction() == slot {
+                Some(place)
+            } else {
+                None
+            }
+        }
+        None => None,
+    }
+}
+
+// The last place of a transaction; none where it has none there.
+pub(crate) fn last_of(
+    table: &TransactionTable,
+    index: &KeyIndex,
+    tx: &TxId,
+) -> Option<(IndexKey, u32)>
+    ensures { result ≡ last_under index.now.entries (row_of tx.now table.now.rows) }
+{
+    // Slots are below the table's capacity.
+    let (_count, _capacity) = (table.len(), table.capacity());
+    match table.get(tx) {
+        Some(row) => last_place(index, row.slot),
+        None => None,
+    }
+}
+
+// Takes out a transaction whose last place went.
+pub(crate) fn leave(table: &mut TransactionTable, stored: &KeyIndex, tx: &TxId, row: TableRow)
+    requires { row_of tx.now table.old.rows ≡ Some row }
+    ensures left { IsLeft table.old.rows table.new.rows stored.now.entries tx.now row }
+    ensures capacity { table.new.capacity ≡ table.old.capacity }
+{
+    if !has_place(stored, row.slot) {
+        table.remove(tx);
+    }
+}
+
+// Puts a place into an index, where it is wanted there.
+pub(crate) fn put_place(index: &mut KeyIndex, key: IndexKey, slot: u32, wanted: bool)
+    requires absent { place_of key index.old.entries ≡ None }
+    requires room { length index.old.entries < index.old.capacity }
+    ensures entries { index.new.entries ≡ put_if wanted key slot index.old.entries }
+    ensures capacity { index.new.capacity ≡ index.old.capacity }
+{
+    // The indexed keys rise.
+    let _count = index.len();
+    if wanted {
+        index.insert(key, slot);
+    }
+}
+
+// Takes a place out of an index, where it stands there.
+pub(crate) fn out_place(index: &mut KeyIndex, key: IndexKey, wanted: bool)
+    requires { wanted ≡ true → IsSome (place_of key index.old.entries) }
+    ensures entries { index.new.entries ≡ out_if wanted key index.old.entries }
+    ensures capacity { index.new.capacity ≡ index.old.capacity }
+{
+    // The indexed keys rise.
+    let _count = index.len();
+    if wanted {
+        index.remove(key);
+    }
+}

@@ -1,0 +1,131 @@
+-- Chains of readings under edits of the arena that holds them.
+use Rattle.std.proofs.Common.{◌≡◌, ℕ, zero, suc, ◌+◌, ◌<◌, ◌≤◌, ◌++◌, Bool, false, true, List, [], ◌∷◌, Option, Some, None, is_some, cond, length, take, set, get_or, refl, sym, ap, ◌∙◌, subst, arith, length-set, get_or-set_other, get_or-set_same}
+use Rattle.std.proofs.lemmas.List.Sums.{sum_by-set}
+use Rattle.slot_arena.specs.Arena.{value_at, held_count}
+use Rattle.ledger_model.specs.Event.{MeterReading}
+use Rattle.event_store.specs.declared.links.ReadingLink.{ReadingLink}
+use Rattle.event_store.specs.Links.{reading_of, next_of, owner_of, left_of, chain, IsLink, IsRun, AreKept, AreOthersKept}
+
+-- The links of an arena.
+abbrev pub Row : Type 0
+Row = List (Option ReadingLink)
+
+-- A chain stays where its links are kept.
+pub run_same : (old new : Row) (owner first n : ℕ) → ((i : ℕ) → is_some (value_at old i) ≡ true → owner_of (value_at old i) ≡ owner → left_of (value_at old i) ≤ n → value_at new i ≡ value_at old i) → IsRun old owner first n → IsRun new owner first n × (chain new first n ≡ chain old first n)
+run_same old new owner first zero same run = (tt, refl)
+run_same old new owner first (suc n) same run =
+    let here : value_at new first ≡ value_at old first = same first run.0.there run.0.owner_is (omega (arith, run.0.left_is)) in
+    let rest = run_same old new owner (next_of (value_at old first)) n (λ i there is le. same i there is (omega arith)) run.1 in (
+      subst (λ l. IsLink l owner (suc n) × IsRun new owner (next_of l) n) (sym here) (run.0, rest.0),
+      ap (λ l. reading_of l ∷ chain new (next_of l) n) here ∙ ap (λ (rs : List MeterReading). reading_of (value_at old first) ∷ rs) rest.1,
+    )
+
+-- Where all links are kept, each chain is.
+pub run_kept : (old new : Row) (owner first n : ℕ) → AreKept old new → IsRun old owner first n → IsRun new owner first n × (chain new first n ≡ chain old first n)
+run_kept old new owner first n kept run = run_same old new owner first n (λ i there _ _. kept i there) run
+
+-- Where the links of all but one event are kept, another's chain is.
+pub run_other : (old new : Row) (owner other first n : ℕ) → AreOthersKept owner old new → (other ≡ owner → ⊥) → IsRun old other first n → IsRun new other first n × (chain new first n ≡ chain old first n)
+run_other old new owner other first n kept apart run = run_same old new other first n (λ i there is _. kept i there (λ e. apart (sym is ∙ e))) run
+
+-- What is there is in range.
+pub there_within : {X : Type 0} (xs : List (Option X)) (i : ℕ) → is_some (value_at xs i) ≡ true → i < length xs
+there_within [] i there = cc
+there_within (x ∷ xs) zero there = omega arith
+there_within (x ∷ xs) (suc i) there = omega (arith, there_within xs i there)
+
+module _ {X : Type 0} where
+  -- What a slot counts.
+  abbrev pub one : Option X → ℕ
+  one o = cond (is_some o) 1 0
+
+  -- One more is held.
+  pub count_put : (xs : List (Option X)) (i : ℕ) (x : X) → value_at xs i ≡ None → i < length xs → held_count (set xs i (Some x)) ≡ held_count xs + 1
+  count_put xs i x free lt = omega (arith, sum_by-set one xs i (Some x) None lt, ap one free)
+
+  -- One fewer is held.
+  pub count_take : (xs : List (Option X)) (i : ℕ) → is_some (value_at xs i) ≡ true → held_count (set xs i None) + 1 ≡ held_count xs
+  count_take xs i there = omega (arith, sum_by-set one xs i None None (there_within xs i there), ap (λ (b : Bool). cond {A = ℕ} b 1 0) there)
+
+-- A link put into a free slot leaves all others.
+pub put_kept : (links : Row) (id : ℕ) (link : ReadingLink) → value_at links id ≡ None → AreKept links (set links id (Some link))
+put_kept links id link free i there = get_or-set_other links id i (Some link) None (λ same. let e : None ≡ value_at links i = sym free ∙ ap (value_at links) (sym same) in let f : false ≡ true = ap is_some e ∙ there in cc)
+
+-- Kept twice is kept.
+pub kept_on : (old mid new : Row) → AreKept old mid → AreKept mid new → AreKept old new
+kept_on old mid new a b i there = b i (ap is_some (a i there) ∙ there) ∙ a i there
+
+-- A link put in front of a chain.
+pub put_run : (links : Row) (id first n owner : ℕ) (link : ReadingLink) → value_at links id ≡ None → id < length links → link.owner ≡ owner → link.left ≡ suc n → link.next ≡ first → IsRun links owner first n
+    → IsRun (set links id (Some link)) owner id (suc n) × (chain (set links id (Some link)) id (suc n) ≡ link.reading ∷ chain links first n)
+put_run links id first n owner link free lt is left next run =
+    let new = set links id (Some link) in
+    let here : Some link ≡ value_at new id = sym (get_or-set_same links id (Some link) None lt) in
+    let rest = run_kept links new owner first n (put_kept links id link free) run in (
+      subst (λ l. IsLink l owner (suc n) × IsRun new owner (next_of l) n) here (record { there = refl; owner_is = is; left_is = left }, subst (λ k. IsRun new owner k n) (sym next) rest.0),
+      ap (λ l. reading_of l ∷ chain new (next_of l) n) (sym here) ∙ ap (λ k. link.reading ∷ chain new k n) next ∙ ap (λ (rs : List MeterReading). link.reading ∷ rs) rest.1,
+    )
+
+-- The first link of a chain taken out.
+pub give_run : (links : Row) (owner first n : ℕ) → IsRun links owner first (suc n) → IsRun (set links first None) owner (next_of (value_at links first)) n
+give_run links owner first n run =
+    (run_same links (set links first None) owner (next_of (value_at links first)) n
+    (λ i there is le. get_or-set_other links first i None None (λ same. let e : left_of (value_at links i) ≡ suc n = ap (λ k. left_of (value_at links k)) same ∙ run.0.left_is in absurd (omega arith))) run.1).0
+
+-- The others are kept.
+pub give_kept : (start links : Row) (owner first n : ℕ) → IsRun links owner first (suc n) → AreOthersKept owner start links → AreOthersKept owner start (set links first None)
+give_kept start links owner first n run kept i there apart =
+    get_or-set_other links first i None None (λ same. apart (ap owner_of (sym (kept i there apart) ∙ ap (value_at links) same) ∙ run.0.owner_is)) ∙ kept i there apart
+
+-- What is left when the first link of a chain was taken out.
+pub record IsGiven (start links new : Row) (owner next n : ℕ) : Type 0 where
+  pub run : IsRun new owner next n
+  pub kept : AreOthersKept owner start new
+  pub held : held_count new + 1 ≡ held_count links
+  pub same : length new ≡ length links
+
+-- That is so.
+pub give_step : (start links new : Row) (owner here left n id : ℕ) (link : ReadingLink) → left ≡ suc n → id ≡ here → value_at links id ≡ Some link → new ≡ set links id None → IsRun links owner here left → AreOthersKept owner start links → IsGiven start links new owner link.next n
+give_step start links new owner here left n id link up is value gone run kept =
+    let whole : IsRun links owner here (suc n) = subst (IsRun links owner here) up run in
+    let at : value_at links here ≡ Some link = ap (value_at links) (sym is) ∙ value in
+    let written : new ≡ set links here None = gone ∙ ap (λ k. set links k None) is in
+    subst (λ row. IsGiven start links row owner link.next n) (sym written) (record {
+      run = subst (λ l. IsRun (set links here None) owner (next_of l) n) at (give_run links owner here n whole);
+      kept = give_kept start links owner here n whole kept;
+      held = count_take links here whole.0.there;
+      same = length-set links here None;
+    })
+
+-- All but the last of a list, and then the last.
+front_last : (xs ys : List MeterReading) (x : MeterReading) (n : ℕ) → n + 1 ≡ length xs → x ≡ get_or xs n x → take n xs ++ (x ∷ ys) ≡ xs ++ ys
+front_last [] ys x n long is = absurd (omega arith)
+front_last (y ∷ []) ys x zero long is = ap (λ (z : MeterReading). z ∷ ys) is
+front_last (y ∷ z ∷ xs) ys x zero long is = absurd (omega arith)
+front_last (y ∷ xs) ys x (suc n) long is = ap (λ (zs : List MeterReading). y ∷ zs) (front_last xs ys x n (omega arith) is)
+
+-- What there is when a link was put in front of a chain.
+pub record IsPut (start links new : Row) (owner first n : ℕ) (rest all : List MeterReading) : Type 0 where
+  pub run : IsRun new owner first n
+  pub whole : rest ++ chain new first n ≡ all
+  pub kept : AreKept start new
+  pub held : held_count new ≡ held_count links + 1
+  pub same : length new ≡ length links
+
+-- That is so.
+pub put_step : (start links new : Row) (id first n more owner : ℕ) (link : ReadingLink) (rest all : List MeterReading) (m : ℕ) → more ≡ suc n → m + 1 ≡ length rest → value_at links id ≡ None → id < length links → new ≡ set links id (Some link) → link.owner ≡ owner → link.left ≡ more → link.next ≡ first → link.reading ≡ get_or rest m link.reading
+    → IsRun links owner first n → rest ++ chain links first n ≡ all → AreKept start links → IsPut start links new owner id more (take m rest) all
+put_step start links new id first n more owner link rest all m up long free lt put is left next last run whole kept =
+    let step = put_run links id first n owner link free lt is (left ∙ up) next run in
+    subst (λ row. IsPut start links row owner id more (take m rest) all) (sym put) (subst (λ k. IsPut start links (set links id (Some link)) owner id k (take m rest) all) (sym up) (record {
+      run = step.0;
+      whole = ap (λ (rs : List MeterReading). take m rest ++ rs) step.1 ∙ front_last rest (chain links first n) link.reading m long last ∙ whole;
+      kept = kept_on start links (set links id (Some link)) kept (put_kept links id link free);
+      held = count_put links id link free lt;
+      same = length-set links id (Some link);
+    }))
+
+-- A chain is as long as it is said to be.
+pub chain_long : (links : Row) (first n : ℕ) → length (chain links first n) ≡ n
+chain_long links first zero = refl
+chain_long links first (suc n) = ap suc (chain_long links (next_of (value_at links first)) n)

@@ -1,0 +1,3 @@
+pub mod Links
+pub mod Store
+pub mod Slots

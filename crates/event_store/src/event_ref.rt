@@ -1,0 +1,110 @@
+ghost use Rattle.std.specs.Prelude.{◌≡◌, ◌↔◌, length, IsTrue};
+
+use crate::event_slot::EventSlot;
+use crate::links::ReadingLink;
+use crate::readings::{Readings, are_same};
+use key_index::IndexKey;
+use ledger_model::{Event, EvseId, Kind, Moment};
+use slot_arena::SlotArena;
+use std::marker::Model;
+
+/// A stored event. Contracts see the rank of its key, the event, and whether it is voided.
+#[derive(Drop)]
+pub struct EventRef<'a> {
+    slot: EventSlot,
+    links: &'a SlotArena<ReadingLink>,
+}
+
+impl<'a> Model for EventRef<'a> {
+    ghost use Rattle.std.specs.Prelude.{ℕ};
+    ghost use Rattle.event_store.specs.Slots.{Held, held_code};
+
+    ghost Value = { Held };
+
+    ghost coded = { held_code };
+
+    ghost use Rattle.event_store.specs.Links.{IsRun};
+    ghost use Rattle.event_store.specs.Store.{held_in};
+
+    ghost view = { λ e. held_in e.links.now e.slot };
+
+    ghost invariant = { λ e. (owner : ℕ) × IsRun e.links.now owner e.slot.first e.slot.count };
+}
+
+impl<'a> EventRef<'a> {
+    ghost use Rattle.std.specs.Prelude.{ℕ};
+    ghost use Rattle.event_store.specs.Links.{IsRun};
+    ghost use Rattle.event_store.specs.Store.{held_in};
+
+    // The event of a slot.
+    pub(crate) fn of(slot: EventSlot, links: &'a SlotArena<ReadingLink>) -> Self
+        requires { (owner : ℕ) × IsRun links.now owner slot.first slot.count }
+        ensures { result ≡ held_in links.now slot }
+    {
+        EventRef { slot, links }
+    }
+
+    /// The key under which it stands.
+    pub fn key(&self) -> IndexKey
+        ensures { result ≡ self.now.0 }
+    {
+        self.slot.key
+    }
+
+    /// Tells whether it is voided.
+    pub fn is_voided(&self) -> bool
+        ensures { result ≡ self.now.1.voided }
+    {
+        self.slot.voided
+    }
+
+    /// What the event tells of its transaction.
+    pub fn kind(&self) -> Kind
+        ensures { result ≡ self.now.1.event.kind }
+    {
+        self.slot.kind
+    }
+
+    /// The moment of the event, as its station tells it.
+    pub fn moment(&self) -> Moment
+        ensures { result ≡ self.now.1.event.moment }
+    {
+        self.slot.moment
+    }
+
+    /// The EVSE that the event names.
+    pub fn evse(&self) -> Option<EvseId>
+        ensures { result ≡ self.now.1.event.evse }
+    {
+        self.slot.evse
+    }
+
+    /// How many counted readings it has, at most 1,024.
+    pub fn reading_count(&self) -> usize
+        ensures { result ≡ length self.now.1.event.readings }
+    {
+        usize::from(self.slot.count)
+    }
+
+    /// Its counted readings, in the order in which they were sent.
+    pub fn readings(&self) -> Readings<'a>
+        ensures { result ≡ self.now.1.event.readings }
+    {
+        Readings::of(self.links, self.slot.first, self.slot.count)
+    }
+
+    /// Tells whether it has the same content as this event.
+    pub fn same_as(&self, event: &Event) -> bool
+        ensures { IsTrue result ↔ (self.now.1.event ≡ event.now) }
+    {
+        self.kind() == event.kind()
+            && self.moment() == event.moment()
+            && self.evse() == event.evse()
+            && are_same(
+                self.links,
+                self.slot.first,
+                self.slot.count,
+                event.readings(),
+            )
+    }
+}

@@ -1,0 +1,14 @@
+use key_index::IndexKey;
+use ledger_model::{EvseId, Kind, Moment};
+
+/// What a slot keeps of an event: all but its readings, and where these begin.
+#[derive(Clone, Copy)]
+pub struct EventSlot {
+    pub(crate) key: IndexKey,
+    pub(crate) kind: Kind,
+    pub(crate) moment: Moment,
+    pub(crate) evse: Option<EvseId>,
+    pub(crate) voided: bool,
+    pub(crate) first: u32,
+    pub(crate) count: u16,
+}

@@ -1,0 +1,33 @@
+//! Stored events in numbered slots, each with its readings, in two arenas reserved once.
+//!
+//! An event takes one slot of the first arena and as many of the second as it has readings, which
+//! are chained from its first one on. [`EventStore::open`] asks the allocator, and nothing else here
+//! asks it again.
+//!
+//! The crate's one contract: a store is a list with an `Option` for each slot, the key and the event
+//! that it holds, and the number of readings held. [`EventStore::put`] puts an event into a slot that
+//! had none, [`EventStore::set_voided`] marks one, [`EventStore::take_out`] frees a slot with its
+//! readings; all else stays. A voided event keeps its slots.
+//!
+//! ```text
+//! let mut store = EventStore::open(rt.alloc(), 2, 9)?;
+//! let slot = store.put(IndexKey::new(0, 7), &event);
+//! store.get(slot).is_same(&event)     // true
+//! ```
+#![tactic(auto)]
+
+mod event_ref;
+mod event_slot;
+mod links;
+mod readings;
+mod store;
+#[cfg(test)]
+mod tests;
+
+pub use event_ref::EventRef;
+#[doc(hidden)]
+pub use event_slot::EventSlot;
+#[doc(hidden)]
+pub use links::ReadingLink;
+pub use readings::Readings;
+pub use store::EventStore;

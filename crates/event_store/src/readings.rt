@@ -1,0 +1,81 @@
+ghost use Rattle.std.specs.Prelude.{◌≡◌, ◌↔◌, ℕ, List, IsTrue};
+ghost use Rattle.event_store.specs.Links.{chain, IsRun};
+ghost use Rattle.std.specs.Iterator.{YieldsFirst, item_count};
+
+use crate::links::ReadingLink;
+use ledger_model::Reading;
+use slot_arena::{SlotArena, SlotId};
+use std::marker::Model;
+
+/// The readings of an event that are still to come, in the order in which they were sent.
+#[derive(Drop)]
+pub struct Readings<'a> {
+    links: &'a SlotArena<ReadingLink>,
+    next: u32,
+    left: u16,
+}
+
+impl<'a> Model for Readings<'a> {
+    ghost use Rattle.std.specs.Prelude.{List, ℕ};
+    ghost use Rattle.ledger_model.specs.Event.{MeterReading};
+    ghost use Rattle.event_store.specs.Links.{chain, IsRun};
+
+    ghost Value = { List MeterReading };
+
+    ghost view = { λ r. chain r.links.now r.next r.left };
+
+    ghost invariant = { λ r. (owner : ℕ) × IsRun r.links.now owner r.next r.left };
+}
+
+impl<'a> Readings<'a> {
+    // The readings of a chain.
+    pub(crate) fn of(links: &'a SlotArena<ReadingLink>, first: u32, count: u16) -> Self
+        requires { (owner : ℕ) × IsRun links.now owner first count }
+        ensures { result ≡ chain links.now first count }
+    {
+        Readings {
+            links,
+            next: first,
+            left: count,
+        }
+    }
+}
+
+impl<'a> Iterator for Readings<'a> {
+    type Item = Reading;
+
+    ghost next_gives = { YieldsFirst (λ s. s) };
+
+    ghost remaining = { item_count (λ s. s) };
+
+    fn next(&mut self) -> Option<Reading> {
+        if self.left == 0 {
+            return None;
+        }
+        let link = *self.links.get(SlotId::new(self.next));
+        self.next = link.next;
+        self.left -= 1;
+        Some(link.reading)
+    }
+}
+
+// Tells whether the readings of a chain are these.
+pub(crate) fn are_same(
+    links: &SlotArena<ReadingLink>,
+    first: u32,
+    count: u16,
+    sent: &[Reading],
+) -> bool
+    requires { (owner : ℕ) × IsRun links.now owner first count }
+    ensures { IsTrue result ↔ (chain links.now first count ≡ sent.now) }
+{
+    let mut left = Readings::of(links, first, count);
+    let mut rest = sent;
+    while let [first, more @ ..] = rest {
+        if left.next() != Some(*first) {
+            return false;
+        }
+        rest = more;
+    }
+    left.next().is_none()
+}

@@ -1,0 +1,4 @@
+mod Rising
+mod Keys
+mod Places
+mod Kept

@@ -1,0 +1,18 @@
+use Rattle.std.proofs.Common.{arith}
+use Rattle.transaction_table.proofs.Places.{at_within, find_gap, written}
+use Rattle.transaction_table.proofs.table.write.Goals as goal
+
+pub index_mut-requires : goal.index_mut-requires
+index_mut-requires c =
+    let at = rw c.deref.ensures.value at c.in-Ok.ensures.at in
+    omega (arith, at_within _ _ _ at, c.args.rows.now.ok)
+
+pub returns-in-Ok-clause-items : goal.returns-in-Ok-clause-items
+returns-in-Ok-clause-items c =
+    let at = rw c.deref.ensures.value at c.in-Ok.ensures.at in
+    written _ _ _ c.index_mut.result.now _ c.args.row at c.index_mut.ensures.value c.set.ensures
+
+pub returns-in_default-clause-items : goal.returns-in_default-clause-items
+returns-in_default-clause-items c =
+    let gap = rw c.deref.ensures.value at c.in_default.ensures.gap in
+    absurd (c.requires.present (find_gap _ _ _ c.requires.rising gap))

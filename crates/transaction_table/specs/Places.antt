@@ -1,0 +1,15 @@
+use Rattle.std.specs.Prelude.{◌≡◌, ℕ, zero, suc, List, [], ◌∷◌}
+use Rattle.transaction_table.specs.Table.{Row, id_cmp}
+use Rattle.std.specs.declared.cmp.Ordering.TheVariants.{Less, Equal, Greater}
+
+-- The id stands at this place, and all before it are smaller.
+abbrev pub IsAt : List ℕ → List Row → ℕ → Type 0
+IsAt key [] i = ⊥
+IsAt key (e ∷ es) zero = id_cmp key e.0 ≡ Equal
+IsAt key (e ∷ es) (suc i) = (id_cmp key e.0 ≡ Greater) × IsAt key es i
+
+-- The id belongs at this place: all before it are smaller, and the next one is greater.
+abbrev pub IsGap : List ℕ → List Row → ℕ → Type 0
+IsGap key [] i = i ≡ 0
+IsGap key (e ∷ es) zero = id_cmp key e.0 ≡ Less
+IsGap key (e ∷ es) (suc i) = (id_cmp key e.0 ≡ Greater) × IsGap key es i
