@@ -1,5 +1,5 @@
 -- Boards depend on live events, but for how many are voided.
-use Rattle.std.proofs.Common.{◌≡◌, ℕ, Bool, List, map, filter, length, sum_by, refl, ap, bytes_eq}
+use Rattle.std.proofs.Common.{◌≡◌, ℕ, Bool, List, map, filter, length, sum_by, ap, bytes_eq}
 use Rattle.std.specs.Prelude.{◌&&◌, ◌==◌, count_by}
 use Rattle.std.specs.List.{filter_map, flat_map}
 use Rattle.ledger_model.specs.Board.{Board, Shown, board, figures, last_or_none}

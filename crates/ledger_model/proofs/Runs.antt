@@ -1,5 +1,5 @@
 -- Runs of a world, station by station, and runs of deliveries in another order.
-use Rattle.std.proofs.Common.{◌≡◌, ℕ, Bool, true, false, cond, List, [], ◌∷◌, ◌++◌, Option, Some, None, map, All, refl, ap, sym, subst, ◌∙◌, bytes_eq, append_assoc, IsPermutation, suc, ◌<◌, length, arith}
+use Rattle.std.proofs.Common.{◌≡◌, ℕ, Bool, true, false, cond, List, [], ◌∷◌, ◌++◌, Some, None, map, All, refl, ap, sym, subst, ◌∙◌, bytes_eq, IsPermutation, suc, arith}
 use Rattle.std.specs.List.{cons_option}
 use Rattle.std.proofs.lemmas.List.Elements.{All-cons, All-nil}
 use Rattle.ledger_model.specs.declared.command.Command.{Command}
@@ -8,7 +8,7 @@ use Rattle.ledger_model.specs.declared.answer.Answer.{Answer}
 use Rattle.ledger_model.specs.declared.answer.Answer.TheVariants.{Accepted, Repeat, Refused}
 use Rattle.ledger_model.specs.Limits.{Bounds}
 use Rattle.ledger_model.specs.Content.{Content}
-use Rattle.ledger_model.specs.Laws.{AreAccepted, IsAccepted, Sent, deliveries, left_by}
+use Rattle.ledger_model.specs.Laws.{AreAccepted, IsAccepted, deliveries, left_by}
 use Rattle.ledger_model.specs.Step.{answer, content_after, step}
 use Rattle.ledger_model.specs.World.{Station, World, Happens, run, station_after, world_after}
 use Rattle.ledger_model.specs.WorldLaws.{AreReordered, IsDelivery, accepted_deliveries, commands_on, delivered_by, station_left}
@@ -57,9 +57,10 @@ one_delivery : (limits : Bounds) (c : Content) (command : Command) (commands : L
     → AreAccepted limits c (deliveries (delivered_by command a ++ rest))
     × (left_by limits c (deliveries (delivered_by command a ++ rest)) ≡ left_by limits (content_after c command a) (deliveries rest))
 one_delivery limits c (Deliver key event) commands (Accepted n) is e all =
-    let same = ap (content_after c (Deliver key event)) e in
-    ((subst IsAccepted e tt, subst (λ d. AreAccepted limits d (deliveries (accepted_deliveries limits (content_after c (Deliver key event) (Accepted n)) commands))) same all),
-    ap (λ d. left_by limits d (deliveries (accepted_deliveries limits (content_after c (Deliver key event) (Accepted n)) commands))) (sym same))
+    let same = ap (content_after c (Deliver key event)) e in (
+      (subst IsAccepted e tt, subst (λ d. AreAccepted limits d (deliveries (accepted_deliveries limits (content_after c (Deliver key event) (Accepted n)) commands))) same all),
+      ap (λ d. left_by limits d (deliveries (accepted_deliveries limits (content_after c (Deliver key event) (Accepted n)) commands))) (sym same),
+    )
 one_delivery limits c (Deliver key event) commands Repeat is e all = (all, refl)
 one_delivery limits c (Deliver key event) commands (Refused why) is e all = (all, refl)
 one_delivery limits c (Void key) commands a is e all = absurd is
