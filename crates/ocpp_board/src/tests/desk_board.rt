@@ -262,8 +262,7 @@ fn board_of_desk<J: Naming + Send + Sync, R: Abort + Threads + Wait + Clock + Sy
     requires named { NamedBy J.table tables }
     requires there { (site : ℕ) → site < length plan.now.sites.items → HasTable tables site }
 {
-    let (desk, pairs) = Desk::<J>::open(alloc, tables, plan).ok().ok_or("no desk")?;
-    let mut pairs = pairs;
+    let (desk, mut pairs) = Desk::<J>::open(alloc, tables, plan).ok().ok_or("no desk")?;
     let (_, viewer) = pairs.pop().ok_or("no viewer")?;
     let closed = after_three_threads(rt, alloc, desk, viewer)?;
     board_text(alloc, &closed)
