@@ -1,5 +1,6 @@
 // The tests: scripts and their texts, and the loops over readers and writers that fail.
 mod command_line;
+mod desk_board;
 mod echo;
 mod energy_rows;
 mod failing_rows;

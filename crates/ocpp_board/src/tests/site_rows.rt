@@ -33,7 +33,7 @@ energy up=50000 down=1500000
 energy up=100000 down=0
 "#;
 
-const NORTH_BOARD: &str = r#"> board north
+pub const NORTH_BOARD: &str = r#"> board north
 board north
 total events=6 voided=0 transactions=2 complete=0 missing=0 up=650000 down=1500000
 quarter 2026-03-01T10:00:00Z up=250000 down=1500000
@@ -65,7 +65,7 @@ end
 "#;
 
 // The commands of three threads, one after the other.
-const THREE_THREADS: &str = r#"> station north A
+pub const THREE_THREADS: &str = r#"> station north A
 > station north B
 > event A 1 T1 Started 0 10:00:00Z 1000
 [3,"1",{}]
