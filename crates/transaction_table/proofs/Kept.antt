@@ -1,56 +1,11 @@
 -- What a table keeps, under its edits.
-use Rattle.std.proofs.Common.{◌≡◌, ℕ, ◌+◌, ◌<◌, Bool, true, false, not, cond, List, [], ◌∷◌, ◌++◌, Option, Some, None, is_some, length, refl, sym, ap, ◌∙◌, subst, arith, inl, inr, length-append, option_map, ◌⊎◌}
-use Rattle.std.specs.Ordering.{is_eq, eq_by_cmp}
-use Rattle.std.specs.declared.cmp.Ordering.{Ordering}
-use Rattle.std.specs.declared.cmp.Ordering.TheVariants.{Less, Equal, Greater}
-use Rattle.std.specs.Cmp.{eq_by_cmp_equiv, alike_right}
-use Rattle.std.specs.FinMap.Entries.{find-put, find-where_key, is_sorted-put, is_sorted-where_key, length-put, length_without}
+use Rattle.std.proofs.Common.{◌≡◌, ℕ, ◌+◌, ◌<◌, true, false, cond, List, [], ◌∷◌, ◌++◌, Option, Some, None, is_some, length, refl, sym, ap, ◌∙◌, subst, arith, inl, inr, length-append, option_map}
+use Rattle.std.specs.Ordering.{eq_by_cmp}
+use Rattle.transaction_map.proofs.Rising.{same_id}
+use Rattle.transaction_map.proofs.Found.{put_cases, out_cases, rising_put, rising_out, length_put, length_out}
 use Rattle.transaction_table.specs.declared.row.TableRow.{TableRow}
 use Rattle.transaction_table.specs.Table.{Row, IsFresh, id_cmp, row_of, with_row, without_row}
 use Rattle.transaction_table.specs.Kept.{IsNone, AreSpare, IsTable}
-use Rattle.transaction_table.proofs.Rising.{id_total, exact_ids}
-
--- Ids that a test finds equal are.
-pub equal_ids : (q tx : List ℕ) → eq_by_cmp id_cmp q tx ≡ true → q ≡ tx
-equal_ids q tx e = elim (id_cmp q tx) as (λ (o : Ordering). id_cmp q tx ≡ o → is_eq o ≡ true → q ≡ tx) [
-  | Less ↦ λ _ f. cc
-  | Equal ↦ λ p _. exact_ids q tx p
-  | Greater ↦ λ _ f. cc
-] refl e
-
--- What is found where a row was put.
-pub row_put : (q tx : List ℕ) (r : TableRow) (rows : List Row) → row_of q (with_row tx r rows) ≡ cond (eq_by_cmp id_cmp q tx) (Some r) (row_of q rows)
-row_put q tx r rows = find-put id_cmp id_total q tx r rows
-
-turned : {A : Type 0} (b : Bool) (x y : A) → cond (not b) x y ≡ cond b y x
-turned true x y = refl
-turned false x y = refl
-
--- What is found where a row was taken out.
-pub row_out : (q tx : List ℕ) (rows : List Row) → row_of q (without_row tx rows) ≡ cond (eq_by_cmp id_cmp q tx) None (row_of q rows)
-row_out q tx rows =
-    find-where_key id_cmp (λ x. not (eq_by_cmp id_cmp tx x)) q (λ x t. ap (λ r. not (is_eq r)) (sym (alike_right id_total q x tx t))) rows
-    ∙ turned (eq_by_cmp id_cmp tx q) (row_of q rows) None ∙ ap (λ b. cond b None (row_of q rows)) ((eq_by_cmp_equiv id_total).symm tx q)
-
--- What is found after a put was put, or was there.
-pub put_cases : (q tx : List ℕ) (r x : TableRow) (rows : List Row) → row_of q (with_row tx r rows) ≡ Some x → ((q ≡ tx) × (x ≡ r)) ⊎ (row_of q rows ≡ Some x)
-put_cases q tx r x rows h =
-    elim (eq_by_cmp id_cmp q tx) as (λ b. eq_by_cmp id_cmp q tx ≡ b → cond b (Some r) (row_of q rows) ≡ Some x → ((q ≡ tx) × (x ≡ r)) ⊎ (row_of q rows ≡ Some x)) [
-      | true ↦ λ e s. inl (equal_ids q tx e, cc)
-      | false ↦ λ e s. inr s
-    ] refl (sym (row_put q tx r rows) ∙ h)
-
--- What is found after one was taken out is another.
-pub out_cases : (q tx : List ℕ) (x : TableRow) (rows : List Row) → row_of q (without_row tx rows) ≡ Some x → (eq_by_cmp id_cmp q tx ≡ false) × (row_of q rows ≡ Some x)
-out_cases q tx x rows h =
-    elim (eq_by_cmp id_cmp q tx) as (λ b. eq_by_cmp id_cmp q tx ≡ b → cond b None (row_of q rows) ≡ Some x → (eq_by_cmp id_cmp q tx ≡ false) × (row_of q rows ≡ Some x)) [
-      | true ↦ λ e s. cc
-      | false ↦ λ e s. (e, s)
-    ] refl (sym (row_out q tx rows) ∙ h)
-
--- An id ties with itself.
-pub same_id : (tx : List ℕ) → eq_by_cmp id_cmp tx tx ≡ true
-same_id tx = (eq_by_cmp_equiv id_total).refl tx
 
 -- The last of the slots to spare.
 pub record IsLast (capacity slot : ℕ) (rows : List Row) (ss : List ℕ) : Type 0 where
@@ -106,7 +61,7 @@ IsTable-add rows spare ss capacity slot tx r is table absent same =
     let last = last_spare capacity slot rows ss (subst (AreSpare capacity rows) is table.spare_are) in
     let fresh : (q : List ℕ) (x : TableRow) → row_of q rows ≡ Some x → x.slot ≡ r.slot → ⊥ = λ q x there e. last.fresh q x there (e ∙ same) in
     record {
-      rising = is_sorted-put id_cmp id_total tx r rows table.rising;
+      rising = rising_put tx r rows table.rising;
       apart = λ q o x y at ay e. elim (put_cases q tx r x rows at) [
         | inl a ↦ elim (put_cases o tx r y rows ay) [
           | inl b ↦ a.0 ∙ sym b.0
@@ -125,7 +80,7 @@ IsTable-add rows spare ss capacity slot tx r is table absent same =
         | inl a ↦ other (sym same ∙ sym (ap (λ (z : TableRow). z.slot) a.1) ∙ e)
         | inr a ↦ was q x a e
       ]) last.rest;
-      total = let n = length-put id_cmp id_total tx r rows table.rising ∙ ap (λ (o : Option TableRow). cond (is_some o) (length rows) (length rows + 1)) absent in omega (arith, n, table.total, ap length is, length-append ss (slot ∷ []));
+      total = let n = length_put tx r rows table.rising ∙ ap (λ (o : Option TableRow). cond (is_some o) (length rows) (length rows + 1)) absent in omega (arith, n, table.total, ap length is, length-append ss (slot ∷ []));
     }
 
 -- What is kept of a transaction changed, but for its slot.
@@ -136,11 +91,11 @@ IsTable-set rows ss capacity tx old r table there same =
       | inr a ↦ (x, (a, refl))
     ] in
     record {
-      rising = is_sorted-put id_cmp id_total tx r rows table.rising;
+      rising = rising_put tx r rows table.rising;
       apart = λ q o x y at ay e. let a = back q x at in let b = back o y ay in table.apart q o a.0 b.0 a.1.0 b.1.0 (sym a.1.1 ∙ e ∙ b.1.1);
       below = λ q x at. let a = back q x at in subst (λ n. n < capacity) (sym a.1.1) (table.below q a.0 a.1.0);
       spare_are = spare_on capacity rows (with_row tx r rows) old.slot ss (none_fresh capacity tx old rows ss there table.spare_are) (λ s other was q x at e. let a = back q x at in was q a.0 a.1.0 (sym a.1.1 ∙ e)) table.spare_are;
-      total = let n = length-put id_cmp id_total tx r rows table.rising ∙ ap (λ (o : Option TableRow). cond (is_some o) (length rows) (length rows + 1)) there in omega (arith, n, table.total);
+      total = let n = length_put tx r rows table.rising ∙ ap (λ (o : Option TableRow). cond (is_some o) (length rows) (length rows + 1)) there in omega (arith, n, table.total);
     }
 
 -- A transaction taken out, and its slot given back.
@@ -149,7 +104,7 @@ IsTable-remove rows ss capacity tx r table there =
     let new : List Row = without_row tx rows in
     let gone : IsFresh r.slot new = λ q x at e. let o = out_cases q tx x rows at in let is = table.apart q tx x r o.1 there e in let f : false ≡ true = sym o.0 ∙ ap (λ k. eq_by_cmp id_cmp k tx) is ∙ same_id tx in cc in
     record {
-      rising = is_sorted-where_key id_cmp (λ x. not (eq_by_cmp id_cmp tx x)) rows table.rising;
+      rising = rising_out tx rows table.rising;
       apart = λ q o x y at ay e. table.apart q o x y (out_cases q tx x rows at).1 (out_cases o tx y rows ay).1 e;
       below = λ q x at. table.below q x (out_cases q tx x rows at).1;
       spare_are = more_spare capacity r.slot new ss (record {
@@ -158,7 +113,7 @@ IsTable-remove rows ss capacity tx r table there =
         none = none_fresh capacity tx r rows ss there table.spare_are;
         rest = spare_on capacity rows new r.slot ss (none_fresh capacity tx r rows ss there table.spare_are) (λ s other was q x at e. was q x (out_cases q tx x rows at).1 e) table.spare_are;
       });
-      total = let n = length_without id_cmp id_total tx rows table.rising in let one = ap (λ (o : Option TableRow). cond {A = ℕ} (is_some o) 1 0) there in omega (arith, n, one, table.total, length-append ss (r.slot ∷ []));
+      total = let n = length_out tx rows table.rising in let one = ap (λ (o : Option TableRow). cond {A = ℕ} (is_some o) 1 0) there in omega (arith, n, one, table.total, length-append ss (r.slot ∷ []));
     }
 
 -- Slots to spare in an empty table are below their number.

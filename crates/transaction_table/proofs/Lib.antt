@@ -1,4 +1,1 @@
-mod Rising
-mod Keys
-mod Places
 mod Kept

@@ -1,5 +1,5 @@
 -- What a table of transactions keeps.
-use Rattle.std.specs.Prelude.{◌≡◌, ℕ, ◌+◌, ◌<◌, ◌≤◌, List, [], ◌∷◌, length}
+use Rattle.std.specs.Prelude.{◌≡◌, ℕ, ◌+◌, ◌<◌, List, [], ◌∷◌, length}
 use Rattle.transaction_table.specs.Table.{Row, AreRising, AreApart, AreBelow, IsFresh}
 
 -- The number is none of the list.
@@ -19,8 +19,3 @@ pub record IsTable (rows : List Row) (spare : List ℕ) (capacity : ℕ) : Type 
   pub below : AreBelow capacity rows
   pub spare_are : AreSpare capacity rows spare
   pub total : length rows + length spare ≡ capacity
-
--- Room for as many rows and slots as there may be.
-pub record IsRoom (rows spare capacity : ℕ) : Type 0 where
-  pub for_rows : capacity ≤ rows
-  pub for_spare : capacity ≤ spare

@@ -1,28 +1,25 @@
 -- A table of transactions as its callers see it.
-use Rattle.std.specs.Prelude.{◌≡◌, ℕ, ◌<◌, List, Option, Some, T, not}
+use Rattle.std.specs.Prelude.{◌≡◌, ℕ, ◌<◌, List, Option, Some, not}
 use Rattle.std.specs.List.{filter}
-use Rattle.std.specs.Ordering.{nat_cmp, eq_by_cmp}
-use Rattle.std.specs.declared.cmp.Ordering.{Ordering}
-use Rattle.std.specs.Cmp.Lexicographic.{slice_cmp}
-use Rattle.std.specs.FinMap.{is_sorted, find, put}
+use Rattle.std.specs.Ordering.{eq_by_cmp}
+use Rattle.std.specs.FinMap.{find, put}
+use Rattle.transaction_map.specs.Map as ids
+use Rattle.transaction_map.specs.Map.{Mapped}
 use Rattle.transaction_table.specs.declared.row.TableRow.{TableRow}
-
 -- The order of transaction ids: by their bytes.
-abbrev pub id_cmp : List ℕ → List ℕ → Ordering
-id_cmp = slice_cmp nat_cmp
+pub use Rattle.transaction_map.specs.Map.{id_cmp}
 
 -- A transaction's id, and what the table keeps of it.
 abbrev pub Row : Type 0
 Row = List ℕ × TableRow
 
 -- The transactions by rising id, and how many there may be.
-pub record Table : Type 0 where
-  pub rows : List Row
-  pub capacity : ℕ
+abbrev pub Table : Type 0
+Table = Mapped TableRow
 
 -- The ids rise strictly.
 abbrev pub AreRising : List Row → Type 0
-AreRising rows = T (is_sorted id_cmp rows)
+AreRising rows = ids.AreRising rows
 
 -- What the table keeps of a transaction.
 abbrev pub row_of : List ℕ → List Row → Option TableRow

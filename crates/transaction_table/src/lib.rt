@@ -1,8 +1,8 @@
 //! The transactions that a station stores, by their ids, each with a slot number of its own.
 //!
-//! The rows lie in one sorted run, at most 4,096 of them, so that a look-up is twelve comparisons. The
-//! slot of a transaction that goes is handed out again. [`TransactionTable::open`] asks the allocator,
-//! and nothing else here asks it again.
+//! The rows lie in a [`transaction_map::TransactionMap`], at most 4,096 of them, so that a look-up is
+//! twelve comparisons. The slot of a transaction that goes is handed out again.
+//! [`TransactionTable::open`] asks the allocator, and nothing else here asks it again.
 //!
 //! The crate's one contract: a table is a list of rows by rising id. [`TransactionTable::get`] finds
 //! one, [`TransactionTable::add`] puts in one whose slot is no other's, [`TransactionTable::set`]
@@ -20,7 +20,5 @@ mod table;
 #[cfg(test)]
 mod tests;
 
-#[doc(hidden)]
-pub use row::NamedRow;
 pub use row::TableRow;
 pub use table::TransactionTable;

@@ -1,0 +1,4 @@
+pub mod Rising
+mod Keys
+pub mod Places
+pub mod Found

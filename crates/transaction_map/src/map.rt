@@ -1,0 +1,134 @@
+ghost use Rattle.std.specs.Prelude.{◌≡◌, ◌<◌, ◌≤◌, [], length, map, not, None, IfOk, IfErr, option_map, slice_get, vec_len, vec_capacity};
+ghost use Rattle.std.specs.List.{filter};
+ghost use Rattle.std.specs.Ordering.{eq_by_cmp};
+ghost use Rattle.std.specs.FinMap.{find, put as put_row};
+ghost use Rattle.transaction_map.specs.Places.{IsAt, IsGap};
+ghost use Rattle.transaction_map.specs.Map.{id_cmp, AreRising};
+
+use crate::named::NamedValue;
+use ledger_model::TxId;
+use std::alloc::{AllocError, Global};
+use std::marker::Model;
+
+/// Values by transaction id, in one sorted run reserved by `open`. Contracts see the rows by rising
+/// id, and how many there may be.
+#[derive(Drop)]
+pub struct TransactionMap<V> {
+    rows: Vec<NamedValue<V>>,
+    capacity: u32,
+}
+
+impl<V> Model for TransactionMap<V> {
+    ghost use Rattle.std.specs.Prelude.{vec_capacity};
+    ghost use Rattle.transaction_map.specs.Map.{Mapped};
+    ghost use Rattle.transaction_map.specs.Kept.{IsMap};
+
+    ghost Value = { Mapped V };
+
+    ghost view = { λ m. record { rows = m.rows.items; capacity = m.capacity } };
+
+    ghost invariant = { λ m. IsMap m.rows.items m.capacity (vec_capacity m.rows) };
+}
+
+// Where the row of an id stands among rows by rising id, or else where it belongs.
+fn place<V: Copy>(rows: &[NamedValue<V>], tx: &TxId) -> Result<usize, usize>
+    requires { AreRising rows.now }
+    ensures at { IfOk result (λ i. IsAt tx.now rows.now i) }
+    ensures gap { IfErr result (λ i. IsGap tx.now rows.now i) }
+{
+    rows.binary_search_by(|row| row.cmp_id(tx))
+}
+
+impl<V: Copy> TransactionMap<V> {
+    /// A map without transactions, with room for so many.
+    pub fn open(alloc: Global, capacity: u32) -> Result<Self, AllocError>
+        ensures rows { IfOk result (λ m. m.rows ≡ []) }
+        ensures capacity { IfOk result (λ m. m.capacity ≡ capacity) }
+    {
+        let rows = Vec::with_capacity(alloc, capacity as usize)?;
+        Ok(TransactionMap { rows, capacity })
+    }
+
+    /// How many transactions it holds.
+    pub fn len(&self) -> u32
+        ensures len { result ≡ length self.now.rows }
+        ensures within { length self.now.rows ≤ self.now.capacity }
+        ensures rising { AreRising self.now.rows }
+    {
+        self.rows.len() as u32
+    }
+
+    /// How many transactions it may hold.
+    pub fn capacity(&self) -> u32
+        ensures { result ≡ self.now.capacity }
+    {
+        self.capacity
+    }
+
+    /// The value of a transaction; none where it is absent.
+    pub fn get(&self, tx: &TxId) -> Option<V>
+        ensures { result ≡ find id_cmp tx.now self.now.rows }
+    {
+        match place(&self.rows, tx) {
+            Ok(at) => Some(self.rows[at].value()),
+            Err(_) => None,
+        }
+    }
+
+    /// The id at a place, the first at 0; none past the last.
+    pub fn id_at(&self, place: usize) -> Option<&TxId>
+        ensures { option_map (λ id. id.now) result ≡ slice_get (map (λ r. r.0) self.now.rows) place }
+    {
+        match self.rows.get(place) {
+            Some(row) => Some(row.id()),
+            None => None,
+        }
+    }
+
+    /// Writes the value of a transaction, or puts it in where it is absent; then there is room.
+    pub fn put(&mut self, tx: &TxId, value: V)
+        requires { find id_cmp tx.now self.old.rows ≡ None → length self.old.rows < self.old.capacity }
+        ensures rows { self.new.rows ≡ put_row id_cmp tx.now value self.old.rows }
+        ensures capacity { self.new.capacity ≡ self.old.capacity }
+    {
+        put_in(&mut self.rows, tx, value);
+    }
+
+    /// Takes out the value of a transaction, and answers it; nothing where it is absent.
+    pub fn remove(&mut self, tx: &TxId) -> Option<V>
+        ensures value { result ≡ find id_cmp tx.now self.old.rows }
+        ensures rows { self.new.rows ≡ filter (λ r. not (eq_by_cmp id_cmp tx.now r.0)) self.old.rows }
+        ensures capacity { self.new.capacity ≡ self.old.capacity }
+    {
+        take_out(&mut self.rows, tx)
+    }
+}
+
+// Writes the row of an id, or puts it in where the id is new.
+fn put_in<V: Copy>(rows: &mut Vec<NamedValue<V>>, tx: &TxId, value: V)
+    requires rising { AreRising rows.old.items }
+    requires room { find id_cmp tx.now rows.old.items ≡ None → vec_len rows.old < vec_capacity rows.old }
+    ensures items { rows.new.items ≡ put_row id_cmp tx.now value rows.old.items }
+    ensures capacity { vec_capacity rows.new ≡ vec_capacity rows.old }
+{
+    match place(rows, tx) {
+        Ok(at) => rows[at].set(value),
+        Err(at) => {
+            // There is room, so this takes no memory and succeeds.
+            let _ = rows.insert(at, NamedValue::new(tx.copied(), value));
+        }
+    }
+}
+
+// Takes out the row of an id, and answers its value.
+fn take_out<V: Copy>(rows: &mut Vec<NamedValue<V>>, tx: &TxId) -> Option<V>
+    requires rising { AreRising rows.old.items }
+    ensures value { result ≡ find id_cmp tx.now rows.old.items }
+    ensures items { rows.new.items ≡ filter (λ r. not (eq_by_cmp id_cmp tx.now r.0)) rows.old.items }
+    ensures capacity { vec_capacity rows.new ≡ vec_capacity rows.old }
+{
+    match place(rows, tx) {
+        Ok(at) => Some(rows.remove(at).value()),
+        Err(_) => None,
+    }
+}
