@@ -15,3 +15,9 @@ mod Inserts
 mod Marks
 mod Lives
 mod Drops
+mod Cuts
+mod Members
+mod Neighbours
+mod Walks
+mod Counts
+mod Rows

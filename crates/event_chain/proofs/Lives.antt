@@ -1,7 +1,8 @@
 -- The live events of a transaction are those of its segment of an index.
-use Rattle.std.proofs.Common.{◌≡◌, ℕ, zero, suc, ◌/◌, ◌^◌, ◌==◌, nat_lt, Bool, true, false, not, cond, ◌&&◌, T, List, [], ◌∷◌, Option, Some, None, is_some, length, map, sum_by, refl, sym, ap, ◌∙◌, subst, arith, append-nil, slice_get, option_map, unwrap_or, ◌%◌, ◌-◌}
+use Rattle.std.proofs.Common.{◌≡◌, ℕ, zero, suc, ◌/◌, ◌^◌, ◌==◌, nat_lt, Bool, true, false, not, cond, ◌&&◌, T, List, [], ◌∷◌, Option, Some, None, is_some, length, map, sum_by, refl, sym, ap, ◌∙◌, subst, arith, append-nil, slice_get, option_map, unwrap_or, ◌-◌}
 use Rattle.std.specs.List.{filter, count_by, filter_map, cons_option}
 use Rattle.std.proofs.lemmas.List.{length-map}
+use Rattle.std.proofs.lemmas.Bool.Decides.{Decides-eqb}
 use Rattle.key_index.specs.Entries.{last_of}
 use Rattle.ledger_model.specs.Evse.{first_or_none, evse_of}
 use Rattle.std.specs.Str.{bytes_eq}
@@ -20,8 +21,9 @@ use Rattle.event_store.specs.Slots.{Held}
 use Rattle.transaction_table.specs.declared.row.TableRow.{TableRow}
 use Rattle.transaction_table.specs.Table.{Row, AreRising, row_of}
 use Rattle.event_chain.specs.Flat.{Place, place_of, stored_at, entry_of, segment, flat, event_at, number_at, look_in, look}
-use Rattle.event_chain.specs.Kept.{AreRanks, IsSub, chosen, is_live, is_naming, is_end, live_one, end_one}
-use Rattle.event_chain.specs.Edits.{first_under, last_under, evse_at}
+use Rattle.event_chain.specs.Kept.{AreRanks, HasPlace, IsBare, IsSub, chosen, is_live, is_naming, is_end, live_one, end_one}
+use Rattle.event_chain.specs.Edits.{first_under, last_under, kind_in, evse_at}
+use Rattle.event_chain.specs.Walk.{number_in, numbers_at}
 use Rattle.ledger_model.specs.declared.kind.Kind.{Kind}
 use Rattle.ledger_model.specs.Complete.{kinds_of}
 use Rattle.ledger_model.specs.Gaps.{numbers_of}
@@ -153,27 +155,21 @@ ends_length tx es = ap (λ (xs : List Entry). count_by is_end (map (λ e. e.1.ev
       ] (and_assoc (bytes_eq tx e.0.tx) (not e.1.voided) (is_end e.1.event.kind))
 
 -- The first of what a list is turned into.
-first_map : {X Y : Type 0} (f : X → Y) (xs : List X) → slice_get (map f xs) 0 ≡ option_map f (slice_get xs 0)
+pub first_map : {X Y : Type 0} (f : X → Y) (xs : List X) → slice_get (map f xs) 0 ≡ option_map f (slice_get xs 0)
 first_map f [] = refl
 first_map f (x ∷ xs) = refl
-
--- The number of a place.
-abbrev pub number_in : Place → ℕ
-number_in e = e.0 % 2 ^ 31
 
 -- The numbers of places are those of their events.
 numbers_map : (tx : List ℕ) (slots : List (Option Held)) (ps : List Place) → map (λ (e : Entry). e.0.seq) (map (entry_of tx slots) ps) ≡ map number_in ps
 numbers_map tx slots [] = refl
 numbers_map tx slots (p ∷ ps) = ap (λ (ns : List ℕ). number_in p ∷ ns) (numbers_map tx slots ps)
 
--- The first live number of a transaction is that of its first live place.
-pub first_number : (rows : List Row) (es lives : List Place) (slots : List (Option Held)) → AreRising rows → AreRanks es → IsSub is_live es slots lives → (tx : List ℕ) → slice_get (numbers_of tx (flat rows es slots)) 0 ≡ option_map number_in (first_under lives (row_of tx rows))
-first_number rows es lives slots rising ranks sub tx = told (row_of tx rows) refl where
-  told : (o : Option TableRow) → row_of tx rows ≡ o → slice_get (numbers_of tx (flat rows es slots)) 0 ≡ option_map number_in (first_under lives o)
-  told None is = ap (λ (xs : List Entry). slice_get (map (λ e. e.0.seq) xs) 0) (live_of_is tx (flat rows es slots) ∙ none_passing rows es slots rising ranks is_live tx is)
-  told (Some row) is =
-      ap (λ (xs : List Entry). slice_get (map (λ e. e.0.seq) xs) 0) (live_of_is tx (flat rows es slots) ∙ segment_passing rows es slots rising ranks is_live lives sub tx row is)
-      ∙ ap (λ ns. slice_get ns 0) (numbers_map tx slots (segment row.slot lives)) ∙ first_map number_in (segment row.slot lives)
+-- The live numbers of a transaction are those of its live places.
+pub live_numbers : (rows : List Row) (es lives : List Place) (slots : List (Option Held)) → AreRising rows → AreRanks es → IsSub is_live es slots lives → (tx : List ℕ) → numbers_of tx (flat rows es slots) ≡ numbers_at lives (option_map (λ r. r.slot) (row_of tx rows))
+live_numbers rows es lives slots rising ranks sub tx = told (row_of tx rows) refl where
+  told : (o : Option TableRow) → row_of tx rows ≡ o → numbers_of tx (flat rows es slots) ≡ numbers_at lives (option_map (λ r. r.slot) o)
+  told None is = ap (λ (xs : List Entry). map (λ e. e.0.seq) xs) (live_of_is tx (flat rows es slots) ∙ none_passing rows es slots rising ranks is_live tx is)
+  told (Some row) is = ap (λ (xs : List Entry). map (λ e. e.0.seq) xs) (live_of_is tx (flat rows es slots) ∙ segment_passing rows es slots rising ranks is_live lives sub tx row is) ∙ numbers_map tx slots (segment row.slot lives)
 
 -- The last of what a list is turned into.
 last_map : {X Y : Type 0} (f : X → Y) (xs : List X) (n : ℕ) → slice_get (map f xs) n ≡ option_map f (slice_get xs n)
@@ -181,18 +177,53 @@ last_map f [] n = refl
 last_map f (x ∷ xs) zero = refl
 last_map f (x ∷ xs) (suc n) = last_map f xs n
 
--- The last number of a list of numbers.
-last_of_numbers : (ps : List Place) → slice_get (map number_in ps) (length (map number_in ps) - 1) ≡ option_map number_in (last_of ps)
-last_of_numbers ps = ap (λ n. slice_get (map number_in ps) (n - 1)) (length-map ps number_in) ∙ last_map number_in ps (length ps - 1)
+-- The last of what places are turned into.
+last_turned : {Y : Type 0} (g : Place → Y) (ps : List Place) → slice_get (map g ps) (length (map g ps) - 1) ≡ option_map g (last_of ps)
+last_turned g ps = ap (λ n. slice_get (map g ps) (n - 1)) (length-map ps g) ∙ last_map g ps (length ps - 1)
 
--- The last live number of a transaction is that of its last live place.
+-- What entries of places are turned into.
+turned_map : {Y : Type 0} (f : Entry → Y) (tx : List ℕ) (slots : List (Option Held)) (ps : List Place) → map f (map (entry_of tx slots) ps) ≡ map (λ p. f (entry_of tx slots p)) ps
+turned_map f tx slots [] = refl
+turned_map {Y = Y} f tx slots (p ∷ ps) = ap (λ (ys : List Y). f (entry_of tx slots p) ∷ ys) (turned_map f tx slots ps)
+
+module _ {Y : Type 0} (f : Entry → Y) (rows : List Row) (es lives : List Place) (slots : List (Option Held)) (rising : AreRising rows) (ranks : AreRanks es) (sub : IsSub is_live es slots lives) (tx : List ℕ) where
+  -- All events.
+  abbrev whole : List Entry
+  whole = flat rows es slots
+
+  -- The first live event of a transaction is that of its first live place.
+  first_live : slice_get (map f (live_of tx whole)) 0 ≡ option_map (λ p. f (entry_of tx slots p)) (first_under lives (row_of tx rows))
+  first_live = told (row_of tx rows) refl where
+    told : (o : Option TableRow) → row_of tx rows ≡ o → slice_get (map f (live_of tx whole)) 0 ≡ option_map (λ p. f (entry_of tx slots p)) (first_under lives o)
+    told None is = ap (λ (xs : List Entry). slice_get (map f xs) 0) (live_of_is tx whole ∙ none_passing rows es slots rising ranks is_live tx is)
+    told (Some row) is =
+        ap (λ (xs : List Entry). slice_get (map f xs) 0) (live_of_is tx whole ∙ segment_passing rows es slots rising ranks is_live lives sub tx row is)
+        ∙ ap (λ ys. slice_get ys 0) (turned_map f tx slots (segment row.slot lives)) ∙ first_map (λ p. f (entry_of tx slots p)) (segment row.slot lives)
+
+  -- The last is that of its last one.
+  last_live : let ys = map f (live_of tx whole) in slice_get ys (length ys - 1) ≡ option_map (λ p. f (entry_of tx slots p)) (last_under lives (row_of tx rows))
+  last_live = told (row_of tx rows) refl where
+    told : (o : Option TableRow) → row_of tx rows ≡ o → let ys = map f (live_of tx whole) in slice_get ys (length ys - 1) ≡ option_map (λ p. f (entry_of tx slots p)) (last_under lives o)
+    told None is = ap (λ (xs : List Entry). slice_get (map f xs) (length (map f xs) - 1)) (live_of_is tx whole ∙ none_passing rows es slots rising ranks is_live tx is)
+    told (Some row) is =
+        ap (λ (xs : List Entry). slice_get (map f xs) (length (map f xs) - 1)) (live_of_is tx whole ∙ segment_passing rows es slots rising ranks is_live lives sub tx row is)
+        ∙ ap (λ ys. slice_get ys (length ys - 1)) (turned_map f tx slots (segment row.slot lives)) ∙ last_turned (λ p. f (entry_of tx slots p)) (segment row.slot lives)
+
+-- The first live number of a transaction is that of its first live place.
+pub first_number : (rows : List Row) (es lives : List Place) (slots : List (Option Held)) → AreRising rows → AreRanks es → IsSub is_live es slots lives → (tx : List ℕ) → slice_get (numbers_of tx (flat rows es slots)) 0 ≡ option_map number_in (first_under lives (row_of tx rows))
+first_number rows es lives slots rising ranks sub tx = first_live (λ e. e.0.seq) rows es lives slots rising ranks sub tx
+
+-- The last is that of its last one.
 pub last_number : (rows : List Row) (es lives : List Place) (slots : List (Option Held)) → AreRising rows → AreRanks es → IsSub is_live es slots lives → (tx : List ℕ) → let numbers = numbers_of tx (flat rows es slots) in slice_get numbers (length numbers - 1) ≡ option_map number_in (last_under lives (row_of tx rows))
-last_number rows es lives slots rising ranks sub tx = told (row_of tx rows) refl where
-  told : (o : Option TableRow) → row_of tx rows ≡ o → let numbers = numbers_of tx (flat rows es slots) in slice_get numbers (length numbers - 1) ≡ option_map number_in (last_under lives o)
-  told None is = ap (λ (xs : List Entry). slice_get (map (λ e. e.0.seq) xs) (length (map (λ e. e.0.seq) xs) - 1)) (live_of_is tx (flat rows es slots) ∙ none_passing rows es slots rising ranks is_live tx is)
-  told (Some row) is =
-      ap (λ (xs : List Entry). slice_get (map (λ e. e.0.seq) xs) (length (map (λ e. e.0.seq) xs) - 1)) (live_of_is tx (flat rows es slots) ∙ segment_passing rows es slots rising ranks is_live lives sub tx row is)
-      ∙ ap (λ ns. slice_get ns (length ns - 1)) (numbers_map tx slots (segment row.slot lives)) ∙ last_of_numbers (segment row.slot lives)
+last_number rows es lives slots rising ranks sub tx = last_live (λ e. e.0.seq) rows es lives slots rising ranks sub tx
+
+-- The first kind of a transaction is that of its first live place.
+pub first_kind : (rows : List Row) (es lives : List Place) (slots : List (Option Held)) → AreRising rows → AreRanks es → IsSub is_live es slots lives → (tx : List ℕ) → slice_get (kinds_of tx (flat rows es slots)) 0 ≡ option_map (kind_in slots) (first_under lives (row_of tx rows))
+first_kind rows es lives slots rising ranks sub tx = first_live (λ e. e.1.event.kind) rows es lives slots rising ranks sub tx
+
+-- The last is that of its last one.
+pub last_kind : (rows : List Row) (es lives : List Place) (slots : List (Option Held)) → AreRising rows → AreRanks es → IsSub is_live es slots lives → (tx : List ℕ) → let kinds = kinds_of tx (flat rows es slots) in slice_get kinds (length kinds - 1) ≡ option_map (kind_in slots) (last_under lives (row_of tx rows))
+last_kind rows es lives slots rising ranks sub tx = last_live (λ e. e.1.event.kind) rows es lives slots rising ranks sub tx
 
 -- The EVSE of an entry, or 0.
 abbrev evse_first : Option Entry → ℕ
@@ -225,7 +256,7 @@ evse_number rows es names slots rising ranks sub tx =
       told (Some row) is = ap (λ (xs : List Entry). evse_first (slice_get xs 0)) (segment_passing rows es slots rising ranks is_naming names sub tx row is) ∙ placed (segment row.slot names)
 
 -- A rank below all is not found.
-below_none : (r : ℕ) (es : List Place) → T (below_all nat_cmp r es) → place_of r es ≡ None
+pub below_none : (r : ℕ) (es : List Place) → T (below_all nat_cmp r es) → place_of r es ≡ None
 below_none r [] h = refl
 below_none r (e ∷ es) h = ap (λ o. cond (is_eq o) (Some e.1) (place_of r es)) (nat_less r e.0 (less_nat r e.0 (first _ _ h))) ∙ below_none r es (second _ _ h)
 
@@ -243,12 +274,36 @@ seg_found t (e ∷ es) p h is =
           ap (λ b. cond b (Some e.1) (place_of p.0 es)) (not_so _ (rank_test p.0 e.0) (λ k. never (place_of p.0 es) p.1 rest (ap (λ r. place_of r es) k ∙ below_none e.0 es (first _ _ h)))) ∙ rest
     ] is
 
+-- The first of a segment is of its transaction.
+seg_home : (t : ℕ) (es : List Place) (p : Place) → slice_get (segment t es) 0 ≡ Some p → p.0 / 2 ^ 31 ≡ t
+seg_home t [] p is = cc
+seg_home t (e ∷ es) p is =
+    elim (e.0 / 2 ^ 31 == t) as (λ b. (e.0 / 2 ^ 31 == t) ≡ b → slice_get (cond b (e ∷ segment t es) (segment t es)) 0 ≡ Some p → p.0 / 2 ^ 31 ≡ t) [
+      | true ↦ λ y some. let same : e ≡ p = cc in ap (λ (k : Place). k.0 / 2 ^ 31) (sym same) ∙ (Decides-eqb (e.0 / 2 ^ 31) t).0 y
+      | false ↦ λ _ some. seg_home t es p some
+    ] refl is
+
+-- Where a segment has a first place, its transaction has one.
+pub seg_some : (t : ℕ) (es : List Place) (o : Option Place) → AreRanks es → o ≡ slice_get (segment t es) 0 → is_some o ≡ true → HasPlace es t
+seg_some t es None ranks is some = cc
+seg_some t es (Some p) ranks is some = record { rank = p.0; place = p.1; found = seg_found t es p ranks (sym is); slot_is = seg_home t es p (sym is) }
+
+-- Where it has none, its transaction has none.
+pub seg_bare : (t : ℕ) (es : List Place) (o : Option Place) → o ≡ slice_get (segment t es) 0 → is_some o ≡ false → IsBare es t
+seg_bare t es (Some p) is some r s found home = cc
+seg_bare t es None is some r s found home = bare es (sym is) found where
+  bare : (ps : List Place) → slice_get (segment t ps) 0 ≡ None → place_of r ps ≡ Some s → ⊥
+  bare [] none there = cc
+  bare (p ∷ ps) none there =
+      elim (p.0 / 2 ^ 31 == t) as (λ b. (p.0 / 2 ^ 31 == t) ≡ b → slice_get (cond b (p ∷ segment t ps) (segment t ps)) 0 ≡ None → ⊥) [
+        | true ↦ λ _ gone. cc
+        | false ↦ λ other gone. elim (eq_by_cmp nat_cmp r p.0) as (λ b. eq_by_cmp nat_cmp r p.0 ≡ b → cond b (Some p.1) (place_of r ps) ≡ Some s → ⊥) [
+          | true ↦ λ y _. denied _ (Decides-eqb (p.0 / 2 ^ 31) t) other (ap (λ k. k / 2 ^ 31) (sym ((rank_test r p.0).0 y)) ∙ home)
+          | false ↦ λ _ rest. bare ps gone rest
+        ] refl there
+      ] refl none
+
 -- What was chosen was that place.
-chosen_place : (test : Stored → Bool) (slots : List (Option Held)) (o : Option ℕ) (s : ℕ) → chosen test slots o ≡ Some s → o ≡ Some s
+pub chosen_place : (test : Stored → Bool) (slots : List (Option Held)) (o : Option ℕ) (s : ℕ) → chosen test slots o ≡ Some s → o ≡ Some s
 chosen_place test slots None s h = cc
 chosen_place test slots (Some n) s h = elim (test (stored_at slots n)) as (λ b. cond b (Some n) None ≡ Some s → Some n ≡ Some s) [ true ↦ λ e. e | false ↦ λ e. cc ] h
-
--- The first place of a transaction in a sub-index is one of all places.
-pub first_stored : (test : Stored → Bool) (es sub : List Place) (slots : List (Option Held)) (o : Option TableRow) (p : Place) → IsSub test es slots sub → first_under sub o ≡ Some p → place_of p.0 es ≡ Some p.1
-first_stored test es sub slots None p is h = cc
-first_stored test es sub slots (Some row) p is h = chosen_place test slots (place_of p.0 es) p.1 (sym (is.each p.0) ∙ seg_found row.slot sub p is.rising h)

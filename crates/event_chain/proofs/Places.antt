@@ -1,5 +1,5 @@
 -- An index with a place put in or taken out.
-use Rattle.std.proofs.Common.{◌≡◌, ℕ, suc, ◌+◌, ◌-◌, ◌<◌, ◌≤◌, ◌/◌, ◌^◌, nat_lt, ◌==◌, true, false, not, cond, T, List, [], ◌∷◌, ◌++◌, Option, Some, None, is_some, length, drop, slice_get, refl, sym, ap, ◌∙◌, subst, arith, inl, inr}
+use Rattle.std.proofs.Common.{◌≡◌, ℕ, suc, ◌+◌, ◌-◌, ◌<◌, ◌≤◌, ◌/◌, ◌^◌, nat_lt, ◌==◌, true, false, not, cond, T, List, [], ◌∷◌, ◌++◌, Some, None, is_some, length, drop, slice_get, refl, sym, ap, ◌∙◌, subst, arith, inl, inr}
 use Rattle.std.proofs.lemmas.Bool.{cases_lt, cases_eq}
 use Rattle.std.proofs.lemmas.Bool.Decides.{Decides-ltb, Decides-eqb}
 use Rattle.std.specs.List.{filter}
@@ -9,14 +9,13 @@ use Rattle.std.specs.FinMap.{put}
 use Rattle.std.specs.FinMap.Entries.{by_order, below_all}
 use Rattle.key_index.specs.Entries.{below, from, slot_at, first_of, last_of, AreAbove, AreRising}
 use Rattle.key_index.specs.Key.{rank}
-use Rattle.ledger_model.proofs.Callers.{first}
 use Rattle.ledger_model.proofs.Rising.{both}
 use Rattle.event_chain.specs.Flat.{Place, place_of, segment}
 use Rattle.ledger_model.specs.Key.{KeyName}
 use Rattle.transaction_table.specs.declared.row.TableRow.{TableRow}
 use Rattle.transaction_table.specs.Table.{Row, row_of}
-use Rattle.event_chain.specs.Kept.{AreRanks, HasPlace, IsBare}
-use Rattle.event_chain.specs.Edits.{place_in, place_at}
+use Rattle.event_chain.specs.Kept.{AreRanks}
+use Rattle.event_chain.specs.Edits.{place_in, place_at, at_home}
 use Rattle.event_chain.proofs.Decided.{rank_test, not_so, denied}
 use Rattle.event_chain.proofs.Flats.{nat_less}
 
@@ -102,79 +101,15 @@ out_is key (e ∷ es) rising there =
     ]
 
 -- What is not less is as great.
-not_less : (a b : ℕ) → nat_lt a b ≡ false → b ≤ a
+pub not_less : (a b : ℕ) → nat_lt a b ≡ false → b ≤ a
 not_less a b never = elim (cases_lt a b) [ inl lt ↦ let f : true ≡ false = sym ((Decides-ltb a b).1 lt) ∙ never in cc | inr le ↦ le ]
-
--- A transaction's first place: there is one where the first place from its slot's ranks on is its.
-abbrev pub IsFirstPlace : List Place → ℕ → Place → Type 0
-IsFirstPlace es t e = (first_of (from (rank t 0) es) ≡ Some e) × (e.0 / 2 ^ 31 ≡ t)
-
--- The first place from a rank on is found.
-pub first_found : (key : ℕ) (es : List Place) (e : Place) → AreRising es → first_of (from key es) ≡ Some e → place_of e.0 es ≡ Some e.1
-first_found key [] e rising is = cc
-first_found key (x ∷ es) e rising is =
-    elim (nat_lt x.0 key) as (λ b. nat_lt x.0 key ≡ b → first_of (cond b (from key es) (x ∷ es)) ≡ Some e → place_of e.0 (x ∷ es) ≡ Some e.1) [
-      | false ↦ λ _ some. let same : x ≡ e = cc in subst (λ (k : Place). place_of k.0 (x ∷ es) ≡ Some k.1) same (ap (λ b. cond b (Some x.1) (place_of x.0 es)) ((rank_test x.0 x.0).1 refl))
-      | true ↦ λ _ some. let there = first_found key es e rising.1 some in
-          elim (eq_by_cmp nat_cmp e.0 x.0) as (λ b. eq_by_cmp nat_cmp e.0 x.0 ≡ b → cond b (Some x.1) (place_of e.0 es) ≡ Some e.1) [
-            | false ↦ λ _. there
-            | true ↦ λ y. let k = (rank_test e.0 x.0).0 y in let gone : place_of e.0 es ≡ None = ap (λ r. place_of r es) k ∙ none_below x.0 es rising.0 in let f : None ≡ Some e.1 = sym gone ∙ there in cc
-          ] refl
-    ] refl is
-
--- What is found among greater ranks is greater.
-found_above : (n r s : ℕ) (es : List Place) → AreAbove n es → place_of r es ≡ Some s → n < r
-found_above n r s [] h is = cc
-found_above n r s (e ∷ es) h is =
-    elim (eq_by_cmp nat_cmp r e.0) as (λ b. eq_by_cmp nat_cmp r e.0 ≡ b → cond b (Some e.1) (place_of r es) ≡ Some s → n < r) [
-      | true ↦ λ y _. let k = (rank_test r e.0).0 y in let up = h.0 in omega arith
-      | false ↦ λ _ rest. found_above n r s es h.1 rest
-    ] refl is
-
--- Where a place of the transaction is found, the first one from its slot's ranks on is its.
-pub has_first : (t r s : ℕ) (es : List Place) → AreRising es → place_of r es ≡ Some s → r / 2 ^ 31 ≡ t → (e : Place) × IsFirstPlace es t e
-has_first t r s [] rising is home = cc
-has_first t r s (x ∷ es) rising is home =
-    elim (nat_lt x.0 (rank t 0)) as (λ b. nat_lt x.0 (rank t 0) ≡ b → (e : Place) × ((first_of (cond b (from (rank t 0) es) (x ∷ es)) ≡ Some e) × (e.0 / 2 ^ 31 ≡ t))) [
-      | true ↦ λ y. let lt : x.0 < rank t 0 = (Decides-ltb x.0 (rank t 0)).0 y in
-          let rest : place_of r es ≡ Some s = sym (ap (λ b. cond b (Some x.1) (place_of r es)) (not_so _ (rank_test r x.0) (λ k. absurd (omega arith)))) ∙ is in
-          has_first t r s es rising.1 rest home
-      | false ↦ λ never. let ge : rank t 0 ≤ x.0 = not_less x.0 (rank t 0) never in (
-        x,
-        (
-          refl,
-          elim (eq_by_cmp nat_cmp r x.0) as (λ b. eq_by_cmp nat_cmp r x.0 ≡ b → cond b (Some x.1) (place_of r es) ≡ Some s → x.0 / 2 ^ 31 ≡ t) [
-            | true ↦ λ y _. ap (λ k. k / 2 ^ 31) (sym ((rank_test r x.0).0 y)) ∙ home
-            | false ↦ λ _ rest. let up = found_above x.0 r s es rising.0 rest in omega arith
-          ] refl is,
-        ),
-      )
-    ] refl
 
 -- The place of a key whose transaction is known.
 pub place_at_row : (rows : List Row) (es : List Place) (key : KeyName) (row : TableRow) → row_of key.tx rows ≡ Some row → key.seq < 2 ^ 31 → place_at rows es key ≡ place_of (rank row.slot key.seq) es
 place_at_row rows es key row is lt = ap (place_in es key.seq) is ∙ ap (λ b. cond b (place_of (rank row.slot key.seq) es) None) ((Decides-ltb key.seq (2 ^ 31)).1 lt)
 
--- The transaction has a place where the first from its slot's ranks on is its.
-pub some_place : (es : List Place) (t r0 : ℕ) (e : Place) → AreRising es → r0 ≡ rank t 0 → Some e ≡ first_of (from r0 es) → e.0 / 2 ^ 31 ≡ t → HasPlace es t
-some_place es t r0 e rising is some home = record { rank = e.0; place = e.1; found = first_found r0 es e rising (sym some); slot_is = home }
-
--- It has none where that place is another's.
-pub no_place : (es : List Place) (t r0 : ℕ) (o : Option Place) → AreRising es → r0 ≡ rank t 0 → o ≡ first_of (from r0 es) → ((e : Place) → o ≡ Some e → e.0 / 2 ^ 31 ≡ t → ⊥) → IsBare es t
-no_place es t r0 o rising is first other r s found home =
-    let some = has_first t r s es rising found home in other some.0 (first ∙ ap (λ k. first_of (from k es)) is ∙ some.1.0) some.1.1
-
--- One place is the other.
-pub same_some : (a b : Place) → Some a ≡ Some b → a ≡ b
-same_some a b e = cc
-
--- A place, where it is of the slot's transaction.
-abbrev pub at_home : ℕ → Option Place → Option Place
-at_home t None = None
-at_home t (Some e) = cond (e.0 / 2 ^ 31 == t) (Some e) None
-
 -- None above a greater slot's ranks is of the transaction.
-seg_above : (t n : ℕ) (es : List Place) → AreAbove n es → t < n / 2 ^ 31 → segment t es ≡ []
+pub seg_above : (t n : ℕ) (es : List Place) → AreAbove n es → t < n / 2 ^ 31 → segment t es ≡ []
 seg_above t n [] h lt = refl
 seg_above t n (e ∷ es) h lt = let up = h.0 in
     ap (λ b. cond b (e ∷ segment t es) (segment t es)) (not_so _ (Decides-eqb (e.0 / 2 ^ 31) t) (λ is. absurd (omega arith))) ∙ seg_above t n es h.1 lt
@@ -194,18 +129,18 @@ first_seg t (e ∷ es) h =
     ] refl
 
 -- The last of a list is that of its rest, where it has one.
-last_cons : (e f : Place) (es : List Place) → last_of (e ∷ f ∷ es) ≡ last_of (f ∷ es)
+pub last_cons : (e f : Place) (es : List Place) → last_of (e ∷ f ∷ es) ≡ last_of (f ∷ es)
 last_cons e f es =
     let a : suc (suc (length es)) - 1 ≡ suc (length es) = omega arith in let b : suc (length es) - 1 ≡ length es = omega arith in
     ap (slice_get (e ∷ f ∷ es)) a ∙ sym (ap (slice_get (f ∷ es)) b)
 
 -- Ranks below the end of a slot's.
-abbrev AllUnder : ℕ → List Place → Type 0
+abbrev pub AllUnder : ℕ → List Place → Type 0
 AllUnder n [] = Unit {0}
 AllUnder n (e ∷ es) = (e.0 < n) × AllUnder n es
 
 -- The last of a segment, among ranks below its end.
-last_under_seg : (t : ℕ) (es : List Place) → AreRising es → AllUnder (rank (t + 1) 0) es → at_home t (last_of es) ≡ last_of (segment t es)
+pub last_under_seg : (t : ℕ) (es : List Place) → AreRising es → AllUnder (rank (t + 1) 0) es → at_home t (last_of es) ≡ last_of (segment t es)
 last_under_seg t [] h u = refl
 last_under_seg t (e ∷ []) h u = elim (e.0 / 2 ^ 31 == t) as (λ b. cond b (Some e) None ≡ last_of (cond b (e ∷ []) [])) [ true ↦ refl | false ↦ refl ]
 last_under_seg t (e ∷ f ∷ es) h u =
@@ -219,7 +154,7 @@ last_under_seg t (e ∷ f ∷ es) h u =
     ] refl
 
 -- What stands below a rank is under it.
-below_under : (n : ℕ) (es : List Place) → AllUnder n (below n es)
+pub below_under : (n : ℕ) (es : List Place) → AllUnder n (below n es)
 below_under n [] = tt
 below_under n (e ∷ es) = elim (nat_lt e.0 n) as (λ b. nat_lt e.0 n ≡ b → AllUnder n (cond b (e ∷ below n es) [])) [ true ↦ λ y. ((Decides-ltb e.0 n).0 y, below_under n es) | false ↦ λ _. tt ] refl
 
@@ -229,7 +164,7 @@ below_above m n [] h = tt
 below_above m n (e ∷ es) h = elim (nat_lt e.0 n) as (λ b. AreAbove m (cond b (e ∷ below n es) [])) [ true ↦ (h.0, below_above m n es h.1) | false ↦ tt ]
 
 -- It rises.
-below_rising : (n : ℕ) (es : List Place) → AreRising es → AreRising (below n es)
+pub below_rising : (n : ℕ) (es : List Place) → AreRising es → AreRising (below n es)
 below_rising n [] h = tt
 below_rising n (e ∷ es) h = elim (nat_lt e.0 n) as (λ b. AreRising (cond b (e ∷ below n es) [])) [ true ↦ (below_above e.0 n es h.0, below_rising n es h.1) | false ↦ tt ]
 

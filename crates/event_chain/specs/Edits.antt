@@ -1,10 +1,14 @@
--- Places put into an index and taken out of it.
-use Rattle.std.specs.Prelude.{ℕ, Bool, not, cond, List, Option, Some, None, slice_get, unwrap_or}
+-- Places put into an index and taken out of it, and what is found by them.
+use Rattle.std.specs.Prelude.{ℕ, ◌/◌, ◌^◌, ◌==◌, nat_lt, Bool, not, cond, List, Option, Some, None, slice_get, unwrap_or}
 use Rattle.std.specs.List.{filter}
 use Rattle.std.specs.Ordering.{eq_by_cmp, nat_cmp}
 use Rattle.std.specs.FinMap.{put}
+use Rattle.slot_arena.specs.Arena.{IsHeld}
 use Rattle.key_index.specs.Entries.{last_of}
+use Rattle.ledger_model.specs.declared.kind.Kind.{Kind}
 use Rattle.ledger_model.specs.Key.{KeyName}
+use Rattle.ledger_model.specs.Event.{MeterReading}
+use Rattle.ledger_model.specs.Deltas.{first_reading, last_reading}
 use Rattle.transaction_table.specs.declared.row.TableRow.{TableRow}
 use Rattle.transaction_table.specs.Table.{Row, row_of}
 use Rattle.event_chain.specs.Flat.{Place, number_at, stored_at, segment}
@@ -40,6 +44,43 @@ first_under es (Some row) = slice_get (segment row.slot es) 0
 abbrev pub last_under : List Place → Option TableRow → Option Place
 last_under es None = None
 last_under es (Some row) = last_of (segment row.slot es)
+
+-- What is counted of a transaction, where it is known.
+abbrev pub counts_under : Option TableRow → ℕ × ℕ
+counts_under None = (0, 0)
+counts_under (Some row) = (row.live, row.ends)
+
+-- A place, where it is of the transaction of a slot.
+abbrev pub at_home : ℕ → Option Place → Option Place
+at_home t None = None
+at_home t (Some e) = cond (e.0 / 2 ^ 31 == t) (Some e) None
+
+-- The places of a rank's transaction in front of the rank.
+abbrev pub places_before : ℕ → List Place → List Place
+places_before r es = filter (λ e. nat_lt e.0 r) (segment (r / 2 ^ 31) es)
+
+-- Those behind it.
+abbrev pub places_behind : ℕ → List Place → List Place
+places_behind r es = filter (λ e. nat_lt r e.0) (segment (r / 2 ^ 31) es)
+
+-- The place, where there is one, is that of an event.
+abbrev pub IsStored : List (Option Held) → Option Place → Type 0
+IsStored slots None = Unit {0}
+IsStored slots (Some e) = IsHeld slots e.1
+
+-- The first reading of the event of a place.
+abbrev pub first_at : List (Option Held) → Option Place → Option MeterReading
+first_at slots None = None
+first_at slots (Some e) = first_reading (stored_at slots e.1).event.readings
+
+-- The last one.
+abbrev pub last_at : List (Option Held) → Option Place → Option MeterReading
+last_at slots None = None
+last_at slots (Some e) = last_reading (stored_at slots e.1).event.readings
+
+-- The kind of the event of a place.
+abbrev pub kind_in : List (Option Held) → Place → Kind
+kind_in slots e = (stored_at slots e.1).event.kind
 
 -- The EVSE that the event of a place names, or 0.
 abbrev pub evse_at : List (Option Held) → Option Place → ℕ

@@ -3,3 +3,4 @@ pub mod Chains
 pub mod Kept
 pub mod Edits
 pub mod Room
+pub mod Walk

@@ -1,3 +1,5 @@
+use ledger_model::{EvseId, Kind};
+
 /// Whether there is room for an event under a new key; the first limit that is reached answers.
 #[derive(Clone, Copy, Debug, PartialEq, Eq)]
 pub enum Room {
@@ -18,4 +20,23 @@ pub enum Found {
     Live,
     /// It is kept, and does not count.
     Voided,
+}
+
+/// What the live events of a transaction come to.
+#[derive(Clone, Copy, Debug, PartialEq, Eq)]
+pub struct Standing {
+    /// The lowest live number.
+    pub first: Option<u32>,
+    /// The highest live number.
+    pub last: Option<u32>,
+    /// The kind of the live event of the lowest number.
+    pub first_kind: Option<Kind>,
+    /// The kind of that of the highest.
+    pub last_kind: Option<Kind>,
+    /// How many live events there are.
+    pub live: u32,
+    /// How many of them are Started or Ended.
+    pub ends: u32,
+    /// The EVSE that the lowest live event names which names one, else 0.
+    pub evse: EvseId,
 }

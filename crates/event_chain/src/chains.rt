@@ -5,6 +5,7 @@ ghost use Rattle.ledger_model.specs.Content.{live_of, transactions_of};
 ghost use Rattle.ledger_model.specs.Step.{marked, readings_stored};
 ghost use Rattle.ledger_model.specs.Evse.{evse_of};
 ghost use Rattle.ledger_model.specs.Complete.{kinds_of};
+ghost use Rattle.ledger_model.specs.Deltas.{own_readings, before_key, behind_key, first_reading, last_reading};
 ghost use Rattle.ledger_model.specs.Gaps.{numbers_of};
 ghost use Rattle.event_chain.specs.declared.answers.Room.TheVariants.{Fits};
 ghost use Rattle.event_chain.specs.declared.answers.Found.TheVariants.{Live, Voided};
@@ -12,13 +13,18 @@ ghost use Rattle.transaction_table.specs.Table.{row_of};
 ghost use Rattle.event_chain.specs.Chains.{stored};
 ghost use Rattle.event_chain.specs.Room.{room_of, found_of, readings_under};
 ghost use Rattle.event_chain.specs.Kept.{end_count, is_end};
+ghost use Rattle.event_chain.specs.Edits.{counts_under};
 
-use crate::answers::{Found, Room};
-use crate::spots::{enter, first_of, last_of, leave, locate, out_place, put_place, slot_of};
+use crate::answers::{Found, Room, Standing};
+use crate::spots::{
+    enter, evse_at, first_at, first_in, kind_at, last_at, last_in, leave, locate, number_of,
+    out_place, place_before, place_behind, put_place, slot_of,
+};
 use crate::tx_ids::TxIds;
+use crate::tx_walk::TxWalk;
 use event_store::{EventRef, EventStore, Readings};
 use key_index::{IndexKey, KeyIndex};
-use ledger_model::{Event, EvseId, Key, Kind, Limits, TxId};
+use ledger_model::{Event, EvseId, Key, Kind, Limits, Reading, TxId};
 use std::alloc::{AllocError, Global};
 use std::marker::Model;
 use transaction_table::{TableRow, TransactionTable};
@@ -65,6 +71,16 @@ fn lacks_place(table: &TransactionTable, limit: u32, tx: &TxId) -> bool
     ensures { result ≡ (not (is_some (row_of tx.now table.now.rows)) && nat_le limit (length table.now.rows)) }
 {
     table.get(tx).is_none() && limit <= table.len()
+}
+
+// How many live events a transaction has, and how many of them are Started or Ended.
+fn counts_in(row: Option<TableRow>) -> (u32, u32)
+    ensures { result ≡ counts_under row }
+{
+    match row {
+        Some(row) => (row.live, row.ends),
+        None => (0, 0),
+    }
 }
 
 impl Chains {
@@ -219,6 +235,23 @@ impl Chains {
         }
     }
 
+    /// The live readings on either side of the place of a key in its transaction, whether the key is
+    /// live, voided or absent: the last one in front of it, and the first one behind it.
+    pub fn neighbours(&self, key: &Key) -> (Option<Reading>, Option<Reading>)
+        ensures before { result.0 ≡ last_reading (own_readings key.now.tx (before_key key.now (stored self.now))) }
+        ensures behind { result.1 ≡ first_reading (own_readings key.now.tx (behind_key key.now (stored self.now))) }
+    {
+        match self.table.get(key.tx()) {
+            Some(row) => {
+                let at = IndexKey::new(row.slot, key.seq());
+                let before = last_at(&self.store, place_before(&self.carriers, at));
+                let behind = first_at(&self.store, place_behind(&self.carriers, at));
+                (before, behind)
+            }
+            None => (None, None),
+        }
+    }
+
     /// How many events are stored, voided ones among them.
     pub fn stored_events(&self) -> u32
         ensures { result ≡ length (stored self.now) }
@@ -237,39 +270,39 @@ impl Chains {
     pub fn live_count(&self, tx: &TxId) -> u32
         ensures { result ≡ length (live_of tx.now (stored self.now)) }
     {
-        match self.table.get(tx) {
-            Some(row) => row.live,
-            None => 0,
-        }
+        counts_in(self.table.get(tx)).0
     }
 
     /// How many live events of a transaction are Started or Ended.
     pub fn end_count(&self, tx: &TxId) -> u32
         ensures { result ≡ count_by is_end (kinds_of tx.now (stored self.now)) }
     {
-        match self.table.get(tx) {
-            Some(row) => row.ends,
-            None => 0,
-        }
+        counts_in(self.table.get(tx)).1
     }
 
     /// The lowest live number of a transaction.
     pub fn first(&self, tx: &TxId) -> Option<u32>
         ensures { result ≡ slice_get (numbers_of tx.now (stored self.now)) 0 }
     {
-        match first_of(&self.table, &self.live, tx) {
-            Some(place) => Some(place.0.number()),
-            None => None,
-        }
+        number_of(first_in(&self.live, self.table.get(tx)))
     }
 
     /// The highest live number of a transaction.
     pub fn last(&self, tx: &TxId) -> Option<u32>
         ensures { let numbers = numbers_of tx.now (stored self.now) in result ≡ slice_get numbers (length numbers - 1) }
     {
-        match last_of(&self.table, &self.live, tx) {
-            Some(place) => Some(place.0.number()),
-            None => None,
+        // Slots are below the table's capacity.
+        let (_count, _capacity) = (self.table.len(), self.table.capacity());
+        number_of(last_in(&self.live, self.table.get(tx)))
+    }
+
+    /// A walk over the live numbers of a transaction, rising.
+    pub fn walk(&self, tx: &TxId) -> TxWalk<'_>
+        ensures { result ≡ numbers_of tx.now (stored self.now) }
+    {
+        match self.table.get(tx) {
+            Some(row) => TxWalk::over(&self.live, Some(row.slot)),
+            None => TxWalk::over(&self.live, None),
         }
     }
 
@@ -277,9 +310,36 @@ impl Chains {
     pub fn evse(&self, tx: &TxId) -> EvseId
         ensures { result ≡ evse_of tx.now (stored self.now) }
     {
-        match first_of(&self.table, &self.naming, tx) {
-            Some(place) => self.store.get(place.1).evse().unwrap_or(EvseId::unnamed()),
-            None => EvseId::unnamed(),
+        evse_at(&self.store, first_in(&self.naming, self.table.get(tx)))
+    }
+
+    /// What the live events of a transaction come to, with one look-up of the transaction: the two ends
+    /// and their kinds, the two counts, and the EVSE.
+    pub fn standing(&self, tx: &TxId) -> Standing
+        ensures first { result.first ≡ slice_get (numbers_of tx.now (stored self.now)) 0 }
+        ensures last { let numbers = numbers_of tx.now (stored self.now) in result.last ≡ slice_get numbers (length numbers - 1) }
+        ensures first_kind { result.first_kind ≡ slice_get (kinds_of tx.now (stored self.now)) 0 }
+        ensures last_kind { let kinds = kinds_of tx.now (stored self.now) in result.last_kind ≡ slice_get kinds (length kinds - 1) }
+        ensures live { result.live ≡ length (live_of tx.now (stored self.now)) }
+        ensures ends { result.ends ≡ count_by is_end (kinds_of tx.now (stored self.now)) }
+        ensures evse { result.evse ≡ evse_of tx.now (stored self.now) }
+    {
+        // Slots are below the table's capacity.
+        let (_count, _capacity) = (self.table.len(), self.table.capacity());
+        let row = self.table.get(tx);
+        let first = first_in(&self.live, row);
+        let last = last_in(&self.live, row);
+        let first_kind = kind_at(&self.store, &first);
+        let last_kind = kind_at(&self.store, &last);
+        let counts = counts_in(row);
+        Standing {
+            first: number_of(first),
+            last: number_of(last),
+            first_kind,
+            last_kind,
+            live: counts.0,
+            ends: counts.1,
+            evse: evse_at(&self.store, first_in(&self.naming, row)),
         }
     }
 

@@ -8,24 +8,30 @@
 //! The crate's one contract: chains are a map from keys to stored events, each live or voided, within
 //! the station's limits. [`Chains::insert`] puts in a live event, [`Chains::unlink`] voids one,
 //! [`Chains::relink`] makes it live again, [`Chains::remove`] takes a voided one out. Of a transaction
-//! it answers the lowest and the highest live number, two counts, and the EVSE; the events between
-//! the two ends are found by their keys alone.
+//! [`Chains::standing`] tells the two ends with their kinds, two counts, and the EVSE, and
+//! [`Chains::walk`] goes over its live numbers, one look-up a step. [`Chains::neighbours`] gives the live
+//! readings on either side of a key.
 //!
 //! ```text
 //! let mut chains = Chains::open(rt.alloc(), &limits)?;
 //! chains.insert(key, &event);     // where find(&key) is None and room_for(..) is Room::Fits
 //! chains.unlink(&key);            // find(&key) is Some(Found::Voided)
 //! chains.first(key.tx())          // None: no event is live
+//! Gaps::over(&chains.walk(key.tx()))  // what is missing between the live numbers
 //! ```
 #![tactic(auto)]
 
 mod answers;
 mod chains;
+#[cfg(test)]
+mod plain_list;
 mod spots;
 #[cfg(test)]
 mod tests;
 mod tx_ids;
+mod tx_walk;
 
-pub use answers::{Found, Room};
+pub use answers::{Found, Room, Standing};
 pub use chains::Chains;
 pub use tx_ids::TxIds;
+pub use tx_walk::TxWalk;

@@ -1,16 +1,22 @@
 //! The places of events: their transactions, their ranks, and the slots that hold them.
-ghost use Rattle.std.specs.Prelude.{◌≡◌, ◌<◌, true, false, length, None, Some, IsSome, slice_get};
+ghost use Rattle.std.specs.Prelude.{◌≡◌, ◌<◌, true, false, length, None, Some, IsSome, slice_get, option_map};
+ghost use Rattle.std.specs.Option.{ForSome};
 ghost use Rattle.key_index.specs.Entries.{last_of};
 ghost use Rattle.key_index.specs.Key.{rank};
 ghost use Rattle.ledger_model.specs.Ranges.{sequence_end};
 ghost use Rattle.transaction_table.specs.Table.{row_of};
 ghost use Rattle.event_chain.specs.Flat.{place_of, segment};
 ghost use Rattle.event_chain.specs.Kept.{HasPlace, IsBare, IsEntered, IsLeft};
-ghost use Rattle.event_chain.specs.Edits.{put_if, out_if, place_at, first_under, last_under};
+ghost use Rattle.event_chain.specs.Edits.{put_if, out_if, place_at, first_under, last_under, at_home, places_before, places_behind, first_at, last_at, kind_in, evse_at, IsStored};
+ghost use Rattle.event_chain.specs.Walk.{number_in};
 
+use event_store::EventStore;
 use key_index::{IndexKey, KeyIndex};
-use ledger_model::{Key, TxId};
+use ledger_model::{EvseId, Key, Kind, Reading, TxId};
 use transaction_table::{TableRow, TransactionTable};
+
+// The greatest sequence number.
+const GREATEST_NUMBER: u32 = 2_147_483_647;
 
 // Where an event is: its transaction's row, the key under which the indexes have it, and its slot.
 #[derive(Clone, Copy)]
@@ -66,6 +72,16 @@ pub(crate) fn enter(table: &mut TransactionTable, tx: &TxId) -> TableRow
     }
 }
 
+// The place, where it is one of the transaction of a slot.
+fn own(place: Option<(IndexKey, u32)>, slot: u32) -> Option<(IndexKey, u32)>
+    ensures { result ≡ at_home slot place }
+{
+    match place {
+        Some(place) if place.0.transaction() == slot => Some(place),
+        _ => None,
+    }
+}
+
 // Tells whether the transaction of a slot has a place.
 fn has_place(stored: &KeyIndex, slot: u32) -> bool
     ensures some { result ≡ true → HasPlace stored.now.entries slot }
@@ -73,10 +89,7 @@ fn has_place(stored: &KeyIndex, slot: u32) -> bool
 {
     // The indexed keys rise.
     let _count = stored.len();
-    match stored.at_or_after(IndexKey::new(slot, 0)) {
-        Some(next) => next.0.transaction() == slot,
-        None => false,
-    }
+    first_place(stored, slot).is_some()
 }
 
 // The first place of the transaction of a slot.
@@ -85,64 +98,113 @@ pub(crate) fn first_place(index: &KeyIndex, slot: u32) -> Option<(IndexKey, u32)
 {
     // The indexed keys rise.
     let _count = index.len();
-    match index.at_or_after(IndexKey::new(slot, 0)) {
-        Some(place) => {
-            if place.0.transaction() == slot {
-                Some(place)
-            } else {
-                None
-            }
-        }
-        None => None,
-    }
+    own(index.at_or_after(IndexKey::new(slot, 0)), slot)
 }
 
-// The first place of a transaction; none where it has none there.
-pub(crate) fn first_of(
-    table: &TransactionTable,
-    index: &KeyIndex,
-    tx: &TxId,
-) -> Option<(IndexKey, u32)>
-    ensures { result ≡ first_under index.now.entries (row_of tx.now table.now.rows) }
+// The first place of a transaction in an index; none where it has none there.
+pub(crate) fn first_in(index: &KeyIndex, row: Option<TableRow>) -> Option<(IndexKey, u32)>
+    ensures { result ≡ first_under index.now.entries row }
 {
-    match table.get(tx) {
+    match row {
         Some(row) => first_place(index, row.slot),
         None => None,
     }
 }
 
 // The last place of the transaction of a slot.
-pub(crate) fn last_place(index: &KeyIndex, slot: u32) -> Option<(IndexKey, u32)>
+fn last_place(index: &KeyIndex, slot: u32) -> Option<(IndexKey, u32)>
     requires { slot < 4294967295 }
     ensures { result ≡ last_of (segment slot index.now.entries) }
 {
     // The indexed keys rise.
     let _count = index.len();
-    match index.before(IndexKey::new(slot + 1, 0)) {
-        Some(place) => {
-            if place.0.transaction() == slot {
-                Some(place)
-            } else {
-                None
-            }
-        }
+    own(index.before(IndexKey::new(slot + 1, 0)), slot)
+}
+
+// The last place of a transaction in an index; none where it has none there.
+pub(crate) fn last_in(index: &KeyIndex, row: Option<TableRow>) -> Option<(IndexKey, u32)>
+    requires { ForSome row (λ r. r.slot < 4294967295) }
+    ensures { result ≡ last_under index.now.entries row }
+{
+    match row {
+        Some(row) => last_place(index, row.slot),
         None => None,
     }
 }
 
-// The last place of a transaction; none where it has none there.
-pub(crate) fn last_of(
-    table: &TransactionTable,
-    index: &KeyIndex,
-    tx: &TxId,
-) -> Option<(IndexKey, u32)>
-    ensures { result ≡ last_under index.now.entries (row_of tx.now table.now.rows) }
+// The last place in front of a key, of the key's transaction.
+pub(crate) fn place_before(index: &KeyIndex, key: IndexKey) -> Option<(IndexKey, u32)>
+    ensures { result ≡ last_of (places_before key index.now.entries) }
 {
-    // Slots are below the table's capacity.
-    let (_count, _capacity) = (table.len(), table.capacity());
-    match table.get(tx) {
-        Some(row) => last_place(index, row.slot),
+    // The indexed keys rise.
+    let _count = index.len();
+    own(index.before(key), key.transaction())
+}
+
+// The first place behind a key, of the key's transaction.
+pub(crate) fn place_behind(index: &KeyIndex, key: IndexKey) -> Option<(IndexKey, u32)>
+    ensures { result ≡ slice_get (places_behind key index.now.entries) 0 }
+{
+    // The indexed keys rise.
+    let _count = index.len();
+    let (slot, number) = (key.transaction(), key.number());
+    if number == GREATEST_NUMBER {
+        return None;
+    }
+    own(index.at_or_after(IndexKey::new(slot, number + 1)), slot)
+}
+
+// The last reading of the event of a place, where there is one.
+pub(crate) fn last_at(store: &EventStore, place: Option<(IndexKey, u32)>) -> Option<Reading>
+    requires { IsStored store.now.slots place }
+    ensures { result ≡ last_at store.now.slots place }
+{
+    match place {
+        Some(place) => store.get(place.1).last_reading(),
         None => None,
+    }
+}
+
+// The first reading of the event of a place, where there is one.
+pub(crate) fn first_at(store: &EventStore, place: Option<(IndexKey, u32)>) -> Option<Reading>
+    requires { IsStored store.now.slots place }
+    ensures { result ≡ first_at store.now.slots place }
+{
+    match place {
+        Some(place) => store.get(place.1).first_reading(),
+        None => None,
+    }
+}
+
+// The sequence number of a place.
+pub(crate) fn number_of(place: Option<(IndexKey, u32)>) -> Option<u32>
+    ensures { result ≡ option_map number_in place }
+{
+    match place {
+        Some(place) => Some(place.0.number()),
+        None => None,
+    }
+}
+
+// The kind of the event of a place, where there is one.
+pub(crate) fn kind_at(store: &EventStore, place: &Option<(IndexKey, u32)>) -> Option<Kind>
+    requires { IsStored store.now.slots place.now }
+    ensures { result ≡ option_map (kind_in store.now.slots) place.now }
+{
+    match place {
+        Some(place) => Some(store.get(place.1).kind()),
+        None => None,
+    }
+}
+
+// The EVSE that the event of a place names, or 0.
+pub(crate) fn evse_at(store: &EventStore, place: Option<(IndexKey, u32)>) -> EvseId
+    requires { IsStored store.now.slots place }
+    ensures { result ≡ evse_at store.now.slots place }
+{
+    match place {
+        Some(place) => store.get(place.1).evse().unwrap_or(EvseId::unnamed()),
+        None => EvseId::unnamed(),
     }
 }
 

@@ -1,4 +1,6 @@
-use crate::{Chains, Found, Room};
+use crate::plain_list::{Answers, PlainList};
+use crate::{Chains, Found, Room, TxWalk};
+use gap_list::{Gaps, NumberWalk};
 use ledger_model::{Event, EvseId, Key, Kind, Limits, Moment, Reading, TxId};
 use std::alloc::{AllocError, Global};
 use std::test::Fail;
@@ -143,12 +145,39 @@ fn fill(chains: &mut Chains, tx: &str, numbers: &[u32], event: &Event) -> bool {
     all
 }
 
+// Tells whether a walk goes over these numbers of a transaction, with this one gap or none between.
+fn is_walk(chains: &Chains, tx: &str, numbers: &[u32], gap: Option<(u32, u32)>) -> bool {
+    match TxId::new(tx) {
+        Some(id) => {
+            let walk = chains.walk(&id);
+            let mut gaps = Gaps::over(&walk);
+            walks_over(&walk, numbers) && gaps.next() == gap && (gap == None || gaps.next() == None)
+        }
+        None => false,
+    }
+}
+
+// Tells whether a walk goes over these numbers, one after the other.
+fn walks_over(walk: &TxWalk, numbers: &[u32]) -> bool {
+    let mut place = walk.start();
+    for number in numbers {
+        match place {
+            Some(here) if walk.number(here) == *number => place = walk.next(here),
+            _ => return false,
+        }
+    }
+    place == None
+}
+
 fn puts_the_later_number_first(chains: &mut Chains, sent: &Event) -> bool {
-    fill(chains, "a", &[2, 0], sent) && is_run(chains, "a", 0, 2, 2) && stores(chains, 2, 2)
+    fill(chains, "a", &[2, 0], sent)
+        && is_run(chains, "a", 0, 2, 2)
+        && stores(chains, 2, 2)
+        && is_walk(chains, "a", &[0, 2], Some((1, 1)))
 }
 
 #[test]
-fn the_later_number_first(rt: HostRuntime) -> Result<(), Fail> {
+fn small_arena_in_chains(rt: HostRuntime) -> Result<(), Fail> {
     let sent = event(rt.alloc())?;
     let mut chains = chains(rt.alloc(), 1, 2, 2)?;
     assert!(rt; puts_the_later_number_first(&mut chains, &sent));
@@ -178,8 +207,10 @@ fn voids_and_restores(chains: &mut Chains, sent: &Event) -> bool {
         && found(chains, "t", 4) == Some(Found::Voided)
         && is_run(chains, "t", 0, 7, 7)
         && stores(chains, 8, 8)
+        && is_walk(chains, "t", &[0, 1, 2, 3, 5, 6, 7], Some((4, 4)))
         && restore(chains, "t", 4)
         && is_run(chains, "t", 0, 7, 8)
+        && is_walk(chains, "t", &[0, 1, 2, 3, 4, 5, 6, 7], None)
 }
 
 #[test]
@@ -240,5 +271,119 @@ fn each_transaction_is_answered_for(rt: HostRuntime) -> Result<(), Fail> {
     let sent = event(rt.alloc())?;
     let mut chains = chains(rt.alloc(), 2, 4, 4)?;
     assert!(rt; answers_for_each(&mut chains, &sent));
+    Ok(())
+}
+
+// A generator of numbers below 2^31 that look random: a linear congruence modulo 2^64.
+#[derive(Drop)]
+struct Random {
+    state: u64,
+}
+
+impl Random {
+    fn next(&mut self) -> u32 {
+        self.state = self
+            .state
+            .wrapping_mul(6_364_136_223_846_793_005)
+            .wrapping_add(1_442_695_040_888_963_407);
+        (self.state >> 33) as u32
+    }
+}
+
+// An event with up to two readings, all told by a number.
+fn event_of(alloc: Global, number: u32) -> Result<Event, Fail> {
+    let moment = new_year().ok_or("no moment")?;
+    let mut readings = Vec::new(alloc);
+    for step in 0..number % 3 {
+        let level = u64::from(number) * 4 + u64::from(step);
+        readings.push(Reading::new(moment, level).ok_or("no reading")?)?;
+    }
+    let kind = match number / 3 % 4 {
+        0 => Kind::Started,
+        1 => Kind::Ended,
+        _ => Kind::Updated,
+    };
+    let evse = match number / 12 % 5 {
+        0 => EvseId::new((1 + number / 60 % 64) as u8),
+        _ => None,
+    };
+    Ok(
+        Event::new(kind, moment, evse, readings)
+            .ok()
+            .ok_or("no event")?,
+    )
+}
+
+// Chains, and a plain list that is to hold the same.
+#[derive(Drop)]
+struct Pair {
+    chains: Chains,
+    plain: PlainList,
+}
+
+impl Pair {
+    // Changes both in one way that an event of this number may take.
+    fn change(
+        &mut self,
+        key: Key,
+        tx: u32,
+        event: &Event,
+        chance: u32,
+    ) -> Result<bool, AllocError> {
+        let seq = key.seq();
+        match self.chains.find(&key) {
+            None => {
+                if put_key(&mut self.chains, key, event) {
+                    self.plain.put(tx, seq, event)?;
+                }
+                Ok(true)
+            }
+            Some(Found::Live) => {
+                self.plain.mark(tx, seq, chance % 2 == 0);
+                Ok(chance % 2 == 1 || void_key(&mut self.chains, &key))
+            }
+            Some(Found::Voided) if chance % 2 == 0 => {
+                self.plain.mark(tx, seq, false);
+                Ok(restore_key(&mut self.chains, &key))
+            }
+            Some(Found::Voided) => {
+                self.plain.take(tx, seq);
+                Ok(erase_key(&mut self.chains, &key))
+            }
+        }
+    }
+
+    // One call at a random number of a random transaction, and whether all answers agree before it.
+    fn call(&mut self, alloc: Global, random: &mut Random) -> Result<bool, Fail> {
+        let (tx, name) = match random.next() % 6 {
+            0 => (1, "a"),
+            1 => (2, "b"),
+            2 => (3, "c"),
+            3 => (4, "d"),
+            4 => (5, "e"),
+            _ => (6, "f"),
+        };
+        // The last two transactions have few events, so they come and go.
+        let seq = random.next() % if tx < 5 { 150 } else { 2 };
+        let key = key(name, seq).ok_or("no key")?;
+        let event = event_of(alloc, random.next())?;
+        let readings = event.readings().len();
+        let agree = Answers::of(&self.chains, &key, readings)
+            == self.plain.answers(tx, seq, readings);
+        let changed = self.change(key, tx, &event, random.next())?;
+        Ok(agree && changed)
+    }
+}
+
+#[test]
+fn random_calls_against_a_plain_list(rt: HostRuntime) -> Result<(), Fail> {
+    let mut pair = Pair {
+        chains: chains(rt.alloc(), 5, 400, 350)?,
+        plain: PlainList::open(rt.alloc(), 5, 400, 350),
+    };
+    let mut random = Random { state: 17 };
+    for call in 0..100_000 {
+        assert!(rt; pair.call(rt.alloc(), &mut random)?, "call {call}");
+    }
     Ok(())
 }

@@ -1,10 +1,11 @@
 -- Chains of readings under edits of the arena that holds them.
-use Rattle.std.proofs.Common.{◌≡◌, ℕ, zero, suc, ◌+◌, ◌<◌, ◌≤◌, ◌++◌, Bool, false, true, List, [], ◌∷◌, Option, Some, None, is_some, cond, length, take, set, get_or, refl, sym, ap, ◌∙◌, subst, arith, length-set, get_or-set_other, get_or-set_same}
+use Rattle.std.proofs.Common.{◌≡◌, ℕ, zero, suc, ◌+◌, ◌<◌, ◌≤◌, ◌++◌, Bool, false, true, List, [], ◌∷◌, Option, Some, None, is_some, cond, length, take, set, get_or, slice_get, ◌-◌, refl, sym, ap, ◌∙◌, subst, arith, length-set, get_or-set_other, get_or-set_same}
 use Rattle.std.proofs.lemmas.List.Sums.{sum_by-set}
 use Rattle.slot_arena.specs.Arena.{value_at, held_count}
 use Rattle.ledger_model.specs.Event.{MeterReading}
 use Rattle.event_store.specs.declared.links.ReadingLink.{ReadingLink}
-use Rattle.event_store.specs.Links.{reading_of, next_of, owner_of, left_of, chain, IsLink, IsRun, AreKept, AreOthersKept}
+use Rattle.ledger_model.specs.Deltas.{last_reading}
+use Rattle.event_store.specs.Links.{reading_of, next_of, owner_of, left_of, chain, IsLink, IsRun, IsLast, AreReadings, AreKept, AreOthersKept}
 
 -- The links of an arena.
 abbrev pub Row : Type 0
@@ -27,6 +28,27 @@ run_kept old new owner first n kept run = run_same old new owner first n (λ i t
 -- Where the links of all but one event are kept, another's chain is.
 pub run_other : (old new : Row) (owner other first n : ℕ) → AreOthersKept owner old new → (other ≡ owner → ⊥) → IsRun old other first n → IsRun new other first n × (chain new first n ≡ chain old first n)
 run_other old new owner other first n kept apart run = run_same old new other first n (λ i there is _. kept i there (λ e. apart (sym is ∙ e))) run
+
+-- The last link stays where it is kept, and its chain.
+last_same : (old new : Row) (owner first n last : ℕ) → (is_some (value_at old last) ≡ true → owner_of (value_at old last) ≡ owner → value_at new last ≡ value_at old last) → chain new first n ≡ chain old first n → IsLast old owner first n last → IsLast new owner first n last
+last_same old new owner first zero last same is ends = tt
+last_same old new owner first (suc n) last same is ends =
+    let here : value_at new last ≡ value_at old last = same ends.0.there ends.0.owner_is in (
+      subst (λ l. IsLink l owner 1) (sym here) ends.0,
+      ap last_reading is ∙ ends.1 ∙ ap (λ l. Some (reading_of l)) (sym here),
+    )
+
+-- Where all links are kept, the readings of each event are.
+pub readings_kept : (old new : Row) (owner first n last : ℕ) → AreKept old new → AreReadings old owner first n last → AreReadings new owner first n last × (chain new first n ≡ chain old first n)
+readings_kept old new owner first n last kept was =
+    let r = run_kept old new owner first n kept was.run in
+    (record { run = r.0; ends = last_same old new owner first n last (λ there _. kept last there) r.1 was.ends }, r.1)
+
+-- Where the links of all but one event are kept, another's readings are.
+pub readings_other : (old new : Row) (owner other first n last : ℕ) → AreOthersKept owner old new → (other ≡ owner → ⊥) → AreReadings old other first n last → AreReadings new other first n last × (chain new first n ≡ chain old first n)
+readings_other old new owner other first n last kept apart was =
+    let r = run_other old new owner other first n kept apart was.run in
+    (record { run = r.0; ends = last_same old new other first n last (λ there is. kept last there (λ e. apart (sym is ∙ e))) r.1 was.ends }, r.1)
 
 -- What is there is in range.
 pub there_within : {X : Type 0} (xs : List (Option X)) (i : ℕ) → is_some (value_at xs i) ≡ true → i < length xs
@@ -124,6 +146,34 @@ put_step start links new id first n more owner link rest all m up long free lt p
       held = count_put links id link free lt;
       same = length-set links id (Some link);
     }))
+
+-- The last of readings is that of the rest, where there is one.
+last_more : (x y : MeterReading) (ys : List MeterReading) → last_reading (x ∷ y ∷ ys) ≡ last_reading (y ∷ ys)
+last_more x y ys =
+    let a : length (x ∷ y ∷ ys) - 1 ≡ suc (length ys) = omega arith in let b : length (y ∷ ys) - 1 ≡ length ys = omega arith in
+    ap (slice_get (x ∷ y ∷ ys)) a ∙ sym (ap (slice_get (y ∷ ys)) b)
+
+-- A link put in front of a chain is its last one where there was none; else the last one stays.
+pub put_last : (links new : Row) (id first n more owner last end : ℕ) (link : ReadingLink) → more ≡ suc n → value_at links id ≡ None → id < length links → new ≡ set links id (Some link) → link.owner ≡ owner → link.left ≡ more → link.next ≡ first
+    → (more ≡ 1 → end ≡ id) → (1 < more → end ≡ last) → IsRun links owner first n → IsLast links owner first n last → IsLast new owner id more end
+put_last links new id first n more owner last end link up free lt put is left next only others run ends =
+    subst (λ row. IsLast row owner id more end) (sym put) (subst (λ k. IsLast (set links id (Some link)) owner id k end) (sym up) (told n up run ends)) where
+      whole : Row
+      whole = set links id (Some link)
+
+      told : (m : ℕ) → more ≡ suc m → IsRun links owner first m → IsLast links owner first m last → IsLast whole owner id (suc m) end
+      told zero one r e =
+          let here : value_at whole id ≡ Some link = get_or-set_same links id (Some link) None lt in let at : end ≡ id = only one in
+          subst (λ k. IsLink (value_at whole k) owner 1 × (last_reading (chain whole id 1) ≡ Some (reading_of (value_at whole k)))) (sym at)
+          (subst (λ l. IsLink l owner 1) (sym here) (record { there = refl; owner_is = is; left_is = left ∙ one }), refl)
+      told (suc m) two r e =
+          let at : end ≡ last = others (omega (arith, two)) in
+          let step = put_run links id first (suc m) owner link free lt is (left ∙ two) next r in
+          let kept : value_at whole last ≡ value_at links last = put_kept links id link free last e.0.there in
+          subst (λ k. IsLink (value_at whole k) owner 1 × (last_reading (chain whole id (suc (suc m))) ≡ Some (reading_of (value_at whole k)))) (sym at) (
+            subst (λ l. IsLink l owner 1) (sym kept) e.0,
+            ap last_reading step.1 ∙ last_more link.reading (reading_of (value_at links first)) (chain links (next_of (value_at links first)) m) ∙ e.1 ∙ ap (λ l. Some (reading_of l)) (sym kept),
+          )
 
 -- A chain is as long as it is said to be.
 pub chain_long : (links : Row) (first n : ℕ) → length (chain links first n) ≡ n

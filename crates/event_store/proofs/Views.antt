@@ -4,11 +4,11 @@ use Rattle.std.proofs.lemmas.Bool.{cases_eq}
 use Rattle.std.proofs.lemmas.List.Sums.{sum_by-cons}
 use Rattle.slot_arena.specs.Arena.{value_at, held_count}
 use Rattle.event_store.specs.declared.event_slot.EventSlot.{EventSlot}
-use Rattle.event_store.specs.Links.{chain, IsRun, AreKept, AreOthersKept}
+use Rattle.event_store.specs.Links.{chain, AreReadings, AreKept, AreOthersKept}
 use Rattle.event_store.specs.Slots.{Held, voided_as, voided_at, readings_at, readings_in}
 use Rattle.ledger_model.specs.Event.{EventContent}
 use Rattle.event_store.specs.Store.{slot_in, slots_in, new_slot, run_set, IsChained, AreChained}
-use Rattle.event_store.proofs.Runs.{Row, one, there_within, run_kept, run_other, chain_long}
+use Rattle.event_store.proofs.Runs.{Row, one, there_within, readings_kept, readings_other, chain_long}
 
 -- The event slots of an arena.
 abbrev Events : Type 0
@@ -48,13 +48,13 @@ slots_same old new [] same = refl
 slots_same old new (e ∷ events) same = ap (λ (x : Option Held). x ∷ slots_in new events) (same 0) ∙ ap (λ (es : List (Option Held)). slot_in old e ∷ es) (slots_same old new events (λ i. same (suc i)))
 
 -- A slot whose chain is kept shows the same.
-chained_same : (old new : Row) (slot : ℕ) (e : EventSlot) → IsRun new slot e.first e.count × (chain new e.first e.count ≡ chain old e.first e.count) → slot_in new (Some e) ≡ slot_in old (Some e)
+chained_same : (old new : Row) (slot : ℕ) (e : EventSlot) → AreReadings new slot e.first e.count e.last × (chain new e.first e.count ≡ chain old e.first e.count) → slot_in new (Some e) ≡ slot_in old (Some e)
 chained_same old new slot e kept = ap (λ rs. Some (e.key, record { event = record { kind = e.kind; moment = e.moment; evse = e.evse; readings = rs }; voided = e.voided })) kept.1
 
 -- One of them.
 kept_slot : (old new : Row) (i : ℕ) (e : Option EventSlot) → AreKept old new → IsChained old i e → slot_in new e ≡ slot_in old e
 kept_slot old new i None kept run = refl
-kept_slot old new i (Some e) kept run = chained_same old new i e (run_kept old new i e.first e.count kept run)
+kept_slot old new i (Some e) kept run = chained_same old new i e (readings_kept old new i e.first e.count e.last kept run)
 
 -- Where all links are kept, the slots show the same.
 pub kept_same : (old new : Row) (events : Events) → AreKept old new → AreChained events old → slots_in new events ≡ slots_in old events
@@ -63,12 +63,12 @@ kept_same old new events kept chained = slots_same old new events (λ i. kept_sl
 -- A slot stays chained.
 pub kept_chained : (old new : Row) (i : ℕ) (e : Option EventSlot) → AreKept old new → IsChained old i e → IsChained new i e
 kept_chained old new i None kept run = tt
-kept_chained old new i (Some e) kept run = (run_kept old new i e.first e.count kept run).0
+kept_chained old new i (Some e) kept run = (readings_kept old new i e.first e.count e.last kept run).0
 
 -- A slot of another event shows the same, and stays chained.
 pub other_slot : (old new : Row) (owner i : ℕ) (e : Option EventSlot) → AreOthersKept owner old new → (i ≡ owner → ⊥) → IsChained old i e → (slot_in new e ≡ slot_in old e) × IsChained new i e
 other_slot old new owner i None kept apart run = (refl, tt)
-other_slot old new owner i (Some e) kept apart run = let r = run_other old new owner i e.first e.count kept apart run in (chained_same old new i e r, r.0)
+other_slot old new owner i (Some e) kept apart run = let r = readings_other old new owner i e.first e.count e.last kept apart run in (chained_same old new i e r, r.0)
 
 -- The slots, one of them voided or not.
 pub voided_slots : (links : Row) (events : Events) (slots : List (Option Held)) (slot id : ℕ) (e : EventSlot) (voided : Bool) → id ≡ slot → value_at events id ≡ Some e → slots_in links events ≡ slots → slots_in links (set events id (Some (record e { voided = voided }))) ≡ voided_at slots slot voided
@@ -127,13 +127,13 @@ pub record IsIn (events more : Events) (links new : Row) (slot key : ℕ) (event
   pub shown : slots_in new more ≡ set (slots_in links events) slot (Some (key, record { event = event; voided = false }))
 
 -- That is so.
-pub put_in : (events mid more : Events) (links new : Row) (slot id first count key : ℕ) (event : EventContent) → id ≡ slot → value_at events slot ≡ None → slot < length events → mid ≡ set events slot (Some (new_slot key event)) → more ≡ set mid id (run_set (value_at mid id) first count)
-    → AreKept links new → IsRun new slot first count → chain new first count ≡ event.readings → AreChained events links → IsIn events more links new slot key event
-put_in events mid more links new slot id first count key event is free lt put set_is kept run readings chained =
-    let e : EventSlot = record (new_slot key event) { first = first; count = count } in
+pub put_in : (events mid more : Events) (links new : Row) (slot id first last count key : ℕ) (event : EventContent) → id ≡ slot → value_at events slot ≡ None → slot < length events → mid ≡ set events slot (Some (new_slot key event)) → more ≡ set mid id (run_set (value_at mid id) first last count)
+    → AreKept links new → AreReadings new slot first count last → chain new first count ≡ event.readings → AreChained events links → IsIn events more links new slot key event
+put_in events mid more links new slot id first last count key event is free lt put set_is kept run readings chained =
+    let e : EventSlot = record (new_slot key event) { first = first; last = last; count = count } in
     let full : Events = set events slot (Some e) in
     let fresh : value_at mid slot ≡ Some (new_slot key event) = ap (λ es. value_at es slot) put ∙ get_or-set_same events slot (Some (new_slot key event)) None lt in
-    let at : more ≡ full = set_is ∙ ap (λ k. set mid k (run_set (value_at mid k) first count)) is ∙ ap (λ o. set mid slot (run_set o first count)) fresh ∙ ap (λ es. set es slot (Some e)) put ∙ set-set events slot (Some (new_slot key event)) (Some e) in
+    let at : more ≡ full = set_is ∙ ap (λ k. set mid k (run_set (value_at mid k) first last count)) is ∙ ap (λ o. set mid slot (run_set o first last count)) fresh ∙ ap (λ es. set es slot (Some e)) put ∙ set-set events slot (Some (new_slot key event)) (Some e) in
     let here : slot_in new (Some e) ≡ Some (key, record { event = event; voided = false }) = ap (λ rs. Some (key, record { event = record { kind = event.kind; moment = event.moment; evse = event.evse; readings = rs }; voided = false })) readings in
     subst (λ es. IsIn events es links new slot key event) (sym at) (record {
       chained = λ i. elim (cases_eq i slot) [

@@ -2,6 +2,7 @@
 use Rattle.std.specs.Prelude.{◌≡◌, ℕ, zero, suc, true, List, [], ◌∷◌, Option, Some, None, is_some}
 use Rattle.slot_arena.specs.Arena.{value_at}
 use Rattle.ledger_model.specs.Event.{MeterReading}
+use Rattle.ledger_model.specs.Deltas.{last_reading}
 use Rattle.event_store.specs.declared.links.ReadingLink.{ReadingLink}
 
 -- What is read where there is no reading.
@@ -43,6 +44,16 @@ pub record IsLink (link : Option ReadingLink) (owner left : ℕ) : Type 0 where
 abbrev pub IsRun : List (Option ReadingLink) → ℕ → ℕ → ℕ → Type 0
 IsRun links owner first zero = Unit {0}
 IsRun links owner first (suc n) = IsLink (value_at links first) owner (suc n) × IsRun links owner (next_of (value_at links first)) n
+
+-- Where there are so many links of this event from the first slot on, the last slot has the last of them.
+abbrev pub IsLast : List (Option ReadingLink) → ℕ → ℕ → ℕ → ℕ → Type 0
+IsLast links owner first zero last = Unit {0}
+IsLast links owner first (suc n) last = IsLink (value_at links last) owner 1 × (last_reading (chain links first (suc n)) ≡ Some (reading_of (value_at links last)))
+
+-- The readings of this event: so many links from the first slot to the last one.
+pub record AreReadings (links : List (Option ReadingLink)) (owner first count last : ℕ) : Type 0 where
+  pub run : IsRun links owner first count
+  pub ends : IsLast links owner first count last
 
 -- Each link that was there is there still.
 abbrev pub AreKept : List (Option ReadingLink) → List (Option ReadingLink) → Type 0

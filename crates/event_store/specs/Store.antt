@@ -4,7 +4,7 @@ use Rattle.slot_arena.specs.Arena.{value_at, held_count}
 use Rattle.ledger_model.specs.Event.{EventContent}
 use Rattle.event_store.specs.declared.links.ReadingLink.{ReadingLink}
 use Rattle.event_store.specs.declared.event_slot.EventSlot.{EventSlot}
-use Rattle.event_store.specs.Links.{chain, IsRun}
+use Rattle.event_store.specs.Links.{chain, AreReadings}
 use Rattle.event_store.specs.Slots.{Held, Slots}
 
 -- The content of the event in a slot.
@@ -31,17 +31,17 @@ store_of events links = record { slots = slots_in links events; readings = held_
 -- The readings of an event in a slot are chained.
 abbrev pub IsChained : List (Option ReadingLink) → ℕ → Option EventSlot → Type 0
 IsChained links slot None = Unit {0}
-IsChained links slot (Some e) = IsRun links slot e.first e.count
+IsChained links slot (Some e) = AreReadings links slot e.first e.count e.last
 
 -- The readings of each event are chained.
 abbrev pub AreChained : List (Option EventSlot) → List (Option ReadingLink) → Type 0
 AreChained events links = (slot : ℕ) → IsChained links slot (value_at events slot)
 
--- A slot with its event's readings begun here, so many.
-abbrev pub run_set : Option EventSlot → ℕ → ℕ → Option EventSlot
-run_set None first count = None
-run_set (Some e) first count = Some (record e { first = first; count = count })
+-- A slot with its event's readings from here to there, so many.
+abbrev pub run_set : Option EventSlot → ℕ → ℕ → ℕ → Option EventSlot
+run_set None first last count = None
+run_set (Some e) first last count = Some (record e { first = first; last = last; count = count })
 
 -- The slot of a new event, before its readings are put in.
 abbrev pub new_slot : ℕ → EventContent → EventSlot
-new_slot key event = record { key = key; kind = event.kind; moment = event.moment; evse = event.evse; voided = false; first = 0; count = 0 }
+new_slot key event = record { key = key; kind = event.kind; moment = event.moment; evse = event.evse; voided = false; first = 0; last = 0; count = 0 }

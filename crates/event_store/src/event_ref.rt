@@ -1,11 +1,12 @@
 ghost use Rattle.std.specs.Prelude.{◌≡◌, ◌↔◌, length, IsTrue};
+ghost use Rattle.ledger_model.specs.Deltas.{first_reading, last_reading};
 
 use crate::event_slot::EventSlot;
 use crate::links::ReadingLink;
 use crate::readings::{Readings, are_same};
 use key_index::IndexKey;
-use ledger_model::{Event, EvseId, Kind, Moment};
-use slot_arena::SlotArena;
+use ledger_model::{Event, EvseId, Kind, Moment, Reading};
+use slot_arena::{SlotArena, SlotId};
 use std::marker::Model;
 
 /// A stored event. Contracts see the rank of its key, the event, and whether it is voided.
@@ -23,22 +24,22 @@ impl<'a> Model for EventRef<'a> {
 
     ghost coded = { held_code };
 
-    ghost use Rattle.event_store.specs.Links.{IsRun};
+    ghost use Rattle.event_store.specs.Links.{AreReadings};
     ghost use Rattle.event_store.specs.Store.{held_in};
 
     ghost view = { λ e. held_in e.links.now e.slot };
 
-    ghost invariant = { λ e. (owner : ℕ) × IsRun e.links.now owner e.slot.first e.slot.count };
+    ghost invariant = { λ e. (owner : ℕ) × AreReadings e.links.now owner e.slot.first e.slot.count e.slot.last };
 }
 
 impl<'a> EventRef<'a> {
     ghost use Rattle.std.specs.Prelude.{ℕ};
-    ghost use Rattle.event_store.specs.Links.{IsRun};
+    ghost use Rattle.event_store.specs.Links.{AreReadings};
     ghost use Rattle.event_store.specs.Store.{held_in};
 
     // The event of a slot.
     pub(crate) fn of(slot: EventSlot, links: &'a SlotArena<ReadingLink>) -> Self
-        requires { (owner : ℕ) × IsRun links.now owner slot.first slot.count }
+        requires { (owner : ℕ) × AreReadings links.now owner slot.first slot.count slot.last }
         ensures { result ≡ held_in links.now slot }
     {
         EventRef { slot, links }
@@ -91,6 +92,26 @@ impl<'a> EventRef<'a> {
         ensures { result ≡ self.now.1.event.readings }
     {
         Readings::of(self.links, self.slot.first, self.slot.count)
+    }
+
+    /// The first of its counted readings; none where it has none.
+    pub fn first_reading(&self) -> Option<Reading>
+        ensures { result ≡ first_reading self.now.1.event.readings }
+    {
+        if self.slot.count == 0 {
+            return None;
+        }
+        Some(self.links.get(SlotId::new(self.slot.first)).reading)
+    }
+
+    /// The last of its counted readings; none where it has none.
+    pub fn last_reading(&self) -> Option<Reading>
+        ensures { result ≡ last_reading self.now.1.event.readings }
+    {
+        if self.slot.count == 0 {
+            return None;
+        }
+        Some(self.links.get(SlotId::new(self.slot.last)).reading)
     }
 
     /// Tells whether it has the same content as this event.

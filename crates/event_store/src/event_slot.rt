@@ -1,7 +1,7 @@
 use key_index::IndexKey;
 use ledger_model::{EvseId, Kind, Moment};
 
-/// What a slot keeps of an event: all but its readings, and where these begin.
+/// What a slot keeps of an event: all but its readings, and where these begin and end.
 #[derive(Clone, Copy)]
 pub struct EventSlot {
     pub(crate) key: IndexKey,
@@ -9,6 +9,8 @@ pub struct EventSlot {
     pub(crate) moment: Moment,
     pub(crate) evse: Option<EvseId>,
     pub(crate) voided: bool,
+    // The slots of its first reading and of its last one, where it has any.
     pub(crate) first: u32,
+    pub(crate) last: u32,
     pub(crate) count: u16,
 }

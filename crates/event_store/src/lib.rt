@@ -1,8 +1,8 @@
 //! Stored events in numbered slots, each with its readings, in two arenas reserved once.
 //!
 //! An event takes one slot of the first arena and as many of the second as it has readings, which
-//! are chained from its first one on. [`EventStore::open`] asks the allocator, and nothing else here
-//! asks it again.
+//! are chained from its first one on; its slot keeps where they begin and where they end.
+//! [`EventStore::open`] asks the allocator, and nothing else here asks it again.
 //!
 //! The crate's one contract: a store is a list with an `Option` for each slot, the key and the event
 //! that it holds, and the number of readings held. [`EventStore::put`] puts an event into a slot that
@@ -12,7 +12,7 @@
 //! ```text
 //! let mut store = EventStore::open(rt.alloc(), 2, 9)?;
 //! let slot = store.put(IndexKey::new(0, 7), &event);
-//! store.get(slot).is_same(&event)     // true
+//! store.get(slot).same_as(&event)     // true
 //! ```
 #![tactic(auto)]
 

@@ -1,7 +1,7 @@
 //! The chains of readings: how an event's are put into the arena, and taken out.
 ghost use Rattle.std.specs.Prelude.{◌≡◌, ℕ, ◌+◌, ◌<◌, ◌≤◌, None, Some, length, slice_set, IsSome};
 ghost use Rattle.slot_arena.specs.Arena.{value_at, held_count};
-ghost use Rattle.event_store.specs.Links.{chain, IsRun, AreKept, AreOthersKept};
+ghost use Rattle.event_store.specs.Links.{chain, IsRun, IsLast, AreKept, AreOthersKept};
 
 use ledger_model::Reading;
 use slot_arena::{SlotArena, SlotId};
@@ -17,6 +17,25 @@ pub struct ReadingLink {
     pub(crate) left: u16,
 }
 
+// The slots of the first reading and of the last one of an event, where it has any.
+#[derive(Clone, Copy)]
+pub(crate) struct ChainEnds {
+    pub(crate) first: u32,
+    pub(crate) last: u32,
+}
+
+impl ChainEnds {
+    // The ends with a slot put in front, which makes so many.
+    fn in_front(self, slot: u32, count: u16) -> ChainEnds
+        ensures first { result.first ≡ slot }
+        ensures only { count ≡ 1 → result.last ≡ slot }
+        ensures more { 1 < count → result.last ≡ self.last }
+    {
+        let last = if count == 1 { slot } else { self.last };
+        ChainEnds { first: slot, last }
+    }
+}
+
 // Puts a link into a free slot.
 fn put_link(links: &mut SlotArena<ReadingLink>, link: ReadingLink) -> u32
     requires { held_count links.old < length links.old }
@@ -30,31 +49,36 @@ fn put_link(links: &mut SlotArena<ReadingLink>, link: ReadingLink) -> u32
     }
 }
 
-// Chains readings of the event in this slot, and answers where the chain begins.
-pub(crate) fn put_all(links: &mut SlotArena<ReadingLink>, owner: u16, readings: &[Reading]) -> u32
+// Chains readings of the event in this slot, and answers where the chain begins and ends.
+pub(crate) fn put_all(
+    links: &mut SlotArena<ReadingLink>,
+    owner: u16,
+    readings: &[Reading],
+) -> ChainEnds
     requires few { length readings.now < 65536 }
     requires room { held_count links.old + length readings.now ≤ length links.old }
-    ensures run { IsRun links.new owner result (length readings.now) }
-    ensures chain { chain links.new result (length readings.now) ≡ readings.now }
+    ensures run { IsRun links.new owner result.first (length readings.now) }
+    ensures ends { IsLast links.new owner result.first (length readings.now) result.last }
+    ensures chain { chain links.new result.first (length readings.now) ≡ readings.now }
     ensures kept { AreKept links.old links.new }
     ensures held { held_count links.new ≡ held_count links.old + length readings.now }
     ensures capacity { length links.new ≡ length links.old }
 {
-    let mut first = 0;
+    let mut ends = ChainEnds { first: 0, last: 0 };
     let mut count: u16 = 0;
     let mut rest = readings;
     while let [before @ .., reading] = rest {
         count += 1;
         let link = ReadingLink {
             reading: *reading,
-            next: first,
+            next: ends.first,
             owner,
             left: count,
         };
-        first = put_link(links, link);
+        ends = ends.in_front(put_link(links, link), count);
         rest = before;
     }
-    first
+    ends
 }
 
 // Frees the slots of so many readings of the event in this slot, from the first one on.

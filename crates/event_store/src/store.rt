@@ -5,7 +5,7 @@ ghost use Rattle.event_store.specs.Store.{new_slot, run_set};
 
 use crate::event_ref::EventRef;
 use crate::event_slot::EventSlot;
-use crate::links::{ReadingLink, put_all, take_all};
+use crate::links::{ChainEnds, ReadingLink, put_all, take_all};
 use crate::readings::Readings;
 use key_index::IndexKey;
 use ledger_model::Event;
@@ -61,8 +61,8 @@ impl EventStore {
     {
         let number = put_slot(&mut self.events, key, event);
         let readings = event.readings();
-        let first = put_all(&mut self.links, number, readings);
-        set_run(&mut self.events, number, first, readings.len() as u16);
+        let ends = put_all(&mut self.links, number, readings);
+        set_run(&mut self.events, number, ends, readings.len() as u16);
         u32::from(number)
     }
 
@@ -140,6 +140,7 @@ fn put_slot(events: &mut SlotArena<EventSlot>, key: IndexKey, event: &Event) -> 
         evse: event.evse(),
         voided: false,
         first: 0,
+        last: 0,
         count: 0,
     };
     // A slot's number is below this, at most 65,536.
@@ -150,12 +151,13 @@ fn put_slot(events: &mut SlotArena<EventSlot>, key: IndexKey, event: &Event) -> 
     }
 }
 
-// Tells a slot where the readings of its event begin, and how many they are.
-fn set_run(events: &mut SlotArena<EventSlot>, number: u16, first: u32, count: u16)
+// Tells a slot where the readings of its event begin and end, and how many they are.
+fn set_run(events: &mut SlotArena<EventSlot>, number: u16, ends: ChainEnds, count: u16)
     requires { IsHeld events.old number }
-    ensures { events.new ≡ slice_set events.old number (run_set (value_at events.old number) first count) }
+    ensures { events.new ≡ slice_set events.old number (run_set (value_at events.old number) ends.first ends.last count) }
 {
     let slot = events.get_mut(SlotId::new(u32::from(number)));
-    slot.first = first;
+    slot.first = ends.first;
+    slot.last = ends.last;
     slot.count = count;
 }

@@ -1,4 +1,4 @@
-use crate::EventStore;
+use crate::{EventRef, EventStore};
 use key_index::IndexKey;
 use ledger_model::{Event, Kind, Moment, Reading};
 use std::alloc::{AllocError, Global};
@@ -40,13 +40,19 @@ fn cut(store: &mut EventStore, slot: u32) -> bool {
     true
 }
 
+// Tells whether the first and the last reading of an event are those that were sent.
+fn has_ends(held: &EventRef, event: &Event) -> bool {
+    held.first_reading() == event.readings().first().copied()
+        && held.last_reading() == event.readings().last().copied()
+}
+
 // Tells whether a slot holds the same event, voided or not.
 fn is_same(store: &EventStore, slot: u32, event: &Event, voided: bool) -> bool {
     if !store.is_held(slot) {
         return false;
     }
     let held = store.get(slot);
-    held.same_as(event) && held.is_voided() == voided
+    held.same_as(event) && held.is_voided() == voided && has_ends(&held, event)
 }
 
 // Voids an event where the slot holds one.

@@ -1,12 +1,15 @@
-use Rattle.std.proofs.Common.{Some, slice_get, option_map, sym, ap, ◌∙◌}
+use Rattle.std.proofs.Common.{slice_get, option_map, sym, ap, ◌∙◌}
 use Rattle.ledger_model.specs.Gaps.{numbers_of}
 use Rattle.event_chain.specs.Chains.{Chained, stored}
+use Rattle.event_chain.specs.Edits.{first_under}
+use Rattle.event_chain.specs.Walk.{number_in}
 use Rattle.event_chain.proofs.Facts.{entries_all}
-use Rattle.event_chain.proofs.Lives.{first_number, number_in}
+use Rattle.event_chain.proofs.Lives.{first_number}
 use Rattle.event_chain.proofs.chains.Chains.first.Goals as goal
 
-pub returns-in-Some : goal.returns-in-Some
-returns-in-Some c = let m = c.self.inside in let k = c.self.invariant in ap Some c.number.ensures ∙ ap (option_map number_in) c.in-Some.ensures ∙ sym (first_number m.table.rows m.stored.entries m.live.entries m.store.slots k.keyed.rising k.keyed.ranks k.indexed.lives c.args.tx.now) ∙ ap (λ xs. slice_get (numbers_of c.args.tx.now xs) 0) (sym (entries_all m.limits m.table m.store m.stored m.live m.carriers m.naming k)) ∙ ap (λ (x : Chained). slice_get (numbers_of c.args.tx.now (stored x)) 0) c.self.view_is
-
-pub returns-in-None : goal.returns-in-None
-returns-in-None c = let m = c.self.inside in let k = c.self.invariant in ap (option_map number_in) c.in-None.ensures ∙ sym (first_number m.table.rows m.stored.entries m.live.entries m.store.slots k.keyed.rising k.keyed.ranks k.indexed.lives c.args.tx.now) ∙ ap (λ xs. slice_get (numbers_of c.args.tx.now xs) 0) (sym (entries_all m.limits m.table m.store m.stored m.live m.carriers m.naming k)) ∙ ap (λ (x : Chained). slice_get (numbers_of c.args.tx.now (stored x)) 0) c.self.view_is
+pub returns : goal.returns
+returns c =
+    let m = c.self.inside in let k = c.self.invariant in let rows = m.table.rows in let es = m.stored.entries in let slots = m.store.slots in
+    c.number_of.ensures ∙ ap (option_map number_in) (c.first_in.ensures ∙ ap (first_under m.live.entries) c.get.ensures)
+    ∙ sym (first_number rows es m.live.entries slots k.keyed.rising k.keyed.ranks k.indexed.lives c.args.tx.now)
+    ∙ ap (λ xs. slice_get (numbers_of c.args.tx.now xs) 0) (sym (entries_all m.limits m.table m.store m.stored m.live m.carriers m.naming k)) ∙ ap (λ (x : Chained). slice_get (numbers_of c.args.tx.now (stored x)) 0) c.self.view_is

@@ -1,12 +1,19 @@
-use Rattle.std.proofs.Common.{Some, length, ◌-◌, slice_get, option_map, sym, ap, ◌∙◌}
+use Rattle.std.proofs.Common.{length, arith, ◌-◌, slice_get, option_map, sym, ap, ◌∙◌}
 use Rattle.ledger_model.specs.Gaps.{numbers_of}
 use Rattle.event_chain.specs.Chains.{Chained, stored}
+use Rattle.event_chain.specs.Edits.{last_under}
+use Rattle.event_chain.specs.Walk.{number_in}
 use Rattle.event_chain.proofs.Facts.{entries_all}
-use Rattle.event_chain.proofs.Lives.{last_number, number_in}
+use Rattle.event_chain.proofs.Lives.{last_number}
+use Rattle.event_chain.proofs.Rows.{row_below}
 use Rattle.event_chain.proofs.chains.Chains.last.Goals as goal
 
-pub returns-in-Some : goal.returns-in-Some
-returns-in-Some c = let m = c.self.inside in let k = c.self.invariant in ap Some c.number.ensures ∙ ap (option_map number_in) c.in-Some.ensures ∙ sym (last_number m.table.rows m.stored.entries m.live.entries m.store.slots k.keyed.rising k.keyed.ranks k.indexed.lives c.args.tx.now) ∙ ap (λ xs. let ns = numbers_of c.args.tx.now xs in slice_get ns (length ns - 1)) (sym (entries_all m.limits m.table m.store m.stored m.live m.carriers m.naming k)) ∙ ap (λ (x : Chained). let ns = numbers_of c.args.tx.now (stored x) in slice_get ns (length ns - 1)) c.self.view_is
+pub last_in-requires : goal.last_in-requires
+last_in-requires c = row_below c.self.inside.table.rows c.self.inside.table.capacity c.args.tx.now c.get.result c.len-count.ensures.below (omega (arith, c.capacity-capacity.ensures, c.capacity-capacity.type_inv)) c.get.ensures
 
-pub returns-in-None : goal.returns-in-None
-returns-in-None c = let m = c.self.inside in let k = c.self.invariant in ap (option_map number_in) c.in-None.ensures ∙ sym (last_number m.table.rows m.stored.entries m.live.entries m.store.slots k.keyed.rising k.keyed.ranks k.indexed.lives c.args.tx.now) ∙ ap (λ xs. let ns = numbers_of c.args.tx.now xs in slice_get ns (length ns - 1)) (sym (entries_all m.limits m.table m.store m.stored m.live m.carriers m.naming k)) ∙ ap (λ (x : Chained). let ns = numbers_of c.args.tx.now (stored x) in slice_get ns (length ns - 1)) c.self.view_is
+pub returns : goal.returns
+returns c =
+    let m = c.self.inside in let k = c.self.invariant in let rows = m.table.rows in let es = m.stored.entries in let slots = m.store.slots in
+    c.number_of.ensures ∙ ap (option_map number_in) (c.last_in.ensures ∙ ap (last_under m.live.entries) c.get.ensures)
+    ∙ sym (last_number rows es m.live.entries slots k.keyed.rising k.keyed.ranks k.indexed.lives c.args.tx.now)
+    ∙ ap (λ xs. let ns = numbers_of c.args.tx.now xs in slice_get ns (length ns - 1)) (sym (entries_all m.limits m.table m.store m.stored m.live m.carriers m.naming k)) ∙ ap (λ (x : Chained). let ns = numbers_of c.args.tx.now (stored x) in slice_get ns (length ns - 1)) c.self.view_is

@@ -1,0 +1,24 @@
+-- What is counted of a transaction, known or not.
+use Rattle.std.proofs.Common.{◌≡◌, ℕ, List, Option, Some, None, length, sym, ◌∙◌}
+use Rattle.std.specs.List.{count_by}
+use Rattle.ledger_model.specs.Content.{live_of}
+use Rattle.ledger_model.specs.Complete.{kinds_of}
+use Rattle.event_store.specs.Slots.{Held}
+use Rattle.transaction_table.specs.declared.row.TableRow.{TableRow}
+use Rattle.transaction_table.specs.Table.{Row, row_of}
+use Rattle.event_chain.specs.Flat.{Place, flat}
+use Rattle.event_chain.specs.Kept.{live_one, end_one, is_end, AreFigured}
+use Rattle.event_chain.specs.Edits.{counts_under}
+use Rattle.event_chain.proofs.Figures.{none_flat, live_zero, end_zero}
+use Rattle.event_chain.proofs.Lives.{live_length, ends_length}
+
+module _ (rows : List Row) (es : List Place) (slots : List (Option Held)) (figured : AreFigured rows (flat rows es slots)) (tx : List ℕ) where
+  -- The live events are as many as the table counts.
+  pub live_counted : (o : Option TableRow) → o ≡ row_of tx rows → (counts_under o).0 ≡ length (live_of tx (flat rows es slots))
+  live_counted None is = sym (none_flat (live_one tx) tx (live_zero tx) rows es slots (sym is)) ∙ sym (live_length tx (flat rows es slots))
+  live_counted (Some row) is = (figured tx row (sym is)).live ∙ sym (live_length tx (flat rows es slots))
+
+  -- So are those that are Started or Ended.
+  pub ends_counted : (o : Option TableRow) → o ≡ row_of tx rows → (counts_under o).1 ≡ count_by is_end (kinds_of tx (flat rows es slots))
+  ends_counted None is = sym (none_flat (end_one tx) tx (end_zero tx) rows es slots (sym is)) ∙ sym (ends_length tx (flat rows es slots))
+  ends_counted (Some row) is = (figured tx row (sym is)).ends ∙ sym (ends_length tx (flat rows es slots))

@@ -1,0 +1,76 @@
+-- What holds of each place of an index.
+use Rattle.std.proofs.Common.{◌≡◌, ℕ, ◌/◌, ◌^◌, ◌==◌, Bool, true, false, cond, List, [], ◌∷◌, Option, Some, None, is_some, slice_get, refl, sym, ap, ◌∙◌, subst}
+use Rattle.std.specs.List.{filter}
+use Rattle.slot_arena.specs.Arena.{IsHeld}
+use Rattle.key_index.specs.Entries.{last_of}
+use Rattle.ledger_model.specs.Content.{Stored}
+use Rattle.ledger_model.proofs.Callers.{first, second}
+use Rattle.event_store.specs.Slots.{Held}
+use Rattle.transaction_table.specs.declared.row.TableRow.{TableRow}
+use Rattle.transaction_table.specs.Table.{Row}
+use Rattle.event_chain.specs.Flat.{Place, place_of, stored_at}
+use Rattle.event_chain.specs.Kept.{AreRanks, IsSub, IsKeyed, chosen}
+use Rattle.event_chain.specs.Edits.{IsStored, first_under, last_under}
+use Rattle.event_chain.proofs.Decided.{rank_test, not_so}
+use Rattle.event_chain.proofs.Lives.{chosen_place, below_none}
+use Rattle.event_chain.proofs.Places.{last_cons}
+
+-- Each place of the list is so.
+abbrev pub AllPlaces : (Place → Type 0) → List Place → Type 0
+AllPlaces P [] = Unit {0}
+AllPlaces P (p ∷ ps) = P p × AllPlaces P ps
+
+-- What is found is not absent.
+never : (o : Option ℕ) (s : ℕ) → o ≡ Some s → o ≡ None → ⊥
+never o s a b = cc
+
+-- What holds of each place that is found holds of all.
+all_found : (P : Place → Type 0) (ps : List Place) → AreRanks ps → ((p : Place) → place_of p.0 ps ≡ Some p.1 → P p) → AllPlaces P ps
+all_found P [] h each = tt
+all_found P (p ∷ ps) h each = (
+  each p (ap (λ b. cond b (Some p.1) (place_of p.0 ps)) ((rank_test p.0 p.0).1 refl)),
+  all_found P ps (second _ _ h) (λ q is. each q (ap (λ b. cond b (Some p.1) (place_of q.0 ps)) (not_so _ (rank_test q.0 p.0) (λ k. never (place_of q.0 ps) q.1 is (ap (λ r. place_of r ps) k ∙ below_none p.0 ps (first _ _ h)))) ∙ is)),
+)
+
+-- What holds of all holds of those that are left.
+pub all_left : (P : Place → Type 0) (f : Place → Bool) (ps : List Place) → AllPlaces P ps → AllPlaces P (filter f ps)
+all_left P f [] h = tt
+all_left P f (p ∷ ps) h = elim (f p) as (λ b. AllPlaces P (cond b (p ∷ filter f ps) (filter f ps))) [ true ↦ (h.0, all_left P f ps h.1) | false ↦ all_left P f ps h.1 ]
+
+-- What was chosen passes the test.
+chosen_test : (test : Stored → Bool) (slots : List (Option Held)) (o : Option ℕ) (s : ℕ) → chosen test slots o ≡ Some s → test (stored_at slots s) ≡ true
+chosen_test test slots None s h = cc
+chosen_test test slots (Some n) s h = elim (test (stored_at slots n)) as (λ b. test (stored_at slots n) ≡ b → cond b (Some n) None ≡ Some s → test (stored_at slots s) ≡ true) [
+  | true ↦ λ is some. let same : n ≡ s = cc in ap (λ k. test (stored_at slots k)) (sym same) ∙ is
+  | false ↦ λ _ none. cc
+] refl h
+
+-- The event of each place passes the index's test.
+pub all_chosen : (test : Stored → Bool) (es sub : List Place) (slots : List (Option Held)) → IsSub test es slots sub → AllPlaces (λ p. test (stored_at slots p.1) ≡ true) sub
+all_chosen test es sub slots is = all_found (λ p. test (stored_at slots p.1) ≡ true) sub is.rising (λ p at. chosen_test test slots (place_of p.0 es) p.1 (sym (is.each p.0) ∙ at))
+
+-- Each place is that of an event.
+pub all_held : (test : Stored → Bool) (rows : List Row) (es sub : List Place) (slots : List (Option Held)) → IsKeyed rows es slots → IsSub test es slots sub → AllPlaces (λ p. IsHeld slots p.1) sub
+all_held test rows es sub slots keyed is = all_found (λ p. IsHeld slots p.1) sub is.rising (λ p at.
+    ap is_some (keyed.homes p.0 p.1 (chosen_place test slots (place_of p.0 es) p.1 (sym (is.each p.0) ∙ at))).held_is)
+
+-- The first of such places is that of an event.
+pub stored_first : (slots : List (Option Held)) (ps : List Place) → AllPlaces (λ p. IsHeld slots p.1) ps → IsStored slots (slice_get ps 0)
+stored_first slots [] h = tt
+stored_first slots (p ∷ ps) h = h.0
+
+-- So is the last.
+pub stored_last : (slots : List (Option Held)) (ps : List Place) → AllPlaces (λ p. IsHeld slots p.1) ps → IsStored slots (last_of ps)
+stored_last slots [] h = tt
+stored_last slots (p ∷ []) h = h.0
+stored_last slots (p ∷ q ∷ ps) h = subst (IsStored slots) (sym (last_cons p q ps)) (stored_last slots (q ∷ ps) h.1)
+
+-- The first place of a transaction is that of an event.
+pub first_held : (slots : List (Option Held)) (ps : List Place) (o : Option TableRow) → AllPlaces (λ p. IsHeld slots p.1) ps → IsStored slots (first_under ps o)
+first_held slots ps None h = tt
+first_held slots ps (Some row) h = stored_first slots (filter (λ e. e.0 / 2 ^ 31 == row.slot) ps) (all_left (λ p. IsHeld slots p.1) (λ e. e.0 / 2 ^ 31 == row.slot) ps h)
+
+-- So is the last.
+pub last_held : (slots : List (Option Held)) (ps : List Place) (o : Option TableRow) → AllPlaces (λ p. IsHeld slots p.1) ps → IsStored slots (last_under ps o)
+last_held slots ps None h = tt
+last_held slots ps (Some row) h = stored_last slots (filter (λ e. e.0 / 2 ^ 31 == row.slot) ps) (all_left (λ p. IsHeld slots p.1) (λ e. e.0 / 2 ^ 31 == row.slot) ps h)

@@ -1,0 +1,22 @@
+use Rattle.std.proofs.Common.{option_map, sym, ap, ◌∙◌}
+use Rattle.ledger_model.specs.Gaps.{numbers_of}
+use Rattle.transaction_table.specs.declared.row.TableRow.{TableRow}
+use Rattle.event_chain.specs.Chains.{Chained, stored}
+use Rattle.event_chain.specs.Walk.{numbers_at}
+use Rattle.event_chain.proofs.Facts.{entries_all}
+use Rattle.event_chain.proofs.Lives.{live_numbers}
+use Rattle.event_chain.proofs.chains.Chains.walk.Goals as goal
+
+pub returns-in-Some : goal.returns-in-Some
+returns-in-Some c =
+    let m = c.self.inside in let k = c.self.invariant in
+    c.over.ensures ∙ ap (λ o. numbers_at m.live.entries (option_map (λ (r : TableRow). r.slot) o)) c.in-Some.ensures
+    ∙ sym (live_numbers m.table.rows m.stored.entries m.live.entries m.store.slots k.keyed.rising k.keyed.ranks k.indexed.lives c.args.tx.now)
+    ∙ ap (numbers_of c.args.tx.now) (sym (entries_all m.limits m.table m.store m.stored m.live m.carriers m.naming k)) ∙ ap (λ (x : Chained). numbers_of c.args.tx.now (stored x)) c.self.view_is
+
+pub returns-in-None : goal.returns-in-None
+returns-in-None c =
+    let m = c.self.inside in let k = c.self.invariant in
+    c.over-in-None.ensures ∙ ap (λ o. numbers_at m.live.entries (option_map (λ (r : TableRow). r.slot) o)) c.in-None.ensures
+    ∙ sym (live_numbers m.table.rows m.stored.entries m.live.entries m.store.slots k.keyed.rising k.keyed.ranks k.indexed.lives c.args.tx.now)
+    ∙ ap (numbers_of c.args.tx.now) (sym (entries_all m.limits m.table m.store m.stored m.live m.carriers m.naming k)) ∙ ap (λ (x : Chained). numbers_of c.args.tx.now (stored x)) c.self.view_is
