@@ -1,0 +1,2 @@
+mod Submits
+mod Refusals

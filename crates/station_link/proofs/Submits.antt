@@ -1,0 +1,74 @@
+-- What a desk answers to the delivery of an event.
+use Rattle.std.proofs.Common.{◌≡◌, List, Option, None, Some, true, refl, sym, subst, arith, slice_get}
+use Rattle.ledger_model.specs.declared.answer.Answer.{Answer}
+use Rattle.ledger_model.specs.declared.answer.Answer.TheVariants.{Accepted, Repeat, Refused}
+use Rattle.ledger_model.specs.declared.answer.Refusal.TheVariants.{ConflictingEvent, TooManyTransactions, EventsFull, ReadingsFull, NoSuchEvent, AlreadyVoided, NotVoided, ChangesExhausted}
+use Rattle.ledger_model.specs.declared.command.Command.{Command}
+use Rattle.ledger_model.specs.declared.command.Command.TheVariants.{Deliver}
+use Rattle.ledger_model.specs.Event.{EventContent}
+use Rattle.ledger_model.specs.Key.{KeyName}
+use Rattle.site_book.specs.Book.{Known}
+use Rattle.site_desk.specs.declared.roster.Place.{Place}
+use Rattle.site_desk.specs.Cell.{Held}
+use Rattle.site_desk.specs.Submit.{IsAnswered, IsUnchanged, Submitted}
+use Rattle.transaction_event.specs.Laws.{EachDeliveryIsAnswered}
+use Rattle.transaction_event.specs.Reply.{answers_delivery}
+use Rattle.station_link.specs.Answer.{IsNextPass, IsSubmitted}
+
+-- an answer of the step to a delivery has a reply
+by_step : (at : Place) (p : Held) (key : KeyName) (event : EventContent) (a : Answer) (p' : Held) (told : Option Known) → EachDeliveryIsAnswered → IsAnswered at p (Deliver key event) a p' told → answers_delivery a ≡ true
+by_step at p key event a p' told law h =
+    let P : Answer → Type 0 = λ x. answers_delivery x ≡ true in
+    subst P h.answered (law at.limits h.before key event)
+
+-- what a delivery comes to at a place has a reply
+replied_at : (at : Place) (p : Held) (key : KeyName) (event : EventContent) (a : Answer) (p' : Held) (told : Option Known) → EachDeliveryIsAnswered → Submitted at p (Deliver key event) a p' told → answers_delivery a ≡ true
+replied_at at p key event (Accepted n) p' told law h = refl
+replied_at at p key event Repeat p' told law h = refl
+replied_at at p key event (Refused ChangesExhausted) p' told law h = refl
+replied_at at p key event (Refused ConflictingEvent) p' told law h = refl
+replied_at at p key event (Refused TooManyTransactions) p' told law h = refl
+replied_at at p key event (Refused EventsFull) p' told law h = refl
+replied_at at p key event (Refused ReadingsFull) p' told law h = refl
+replied_at at p key event (Refused NoSuchEvent) p' told law h = by_step at p key event _ p' told law h
+replied_at at p key event (Refused AlreadyVoided) p' told law h = by_step at p key event _ p' told law h
+replied_at at p key event (Refused NotVoided) p' told law h = by_step at p key event _ p' told law h
+
+-- a pass that is as it was
+same_pass : (p p' : Held) (told : Option Known) → IsUnchanged p p' told → IsNextPass p p'
+same_pass p p' told h =
+    let P : Held → Type 0 = λ q. IsNextPass p q in
+    subst P (sym h.pass) (record { station = refl; changes = omega arith })
+
+-- the pass after a command at a place
+next_at : (at : Place) (p : Held) (command : Command) (a : Answer) (p' : Held) (told : Option Known) → Submitted at p command a p' told → IsNextPass p p'
+next_at at p command (Accepted n) p' told h =
+    let P : Held → Type 0 = λ q. IsNextPass p q in
+    subst P (sym h.pass) (record { station = refl; changes = omega arith })
+next_at at p command Repeat p' told h = same_pass p p' told h.unchanged
+next_at at p command (Refused ChangesExhausted) p' told h = same_pass p p' told h
+next_at at p command (Refused ConflictingEvent) p' told h = same_pass p p' told h.unchanged
+next_at at p command (Refused TooManyTransactions) p' told h = same_pass p p' told h.unchanged
+next_at at p command (Refused EventsFull) p' told h = same_pass p p' told h.unchanged
+next_at at p command (Refused ReadingsFull) p' told h = same_pass p p' told h.unchanged
+next_at at p command (Refused NoSuchEvent) p' told h = same_pass p p' told h.unchanged
+next_at at p command (Refused AlreadyVoided) p' told h = same_pass p p' told h.unchanged
+next_at at p command (Refused NotVoided) p' told h = same_pass p p' told h.unchanged
+
+replied_by : (stations : List Place) (there : Option Place) (p : Held) (key : KeyName) (event : EventContent) (a : Answer) (p' : Held) (told : Option Known) → slice_get stations p.station ≡ there → EachDeliveryIsAnswered → IsSubmitted stations p (Deliver key event) a p' told → answers_delivery a ≡ true
+replied_by stations None p key event a p' told e law h =
+    let P : Answer → Type 0 = λ x. answers_delivery x ≡ true in
+    subst P (sym (h.stranger e).0) refl
+replied_by stations (Some at) p key event a p' told e law h = replied_at at p key event a p' told law (h.settled at e)
+
+next_by : (stations : List Place) (there : Option Place) (p : Held) (command : Command) (a : Answer) (p' : Held) (told : Option Known) → slice_get stations p.station ≡ there → IsSubmitted stations p command a p' told → IsNextPass p p'
+next_by stations None p command a p' told e h = same_pass p p' told (h.stranger e).1
+next_by stations (Some at) p command a p' told e h = next_at at p command a p' told (h.settled at e)
+
+-- what a desk answers to a delivery has a reply
+pub submitted_is_replied : (stations : List Place) (p : Held) (key : KeyName) (event : EventContent) (a : Answer) (p' : Held) (told : Option Known) → EachDeliveryIsAnswered → IsSubmitted stations p (Deliver key event) a p' told → answers_delivery a ≡ true
+submitted_is_replied stations p key event a p' told law h = replied_by stations (slice_get stations p.station) p key event a p' told refl law h
+
+-- the pass after a command to a desk
+pub submitted_pass : (stations : List Place) (p : Held) (command : Command) (a : Answer) (p' : Held) (told : Option Known) → IsSubmitted stations p command a p' told → IsNextPass p p'
+submitted_pass stations p command a p' told h = next_by stations (slice_get stations p.station) p command a p' told refl h

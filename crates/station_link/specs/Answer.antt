@@ -1,0 +1,54 @@
+-- What a text of a station is answered, and what it changes.
+use Rattle.std.specs.Prelude.{◌≡◌, ℕ, ◌+◌, ◌≤◌, Bool, true, false, List, Option, None, Some, slice_get}
+use Rattle.ledger_model.specs.declared.answer.Answer.{Answer}
+use Rattle.ledger_model.specs.declared.answer.Answer.TheVariants.{Refused}
+use Rattle.ledger_model.specs.declared.answer.Refusal.TheVariants.{ChangesExhausted}
+use Rattle.ledger_model.specs.declared.command.Command.{Command}
+use Rattle.ledger_model.specs.declared.command.Command.TheVariants.{Deliver}
+use Rattle.ocppj_frame.specs.Frame.{frame}
+use Rattle.site_book.specs.Book.{Known}
+use Rattle.site_desk.specs.declared.roster.Place.{Place}
+use Rattle.site_desk.specs.Cell.{Held}
+use Rattle.site_desk.specs.Submit.{IsUnchanged, Submitted}
+use Rattle.transaction_event.specs.Message.{Meaning, Event, Ready, Silence, message}
+use Rattle.transaction_event.specs.MessageMeaning.{IsMemoryReply}
+use Rattle.transaction_event.specs.Reply.{event_reply_bytes}
+use Rattle.transaction_event.specs.Request.{Request}
+
+-- What a desk of these stations can answer to a command of a pass; a pass of no station of the desk is told that changes are exhausted.
+pub record IsSubmitted (stations : List Place) (p : Held) (command : Command) (answer : Answer) (p' : Held) (told : Option Known) : Type 0 where
+  pub settled : (at : Place) → slice_get stations p.station ≡ Some at → Submitted at p command answer p' told
+  pub stranger : slice_get stations p.station ≡ None → (answer ≡ Refused ChangesExhausted) × IsUnchanged p p' told
+
+-- The pass after one text: it is of the same station, and made at most one change more.
+pub record IsNextPass (p p' : Held) : Type 0 where
+  pub station : p'.station ≡ p.station
+  pub changes : p'.changes ≤ p.changes + 1
+
+-- The reply to an event is that to an answer which the desk can give to its delivery.
+pub record IsDelivered (stations : List Place) (p : Held) (id : List ℕ) (request : Request) (text : Option (List ℕ)) (p' : Held) (told : Option Known) : Type 0 where
+  pub answer : Answer
+  pub submitted : IsSubmitted stations p (Deliver request.key request.event) answer p' told
+  pub reply : text ≡ Some (event_reply_bytes id request.token answer)
+
+-- This text is ready, or none is, and nothing changed.
+pub record IsReady (expected : Option (List ℕ)) (p : Held) (text : Option (List ℕ)) (p' : Held) (told : Option Known) : Type 0 where
+  pub same : text ≡ expected
+  pub unchanged : IsUnchanged p p' told
+
+-- The reply tells that there was no memory, and nothing changed.
+pub record TellsMemory (words : List ℕ) (p : Held) (text : Option (List ℕ)) (p' : Held) (told : Option Known) : Type 0 where
+  pub reply : List ℕ
+  pub tells : IsMemoryReply (frame words) reply
+  pub ready : IsReady (Some reply) p text p' told
+
+-- What a meaning is answered: silence, the ready reply, or the reply to the delivery.
+abbrev pub AnswersMeaning : List Place → Held → Meaning → Option (List ℕ) → Held → Option Known → Type 0
+AnswersMeaning stations p Silence text p' told = IsReady None p text p' told
+AnswersMeaning stations p (Ready reply) text p' told = IsReady (Some reply) p text p' told
+AnswersMeaning stations p (Event id request) text p' told = IsDelivered stations p id request text p' told
+
+-- What a station's words are answered at a moment; the last tells whether there was no memory to read them.
+abbrev pub Answers : List Place → Held → List ℕ → ℕ → Option (List ℕ) → Held → Option Known → Bool → Type 0
+Answers stations p words now text p' told true = TellsMemory words p text p' told
+Answers stations p words now text p' told false = AnswersMeaning stations p (message words now) text p' told

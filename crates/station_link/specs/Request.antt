@@ -1,0 +1,36 @@
+-- Whom a desk lets in, by what a handshake saw.
+use Rattle.std.specs.Prelude.{◌≡◌, ◌≢◌, ℕ, List, ◌++◌, true, false, Option, None, Some, unwrap_or, if◌then◌else◌, codes}
+use Rattle.std.specs.List.{list_any}
+use Rattle.std.specs.Str.{bytes_eq}
+use Rattle.ledger_model.specs.Name.{is_name}
+use Rattle.site_desk.specs.declared.roster.Place.{Place}
+use Rattle.site_desk.specs.Cell.{Held}
+use Rattle.site_desk.specs.Roster.{IsNamed}
+use Rattle.station_link.specs.declared.ending.Why.{Why}
+use Rattle.station_link.specs.declared.ending.Why.TheVariants.{HandshakeFailed, UnknownStation, NotOcpp, OutOfMemory, TooManyPasses}
+use Rattle.station_link.specs.declared.request.Seen.{Seen}
+use Rattle.station_link.specs.declared.request.Seen.TheVariants.{Nothing, NoMemory, Request}
+
+-- A path is `/ocpp/` and this name, or is not such a path (this product's profile).
+abbrev pub IsPathOf : List ℕ → Option (List ℕ) → Type 0
+IsPathOf path (Some name) = path ≡ codes "/ocpp/" ++ name
+IsPathOf path None = (name : List ℕ) → is_name name ≡ true → path ≢ codes "/ocpp/" ++ name
+
+-- Why a request is refused, whatever passes were given out: no request was seen, the subprotocol was not offered, the path names no station, in this order.
+abbrev pub refusal : List Place → Seen → Option Why
+refusal stations Nothing = Some HandshakeFailed
+refusal stations NoMemory = Some OutOfMemory
+refusal stations (Request false station) = Some NotOcpp
+refusal stations (Request true None) = Some UnknownStation
+refusal stations (Request true (Some name)) = if list_any (λ p. bytes_eq name p.name) stations then None else Some UnknownStation
+
+-- What a request is told that gets no pass: why it is refused, or else that its station gave out all its passes.
+abbrev pub IsRefusal : List Place → Seen → Why → Type 0
+IsRefusal stations seen why = why ≡ unwrap_or (refusal stations seen) TooManyPasses
+
+-- A request that is not refused gets a pass of the station that it names, which made no change yet.
+pub record IsAdmitted (stations : List Place) (seen : Seen) (name : List ℕ) (p : Held) : Type 0 where
+  pub allowed : refusal stations seen ≡ None
+  pub asked : seen ≡ Request true (Some name)
+  pub named : IsNamed stations name p.station
+  pub fresh : p.changes ≡ 0

@@ -1,0 +1,88 @@
+//! How sessions end.
+ghost use Rattle.std.specs.Prelude.{◌≡◌, Some, None};
+ghost use Rattle.station_link.specs.Session.{MayHavePass};
+
+use tungstenite::{CloseCode, Error};
+use websocket::error::ProtocolError;
+
+/// Why a session ended.
+#[derive(Clone, Copy, Debug, PartialEq, Eq)]
+pub enum Why {
+    /// The station closed the session, or its stream ended.
+    PeerClosed,
+    /// The stream failed to read, or what it gave is no message: too long (closed with code 1009), no UTF-8
+    /// (1007), or against the protocol of RFC 6455 (1002).
+    ReadFault,
+    /// The stream failed to write.
+    WriteFault,
+    /// No opening handshake was finished.
+    HandshakeFailed,
+    /// The path names no station of the desk (closed with code 1008).
+    UnknownStation,
+    /// The client does not offer the subprotocol of OCPP 2.0.1 (closed with code 1002).
+    NotOcpp,
+    /// A binary message came (closed with code 1003).
+    BinaryMessage,
+    /// The socket found no memory; no close frame is sent.
+    OutOfMemory,
+    /// The session took a million messages (closed with code 1011).
+    MessagesSpent,
+    /// The station gave out as many passes as it may (closed with code 1011).
+    TooManyPasses,
+}
+
+// How a session ends: why, and the code that its close frame has, where it sends one (RFC 6455).
+#[derive(Clone, Copy)]
+pub struct Ending {
+    pub(crate) why: Why,
+    pub(crate) code: Option<CloseCode>,
+}
+
+impl Ending {
+    // An end with a close frame.
+    pub(crate) fn told(why: Why, code: CloseCode) -> Ending
+        ensures why { result.why ≡ why }
+        ensures code { result.code ≡ Some code }
+    {
+        Ending {
+            why,
+            code: Some(code),
+        }
+    }
+
+    // An end without one.
+    pub(crate) fn untold(why: Why) -> Ending
+        ensures why { result.why ≡ why }
+        ensures code { result.code ≡ None }
+    {
+        Ending { why, code: None }
+    }
+}
+
+// How a session ends where a read of its socket fails.
+pub(crate) fn end_of_read(error: &Error) -> Ending
+    ensures { MayHavePass result.why }
+{
+    match error {
+        Error::ConnectionClosed | Error::Protocol(ProtocolError::ResetWithoutClosingHandshake) => {
+            Ending::untold(Why::PeerClosed)
+        }
+        Error::OutOfMemory => Ending::untold(Why::OutOfMemory),
+        Error::Capacity(_) => Ending::told(Why::ReadFault, CloseCode::Size),
+        Error::Utf8 => Ending::told(Why::ReadFault, CloseCode::Invalid),
+        Error::Protocol(_) => Ending::told(Why::ReadFault, CloseCode::Protocol),
+        _ => Ending::untold(Why::ReadFault),
+    }
+}
+
+// How a session ends to which no pass was given.
+pub(crate) fn end_of_refusal(why: Why) -> Ending
+    ensures { result.why ≡ why }
+{
+    match why {
+        Why::NotOcpp => Ending::told(why, CloseCode::Protocol),
+        Why::UnknownStation => Ending::told(why, CloseCode::Policy),
+        Why::TooManyPasses => Ending::told(why, CloseCode::Error),
+        _ => Ending::untold(why),
+    }
+}

@@ -1,0 +1,35 @@
+//! Sessions of charging stations over WebSocket, and simulated stations to try them with.
+//!
+//! [`serve_connection`] takes one connection of a station: it answers the opening handshake (RFC 6455),
+//! enlists the station that the path names, and answers each text message in turn until the session ends.
+//! The stream is anything that reads and writes. [`answer_text`] answers one text of a station. A
+//! [`SimStation`] is the other side: a station that sends one transaction and keeps the replies.
+//!
+//! The crate's one contract is that of `answer_text`: what is answered is what the text means at the moment,
+//! a ready reply or silence; where it means an event, the reply to an answer that the desk can give to that
+//! event's delivery. All memory is taken before the desk is asked, so that a message that found none changed
+//! nothing. A session gives back the pass that it was given, whatever ends it, with at most a million
+//! changes. What a socket delivered, the paths and the close codes are shown by tests.
+//!
+//! ```text
+//! answer_text(&desk, rt, alloc, &mut pass, text, now, &NoGate);      // Answered { text, told, memory }
+//! let end = serve_connection(rt, alloc, stream, &desk, &NoGate, &mut clock);
+//! end.why == Why::PeerClosed                                         // end.pass goes to Desk::close
+//! ```
+#![tactic(auto)]
+
+mod answer;
+mod ending;
+mod moment;
+mod request;
+mod session;
+mod sim;
+
+pub use answer::{Answered, answer_text};
+pub use ending::Why;
+pub use moment::MomentSource;
+pub use session::{MAX_MESSAGES, SessionEnd, serve_connection};
+pub use sim::{SimFault, SimStation};
+
+#[cfg(test)]
+mod tests;

@@ -1,0 +1,210 @@
+//! A session: one connection of a station, from its handshake to its end.
+ghost use Rattle.std.specs.Prelude.{◌≡◌, ◌≤◌, ◌<◌, ◌+◌, IsNone, IsSome, IfErr, IfSome, length};
+ghost use Rattle.station_link.specs.Session.{MayHavePass, MayLackPass, most_messages};
+
+use crate::answer::{Answered, answer_text};
+use crate::ending::{Ending, Why, end_of_read, end_of_refusal};
+use crate::moment::{MomentSource, present};
+use crate::request::{Look, Seen, admit};
+use ledger_model::Name;
+use site_book::Naming;
+use site_desk::{Desk, Gate, Pass};
+use std::alloc::Global;
+use std::cell::Cell;
+use std::io::{Read, Write};
+use std::sync::Wait;
+use std::thread::Threads;
+use std::time::Clock;
+use tungstenite::handshake::server;
+use tungstenite::{
+    CloseCode, CloseFrame, Error, HandshakeError, Message, NoMask, Utf8Bytes, WebSocket,
+    WebSocketConfig,
+};
+
+/// How many messages a session takes (this product's profile).
+pub const MAX_MESSAGES: u64 = 1_000_000;
+
+// How many bytes a message may have before the session ends: twice the longest text that is read, so that
+// a text that is a little too long still gets its reply.
+const MAX_SOCKET_BYTES: usize = 524_288;
+
+// How many bytes one read of the stream asks for.
+const READ_BYTES: usize = 4_096;
+
+// How many messages are read after a close frame, so that the peer gets its code before the stream ends.
+const MAX_LAST_READS: u32 = 64;
+
+/// How a session ended.
+#[derive(Drop)]
+pub struct SessionEnd {
+    /// Why it ended.
+    pub why: Why,
+    /// The pass of its station, where it was given one.
+    pub pass: Option<Pass>,
+}
+
+/// Serves one connection until it ends: the opening handshake of a path `/ocpp/<station>` with the
+/// subprotocol `ocpp2.0.1` (RFC 6455; OCPP 2.0.1 Part 4), then up to a million messages. Each text is
+/// answered as by [`answer_text`] at the clock's moment, and `gate.after` is called with the text's number,
+/// from 1, once its reply was sent, or once it was decided that it gets none. Ping and Pong count as
+/// messages and reach neither. A text whose reply tells that there was no memory does not end the session.
+/// What was accepted stays accepted when its reply can't be sent, and the pass comes back whatever ends the
+/// session. It may wait for locks and for the stream.
+pub fn serve_connection<
+    J: Naming,
+    R: Wait + Threads + Clock,
+    S: Read + Write + Drop,
+    G: Gate,
+    C: MomentSource,
+>(rt: &R, alloc: Global, stream: S, desk: &Desk<J>, gate: &G, clock: &mut C) -> SessionEnd
+    ensures lacks { IsNone result.pass → MayLackPass result.why }
+    ensures has { IsSome result.pass → MayHavePass result.why }
+    ensures station { IfSome result.pass (λ p. p.station < length desk.now.stations) }
+    ensures few { IfSome result.pass (λ p. p.changes ≤ most_messages) }
+{
+    let seen = Cell::new(Seen::Nothing);
+    let mut socket = match shake_hands(alloc, stream, &seen) {
+        Ok(socket) => socket,
+        Err(why) => return SessionEnd { why, pass: None },
+    };
+    match admit(rt, desk, seen.into_inner()) {
+        Ok((name, mut pass)) => {
+            let end = answer_all(rt, alloc, &mut socket, desk, &name, &mut pass, gate, clock);
+            say_goodbye(&mut socket, end.code);
+            SessionEnd {
+                why: end.why,
+                pass: Some(pass),
+            }
+        }
+        Err(why) => {
+            say_goodbye(&mut socket, end_of_refusal(why).code);
+            SessionEnd { why, pass: None }
+        }
+    }
+}
+
+// The socket behind a handshake, which notes what it saw.
+fn shake_hands<S: Read + Write + Drop>(
+    alloc: Global,
+    stream: S,
+    seen: &Cell<Seen>,
+) -> Result<WebSocket<S, NoMask>, Why>
+    ensures { IfErr result MayLackPass }
+{
+    let config = WebSocketConfig::default()
+        .read_buffer_size(READ_BYTES)
+        .max_message_size(Some(MAX_SOCKET_BYTES))
+        .max_frame_size(Some(MAX_SOCKET_BYTES));
+    match server::start(alloc, stream, Look { seen }, Some(config)).handshake() {
+        Ok(socket) => Ok(socket),
+        Err(HandshakeError::Failure(Error::OutOfMemory)) => Err(Why::OutOfMemory),
+        Err(_) => Err(Why::HandshakeFailed),
+    }
+}
+
+// Answers message after message until the session ends.
+fn answer_all<J: Naming, R: Wait + Clock, S: Read + Write + Drop, G: Gate, C: MomentSource>(
+    rt: &R,
+    alloc: Global,
+    socket: &mut WebSocket<S, NoMask>,
+    desk: &Desk<J>,
+    name: &Name,
+    pass: &mut Pass,
+    gate: &G,
+    clock: &mut C,
+) -> Ending
+    ensures has { MayHavePass result.why }
+    ensures station { pass.new.station ≡ pass.old.station }
+    ensures few { pass.new.changes ≤ pass.old.changes + most_messages }
+{
+    let mut calls = 0;
+    for turn in 0..MAX_MESSAGES {
+        match take_message(rt, alloc, socket, desk, pass, gate, clock) {
+            Ok(true) => {
+                calls += 1;
+                gate.after(rt, name, calls);
+            }
+            Ok(false) => {}
+            Err(end) => return end,
+        }
+    }
+    Ending::told(Why::MessagesSpent, CloseCode::Error)
+}
+
+// Takes the next message, and tells whether it was a text. What waits to be sent goes first, so that a
+// fault of it is no fault of the read.
+fn take_message<J: Naming, R: Wait + Clock, S: Read + Write + Drop, G: Gate, C: MomentSource>(
+    rt: &R,
+    alloc: Global,
+    socket: &mut WebSocket<S, NoMask>,
+    desk: &Desk<J>,
+    pass: &mut Pass,
+    gate: &G,
+    clock: &mut C,
+) -> Result<bool, Ending>
+    ensures has { IfErr result (λ end. MayHavePass end.why) }
+    ensures station { pass.new.station ≡ pass.old.station }
+    ensures one { pass.new.changes ≤ pass.old.changes + 1 }
+{
+    if socket.flush().is_err() {
+        return Err(Ending::untold(Why::WriteFault));
+    }
+    match socket.read() {
+        Ok(Message::Text(text)) => {
+            let now = present(clock);
+            let answered = answer_text(desk, rt, alloc, pass, text.as_str(), now, gate);
+            send_reply(alloc, socket, answered)?;
+            Ok(true)
+        }
+        Ok(Message::Ping(_bytes) | Message::Pong(_bytes)) => Ok(false),
+        Ok(Message::Binary(_bytes)) => {
+            Err(Ending::told(Why::BinaryMessage, CloseCode::Unsupported))
+        }
+        Ok(Message::Close(_frame)) => {
+            let _ = socket.flush();
+            Err(Ending::untold(Why::PeerClosed))
+        }
+        Err(error) => Err(end_of_read(&error)),
+    }
+}
+
+// Sends the reply to a text, where it has one.
+fn send_reply<J: Naming, S: Read + Write + Drop>(
+    alloc: Global,
+    socket: &mut WebSocket<S, NoMask>,
+    answered: Answered<J>,
+) -> Result<(), Ending>
+    ensures { IfErr result (λ end. MayHavePass end.why) }
+{
+    let Some(reply) = answered.text else {
+        return Ok(());
+    };
+    let Ok(message) = Message::text(alloc, reply.as_str()) else {
+        return Err(Ending::untold(Why::OutOfMemory));
+    };
+    match socket.send(message) {
+        Ok(()) => Ok(()),
+        Err(Error::OutOfMemory) => Err(Ending::untold(Why::OutOfMemory)),
+        Err(_) => Err(Ending::untold(Why::WriteFault)),
+    }
+}
+
+// Sends a close frame where the session ends with a code, and then reads what the peer had sent before it
+// got that, lest unread bytes reset the connection.
+fn say_goodbye<S: Read + Write + Drop>(socket: &mut WebSocket<S, NoMask>, code: Option<CloseCode>) {
+    let Some(code) = code else {
+        return;
+    };
+    let frame = CloseFrame {
+        code,
+        reason: Utf8Bytes::from_static(""),
+    };
+    if socket.close(Some(frame)).is_err() {
+        return;
+    }
+    for _ in 0..MAX_LAST_READS {
+        if socket.read().is_err() {
+            return;
+        }
+    }
+}
