@@ -23,7 +23,7 @@ INNER = {
     "slot_arena": set(),
 }
 
-DEFINITION = re.compile(r"^\s*(?:unfoldable |abbrev )?(?:abbrev )?pub (?:record |data )?([^\s:({]+)")
+DEFINITION = re.compile(r"^\s*(?:unfoldable |abbrev )?(?:abbrev )?pub (?!use )(?:record |data )?([^\s:({]+)")
 
 
 def crates():

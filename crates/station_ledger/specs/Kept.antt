@@ -1,32 +1,45 @@
-use Rattle.std.specs.Prelude.{◌≡◌, ℕ, ◌≤◌, List, length}
-use Rattle.std.specs.List.{All}
-use Rattle.ledger_model.specs.Ranges.{greatest_reading, most_events, most_readings}
+-- What a ledger keeps.
+use Rattle.std.specs.Prelude.{◌≡◌, ℕ, ◌≤◌, List, Some, None, length, count_by}
+use Rattle.std.specs.FinMap as finite
+use Rattle.energy_flow.specs.Flow.{Energy}
+use Rattle.ledger_model.specs.declared.command.Command.{Command}
+use Rattle.ledger_model.specs.declared.command.Command.TheVariants.{Deliver, Void, Restore, Erase}
+use Rattle.ledger_model.specs.declared.figures.Figures.{Figures}
+use Rattle.ledger_model.specs.Content.{Content}
 use Rattle.ledger_model.specs.Limits.{Bounds}
-use Rattle.ledger_model.specs.Content.{Entry}
-use Rattle.ledger_model.specs.Entries.{IsRising}
-use Rattle.ledger_model.specs.Step.{Reached, readings_stored}
-use Rattle.station_ledger.specs.declared.pair.PairFlow.{PairFlow}
-use Rattle.station_ledger.specs.Ledger.{content_of}
-use Rattle.station_ledger.specs.Flows.{pair_flows}
+use Rattle.ledger_model.specs.Ranges.{most_events, most_readings, most_transactions}
+use Rattle.ledger_model.specs.Step.{Reached}
+use Rattle.event_chain.specs.declared.answers.Found.TheVariants.{Live, Voided}
+use Rattle.event_chain.specs.declared.answers.Room.TheVariants.{Fits}
+use Rattle.event_chain.specs.Chains.{Chained, stored}
+use Rattle.event_chain.specs.Room.{found_of, room_of}
+use Rattle.quarter_table.specs.Table.{Table}
+use Rattle.transaction_map.specs.Map.{Mapped}
+use Rattle.station_ledger.specs.declared.standing.Standing.{Standing}
+use Rattle.station_ledger.specs.declared.totals.EvseSum.{EvseSum}
+use Rattle.station_ledger.specs.Sums.{AreSummed}
 
--- A pair of readings: neither its rise nor its fall is more than a reading can show.
-pub record IsSmall (pair : PairFlow) : Type 0 where
-  pub up : pair.flow.up ≤ greatest_reading
-  pub down : pair.flow.down ≤ greatest_reading
+-- The content that chains show after so many changes.
+abbrev pub content_in : Chained → ℕ → Content
+content_in chains changes = record { events = chains.events; changes = changes }
 
--- What a ledger keeps: entries that the limits allow, reached by its changes, and the energies of their pairs.
-pub record IsKept (limits : Bounds) (es : List Entry) (pairs : List PairFlow) (readings changes : ℕ) : Type 0 where
-  pub rising : IsRising es
-  pub reached : Reached limits changes (content_of es changes)
-  pub pairs_are : pairs ≡ pair_flows es
-  pub small : All IsSmall pairs
-  pub few_pairs : length pairs ≤ readings
-  pub readings_are : readings ≡ readings_stored es
-  pub few_readings : readings ≤ limits.readings
-  pub most_events : limits.events ≤ most_events
-  pub most_readings : limits.readings ≤ most_readings
+-- How many of the stored events are voided.
+abbrev pub voided_in : Chained → ℕ
+voided_in chains = count_by (λ e. e.1.voided) (stored chains)
 
--- Room for as many entries and pairs as the limits allow.
-pub record IsRoom (limits : Bounds) (rows pairs : ℕ) : Type 0 where
-  pub for_events : limits.events ≤ rows
-  pub for_pairs : limits.readings ≤ pairs
+-- Events that the limits allow, reached by so many changes, and their sums.
+pub record IsKept (limits : Bounds) (chains : Chained) (changes : ℕ) (kept : Mapped Standing) (evses : List EvseSum) (quarters : Table) (total : Energy) (f : Figures) : Type 0 where
+  pub limits_are : chains.limits ≡ limits
+  pub reached : Reached limits changes (content_in chains changes)
+  pub summed : AreSummed limits (stored chains) kept evses quarters total f
+  pub voided_are : f.voided ≡ voided_in chains
+  pub few_transactions : limits.transactions ≤ most_transactions
+  pub few_events : limits.events ≤ most_events
+  pub few_readings : limits.readings ≤ most_readings
+
+-- The chains can take this command: a new event has a key of its own, and room; one that is voided is live, and one that is restored or erased is voided.
+abbrev pub IsReady : Chained → Command → Type 0
+IsReady c (Deliver key event) = (finite.get c.events key ≡ None) × (room_of c.limits (stored c) key.tx (length event.readings) ≡ Fits)
+IsReady c (Void key) = found_of (finite.get c.events key) ≡ Some Live
+IsReady c (Restore key) = found_of (finite.get c.events key) ≡ Some Voided
+IsReady c (Erase key) = found_of (finite.get c.events key) ≡ Some Voided

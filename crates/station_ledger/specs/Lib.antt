@@ -1,9 +1,10 @@
-pub mod Ledger
-pub mod Places
-pub mod Ready
-pub mod Flows
 pub mod Kept
-pub mod Groups
-pub mod Lines
+pub mod Ledger
+pub mod Quarters
+pub mod Moved
 pub mod Spent
+pub mod Sums
+pub mod Standing
 pub mod New
+pub mod Lines
+pub mod Numbered

@@ -1,4 +1,4 @@
-ghost use Rattle.std.specs.Prelude.{◌≡◌, ◌≤◌, IfOk, option_map};
+ghost use Rattle.std.specs.Prelude.{◌≡◌, ◌+◌, ◌≤◌, IfOk};
 ghost use Rattle.std.specs.FinMap as finite;
 ghost use Rattle.ledger_model.specs.Ranges.{most_event_readings};
 ghost use Rattle.ledger_model.specs.Content.{empty_content, entries};
@@ -8,17 +8,16 @@ ghost use Rattle.ledger_model.specs.Figures.{AreWithin};
 ghost use Rattle.ledger_model.specs.Board.{board, figures};
 ghost use Rattle.ledger_model.specs.Quarter.{quarter_seconds};
 ghost use Rattle.ledger_model.specs.Step.{Reached, answer, answer_to_deliver, answer_to_void, answer_to_voided, accepted_within_limit, step};
-ghost use Rattle.station_ledger.specs.New.{answer_to_new, is_transaction_too_many, is_full, are_readings_too_many};
-ghost use Rattle.station_ledger.specs.Spent.{IsSpent};
+ghost use Rattle.station_ledger.specs.New.{answer_to_new};
+ghost use Rattle.station_ledger.specs.Spent.{IsSpent, most_spent};
 
 use crate::board::StationBoard;
-use crate::flows::{evaluate, sum};
-use crate::lines::{evse_lines, quarter_lines, transaction_lines};
-use crate::pair::PairFlow;
-use crate::row::Row;
-use crate::{counts, rows};
+use crate::lines::board_of;
+use crate::moves::carry_out;
+use crate::sums::Sums;
 use energy_flow::{Flow, Work};
-use ledger_model::{Answer, Command, Event, EvseId, Figures, Key, Limits, Listed, Refusal, TxId};
+use event_chain::{Chains, Found, Room};
+use ledger_model::{Answer, Command, Event, EvseId, Figures, Key, Limits, Refusal, TxId};
 use std::alloc::{AllocError, Global};
 use std::marker::Model;
 
@@ -27,25 +26,22 @@ use std::marker::Model;
 #[derive(Drop)]
 pub struct StationLedger {
     limits: Limits,
-    rows: Vec<Row>,
-    pairs: Vec<PairFlow>,
-    readings: usize,
+    chains: Chains,
+    sums: Sums,
     changes: u64,
 }
 
 impl Model for StationLedger {
-    ghost use Rattle.std.specs.Prelude.{vec_capacity};
-    ghost use Rattle.station_ledger.specs.Ledger.{Ledger, ledger_code, content_of};
-    ghost use Rattle.station_ledger.specs.Kept.{IsKept, IsRoom};
+    ghost use Rattle.station_ledger.specs.Ledger.{Ledger, ledger_code};
+    ghost use Rattle.station_ledger.specs.Kept.{content_in, IsKept};
 
     ghost Value = { Ledger };
 
     ghost coded = { ledger_code };
 
-    ghost view = { λ l. record { limits = l.limits; content = content_of l.rows.items l.changes } };
+    ghost view = { λ l. record { limits = l.limits; content = content_in l.chains l.changes } };
 
-    ghost invariant = { λ l. IsKept l.limits l.rows.items l.pairs.items l.readings l.changes
-        × IsRoom l.limits (vec_capacity l.rows) (vec_capacity l.pairs) };
+    ghost invariant = { λ l. IsKept l.limits l.chains l.changes l.sums.kept l.sums.evses.items l.sums.quarters l.sums.energy l.sums.figures };
 }
 
 impl StationLedger {
@@ -55,13 +51,16 @@ impl StationLedger {
         ensures limits { IfOk result (λ l. l.limits ≡ limits) }
         ensures empty { IfOk result (λ l. l.content ≡ empty_content) }
     {
-        let rows = Vec::with_capacity(alloc, limits.events() as usize)?;
-        let pairs = Vec::with_capacity(alloc, limits.readings() as usize)?;
+        // The limits are in range.
+        let (_transactions, _events, _readings) = (
+            limits.transactions(),
+            limits.events(),
+            limits.readings(),
+        );
         Ok(StationLedger {
             limits,
-            rows,
-            pairs,
-            readings: 0,
+            chains: Chains::open(alloc, &limits)?,
+            sums: Sums::open(alloc, &limits)?,
             changes: 0,
         })
     }
@@ -82,9 +81,9 @@ impl StationLedger {
     fn judge_delivery(&self, key: &Key, event: &Event) -> Answer
         ensures { result ≡ answer_to_deliver self.now.limits self.now.content key.now event.now (finite.get self.now.content.events key.now) }
     {
-        match self.stored(key) {
-            Some(row) => {
-                if row.event().is_same(event) {
+        match self.chains.event(key) {
+            Some(stored) => {
+                if stored.same_as(event) {
                     Answer::Repeat
                 } else {
                     Answer::Refused(Refusal::ConflictingEvent)
@@ -99,48 +98,22 @@ impl StationLedger {
         requires { readings ≤ most_event_readings }
         ensures { result ≡ answer_to_new self.now.limits self.now.content tx.now readings }
     {
-        if self.is_transaction_too_many(tx) {
-            Answer::Refused(Refusal::TooManyTransactions)
-        } else if self.is_full() {
-            Answer::Refused(Refusal::EventsFull)
-        } else if self.are_readings_too_many(readings) {
-            Answer::Refused(Refusal::ReadingsFull)
-        } else {
-            self.accepted_within_limit()
+        match self.chains.room_for(tx, readings) {
+            Room::NoTransaction => Answer::Refused(Refusal::TooManyTransactions),
+            Room::NoEvent => Answer::Refused(Refusal::EventsFull),
+            Room::NoReading => Answer::Refused(Refusal::ReadingsFull),
+            Room::Fits => self.accepted_within_limit(),
         }
-    }
-
-    // Tells whether the transaction is new and no more may be stored.
-    fn is_transaction_too_many(&self, tx: &TxId) -> bool
-        ensures { result ≡ is_transaction_too_many self.now.limits (entries self.now.content) tx.now }
-    {
-        !rows::has_transaction(&self.rows, tx)
-            && self.limits.transactions() as usize <= rows::transactions(&self.rows)
-    }
-
-    // Tells whether no more events may be stored.
-    fn is_full(&self) -> bool
-        ensures { result ≡ is_full self.now.limits (entries self.now.content) }
-    {
-        self.limits.events() as usize <= self.rows.len()
-    }
-
-    // Tells whether so many more readings may not be stored.
-    fn are_readings_too_many(&self, more: usize) -> bool
-        requires { more ≤ most_event_readings }
-        ensures { result ≡ are_readings_too_many self.now.limits (entries self.now.content) more }
-    {
-        (self.limits.readings() as usize) < self.readings + more
     }
 
     // The answer to a void of this key.
     fn judge_void(&self, key: &Key) -> Answer
         ensures { result ≡ answer_to_void self.now.limits self.now.content (finite.get self.now.content.events key.now) }
     {
-        match self.stored(key) {
+        match self.chains.find(key) {
             None => Answer::Refused(Refusal::NoSuchEvent),
-            Some(row) if row.is_voided() => Answer::Refused(Refusal::AlreadyVoided),
-            Some(_) => self.accepted_within_limit(),
+            Some(Found::Voided) => Answer::Refused(Refusal::AlreadyVoided),
+            Some(Found::Live) => self.accepted_within_limit(),
         }
     }
 
@@ -148,20 +121,10 @@ impl StationLedger {
     fn judge_voided(&self, key: &Key) -> Answer
         ensures { result ≡ answer_to_voided self.now.limits self.now.content (finite.get self.now.content.events key.now) }
     {
-        match self.stored(key) {
+        match self.chains.find(key) {
             None => Answer::Refused(Refusal::NoSuchEvent),
-            Some(row) if row.is_voided() => self.accepted_within_limit(),
-            Some(_) => Answer::Refused(Refusal::NotVoided),
-        }
-    }
-
-    // The row of a key, if it has one.
-    fn stored(&self, key: &Key) -> Option<&Row>
-        ensures { option_map (λ r. r.now.1) result ≡ finite.get self.now.content.events key.now }
-    {
-        match rows::place(&self.rows, key) {
-            Ok(at) => Some(&self.rows[at]),
-            Err(_) => None,
+            Some(Found::Voided) => self.accepted_within_limit(),
+            Some(Found::Live) => Answer::Refused(Refusal::NotVoided),
         }
     }
 
@@ -182,15 +145,14 @@ impl StationLedger {
         ensures answer { result ≡ answer self.old.limits self.old.content command }
         ensures content { self.new ≡ record self.old { content = (step self.old.limits self.old.content command).0 } }
         ensures work { IsSpent result work.old work.new }
+        ensures bound { work.new ≤ work.old + most_spent self.old.content.events command }
     {
         // Its parts are in range, as their types keep them.
         let _ = command.key();
         let answer = self.judge(&command);
         if let Answer::Accepted(changes) = answer {
-            rows::carry_out(&mut self.rows, command);
-            self.readings = rows::readings_stored(&self.rows);
+            carry_out(&mut self.chains, &mut self.sums, command, work);
             self.changes = changes;
-            evaluate(&self.rows, &mut self.pairs, work);
         }
         answer
     }
@@ -200,7 +162,7 @@ impl StationLedger {
     pub fn energy(&self) -> Flow
         ensures { result ≡ energy (entries self.now.content) }
     {
-        sum(&self.pairs)
+        self.sums.energy
     }
 
     /// The figures: live and voided events; transactions with a live event, how many of these are
@@ -209,7 +171,11 @@ impl StationLedger {
         ensures value { result ≡ figures (entries self.now.content) }
         ensures within { AreWithin self.now.limits result }
     {
-        counts::figures(&self.rows, &self.pairs)
+        Figures {
+            up: self.sums.energy.up(),
+            down: self.sums.energy.down(),
+            ..self.sums.figures
+        }
     }
 
     /// What the register rose and fell by over the transactions of an EVSE, in milliwatt-hours. EVSE 0
@@ -217,7 +183,7 @@ impl StationLedger {
     pub fn evse(&self, evse: EvseId) -> Flow
         ensures { result ≡ energy_at evse (entries self.now.content) }
     {
-        counts::energy_at(&self.rows, &self.pairs, evse)
+        self.sums.evses[usize::from(evse.number())].flow
     }
 
     /// The board: the figures; the EVSEs and the quarters with their energy; and the transactions with
@@ -226,15 +192,7 @@ impl StationLedger {
         ensures board { IfOk result (λ b. b ≡ board quarter_seconds (entries self.now.content)) }
         ensures within { IfOk result (λ b. AreWithin self.now.limits b.figures) }
     {
-        let transactions = transaction_lines(alloc, &self.rows, &self.pairs)?;
-        let evses = evse_lines(alloc, &transactions)?;
-        let quarters = quarter_lines(alloc, &self.pairs)?;
-        Ok(StationBoard {
-            figures: self.figures(),
-            evses: Listed::of(evses),
-            quarters: Listed::of(quarters),
-            transactions: Listed::of(transactions),
-        })
+        board_of(alloc, &self.chains, &self.sums, self.figures())
     }
 
     /// How many commands were accepted so far, at most 2^63.

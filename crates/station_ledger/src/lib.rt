@@ -17,8 +17,10 @@
 //! `figures` and `board` are those that the definitions make, from scratch, of the present content.
 //! `open` and `board` alone can run out of memory; what the other calls promise has no exception for it.
 //!
-//! This body is the plain one: rows sorted by key, and the energy of each pair with its transaction and
-//! its quarter, evaluated anew at each accepted command.
+//! A change moves only what one event moves: the pair of readings across its place is taken back, and
+//! those that its readings make are added, each evaluated once, so at most two differences more than the
+//! event has readings. The sums that are shown are kept beside the events and follow those pairs. No
+//! figure is computed anew, and no call but `open` and `board` asks for memory.
 //!
 //! ```text
 //! let mut ledger = StationLedger::open(alloc, limits)?;
@@ -29,18 +31,20 @@
 #![tactic(auto)]
 
 mod board;
-mod counts;
-mod flows;
 mod ledger;
 mod lines;
-mod pair;
-mod row;
-mod rows;
-mod transaction;
-mod transactions;
+mod moves;
+mod pairs;
+mod standing;
+mod sums;
+mod totals;
 
 pub use board::{EvseLine, QuarterLine, StationBoard, TxLine};
 pub use ledger::StationLedger;
+#[doc(hidden)]
+pub use standing::Standing;
+#[doc(hidden)]
+pub use totals::EvseSum;
 
 #[cfg(test)]
 mod tests;

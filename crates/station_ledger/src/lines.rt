@@ -1,161 +1,132 @@
-ghost use Rattle.std.specs.Prelude.{◌≡◌, ◌≤◌, IfOk, length, map, nat_lt};
-ghost use Rattle.std.specs.List.{All, take_while};
-ghost use Rattle.ledger_model.specs.BoardLaws.{AreRising};
-ghost use Rattle.ledger_model.specs.Content.{live};
-ghost use Rattle.ledger_model.specs.Quarter.{IsQuarter};
+//! The lines of a board, from what is kept of a station's live events.
+ghost use Rattle.std.specs.Prelude.{◌≡◌, ◌+◌, List, IfOk, length, map};
+ghost use Rattle.event_chain.specs.Chains.{stored};
+ghost use Rattle.ledger_model.specs.Board.{board, figures as figures_of, shown};
+ghost use Rattle.ledger_model.specs.Content.{Entry, live, transactions_of};
+ghost use Rattle.ledger_model.specs.Energy.{energy_of};
+ghost use Rattle.ledger_model.specs.Gaps.{gaps, numbers_of};
+ghost use Rattle.ledger_model.specs.Quarter.{quarter_seconds};
 ghost use Rattle.ledger_model.specs.Ranges.{greatest_evse};
-ghost use Rattle.station_ledger.specs.Flows.{groups_of, total};
-ghost use Rattle.station_ledger.specs.Groups.{AreTransactions, shown_group};
-ghost use Rattle.station_ledger.specs.Lines.{put_line, lines_of, lines_total, HasRoom, IsStationFlow};
+ghost use Rattle.quarter_table.specs.Pairs.{line_of};
+ghost use Rattle.station_ledger.specs.Numbered.{AreNumbered};
+ghost use Rattle.station_ledger.specs.Standing.{standing_with};
+ghost use Rattle.station_ledger.specs.Sums.{AreAllowed, AreEvseSums, AreStanding, AreSummed};
 
-use crate::board::{EvseLine, QuarterLine, TxLine};
-use crate::pair::PairFlow;
-use crate::row::Row;
-use crate::transactions::LiveTransactions;
-use energy_flow::Flow;
-use ledger_model::{EvseId, Quarter};
+use crate::board::{EvseLine, QuarterLine, StationBoard, TxLine};
+use crate::standing::Standing;
+use crate::sums::Sums;
+use crate::totals::EvseSum;
+use event_chain::Chains;
+use gap_list::Gaps;
+use ledger_model::{EvseId, Figures, GREATEST_EVSE, Listed, TxId};
+use quarter_table::QuarterTable;
 use std::alloc::{AllocError, Global};
+use transaction_map::TransactionMap;
 
-// Where the line of a number stands among rising lines, or else where it belongs.
-fn line_place(lines: &[(u32, Flow)], number: u32) -> usize
-    requires { AreRising (map (λ line. line.0) lines.now) }
-    ensures { result ≡ length (take_while (λ line. nat_lt line.0 number) lines.now) }
-{
-    let mut low = 0;
-    let mut high = lines.len();
-    while low < high {
-        let middle = low + (high - low) / 2;
-        if lines[middle].0 < number {
-            low = middle + 1;
-        } else {
-            high = middle;
-        }
-    }
-    low
-}
-
-// Adds energy to the line of a number, which is put in its place where there is none.
-fn add_to_line(lines: &mut Vec<(u32, Flow)>, number: u32, flow: Flow) -> Result<(), AllocError>
-    requires room { HasRoom lines.old.items flow }
-    requires rising { AreRising (map (λ line. line.0) lines.old.items) }
-    ensures { IfOk result (λ _. lines.new.items ≡ put_line number flow lines.old.items) }
-{
-    let place = line_place(lines, number);
-    if place < lines.len() && lines[place].0 == number {
-        let line = &mut lines[place];
-        line.1 = flow.plus(line.1);
-        return Ok(());
-    }
-    lines.insert(place, (number, flow))?;
-    Ok(())
-}
-
-// The lines of numbers with their energies: each number once, rising, with the sum of its energies.
-pub(crate) fn lines(alloc: Global, flowed: &[(u32, Flow)]) -> Result<Vec<(u32, Flow)>, AllocError>
-    requires { IsStationFlow (lines_total flowed.now) }
-    ensures lines { IfOk result (λ lines. lines.items ≡ lines_of flowed.now) }
-    ensures flows { IfOk result (λ lines. All (λ line. IsStationFlow line.1) lines.items) }
-{
-    let mut lines = Vec::new(alloc);
-    let mut left = flowed;
-    while let [rest @ .., last] = left {
-        add_to_line(&mut lines, last.0, last.1)?;
-        left = rest;
-    }
-    Ok(lines)
-}
-
-// The quarters of pairs with their energies, as the pairs stand.
-fn quarter_flows(alloc: Global, pairs: &[PairFlow]) -> Result<Vec<(u32, Flow)>, AllocError>
-    ensures flows { IfOk result (λ flows. flows.items ≡ map (λ p. (p.quarter, p.flow)) pairs.now) }
-    ensures quarters { IfOk result (λ flows. All (λ f. IsQuarter f.0) flows.items) }
-{
-    let mut flows = Vec::new(alloc);
-    for pair in pairs {
-        flows.push((pair.quarter.number(), pair.flow))?;
-    }
-    Ok(flows)
-}
-
-// The EVSEs of transactions with their energies, as the transactions stand.
-fn evse_flows(alloc: Global, lines: &[TxLine]) -> Result<Vec<(u32, Flow)>, AllocError>
-    ensures flows { IfOk result (λ flows. flows.items ≡ map (λ line. (line.evse, line.flow)) lines.now) }
-    ensures evses { IfOk result (λ flows. All (λ f. f.0 ≤ greatest_evse) flows.items) }
-{
-    let mut flows = Vec::new(alloc);
-    for line in lines {
-        flows.push((u32::from(line.evse().number()), line.flow()))?;
-    }
-    Ok(flows)
-}
-
-// Lines of numbers that are all quarters, as lines of quarters.
-fn typed_quarters(alloc: Global, found: &[(u32, Flow)]) -> Result<Vec<QuarterLine>, AllocError>
-    requires { All (λ line. IsQuarter line.0) found.now }
-    ensures { IfOk result (λ lines. lines.items ≡ found.now) }
-{
-    let mut lines = Vec::new(alloc);
-    for line in found {
-        let quarter = Quarter::new(line.0).unwrap();
-        lines.push(QuarterLine::new(quarter, line.1))?;
-    }
-    Ok(lines)
-}
-
-// Lines of numbers that are all EVSEs, as lines of EVSEs.
-fn typed_evses(alloc: Global, found: &[(u32, Flow)]) -> Result<Vec<EvseLine>, AllocError>
-    requires { All (λ line. line.0 ≤ greatest_evse) found.now }
-    ensures { IfOk result (λ lines. lines.items ≡ found.now) }
-{
-    let mut lines = Vec::new(alloc);
-    for line in found {
-        let evse = EvseId::new(line.0 as u8).unwrap();
-        lines.push(EvseLine::new(evse, line.1))?;
-    }
-    Ok(lines)
-}
-
-// The quarters of pairs, rising, each with its energy.
+// The lines of the quarters, rising.
 pub(crate) fn quarter_lines(
     alloc: Global,
-    pairs: &[PairFlow],
+    quarters: &QuarterTable,
 ) -> Result<Vec<QuarterLine>, AllocError>
-    requires { IsStationFlow (total pairs.now) }
-    ensures lines { IfOk result (λ lines. lines.items ≡ lines_of (map (λ p. (p.quarter, p.flow)) pairs.now)) }
-    ensures flows { IfOk result (λ lines. All (λ line. IsStationFlow line.1) lines.items) }
-{
-    let flows = quarter_flows(alloc, pairs)?;
-    let found = lines(alloc, &flows)?;
-    typed_quarters(alloc, &found)
-}
-
-// The EVSEs of transactions, rising, each with its energy.
-pub(crate) fn evse_lines(
-    alloc: Global,
-    transactions: &[TxLine],
-) -> Result<Vec<EvseLine>, AllocError>
-    requires { IsStationFlow (lines_total (map (λ line. (line.evse, line.flow)) transactions.now)) }
-    ensures lines { IfOk result (λ lines. lines.items ≡ lines_of (map (λ line. (line.evse, line.flow)) transactions.now)) }
-    ensures flows { IfOk result (λ lines. All (λ line. IsStationFlow line.1) lines.items) }
-{
-    let flows = evse_flows(alloc, transactions)?;
-    let found = lines(alloc, &flows)?;
-    typed_evses(alloc, &found)
-}
-
-// What a board shows of the transactions with a live event.
-pub(crate) fn transaction_lines(
-    alloc: Global,
-    rows: &[Row],
-    pairs: &[PairFlow],
-) -> Result<Vec<TxLine>, AllocError>
-    requires { AreTransactions rows.now pairs.now }
-    ensures { IfOk result (λ lines. lines.items ≡ map shown_group (groups_of (live rows.now))) }
+    ensures { IfOk result (λ lines. lines.items ≡ map line_of quarters.now.rows) }
 {
     let mut lines = Vec::new(alloc);
-    let mut left = LiveTransactions::over(rows, pairs);
-    while let Some(transaction) = left.take_first() {
-        lines.push(transaction.line(alloc)?)?;
+    for row in quarters.rows() {
+        lines.push(QuarterLine::new(row.quarter, row.flow))?;
     }
     Ok(lines)
+}
+
+// The lines of the EVSEs that have a transaction with a live event, rising.
+pub(crate) fn evse_lines(alloc: Global, evses: &[EvseSum]) -> Result<Vec<EvseLine>, AllocError>
+    requires { length evses.now ≡ greatest_evse + 1 }
+    ensures { IfOk result (λ lines. (es : List Entry) → AreNumbered es → AreEvseSums es evses.now → lines.items ≡ (board quarter_seconds es).evses) }
+{
+    let mut lines = Vec::new(alloc);
+    for number in 0..GREATEST_EVSE + 1 {
+        let sum = evses[usize::from(number)];
+        if sum.transactions > 0 {
+            // An EVSE's number is at most 64.
+            let evse = EvseId::new(number).unwrap();
+            lines.push(EvseLine::new(evse, sum.flow))?;
+        }
+    }
+    Ok(lines)
+}
+
+// The ranges of a transaction's missing numbers, rising.
+fn gaps(alloc: Global, chains: &Chains, tx: &TxId) -> Result<Vec<(u32, u32)>, AllocError>
+    ensures { IfOk result (λ list. list.items ≡ gaps (numbers_of tx.now (stored chains.now))) }
+{
+    Gaps::over(&chains.walk(tx)).collect(alloc)
+}
+
+// The line of a transaction that stands so.
+fn transaction_line(
+    alloc: Global,
+    chains: &Chains,
+    tx: &TxId,
+    standing: &Standing,
+) -> Result<TxLine, AllocError>
+    requires within { AreAllowed chains.now.limits (stored chains.now) }
+    requires numbered { AreNumbered (stored chains.now) }
+    requires standing { standing.now ≡ standing_with (energy_of tx.now (stored chains.now)) tx.now (stored chains.now) }
+    ensures { IfOk result (λ line. line ≡ shown (stored chains.now) tx.now) }
+{
+    Ok(TxLine {
+        tx: tx.copied(),
+        evse: standing.evse,
+        events: u64::from(standing.live),
+        first: chains.first(tx).unwrap_or(0),
+        last: chains.last(tx).unwrap_or(0),
+        complete: standing.complete,
+        missing: standing.missing,
+        flow: standing.flow,
+        gaps: Listed::of(gaps(alloc, chains, tx)?),
+    })
+}
+
+// The lines of the transactions with a live event, by rising id.
+pub(crate) fn transaction_lines(
+    alloc: Global,
+    chains: &Chains,
+    kept: &TransactionMap<Standing>,
+) -> Result<Vec<TxLine>, AllocError>
+    requires within { AreAllowed chains.now.limits (stored chains.now) }
+    requires numbered { AreNumbered (stored chains.now) }
+    requires standing { AreStanding chains.now.limits (stored chains.now) kept.now }
+    ensures { IfOk result (λ lines. lines.items ≡ map (shown (stored chains.now)) (transactions_of (live (stored chains.now)))) }
+{
+    let mut lines = Vec::new(alloc);
+    for place in 0..kept.len() as usize {
+        // Each place has an id, and each id is kept.
+        let tx = kept.id_at(place).unwrap();
+        let standing = kept.get(tx).unwrap();
+        lines.push(transaction_line(alloc, chains, tx, &standing)?)?;
+    }
+    Ok(lines)
+}
+
+// The board of what is stored, of which these are the figures.
+pub(crate) fn board_of(
+    alloc: Global,
+    chains: &Chains,
+    sums: &Sums,
+    figures: Figures,
+) -> Result<StationBoard, AllocError>
+    requires within { AreAllowed chains.now.limits (stored chains.now) }
+    requires numbered { AreNumbered (stored chains.now) }
+    requires summed { AreSummed chains.now.limits (stored chains.now) sums.now.kept sums.now.evses.items sums.now.quarters sums.now.energy sums.now.figures }
+    requires figures { figures ≡ figures_of (stored chains.now) }
+    ensures { IfOk result (λ b. b ≡ board quarter_seconds (stored chains.now)) }
+{
+    let transactions = transaction_lines(alloc, chains, &sums.kept)?;
+    let evses = evse_lines(alloc, &sums.evses)?;
+    let quarters = quarter_lines(alloc, &sums.quarters)?;
+    Ok(StationBoard {
+        figures,
+        evses: Listed::of(evses),
+        quarters: Listed::of(quarters),
+        transactions: Listed::of(transactions),
+    })
 }

@@ -172,3 +172,28 @@ fn void_and_restore(rt: HostRuntime) -> Result<(), Fail> {
     }
     Ok(())
 }
+
+#[test]
+fn differences_of_a_late_event(rt: HostRuntime) -> Result<(), Fail> {
+    let mut work = Work::open(&rt);
+    let mut ledger = ledger(rt.alloc(), (4, 8, 8, 9))?;
+    let late = Asked::Deliver("T1", 1, 14, Some(1_200));
+    // The pair across the late event's place is taken back, and two come; a void is the other way round.
+    let steps = [
+        (Asked::Deliver("T1", 0, 0, Some(1_000)), 0),
+        (Asked::Deliver("T1", 2, 31, Some(1_600)), 1),
+        (late, 3),
+        (late, 0),
+        (Asked::Deliver("T2", 7, 40, None), 0),
+        (Asked::Void(1), 3),
+        (Asked::Void(1), 0),
+        (Asked::Erase(1), 0),
+    ];
+    for (asked, differences) in steps {
+        let command = command(rt.alloc(), asked)?;
+        let before = work.count();
+        ledger.apply(command, &mut work);
+        assert_eq!(rt; work.count(), before.saturating_add(differences));
+    }
+    Ok(())
+}

@@ -1,10 +1,34 @@
-use Rattle.std.proofs.Common.{◌≤◌, ap, sym, subst, ◌∙◌}
-use Rattle.std.specs.List.{All}
+use Rattle.std.proofs.Common.{◌≡◌, ◌+◌, ◌++◌, ◌<◌, ◌∷◌, [], map, sym, ap, subst, ◌∙◌, arith}
+use Rattle.std.specs.Prelude.{IfSome}
+use Rattle.std.proofs.lemmas.Option.{unwrap_or-slice_get}
+use Rattle.std.proofs.lemmas.Grind.{common_steps}
 use Rattle.ledger_model.specs.Ranges.{greatest_evse}
-use Rattle.station_ledger.specs.Lines.{lines_of}
-use Rattle.station_ledger.proofs.LineLemmas.{all-lines}
+use Rattle.station_ledger.specs.Moved.{no_sum, sum_at}
+use Rattle.station_ledger.proofs.EvseLines.{line_at, shown_below, line_more, line_same, all_lines}
+use Rattle.station_ledger.proofs.lines.evse_lines.Goals.{then-sum-gt0+in_ok-push, else-sum-gt0}
 use Rattle.station_ledger.proofs.lines.evse_lines.Goals as goal
 
-pub typed_evses-requires : goal.typed_evses-requires
-typed_evses-requires c =
-    subst (All (λ line. line.0 ≤ greatest_evse)) (sym (c.deref-2.ensures.value ∙ c.in_ok-found.ensures.lines ∙ ap lines_of c.deref.ensures.value)) (all-lines (λ n. n ≤ greatest_evse) c.in_ok-flows.flows.items c.in_ok-flows.ensures.evses)
+-- the next number's line, where its EVSE has a transaction
+pub loop-number-preserved : goal.loop-number-preserved
+loop-number-preserved c =
+    let evses = c.args.evses.now in let n = c.loop-number.number in
+    let at : sum_at evses n ≡ c.index-evses-from.result = unwrap_or-slice_get evses n no_sum ∙ (grind (arith, common_steps, c.index-evses-from.is, c.from.ensures, c.loop-number-test.true, c.requires)) in
+    elim c.if-sum-gt0.branch [
+      | then-sum-gt0+in_ok-push w ↦
+          let number = subst (λ o. IfSome o (λ e. e ≡ n)) w.unwrap-evse.ensures w.new.ensures.value in
+          let evse = w.new-then-sum-gt0.ensures.evse ∙ number in
+          let flow = w.new-then-sum-gt0.ensures.flow ∙ ap (λ s. s.flow) (sym at) in
+          let line : w.new-then-sum-gt0.result ≡ line_at evses n = λ i. (evse i, flow i) in
+          ap (λ v. v.items) w.lines-is ∙ w.in_ok-push.ensures.items
+          ∙ (λ i. c.loop-number.invariant i ++ line i ∷ [])
+          ∙ sym (line_more evses n (subst (λ s. 0 < s.transactions) (sym at) w.if-sum-gt0.true))
+      | else-sum-gt0 w ↦
+          ap (λ v. v.items) w.lines-is ∙ c.loop-number.invariant
+          ∙ sym (line_same evses n (λ some. absurd (omega (arith, some, w.if-sum-gt0.false, ap (λ s. s.transactions) at))))
+    ]
+
+-- past the last number these are all
+pub returns : goal.returns
+returns c es in_range are =
+    let end : c.loop-number.number ≡ greatest_evse + 1 = omega (arith, c.loop-number-test.false, c.loop-number.auto) in
+    c.loop-number.invariant ∙ ap (λ n. map (line_at c.args.evses.now) (shown_below n c.args.evses.now)) end ∙ all_lines c.args.evses.now es in_range are

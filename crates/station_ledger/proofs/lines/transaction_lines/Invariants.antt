@@ -1,12 +1,8 @@
-use Rattle.std.proofs.Common.{◌≡◌, ◌++◌, length, map}
-use Rattle.ledger_model.specs.Content.{live}
-use Rattle.station_ledger.specs.Flows.{groups_of}
-use Rattle.station_ledger.specs.Groups.{shown_group}
+use Rattle.std.proofs.Common.{◌≡◌, map, take}
+use Rattle.event_chain.specs.Chains.{stored}
+use Rattle.ledger_model.specs.Board.{shown}
 use Rattle.station_ledger.proofs.lines.transaction_lines.Given as goal
 
--- the lines so far, and those of the transactions that are left
-abbrev pub invariant-loop-transaction : goal.invariant-loop-transaction
-invariant-loop-transaction l = l.lines.items ++ map shown_group l.left ≡ map shown_group (groups_of (live l.fn.rows))
-
-abbrev pub decreases-loop-transaction : goal.decreases-loop-transaction
-decreases-loop-transaction l = length l.left
+-- the lines of the transactions so far
+abbrev pub invariant-loop-place : goal.invariant-loop-place
+invariant-loop-place l = l.lines.items ≡ map (shown (stored l.fn.chains)) (take l.place (map (λ r. r.0) l.fn.kept.rows))

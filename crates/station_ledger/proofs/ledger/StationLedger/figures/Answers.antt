@@ -1,34 +1,18 @@
-use Rattle.std.proofs.Common.{◌≤◌, ◌*◌, List, length, sym, ap, subst, ◌∙◌, arith}
-use Rattle.std.proofs.Math.Nat.{mul-le-mul_left}
-use Rattle.ledger_model.specs.Ranges.{most_events, sequence_end}
-use Rattle.ledger_model.specs.Content.{Entry, entries}
+use Rattle.std.proofs.Common.{sym, ap, subst, ◌∙◌}
+use Rattle.energy_flow.specs.Flow.{Energy}
 use Rattle.ledger_model.specs.Board.{figures}
+use Rattle.ledger_model.specs.Limits.{Bounds}
 use Rattle.ledger_model.specs.Figures.{AreWithin}
-use Rattle.ledger_model.proofs.Callers.{missing_by_entries, figures_within}
+use Rattle.ledger_model.proofs.Callers.{figures_within}
+use Rattle.event_chain.specs.Chains.{stored}
+use Rattle.station_ledger.specs.Kept.{content_in}
 use Rattle.station_ledger.specs.Ledger.{Ledger}
-use Rattle.station_ledger.proofs.Views.{entries_seen, AreKept-entries}
 use Rattle.station_ledger.proofs.ledger.StationLedger.figures.Goals as goal
-
-pub figures-requires-clause-few : goal.figures-requires-clause-few
-figures-requires-clause-few c =
-    let kept = c.self.invariant.0 in
-    omega (arith, (AreKept-entries _ _ _ kept.rising kept.reached).events, kept.most_events, ap length c.deref.ensures.value)
-
-pub figures-requires-clause-few_missing : goal.figures-requires-clause-few_missing
-figures-requires-clause-few_missing c =
-    let kept = c.self.invariant.0 in
-    let stored = AreKept-entries _ _ _ kept.rising kept.reached in
-    let es = c.self.inside.rows.items in
-    let few : length es ≤ most_events = omega (arith, stored.events, kept.most_events) in
-    subst (λ (fs : List Entry). (figures fs).missing ≤ sequence_end * most_events) (sym c.deref.ensures.value) (omega (arith, missing_by_entries es kept.rising stored.in_range, mul-le-mul_left sequence_end few))
-
-pub returns-clause-value : goal.returns-clause-value
-returns-clause-value c =
-    c.figures.ensures ∙ ap figures c.deref.ensures.value
-    ∙ ap figures (sym (entries_seen _ _ _ _ c.self.view_is c.self.invariant.0.rising))
 
 pub returns-clause-within : goal.returns-clause-within
 returns-clause-within c =
-    let kept = c.self.invariant.0 in
-    let value = c.figures.ensures ∙ ap figures c.deref.ensures.value ∙ ap figures (sym (entries_seen _ _ _ _ c.self.view_is kept.rising)) in
-    subst (AreWithin c.args.self.now.limits) (sym value) (subst (λ (l : Ledger). AreWithin l.limits (figures (entries l.content))) c.self.view_is (figures_within _ _ _ kept.reached))
+    let k = c.self.invariant in let s = k.summed in
+    let up = c.up.ensures ∙ ap (λ (e : Energy). e.up) s.total_is in
+    let down = c.down.ensures ∙ ap (λ (e : Energy). e.down) s.total_is in
+    subst (AreWithin c.args.self.now.limits) (sym (λ i. record { events = s.counts.events i; voided = k.voided_are i; transactions = s.counts.transactions i; complete = s.counts.complete i; missing = s.counts.missing_are i; up = up i; down = down i }))
+    (subst (λ (b : Bounds). AreWithin b (figures (stored c.self.inside.chains))) (ap (λ (l : Ledger). l.limits) c.self.view_is) (figures_within c.self.inside.limits c.self.inside.changes (content_in c.self.inside.chains c.self.inside.changes) k.reached))

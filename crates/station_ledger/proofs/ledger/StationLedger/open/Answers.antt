@@ -1,12 +1,22 @@
-use Rattle.std.proofs.Common.{arith}
-use Rattle.station_ledger.proofs.Views.{IsKept-empty, content_empty}
+use Rattle.std.proofs.Common.{◌≡◌, List, [], count_by, sym, ap, subst, ◌∙◌, arith}
+use Rattle.std.specs.FinMap as finite
+use Rattle.std.specs.FinMap.{FinMap}
+use Rattle.ledger_model.specs.Content.{Entry, Stored}
+use Rattle.ledger_model.specs.Key.{key_cmp}
+use Rattle.ledger_model.proofs.ListedRuns.{none_listed}
+use Rattle.station_ledger.specs.Sums.{AreSummed}
 use Rattle.station_ledger.proofs.ledger.StationLedger.open.Goals as goal
 
 pub invariant_of-result : goal.invariant_of-result
-invariant_of-result c = (
-  rw (c.in_ok-rows.ensures.items, c.in_ok-pairs.ensures.items) (IsKept-empty c.args.limits (omega arith) (omega arith)),
-  record { for_events = omega (arith, c.in_ok-rows.ensures.capacity); for_pairs = omega (arith, c.in_ok-pairs.ensures.capacity) },
-)
-
-pub returns-clause-empty : goal.returns-clause-empty
-returns-clause-empty c = rw c.in_ok-rows.ensures.items content_empty
+invariant_of-result c =
+    let chains = c.in_ok-open.field-0 in let sums = c.in_ok-open-2.field-0 in
+    let empty : finite.entries chains.events ≡ [] = ap (λ (m : FinMap key_cmp Stored). finite.entries m) c.in_ok-open.ensures.empty ∙ none_listed in
+    record {
+      limits_are = c.in_ok-open.ensures.limits;
+      reached = λ i. record { events = c.in_ok-open.ensures.empty i; changes = 0 };
+      summed = subst (λ (es : List Entry). AreSummed c.args.limits es sums.kept sums.evses.items sums.quarters sums.energy sums.figures) (sym empty) c.in_ok-open-2.ensures.summed;
+      voided_are = c.in_ok-open-2.ensures.voided ∙ sym (ap (count_by (λ (e : Entry). e.1.voided)) empty);
+      few_transactions = omega (arith, c.transactions-transactions.ensures.value, c.transactions-transactions.ensures.most);
+      few_events = omega (arith, c.events-events.ensures.value, c.events-events.ensures.most);
+      few_readings = omega (arith, c.readings-readings.ensures.value, c.readings-readings.ensures.most);
+    }

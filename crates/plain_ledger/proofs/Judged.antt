@@ -1,0 +1,17 @@
+-- The answer to a delivery under a key that has an event.
+use Rattle.std.proofs.Common.{◌≡◌, Bool, ◌↔◌, IsTrue, cond, Option, Some, ap, ◌∙◌}
+use Rattle.std.proofs.lemmas.Bool.Decides.{same_from_decides}
+use Rattle.ledger_model.specs.declared.answer.Answer.TheVariants.{Repeat, Refused}
+use Rattle.ledger_model.specs.declared.answer.Refusal.TheVariants.{ConflictingEvent}
+use Rattle.ledger_model.specs.Event.{EventContent}
+use Rattle.ledger_model.specs.Key.{KeyName}
+use Rattle.ledger_model.specs.Limits.{Bounds}
+use Rattle.ledger_model.specs.Content.{Content, Stored}
+use Rattle.ledger_model.specs.Step.{answer_to_deliver}
+use Rattle.ledger_model.proofs.Callers.{same_event-Decides}
+
+-- the answer where an event stands under the key
+pub answer_known : (limits : Bounds) (c : Content) (key : KeyName) (event : EventContent) (stored : Stored) (found : Option Stored) (same : Bool) → Some stored ≡ found → (IsTrue same ↔ (stored.event ≡ event)) → cond same Repeat (Refused ConflictingEvent) ≡ answer_to_deliver limits c key event found
+answer_known limits c key event stored found same is decides =
+    ap (λ b. cond b Repeat (Refused ConflictingEvent)) (same_from_decides same _ decides (same_event-Decides stored.event event))
+    ∙ ap (answer_to_deliver limits c key event) is

@@ -1,0 +1,15 @@
+pub mod Keys
+pub mod Places
+pub mod Edits
+pub mod Views
+pub mod Walk
+pub mod Grouped
+pub mod Pairs
+pub mod Groups
+pub mod Judged
+pub mod LineLemmas
+pub mod Sums
+pub mod Accepted
+pub mod Figured
+pub mod RisingLines
+pub mod BoardLemmas

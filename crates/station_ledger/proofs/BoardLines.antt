@@ -1,0 +1,41 @@
+-- The lines of a board are within what a station's readings can show.
+use Rattle.std.proofs.Common.{◌==◌, ℕ, ◌≤◌, List, [], ◌∷◌, map, arith}
+use Rattle.std.specs.List.{All}
+use Rattle.std.proofs.lemmas.List.Elements.{All-nil, All-cons}
+use Rattle.energy_flow.specs.Flow.{Energy}
+use Rattle.ledger_model.specs.Board.{Flowed, board}
+use Rattle.ledger_model.specs.Content.{Entry}
+use Rattle.ledger_model.specs.Energy.{energy, energy_in, energy_of, pairs, quarter_of, quarters, difference}
+use Rattle.ledger_model.specs.Evse.{energy_at, evses}
+use Rattle.ledger_model.specs.Limits.{Bounds}
+use Rattle.ledger_model.specs.Quarter.{quarter_seconds}
+use Rattle.station_ledger.specs.Lines.{IsStationFlow, AreStationLines}
+use Rattle.station_ledger.specs.Sums.{AreAllowed}
+use Rattle.station_ledger.proofs.Bounded.{evse_up_le, evse_down_le, own_up_le, own_down_le, part_le}
+
+module _ (limits : Bounds) (es : List Entry) (within : AreAllowed limits es) where
+  small : (e : Energy) → e.up ≤ (energy es).up → e.down ≤ (energy es).down → IsStationFlow e
+  small e up down = record {
+    up = omega (arith, up, within.figures_within.up, within.most_readings_within);
+    down = omega (arith, down, within.figures_within.down, within.most_readings_within);
+  }
+
+  pub own_flow : (tx : List ℕ) → IsStationFlow (energy_of tx es)
+  own_flow tx = small (energy_of tx es) (own_up_le tx es) (own_down_le tx es)
+
+  pub evse_flow : (n : ℕ) → IsStationFlow (energy_at n es)
+  evse_flow n = small (energy_at n es) (evse_up_le n es) (evse_down_le n es)
+
+  pub quarter_flow : (q : ℕ) → IsStationFlow (energy_in quarter_seconds q es)
+  quarter_flow q = small (energy_in quarter_seconds q es) (part_le (λ p. (difference p).up) (λ p. quarter_of quarter_seconds p == q) (pairs es)) (part_le (λ p. (difference p).down) (λ p. quarter_of quarter_seconds p == q) (pairs es))
+
+  all_lines : (f : ℕ → Energy) (ns : List ℕ) → ((n : ℕ) → IsStationFlow (f n)) → All (λ line. IsStationFlow line.1) (map {B = Flowed} (λ n. (n, f n)) ns)
+  all_lines f [] each = All-nil (λ line. IsStationFlow line.1)
+  all_lines f (n ∷ ns) each = All-cons (λ line. IsStationFlow line.1) (n, f n) (map {B = Flowed} (λ k. (k, f k)) ns) (each n) (all_lines f ns each)
+
+  -- no line has more than the readings of a station can show
+  pub lines_within : AreStationLines (board quarter_seconds es).evses (board quarter_seconds es).quarters
+  lines_within = record {
+    evse_flows = all_lines (λ n. energy_at n es) (evses es) evse_flow;
+    quarter_flows = all_lines (λ q. energy_in quarter_seconds q es) (quarters quarter_seconds es) quarter_flow;
+  }

@@ -1,0 +1,82 @@
+-- How much the pairs of a station, of a transaction and of an EVSE can be.
+use Rattle.std.proofs.Common.{◌≡◌, ◌==◌, ℕ, map, ◌≤◌, Bool, true, false, not, cond, List, [], ◌∷◌, length, sym, ap, ◌∙◌, arith}
+use Rattle.std.specs.List.{flat_map, filter, sum_by, list_any}
+use Rattle.std.specs.Str.{bytes_eq}
+use Rattle.std.proofs.lemmas.List.Concat.{length-flat_map}
+use Rattle.std.proofs.lemmas.List.Sums.{sum_by-le-sum_by, count_by-le-length, length-filter}
+use Rattle.ledger_model.specs.Content.{Entry, live, live_of, transactions_of}
+use Rattle.ledger_model.specs.Energy.{Pair, difference, energy, energy_of, followed, pairs, pairs_of, readings_of}
+use Rattle.ledger_model.specs.Event.{MeterReading}
+use Rattle.ledger_model.specs.Evse.{energy_at, evse_of, transactions_at}
+use Rattle.ledger_model.specs.Gaps.{numbers_of, missing}
+use Rattle.ledger_model.specs.Step.{readings_stored}
+use Rattle.ledger_model.proofs.Callers.{passed_sum, sum_by-flat_map}
+use Rattle.ledger_model.proofs.FigureBounds.{sum_by_transactions}
+use Rattle.ledger_model.proofs.SumsByTransaction.{sum_by_one}
+use Rattle.ledger_model.proofs.TransactionLemmas.{any-map}
+use Rattle.station_ledger.proofs.Moved.{none_live}
+
+taken_le : (b : Bool) (n : ℕ) → cond b n 0 ≤ n
+taken_le true n = omega arith
+taken_le false n = omega arith
+
+-- a sum over some is no more than that over all
+pub part_le : {X : Type 0} (measure : X → ℕ) (p : X → Bool) (xs : List X) → sum_by measure (filter p xs) ≤ sum_by measure xs
+part_le measure p xs = omega (arith, passed_sum measure p xs, sum_by-le-sum_by (λ x. cond (p x) (measure x) 0) measure xs (λ x. taken_le (p x) (measure x)))
+
+-- some are no more than all
+fewer : {X : Type 0} (p : X → Bool) (xs : List X) → length (filter p xs) ≤ length xs
+fewer p xs = omega (arith, length-filter p xs, count_by-le-length p xs)
+
+few_followed : (rs : List MeterReading) → length (followed rs) ≤ length rs
+few_followed [] = omega arith
+few_followed (r ∷ []) = omega arith
+few_followed (r ∷ s ∷ rs) = let rest = few_followed (s ∷ rs) in omega (arith, rest)
+
+-- there are no more pairs than readings
+pub few_pairs : (es : List Entry) → length (pairs es) ≤ readings_stored es
+few_pairs es =
+    let ts = transactions_of (live es) in
+    let size : Entry → ℕ = λ e. length e.1.event.readings in
+    let one : (t : List ℕ) → length (pairs_of t es) ≤ sum_by size (live_of t es) = λ t. omega (arith, few_followed (readings_of t es), length-flat_map (λ (e : Entry). e.1.event.readings) (live_of t es)) in
+    omega (arith, length-flat_map (λ t. pairs_of t es) ts, sum_by-le-sum_by (λ t. length (pairs_of t es)) (λ t. sum_by size (live_of t es)) ts one, sum_by_transactions size (live es), part_le size (λ e. not e.1.voided) es)
+
+-- an EVSE's sums are no more than the station's
+at_le : (f : Pair → ℕ) (n : ℕ) (es : List Entry) → sum_by f (flat_map (λ t. pairs_of t es) (transactions_at n es)) ≤ sum_by f (pairs es)
+at_le f n es =
+    let ts = transactions_of (live es) in
+    omega (arith, sum_by-flat_map f (λ t. pairs_of t es) (transactions_at n es), sum_by-flat_map f (λ t. pairs_of t es) ts, part_le (λ t. sum_by f (pairs_of t es)) (λ t. evse_of t es == n) ts)
+
+pub evse_up_le : (n : ℕ) (es : List Entry) → (energy_at n es).up ≤ (energy es).up
+evse_up_le n es = at_le (λ p. (difference p).up) n es
+
+pub evse_down_le : (n : ℕ) (es : List Entry) → (energy_at n es).down ≤ (energy es).down
+evse_down_le n es = at_le (λ p. (difference p).down) n es
+
+-- and a transaction's
+own_le : (f : Pair → ℕ) (tx : List ℕ) (es : List Entry) → sum_by f (pairs_of tx es) ≤ sum_by f (pairs es)
+own_le f tx es =
+    let g : List ℕ → ℕ = λ t. sum_by f (pairs_of t es) in
+    let absent : list_any (bytes_eq tx) (map (λ (e : Entry). e.0.tx) (live es)) ≡ false → g tx ≡ 0 = λ none. ap (λ (xs : List Entry). sum_by f (followed (flat_map (λ (e : Entry). e.1.event.readings) xs))) (none_live tx es (sym (any-map tx (live es)) ∙ none)) in
+    omega (arith, sum_by-flat_map f (λ t. pairs_of t es) (transactions_of (live es)), sum_by_one g tx (map (λ (e : Entry). e.0.tx) (live es)) absent)
+
+pub own_up_le : (tx : List ℕ) (es : List Entry) → (energy_of tx es).up ≤ (energy es).up
+own_up_le tx es = own_le (λ p. (difference p).up) tx es
+
+pub own_down_le : (tx : List ℕ) (es : List Entry) → (energy_of tx es).down ≤ (energy es).down
+own_down_le tx es = own_le (λ p. (difference p).down) tx es
+
+-- a transaction's live events are no more than all
+pub live_le : (tx : List ℕ) (es : List Entry) → length (live_of tx es) ≤ length (live es)
+live_le tx es = fewer (λ (e : Entry). bytes_eq tx e.0.tx) (live es)
+
+-- an EVSE's transactions are no more than all
+pub at_evse_le : (n : ℕ) (es : List Entry) → length (transactions_at n es) ≤ length (transactions_of (live es))
+at_evse_le n es = fewer (λ t. evse_of t es == n) (transactions_of (live es))
+
+-- what a transaction misses is no more than what all do
+pub own_missing_le : (tx : List ℕ) (es : List Entry) → missing (numbers_of tx es) ≤ sum_by (λ t. missing (numbers_of t es)) (transactions_of (live es))
+own_missing_le tx es =
+    let g : List ℕ → ℕ = λ t. missing (numbers_of t es) in
+    let absent : list_any (bytes_eq tx) (map (λ (e : Entry). e.0.tx) (live es)) ≡ false → g tx ≡ 0 = λ none. ap (λ (xs : List Entry). missing (map (λ (e : Entry). e.0.seq) xs)) (none_live tx es (sym (any-map tx (live es)) ∙ none)) in
+    omega (arith, sum_by_one g tx (map (λ (e : Entry). e.0.tx) (live es)) absent)

@@ -1,0 +1,174 @@
+-- What each command leaves for the sums to do.
+use Rattle.std.proofs.Common.{◌≡◌, ◌==◌, ◌&&◌, ℕ, ◌+◌, ◌<◌, ◌≤◌, Bool, true, false, cond, List, Option, Some, None, map, length, refl, sym, ap, subst, ◌∙◌, arith}
+use Rattle.std.specs.List.{filter, filter_map, flat_map, count_by, sum_by}
+use Rattle.std.specs.FinMap as finite
+use Rattle.std.specs.FinMap.{find}
+use Rattle.energy_flow.specs.Flow.{Energy}
+use Rattle.ledger_model.specs.declared.command.Command.TheVariants.{Deliver, Void, Restore, Erase}
+use Rattle.ledger_model.specs.declared.figures.Figures.{Figures}
+use Rattle.ledger_model.specs.Complete.{starts_and_ends}
+use Rattle.ledger_model.specs.Content.{Entry, Stored, live, transactions_of}
+use Rattle.ledger_model.specs.Deltas.{IsOneMore, before_key, behind_key, own_events, own_readings, first_reading, last_reading}
+use Rattle.ledger_model.specs.Energy.{energy_over, followed}
+use Rattle.ledger_model.specs.Event.{EventContent, MeterReading}
+use Rattle.ledger_model.specs.Evse.{first_or_none}
+use Rattle.ledger_model.specs.Gaps.{missing}
+use Rattle.ledger_model.specs.Key.{KeyName, key_cmp}
+use Rattle.ledger_model.specs.Limits.{Bounds}
+use Rattle.ledger_model.specs.Ranges.{most_event_readings}
+use Rattle.ledger_model.specs.Step.{marked, marked_at, events_after}
+use Rattle.ledger_model.proofs.Callers.{delivered_more, restored_more, voided_less, erased_same, entries_after_is, voided_delivered, voided_restored, voided_voided, voided_erased}
+use Rattle.ledger_model.proofs.LedgerLemmas.{inserted_there}
+use Rattle.event_chain.specs.declared.answers.Found.TheVariants.{Live, Voided}
+use Rattle.event_chain.specs.Chains.{Chained, stored}
+use Rattle.event_chain.specs.Room.{found_of, readings_under}
+use Rattle.quarter_table.specs.Table.{Table}
+use Rattle.quarter_table.specs.Pairs.{rows_of}
+use Rattle.transaction_map.specs.Map.{Mapped}
+use Rattle.station_ledger.specs.declared.standing.Standing.{Standing}
+use Rattle.station_ledger.specs.declared.totals.EvseSum.{EvseSum}
+use Rattle.station_ledger.specs.Kept.{voided_in}
+use Rattle.station_ledger.specs.Quarters.{quartered, readings_at}
+use Rattle.station_ledger.specs.Sums.{AreAllowed, AreSummed, IsToCome, IsToGo}
+use Rattle.station_ledger.proofs.Moved.{kept_same}
+
+-- an event that was found
+pub record IsFound (o : Option Stored) (voided : Bool) : Type 0 where
+  pub event : Stored
+  pub is : o ≡ Some event
+  pub marked_is : event.voided ≡ voided
+
+pub found_voided : (o : Option Stored) → found_of o ≡ Some Voided → IsFound o true
+found_voided None h = cc
+found_voided (Some s) h = record { event = s; is = refl; marked_is = elim s.voided as (λ b. Some (cond b Voided Live) ≡ Some Voided → b ≡ true) [ true ↦ λ _. refl | false ↦ λ f. cc ] h }
+
+pub found_live : (o : Option Stored) → found_of o ≡ Some Live → IsFound o false
+found_live None h = cc
+found_live (Some s) h = record { event = s; is = refl; marked_is = elim s.voided as (λ b. Some (cond b Voided Live) ≡ Some Live → b ≡ false) [ true ↦ λ f. cc | false ↦ λ _. refl ] h }
+
+-- how it is found among the entries
+listed : (old : Chained) (key : KeyName) (o : Option Stored) → finite.get old.events key ≡ o → find key_cmp key (stored old) ≡ o
+listed old key o h = sym (finite.get-entries old.events key) ∙ h
+
+module _ (old new : Chained) (key : KeyName) (before behind : Option MeterReading) (before_is : before ≡ last_reading (own_readings key.tx (before_key key (stored old)))) (behind_is : behind ≡ first_reading (own_readings key.tx (behind_key key (stored old)))) where
+  -- a delivered event comes
+  pub delivered : (event : EventContent) → new.events ≡ events_after old.events (Deliver key event) → finite.get old.events key ≡ None → length event.readings ≤ most_event_readings → IsToCome (stored old) new key before behind
+  delivered event is absent few = record {
+    event = record { event = event; voided = false };
+    one = subst (λ es. IsOneMore (stored old) es (before_key key (stored old)) (key, record { event = event; voided = false }) (behind_key key (stored old))) (sym (ap finite.entries is ∙ entries_after_is old.events (Deliver key event)))
+        (delivered_more (stored old) key event (finite.entries_sorted old.events) (listed old key None absent));
+    readings = ap (λ m. readings_under (finite.get m key)) is ∙ ap readings_under (inserted_there old.events key (record { event = event; voided = false }));
+    before_is = before_is;
+    behind_is = behind_is;
+    few = few;
+  }
+
+  -- what a mark leaves under the key
+  marked_there : (voided : Bool) (s : Stored) → finite.get old.events key ≡ Some s → finite.get (marked old.events key voided) key ≡ Some (record { event = s.event; voided = voided })
+  marked_there voided s is = ap (λ o. finite.get (marked_at old.events key voided o) key) is ∙ inserted_there old.events key (record { event = s.event; voided = voided })
+
+  -- a restored event comes
+  pub restored : new.events ≡ events_after old.events (Restore key) → (f : IsFound (finite.get old.events key) true) → length f.event.event.readings ≤ most_event_readings → IsToCome (stored old) new key before behind
+  restored is f few = record {
+    event = record { event = f.event.event; voided = false };
+    one = subst (λ es. IsOneMore (stored old) es (before_key key (stored old)) (key, record { event = f.event.event; voided = false }) (behind_key key (stored old))) (sym (ap finite.entries is ∙ entries_after_is old.events (Restore key)))
+        (restored_more (stored old) key f.event (finite.entries_sorted old.events) (listed old key (Some f.event) f.is) f.marked_is);
+    readings = ap (λ m. readings_under (finite.get m key)) is ∙ ap readings_under (marked_there false f.event f.is);
+    before_is = before_is;
+    behind_is = behind_is;
+    few = few;
+  }
+
+  -- a voided event goes
+  pub voided_goes : new.events ≡ events_after old.events (Void key) → (f : IsFound (finite.get old.events key) false) → length f.event.event.readings ≤ most_event_readings → IsToGo (stored old) new key before behind
+  voided_goes is f few = record {
+    event = f.event;
+    one = subst (λ es. IsOneMore es (stored old) (before_key key (stored old)) (key, f.event) (behind_key key (stored old))) (sym (ap finite.entries is ∙ entries_after_is old.events (Void key)))
+        (voided_less (stored old) key f.event (finite.entries_sorted old.events) (listed old key (Some f.event) f.is) f.marked_is);
+    readings = ap (λ m. readings_under (finite.get m key)) is ∙ ap readings_under (marked_there true f.event f.is);
+    before_is = before_is;
+    behind_is = behind_is;
+    few = few;
+  }
+
+-- the readings of a marked event are what they were
+pub marked_readings : (old new : Chained) (key : KeyName) (voided was : Bool) → new.events ≡ marked old.events key voided → IsFound (finite.get old.events key) was → length (readings_at new key) ≡ length (readings_at old key)
+marked_readings old new key voided was is f =
+    ap (λ m. length (readings_under (finite.get m key))) is
+    ∙ ap (λ o. length (readings_under (finite.get (marked_at old.events key voided o) key))) f.is
+    ∙ ap (λ o. length (readings_under o)) (inserted_there old.events key (record { event = f.event.event; voided = voided }))
+    ∙ sym (ap (λ o. length (readings_under o)) f.is)
+
+-- those of a delivered event are its own
+pub delivered_readings : (old new : Chained) (key : KeyName) (event : EventContent) → new.events ≡ events_after old.events (Deliver key event) → length (readings_at new key) ≡ length event.readings
+delivered_readings old new key event is = ap (λ m. length (readings_under (finite.get m key))) is ∙ ap (λ o. length (readings_under o)) (inserted_there old.events key (record { event = event; voided = false }))
+
+-- a delivered event has few readings, where the events after are allowed
+pub few_delivered : (limits : Bounds) (old : Chained) (key : KeyName) (event : EventContent) → AreAllowed limits (finite.entries (events_after old.events (Deliver key event))) → length event.readings ≤ most_event_readings
+few_delivered limits old key event after =
+    let s : Stored = record { event = event; voided = false } in
+    after.few_in_each key s (sym (finite.get-entries (events_after old.events (Deliver key event)) key) ∙ inserted_there old.events key s)
+
+-- a found one, where the events before are
+pub few_found : (limits : Bounds) (old : Chained) (key : KeyName) (voided : Bool) (f : IsFound (finite.get old.events key) voided) → AreAllowed limits (stored old) → length f.event.event.readings ≤ most_event_readings
+few_found limits old key voided f before = before.few_in_each key f.event (listed old key (Some f.event) f.is)
+
+-- the live events are the same after an erasure
+pub erased : (old new : Chained) (key : KeyName) → new.events ≡ events_after old.events (Erase key) → IsFound (finite.get old.events key) true → live (stored new) ≡ live (stored old)
+erased old new key is f = ap (λ m. live (finite.entries m)) is ∙ ap live (entries_after_is old.events (Erase key)) ∙ erased_same (stored old) key f.event (finite.entries_sorted old.events) (listed old key (Some f.event) f.is) f.marked_is
+
+-- The sums hang on the live events alone.
+own_pairs : List ℕ → List Entry → List (MeterReading × MeterReading)
+own_pairs tx l = followed (flat_map (λ e. e.1.event.readings) (own_events tx l))
+
+at_over : ℕ → List Entry → List (List ℕ)
+at_over n l = filter (λ tx. first_or_none (filter_map (λ e. e.1.event.evse) (own_events tx l)) == n) (transactions_of l)
+
+pub summed_same : (limits : Bounds) (es new : List Entry) (kept : Mapped Standing) (evses : List EvseSum) (quarters : Table) (total : Energy) (f g : Figures) → live new ≡ live es
+    → g.events ≡ f.events → g.transactions ≡ f.transactions → g.complete ≡ f.complete → g.missing ≡ f.missing → AreSummed limits es kept evses quarters total f → AreSummed limits new kept evses quarters total g
+unfolding own_pairs at_over
+summed_same limits es new kept evses quarters total f g same events transactions complete missing_same s = record {
+  standing = record {
+    each = λ tx. s.standing.each tx ∙ sym (kept_same tx es new (ap (own_events tx) same));
+    rising = s.standing.rising;
+    number = s.standing.number ∙ ap (λ l. length (transactions_of l)) (sym same);
+    room = s.standing.room;
+  };
+  at_evses = record {
+    all = s.at_evses.all;
+    each = λ n le. s.at_evses.each n le ∙ ap (λ l. record { transactions = length (at_over n l); flow = energy_over (flat_map (λ tx. own_pairs tx l) (at_over n l)) }) (sym same);
+  };
+  by_quarter = record {
+    rows = s.by_quarter.rows ∙ ap (λ l. rows_of (quartered (flat_map (λ tx. own_pairs tx l) (transactions_of l)))) (sym same);
+    room = s.by_quarter.room;
+  };
+  total_is = s.total_is ∙ ap (λ l. energy_over (flat_map (λ tx. own_pairs tx l) (transactions_of l))) (sym same);
+  counts = record {
+    events = events ∙ s.counts.events ∙ ap length (sym same);
+    transactions = transactions ∙ s.counts.transactions ∙ ap (λ l. length (transactions_of l)) (sym same);
+    complete = complete ∙ s.counts.complete ∙ ap (λ l. count_by (λ tx. starts_and_ends (map (λ e. e.1.event.kind) (own_events tx l)) && (missing (map (λ e. e.0.seq) (own_events tx l)) == 0)) (transactions_of l)) (sym same);
+    missing_are = missing_same ∙ s.counts.missing_are ∙ ap (λ l. sum_by (λ tx. missing (map (λ e. e.0.seq) (own_events tx l))) (transactions_of l)) (sym same);
+  };
+}
+
+-- how many are voided, after each command
+module _ (old new : Chained) (key : KeyName) where
+  pub delivered_voided : (event : EventContent) → new.events ≡ events_after old.events (Deliver key event) → finite.get old.events key ≡ None → voided_in new ≡ voided_in old
+  delivered_voided event is absent = ap (λ m. count_by (λ (e : Entry). e.1.voided) (finite.entries m)) is ∙ ap (count_by (λ (e : Entry). e.1.voided)) (entries_after_is old.events (Deliver key event))
+      ∙ voided_delivered (stored old) key event (finite.entries_sorted old.events) (listed old key None absent)
+
+  pub restored_voided : new.events ≡ events_after old.events (Restore key) → IsFound (finite.get old.events key) true → voided_in new + 1 ≡ voided_in old
+  restored_voided is f = ap (λ n. n + 1) (ap (λ m. count_by (λ (e : Entry). e.1.voided) (finite.entries m)) is ∙ ap (count_by (λ (e : Entry). e.1.voided)) (entries_after_is old.events (Restore key)))
+      ∙ voided_restored (stored old) key f.event (finite.entries_sorted old.events) (listed old key (Some f.event) f.is) f.marked_is
+
+  pub voided_voided_more : new.events ≡ events_after old.events (Void key) → IsFound (finite.get old.events key) false → voided_in new ≡ voided_in old + 1
+  voided_voided_more is f = ap (λ m. count_by (λ (e : Entry). e.1.voided) (finite.entries m)) is ∙ ap (count_by (λ (e : Entry). e.1.voided)) (entries_after_is old.events (Void key))
+      ∙ voided_voided (stored old) key f.event (finite.entries_sorted old.events) (listed old key (Some f.event) f.is) f.marked_is
+
+  pub erased_voided : new.events ≡ events_after old.events (Erase key) → IsFound (finite.get old.events key) true → voided_in new + 1 ≡ voided_in old
+  erased_voided is f = ap (λ n. n + 1) (ap (λ m. count_by (λ (e : Entry). e.1.voided) (finite.entries m)) is ∙ ap (count_by (λ (e : Entry). e.1.voided)) (entries_after_is old.events (Erase key)))
+      ∙ voided_erased (stored old) key f.event (finite.entries_sorted old.events) (listed old key (Some f.event) f.is) f.marked_is
+
+-- a voided event is counted
+pub some_voided : (old : Chained) (key : KeyName) → IsFound (finite.get old.events key) true → 0 < voided_in old
+some_voided old key f = omega (arith, voided_restored (stored old) key f.event (finite.entries_sorted old.events) (listed old key (Some f.event) f.is) f.marked_is)

@@ -1,0 +1,162 @@
+-- One live event more, or less, moves what its transaction counts for.
+use Rattle.std.proofs.Common.{◌≡◌, ◌==◌, ℕ, zero, suc, ◌+◌, ◌<◌, ◌≤◌, Bool, true, false, not, cond, ◌&&◌, ◌||◌, List, [], ◌∷◌, Option, Some, None, length, map, refl, sym, ap, ◌∙◌, arith, length-append}
+use Rattle.std.specs.List.{filter_map, flat_map}
+use Rattle.std.specs.Str.{bytes_eq}
+use Rattle.std.proofs.lemmas.Bool.{ne_eqb}
+use Rattle.std.proofs.lemmas.Bool.Decides.{Decides-eqb}
+use Rattle.energy_flow.specs.Flow.{Energy, no_energy, plus}
+use Rattle.ledger_model.specs.Complete.{is_complete, starts_and_ends}
+use Rattle.ledger_model.specs.Content.{Entry, live, live_of, transactions_of, has_transaction}
+use Rattle.ledger_model.specs.Deltas.{IsOneMore, flow_if, own_events}
+use Rattle.ledger_model.specs.Energy.{energy_of, energy_over, followed}
+use Rattle.ledger_model.specs.Evse.{evse_of, energy_at, first_or_none}
+use Rattle.ledger_model.specs.Gaps.{numbers_of, missing}
+use Rattle.ledger_model.proofs.Callers.{events_more, transactions_more, complete_more, missing_more, energy_at_more, evse_counts, live_with, live_without, live_else}
+use Rattle.station_ledger.specs.declared.standing.Standing.{Standing}
+use Rattle.station_ledger.specs.Standing.{standing_with, kept_with, kept_of}
+use Rattle.station_ledger.specs.Moved.{live_in, one_in, complete_in, missing_in, flow_in, one_at, flow_at, IsMoved}
+
+-- a list without elements
+none_long : {X : Type 0} (xs : List X) → length xs ≡ 0 → xs ≡ []
+none_long [] h = refl
+none_long (x ∷ xs) h = absurd (omega (arith, h))
+
+-- whether a transaction has an event, by how many it has
+has_own : (tx : List ℕ) (xs : List Entry) → has_transaction tx xs ≡ not (length (own_events tx xs) == 0)
+has_own tx [] = refl
+has_own tx (e ∷ xs) = elim (bytes_eq tx e.0.tx) as (λ b. (b || has_transaction tx xs) ≡ not (length (cond b (e ∷ own_events tx xs) (own_events tx xs)) == 0)) [
+  | true ↦ sym (ap not (ne_eqb (length (e ∷ own_events tx xs)) 0 (λ h. absurd (omega (arith, h)))))
+  | false ↦ has_own tx xs
+]
+
+-- a transaction without a live event
+pub none_live : (tx : List ℕ) (es : List Entry) → has_transaction tx (live es) ≡ false → live_of tx es ≡ []
+none_live tx es none = none_long (live_of tx es) (zero_if (length (live_of tx es)) (sym none ∙ has_own tx (live es))) where
+  zero_if : (n : ℕ) → false ≡ not (n == 0) → n ≡ 0
+  zero_if n h = elim (n == 0) as (λ b. (n == 0) ≡ b → false ≡ not b → n ≡ 0) [
+    | true ↦ λ e _. (Decides-eqb n 0).0 e
+    | false ↦ λ _ f. cc
+  ] refl h
+
+-- what is kept, where there is no live event and where there is
+kept_cases : (P : Option Standing → Type 0) (flow : Energy) (tx : List ℕ) (es : List Entry) → (live_of tx es ≡ [] → P None) → (0 < length (live_of tx es) → P (Some (standing_with flow tx es))) → P (kept_with flow tx es)
+kept_cases P flow tx es none some = elim (length (live_of tx es) == 0) as (λ b. (length (live_of tx es) == 0) ≡ b → P (cond b None (Some (standing_with flow tx es)))) [
+  | true ↦ λ h. none (none_long (live_of tx es) ((Decides-eqb (length (live_of tx es)) 0).0 h))
+  | false ↦ λ h. some (positive (length (live_of tx es)) h)
+] refl where
+  positive : (n : ℕ) → (n == 0) ≡ false → 0 < n
+  positive zero h = cc
+  positive (suc n) h = omega arith
+
+pub live_kept : (tx : List ℕ) (es : List Entry) → live_in (kept_of tx es) ≡ length (live_of tx es)
+live_kept tx es = kept_cases (λ o. live_in o ≡ length (live_of tx es)) (energy_of tx es) tx es (λ none. sym (ap length none)) (λ _. refl)
+
+one_kept : (tx : List ℕ) (es : List Entry) → one_in (kept_of tx es) ≡ cond (has_transaction tx (live es)) 1 0
+one_kept tx es = ones (length (live_of tx es) == 0) ∙ ap (λ b. cond {A = ℕ} b 1 0) (sym (has_own tx (live es))) where
+  ones : (b : Bool) → one_in (cond b None (Some (standing_with (energy_of tx es) tx es))) ≡ cond (not b) 1 0
+  ones true = refl
+  ones false = refl
+
+complete_kept : (tx : List ℕ) (es : List Entry) → complete_in (kept_of tx es) ≡ cond (is_complete tx es) 1 0
+complete_kept tx es = kept_cases (λ o. complete_in o ≡ cond (is_complete tx es) 1 0) (energy_of tx es) tx es
+    (λ none. sym (ap (λ (xs : List Entry). cond {A = ℕ} (starts_and_ends (map (λ (e : Entry). e.1.event.kind) xs) && (missing (numbers_of tx es) == 0)) 1 0) none)) (λ _. refl)
+
+pub missing_kept : (tx : List ℕ) (es : List Entry) → missing_in (kept_of tx es) ≡ missing (numbers_of tx es)
+missing_kept tx es = kept_cases (λ o. missing_in o ≡ missing (numbers_of tx es)) (energy_of tx es) tx es
+    (λ none. sym (ap (λ (xs : List Entry). missing (map (λ (e : Entry). e.0.seq) xs)) none)) (λ _. refl)
+
+at_kept : (n : ℕ) (tx : List ℕ) (es : List Entry) → one_at n (kept_of tx es) ≡ cond (has_transaction tx (live es)) (cond (evse_of tx es == n) 1 0) 0
+at_kept n tx es = ones (length (live_of tx es) == 0) ∙ ap (λ b. cond {A = ℕ} b (cond (evse_of tx es == n) 1 0) 0) (sym (has_own tx (live es))) where
+  ones : (b : Bool) → one_at n (cond b None (Some (standing_with (energy_of tx es) tx es))) ≡ cond (not b) (cond (evse_of tx es == n) 1 0) 0
+  ones true = refl
+  ones false = refl
+
+none_if : (b : Bool) → flow_if b no_energy ≡ no_energy
+none_if true = refl
+none_if false = refl
+
+pub flow_kept : (n : ℕ) (tx : List ℕ) (es : List Entry) → flow_at n (kept_of tx es) ≡ flow_if (evse_of tx es == n) (energy_of tx es)
+flow_kept n tx es = kept_cases (λ o. flow_at n o ≡ flow_if (evse_of tx es == n) (energy_of tx es)) (energy_of tx es) tx es
+    (λ none. sym (ap (flow_if (evse_of tx es == n)) (energy_none none) ∙ none_if (evse_of tx es == n))) (λ _. refl)
+  where
+    energy_none : live_of tx es ≡ [] → energy_of tx es ≡ no_energy
+    energy_none none = ap (λ (xs : List Entry). energy_over (followed (flat_map (λ (e : Entry). e.1.event.readings) xs))) none
+
+-- one transaction more, where it is new
+counted : (b : Bool) (n m : ℕ) → m ≡ cond b n (n + 1) → m + cond b 1 0 ≡ n + 1
+counted true n m h = omega (arith, h)
+counted false n m h = omega (arith, h)
+
+-- one live event more
+pub moved_more : (es more front : List Entry) (e : Entry) (back : List Entry) → IsOneMore es more front e back → IsMoved e.0.tx es more
+moved_more es more front e back one =
+    let tx = e.0.tx in
+    let own = ap length (live_without es more front e back one) ∙ length-append (own_events tx front) (own_events tx back) in
+    let with_it = ap length (live_with es more front e back one) ∙ length-append (own_events tx front) (e ∷ own_events tx back) in
+    let there : has_transaction tx (live more) ≡ true = has_own tx (live more) ∙ ap not (ne_eqb (length (live_of tx more)) 0 (λ h. absurd (omega (arith, h, with_it)))) in
+    record {
+      others = λ u apart. live_else es more front e back u one apart;
+      events = omega (arith, events_more es more front e back one, live_kept tx es, live_kept tx more, own, with_it);
+      transactions = omega (arith, counted (has_transaction tx (live es)) (length (transactions_of (live es))) (length (transactions_of (live more))) (transactions_more es more front e back one), one_kept tx es, one_kept tx more, ap (λ b. cond {A = ℕ} b 1 0) there);
+      complete = omega (arith, complete_more es more front e back one, complete_kept tx es, complete_kept tx more);
+      missing_are = omega (arith, missing_more es more front e back one, missing_kept tx es, missing_kept tx more);
+      at_evse = λ n. omega (arith, evse_counts n es more front e back one, at_kept n tx es, at_kept n tx more, ap (λ b. cond {A = ℕ} b (cond (evse_of tx more == n) 1 0) 0) there);
+      flow_at_evse = λ n. ap (plus (energy_at n more)) (flow_kept n tx es) ∙ energy_at_more n es more front e back one ∙ ap (plus (energy_at n es)) (sym (flow_kept n tx more));
+    }
+
+-- one live event less
+pub moved_back : (tx : List ℕ) (es new : List Entry) → IsMoved tx es new → IsMoved tx new es
+moved_back tx es new m = record {
+  others = λ u apart. sym (m.others u apart);
+  events = sym m.events;
+  transactions = sym m.transactions;
+  complete = sym m.complete;
+  missing_are = sym m.missing_are;
+  at_evse = λ n. sym (m.at_evse n);
+  flow_at_evse = λ n. sym (m.flow_at_evse n);
+}
+
+-- the energy of what is kept
+pub flow_in_kept : (tx : List ℕ) (es : List Entry) → flow_in (kept_of tx es) ≡ energy_of tx es
+flow_in_kept tx es = kept_cases (λ o. flow_in o ≡ energy_of tx es) (energy_of tx es) tx es
+    (λ none. sym (ap (λ (xs : List Entry). energy_over (followed (flat_map (λ (e : Entry). e.1.event.readings) xs))) none)) (λ _. refl)
+
+-- what is kept hangs on the transaction's live events alone
+kept_over : List ℕ → List Entry → Option Standing
+kept_over tx own = cond (length own == 0) None (Some (record {
+  live = length own;
+  evse = first_or_none (filter_map (λ e. e.1.event.evse) own);
+  complete = starts_and_ends (map (λ e. e.1.event.kind) own) && (missing (map (λ e. e.0.seq) own) == 0);
+  missing = missing (map (λ e. e.0.seq) own);
+  flow = energy_over (followed (flat_map (λ e. e.1.event.readings) own));
+}))
+
+pub kept_same : (u : List ℕ) (es new : List Entry) → live_of u new ≡ live_of u es → kept_of u new ≡ kept_of u es
+unfolding kept_over
+kept_same u es new same = ap (kept_over u) same
+
+-- at most one
+pub one_in_le : (o : Option Standing) → one_in o ≤ 1
+one_in_le None = omega arith
+one_in_le (Some s) = omega arith
+
+one_if : (b : Bool) → cond b 1 0 ≤ 1
+one_if true = omega arith
+one_if false = omega arith
+
+pub complete_in_le : (o : Option Standing) → complete_in o ≤ 1
+complete_in_le None = omega arith
+complete_in_le (Some s) = one_if s.complete
+
+pub one_at_le : (n : ℕ) (o : Option Standing) → one_at n o ≤ 1
+one_at_le n None = omega arith
+one_at_le n (Some s) = one_if (s.evse == n)
+
+-- at an EVSE there is no more than all
+flow_if_le : (b : Bool) (e : Energy) → ((flow_if b e).up ≤ e.up) × ((flow_if b e).down ≤ e.down)
+flow_if_le true e = (omega arith, omega arith)
+flow_if_le false e = (omega arith, omega arith)
+
+pub flow_at_le : (n : ℕ) (o : Option Standing) → ((flow_at n o).up ≤ (flow_in o).up) × ((flow_at n o).down ≤ (flow_in o).down)
+flow_at_le n None = (omega arith, omega arith)
+flow_at_le n (Some s) = flow_if_le (s.evse == n) s.flow

@@ -1,0 +1,57 @@
+-- What reached events are allowed to be, and what an accepted command reaches.
+use Rattle.std.proofs.Common.{◌≡◌, ℕ, suc, ◌+◌, ◌≤◌, cond, List, [], ◌∷◌, Some, length, sym, ap, subst, ◌∙◌, arith}
+use Rattle.std.specs.FinMap.{find}
+use Rattle.std.specs.Ordering.{is_eq}
+use Rattle.std.specs.declared.cmp.Ordering.{Ordering}
+use Rattle.std.specs.declared.cmp.Ordering.TheVariants.{Less, Equal, Greater}
+use Rattle.ledger_model.specs.declared.answer.Answer.{Answer}
+use Rattle.ledger_model.specs.declared.answer.Answer.TheVariants.{Accepted}
+use Rattle.ledger_model.specs.declared.command.Command.{Command}
+use Rattle.ledger_model.specs.Admissible.{IsAdmissible}
+use Rattle.ledger_model.specs.Content.{Content, Entry, Stored, entries}
+use Rattle.ledger_model.specs.Key.{KeyName, key_cmp}
+use Rattle.ledger_model.specs.Laws.{IsAccepted}
+use Rattle.ledger_model.specs.Limits.{Bounds}
+use Rattle.ledger_model.specs.Ranges.{most_event_readings, most_events, most_readings, most_transactions}
+use Rattle.ledger_model.specs.Step.{Reached, answer, content_after, events_after, step}
+use Rattle.ledger_model.proofs.Callers.{AreEntries, AreKept-reached, figures_within, is_counted}
+use Rattle.station_ledger.specs.Sums.{AreAllowed}
+
+-- what stands under a key has few readings
+few_readings_at : (key : KeyName) (s : Stored) (es : List Entry) → AreEntries es → find key_cmp key es ≡ Some s → length s.event.readings ≤ most_event_readings
+few_readings_at key s [] h is = cc
+few_readings_at key s (e ∷ es) h is =
+    elim (key_cmp key e.0) as (λ (o : Ordering). cond (is_eq o) (Some e.1) (find key_cmp key es) ≡ Some s → length s.event.readings ≤ most_event_readings) [
+      | Less ↦ λ some. few_readings_at key s es h.1 some
+      | Equal ↦ λ some. let same : e.1 ≡ s = cc in subst (λ (t : Stored). length t.event.readings ≤ most_event_readings) same h.0.event.event.0
+      | Greater ↦ λ some. few_readings_at key s es h.1 some
+    ] is
+
+module _ (limits : Bounds) (transactions : limits.transactions ≤ most_transactions) (events : limits.events ≤ most_events) (readings : limits.readings ≤ most_readings) where
+  -- reached events are allowed
+  pub allowed : (n : ℕ) (c : Content) → Reached limits n c → AreAllowed limits (entries c)
+  allowed n c reached =
+      let kept = AreKept-reached limits n c reached in
+      record {
+        figures_within = figures_within limits n c reached;
+        readings_within = kept.readings;
+        few_in_each = λ key s found. few_readings_at key s (entries c) kept.in_range found;
+        most_transactions_within = transactions;
+        most_events_within = events;
+        most_readings_within = readings;
+      }
+
+told : (a : Answer) (m : ℕ) → a ≡ Accepted m → IsAccepted a
+told a m h = subst IsAccepted (sym h) tt
+
+same_number : (a : Answer) (m n : ℕ) → a ≡ Accepted m → a ≡ Accepted n → m ≡ n
+same_number a m n h k = let e : Accepted m ≡ Accepted n = sym h ∙ k in cc
+
+-- an accepted command reaches its content
+pub reached_next : (limits : Bounds) (c : Content) (n m : ℕ) (command : Command) → c.changes ≡ n → IsAdmissible command → Reached limits n c → answer limits c command ≡ Accepted m → Reached limits m (record { events = events_after c.events command; changes = m })
+reached_next limits c n m command count may reached a =
+    let next : m ≡ suc n = (let e = same_number _ m (c.changes + 1) a (is_counted limits c command (told _ m a)).next in omega (arith, e, count)) in
+    let after : Content = record { events = events_after c.events command; changes = m } in
+    let taken : step limits c command ≡ (after, Accepted (suc n)) = λ i. (content_after c command (a i), (a ∙ ap Accepted next) i) in
+    let P : ℕ → Type 0 = λ k. Reached limits k after in
+    subst P (sym next) (c, command, (may, reached, taken))

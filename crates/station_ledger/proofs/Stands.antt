@@ -1,0 +1,146 @@
+-- A transaction that stands otherwise, in all sums.
+use Rattle.std.proofs.Common.{◌≡◌, ℕ, ◌+◌, ◌-◌, ◌<◌, ◌≤◌, Bool, true, false, cond, List, Option, Some, None, is_some, length, refl, sym, ap, subst, ◌∙◌, arith}
+use Rattle.std.specs.Str.{bytes_eq}
+use Rattle.std.specs.FinMap.{find}
+use Rattle.std.specs.Ordering.{eq_by_cmp}
+use Rattle.std.proofs.lemmas.Slice.Eq.{bytes_eq-Decides}
+use Rattle.energy_flow.specs.Flow.{Energy, plus}
+use Rattle.ledger_model.specs.declared.figures.Figures.{Figures}
+use Rattle.ledger_model.specs.Content.{Entry, live, transactions_of}
+use Rattle.ledger_model.specs.Energy.{energy_of}
+use Rattle.ledger_model.specs.Evse.{energy_at, transactions_at}
+use Rattle.ledger_model.specs.Limits.{Bounds}
+use Rattle.ledger_model.specs.Ranges.{greatest_evse}
+use Rattle.transaction_map.specs.Map.{Mapped, AreRising, id_cmp}
+use Rattle.transaction_map.proofs.Rising.{equal_ids, id_total}
+use Rattle.std.specs.Cmp.{eq_by_cmp_equiv}
+use Rattle.transaction_map.proofs.Found.{found_put, found_out, rising_put, rising_out, length_put, length_out}
+use Rattle.station_ledger.specs.declared.standing.Standing.{Standing}
+use Rattle.station_ledger.specs.declared.totals.EvseSum.{EvseSum}
+use Rattle.station_ledger.specs.Standing.{kept_of}
+use Rattle.station_ledger.specs.Moved.{live_in, one_in, complete_in, missing_in, flow_in, one_at, flow_at, IsMoved, sum_at, with_one, without_one, with_figures, without_figures, HasRoomAt, CountsAt, HaveRoom, DoCount}
+use Rattle.station_ledger.specs.Sums.{AreStanding, AreEvseSums, AreCounts, AreAllowed, keep}
+use Rattle.station_ledger.proofs.Moved.{live_kept, missing_kept, flow_in_kept, kept_same, one_in_le, complete_in_le, one_at_le, flow_at_le}
+use Rattle.station_ledger.proofs.Bounded.{live_le, at_evse_le, evse_up_le, evse_down_le, own_up_le, own_down_le, own_missing_le}
+
+-- what is found where a transaction's row was written or taken out
+found_keep : (u tx : List ℕ) (o : Option Standing) (rows : List (List ℕ × Standing)) → find id_cmp u (keep tx o rows) ≡ cond (eq_by_cmp id_cmp u tx) o (find id_cmp u rows)
+found_keep u tx None rows = found_out u tx rows
+found_keep u tx (Some s) rows = found_put u tx s rows
+
+-- ids that do not tie are told apart
+apart_ids : (u tx : List ℕ) → eq_by_cmp id_cmp u tx ≡ false → bytes_eq u tx ≡ false
+apart_ids u tx e = elim (bytes_eq u tx) as (λ b. bytes_eq u tx ≡ b → b ≡ false) [
+  | true ↦ λ h. let f : false ≡ true = sym e ∙ ap (λ t. eq_by_cmp id_cmp t tx) ((bytes_eq-Decides u tx).0 h) ∙ (eq_by_cmp_equiv id_total).refl tx in cc
+  | false ↦ λ _. refl
+] refl
+
+is_one : (o : Option Standing) → one_in o ≡ cond (is_some o) 1 0
+is_one None = refl
+is_one (Some s) = refl
+
+some_one : (o : Option Standing) → (o ≡ None → ⊥) → one_in o ≡ 1
+some_one None h = absurd (h refl)
+some_one (Some s) h = refl
+
+module _ (limits : Bounds) (tx : List ℕ) (es new : List Entry) (moved : IsMoved tx es new) (before : AreAllowed limits es) (after : AreAllowed limits new) (was is : Option Standing) (is_is : is ≡ kept_of tx new) where
+  module _ (kept : Mapped Standing) (standing : AreStanding limits es kept) (was_is : was ≡ find id_cmp tx kept.rows) where
+    pub was_kept : was ≡ kept_of tx es
+    was_kept = was_is ∙ standing.each tx
+
+    pub place : find id_cmp tx kept.rows ≡ None → (is ≡ None → ⊥) → length kept.rows < kept.capacity
+    place none some =
+        let gone : one_in (kept_of tx es) ≡ 0 = ap one_in (sym (standing.each tx) ∙ none) in
+        let here : one_in (kept_of tx new) ≡ 1 = ap one_in (sym is_is) ∙ some_one is some in
+        omega (arith, standing.number, standing.room, moved.transactions, gone, here, after.figures_within.transactions)
+
+    pub stands : (next : Mapped Standing) → next.rows ≡ keep tx is kept.rows → next.capacity ≡ kept.capacity → AreStanding limits new next
+    stands next rows same = record {
+      each = λ u. ap (find id_cmp u) rows ∙ found_keep u tx is kept.rows ∙ (elim (eq_by_cmp id_cmp u tx) as (λ b. eq_by_cmp id_cmp u tx ≡ b → cond b is (find id_cmp u kept.rows) ≡ kept_of u new) [
+        | true ↦ λ e. is_is ∙ ap (λ t. kept_of t new) (sym (equal_ids u tx e))
+        | false ↦ λ e. standing.each u ∙ sym (kept_same u es new (moved.others u (apart_ids u tx e)))
+      ] refl);
+      rising = subst (λ rs. AreRising rs) (sym rows) (rises is);
+      number = ap length rows ∙ counted is is_is;
+      room = same ∙ standing.room;
+    } where
+      rises : (o : Option Standing) → AreRising (keep tx o kept.rows)
+      rises None = rising_out tx kept.rows standing.rising
+      rises (Some s) = rising_put tx s kept.rows standing.rising
+
+      was_one : one_in (kept_of tx es) ≡ cond (is_some (find id_cmp tx kept.rows)) 1 0
+      was_one = ap one_in (sym (standing.each tx)) ∙ is_one (find id_cmp tx kept.rows)
+
+      grown : (b : Bool) (n : ℕ) → cond b n (n + 1) + cond b 1 0 ≡ n + 1
+      grown true n = refl
+      grown false n = omega arith
+
+      counted : (o : Option Standing) → o ≡ kept_of tx new → length (keep tx o kept.rows) ≡ length (transactions_of (live new))
+      counted None now = omega (arith, length_out tx kept.rows standing.rising, standing.number, moved.transactions, was_one, ap one_in now)
+      counted (Some s) now = omega (arith, length_put tx s kept.rows standing.rising, standing.number, moved.transactions, was_one, ap one_in now, grown (is_some (find id_cmp tx kept.rows)) (length kept.rows))
+
+  module _ (was_at : was ≡ kept_of tx es) where
+    flow_is : flow_in is ≡ energy_of tx new
+    flow_is = ap flow_in is_is ∙ flow_in_kept tx new
+
+    module _ (evses : List EvseSum) (sums : AreEvseSums es evses) where
+      pub room_at : (n : ℕ) → n ≤ greatest_evse → HasRoomAt n is (sum_at evses n)
+      room_at n le = subst (HasRoomAt n is) (sym (sums.each n le)) (record {
+        number = omega (arith, at_evse_le n es, before.figures_within.transactions, before.most_transactions_within, one_at_le n is);
+        energy = record {
+          up = omega (arith, evse_up_le n es, before.figures_within.up, before.most_readings_within, (flow_at_le n is).0, ap (λ (e : Energy). e.up) flow_is, own_up_le tx new, after.figures_within.up);
+          down = omega (arith, evse_down_le n es, before.figures_within.down, before.most_readings_within, (flow_at_le n is).1, ap (λ (e : Energy). e.down) flow_is, own_down_le tx new, after.figures_within.down);
+        };
+      })
+
+      -- what it was and what it is, at an EVSE
+      ones : (n : ℕ) → length (transactions_at n new) + one_at n was ≡ length (transactions_at n es) + one_at n is
+      ones n = ap (λ o. length (transactions_at n new) + one_at n o) was_at ∙ moved.at_evse n ∙ ap (λ o. length (transactions_at n es) + one_at n o) (sym is_is)
+
+      flows : (n : ℕ) → plus (energy_at n new) (flow_at n was) ≡ plus (energy_at n es) (flow_at n is)
+      flows n = ap (λ o. plus (energy_at n new) (flow_at n o)) was_at ∙ moved.flow_at_evse n ∙ ap (λ o. plus (energy_at n es) (flow_at n o)) (sym is_is)
+
+      pub counts_at : (n : ℕ) → n ≤ greatest_evse → CountsAt n was (with_one n is (sum_at evses n))
+      counts_at n le = subst (λ s. CountsAt n was (with_one n is s)) (sym (sums.each n le)) (record {
+        number = omega (arith, ones n);
+        energy = record { up = omega (arith, ap (λ (e : Energy). e.up) (flows n)); down = omega (arith, ap (λ (e : Energy). e.down) (flows n)) };
+      })
+
+      pub sums_stand : (next : List EvseSum) → length next ≡ greatest_evse + 1 → ((n : ℕ) → sum_at next n ≡ without_one n was (with_one n is (sum_at evses n))) → AreEvseSums new next
+      sums_stand next all each = record {
+        all = all;
+        each = λ n le.
+            let one : (length (transactions_at n es) + one_at n is) - one_at n was ≡ length (transactions_at n new) = omega (arith, ones n) in
+            let up : ((energy_at n es).up + (flow_at n is).up) - (flow_at n was).up ≡ (energy_at n new).up = omega (arith, ap (λ (e : Energy). e.up) (flows n)) in
+            let down : ((energy_at n es).down + (flow_at n is).down) - (flow_at n was).down ≡ (energy_at n new).down = omega (arith, ap (λ (e : Energy). e.down) (flows n)) in
+            each n ∙ ap (λ s. without_one n was (with_one n is s)) (sums.each n le) ∙ (λ i. record { transactions = one i; flow = record { up = up i; down = down i } });
+      }
+
+    module _ (f : Figures) (counts : AreCounts es f) where
+      pub have_room : HaveRoom is f
+      have_room = record {
+        events = omega (arith, counts.events, before.figures_within.events, before.most_events_within, ap live_in is_is, live_kept tx new, live_le tx new, after.figures_within.events);
+        transactions = omega (arith, counts.transactions, before.figures_within.transactions, before.most_transactions_within, one_in_le is);
+        complete = omega (arith, counts.complete, before.figures_within.complete, before.most_transactions_within, complete_in_le is);
+        missing_fit = omega (arith, counts.missing_are, before.figures_within.missing, before.most_transactions_within, ap missing_in is_is, missing_kept tx new, own_missing_le tx new, after.figures_within.missing);
+      }
+
+      pub do_count : DoCount was (with_figures is f)
+      do_count = record {
+        events = omega (arith, counts.events, moved.events, ap live_in is_is, ap live_in was_at);
+        transactions = omega (arith, counts.transactions, moved.transactions, ap one_in is_is, ap one_in was_at);
+        complete = omega (arith, counts.complete, moved.complete, ap complete_in is_is, ap complete_in was_at);
+        missing_fit = omega (arith, counts.missing_are, moved.missing_are, ap missing_in is_is, ap missing_in was_at);
+      }
+
+      pub counts_stand : (next : Figures) → next ≡ without_figures was (with_figures is f) → AreCounts new next
+      counts_stand next same = record {
+        events = omega (arith, ap (λ (g : Figures). g.events) same, counts.events, moved.events, ap live_in is_is, ap live_in was_at);
+        transactions = omega (arith, ap (λ (g : Figures). g.transactions) same, counts.transactions, moved.transactions, ap one_in is_is, ap one_in was_at);
+        complete = omega (arith, ap (λ (g : Figures). g.complete) same, counts.complete, moved.complete, ap complete_in is_is, ap complete_in was_at);
+        missing_are = omega (arith, ap (λ (g : Figures). g.missing) same, counts.missing_are, moved.missing_are, ap missing_in is_is, ap missing_in was_at);
+      }
+
+-- the energy of what was kept
+pub own_flow : (limits : Bounds) (es : List Entry) (tx : List ℕ) (kept : Mapped Standing) (was : Option Standing) → was ≡ find id_cmp tx kept.rows → AreStanding limits es kept → flow_in was ≡ energy_of tx es
+own_flow limits es tx kept was was_is standing = ap flow_in (was_is ∙ standing.each tx) ∙ flow_in_kept tx es

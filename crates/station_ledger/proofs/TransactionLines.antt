@@ -1,0 +1,114 @@
+-- The lines of the transactions from what is kept of each.
+use Rattle.std.proofs.Common.{◌≡◌, ℕ, zero, suc, ◌+◌, ◌-◌, ◌<◌, ◌||◌, true, false, cond, T, List, [], ◌∷◌, ◌++◌, Some, is_some, unwrap_or, length, map, take, slice_get, refl, sym, ap, subst, ◌∙◌, arith}
+use Rattle.std.specs.List.{AllByRecursion, filter, list_any}
+use Rattle.std.specs.List.Sorted.{IsStrictlySortedBy}
+use Rattle.std.specs.Str.{bytes_eq}
+use Rattle.std.specs.Ordering.{eq_by_cmp, is_lt}
+use Rattle.std.specs.declared.cmp.Ordering.TheVariants.{Less}
+use Rattle.std.specs.FinMap.{find}
+use Rattle.std.specs.FinMap.Entries.{below_all}
+use Rattle.std.proofs.lemmas.List.{map_more}
+use Rattle.std.proofs.lemmas.Option.{get_or_from_slice_get, slice_get_within}
+use Rattle.std.proofs.lemmas.Slice.Eq.{bytes_eq-Decides}
+use Rattle.event_chain.specs.Chains.{Chained, stored}
+use Rattle.ledger_model.specs.Board.{last_or_none}
+use Rattle.ledger_model.specs.Content.{Entry, live, transactions_of, has_transaction}
+use Rattle.ledger_model.specs.Energy.{energy_of}
+use Rattle.ledger_model.specs.Evse.{first_or_none}
+use Rattle.ledger_model.specs.Limits.{Bounds}
+use Rattle.ledger_model.proofs.Rising.{both}
+use Rattle.ledger_model.proofs.TransactionLemmas.{transactions-any, transactions_rise}
+use Rattle.transaction_map.specs.Map.{Mapped, AreRising, id_cmp}
+use Rattle.transaction_map.proofs.Found.{same_ids}
+use Rattle.transaction_map.proofs.Rising.{equal_ids, same_id}
+use Rattle.station_ledger.specs.declared.standing.Standing.{Standing}
+use Rattle.station_ledger.specs.Standing.{kept_of, standing_with}
+use Rattle.station_ledger.specs.Sums.{AreStanding}
+use Rattle.station_ledger.proofs.EndNumbers.{kept_some, kept_none}
+use Rattle.station_ledger.proofs.Moved.{none_live}
+
+-- ids with nothing else
+abbrev bare : List (List ℕ) → List (List ℕ × Unit {0})
+bare ts = map (λ t. (t, tt)) ts
+
+bare_ids : (ts : List (List ℕ)) → map (λ (r : List ℕ × Unit {0}). r.0) (bare ts) ≡ ts
+bare_ids [] = refl
+bare_ids (t ∷ ts) = ap (λ us. t ∷ us) (bare_ids ts)
+
+bare_below : (t : List ℕ) (ts : List (List ℕ)) → AllByRecursion (λ u. id_cmp t u ≡ Less) ts → T (below_all id_cmp t (bare ts))
+bare_below t [] h = tt
+bare_below t (u ∷ ts) h = both _ _ (subst (λ o. T (is_lt o)) (sym h.0) tt) (bare_below t ts h.1)
+
+bare_rise : (ts : List (List ℕ)) → IsStrictlySortedBy id_cmp ts → AreRising (bare ts)
+unfolding IsStrictlySortedBy
+bare_rise [] h = tt
+bare_rise (t ∷ ts) h = both _ _ (bare_below t ts h.0) (bare_rise ts h.1)
+
+-- both tests tell ids apart
+same_test : (q t : List ℕ) → eq_by_cmp id_cmp q t ≡ bytes_eq q t
+same_test q t = elim (eq_by_cmp id_cmp q t) as (λ b. eq_by_cmp id_cmp q t ≡ b → b ≡ bytes_eq q t) [
+  | true ↦ λ e. sym ((bytes_eq-Decides q t).1 (equal_ids q t e))
+  | false ↦ λ e. sym (elim (bytes_eq q t) as (λ b. bytes_eq q t ≡ b → b ≡ false) [
+    | true ↦ λ h. let f : false ≡ true = sym e ∙ ap (λ u. eq_by_cmp id_cmp u t) ((bytes_eq-Decides q t).0 h) ∙ same_id t in cc
+    | false ↦ λ _. refl
+  ] refl)
+] refl
+
+bare_found : (q : List ℕ) (ts : List (List ℕ)) → is_some (find id_cmp q (bare ts)) ≡ list_any (bytes_eq q) ts
+bare_found q [] = refl
+bare_found q (t ∷ ts) =
+    (elim (eq_by_cmp id_cmp q t) as (λ b. is_some (cond b (Some tt) (find id_cmp q (bare ts))) ≡ (b || list_any (bytes_eq q) ts)) [ true ↦ refl | false ↦ bare_found q ts ])
+    ∙ ap (λ b. b || list_any (bytes_eq q) ts) (same_test q t)
+
+-- a transaction with an event has some
+some_own : (tx : List ℕ) (es : List Entry) → has_transaction tx es ≡ true → 0 < length (filter (λ (e : Entry). bytes_eq tx e.0.tx) es)
+some_own tx [] h = cc
+some_own tx (e ∷ es) h = elim (bytes_eq tx e.0.tx) as (λ b. (b || has_transaction tx es) ≡ true → 0 < length (cond b (e ∷ filter (λ (f : Entry). bytes_eq tx f.0.tx) es) (filter (λ (f : Entry). bytes_eq tx f.0.tx) es))) [
+  | true ↦ λ _. omega arith
+  | false ↦ λ rest. some_own tx es rest
+] h
+
+-- it is kept just where it has a live event
+kept_has : (tx : List ℕ) (es : List Entry) → is_some (kept_of tx es) ≡ has_transaction tx (live es)
+kept_has tx es = elim (has_transaction tx (live es)) as (λ b. has_transaction tx (live es) ≡ b → is_some (kept_of tx es) ≡ b) [
+  | true ↦ λ e. ap is_some (sym (kept_some (energy_of tx es) tx es (some_own tx (live es) e)))
+  | false ↦ λ e. ap is_some (sym (kept_none (energy_of tx es) tx es (ap length (none_live tx es e))))
+] refl
+
+-- an id at a place is one of them
+is_any : (ts : List (List ℕ)) (n : ℕ) (tx : List ℕ) → slice_get ts n ≡ Some tx → list_any (bytes_eq tx) ts ≡ true
+is_any [] n tx h = cc
+is_any (t ∷ ts) zero tx h = let same : t ≡ tx = cc in ap (λ b. b || list_any (bytes_eq tx) ts) ((bytes_eq-Decides tx t).1 (sym same))
+is_any (t ∷ ts) (suc n) tx h = elim (bytes_eq tx t) as (λ b. (b || list_any (bytes_eq tx) ts) ≡ true) [ true ↦ refl | false ↦ is_any ts n tx h ]
+
+module _ (limits : Bounds) (c : Chained) (kept : Mapped Standing) (standing : AreStanding limits (stored c) kept) where
+  -- the ids that are kept are those of the transactions with a live event
+  pub kept_ids : map (λ (r : List ℕ × Standing). r.0) kept.rows ≡ transactions_of (live (stored c))
+  kept_ids =
+      let es = stored c in let ts = transactions_of (live es) in
+      same_ids kept.rows (bare ts) standing.rising (bare_rise ts (transactions_rise (record { events = c.events; changes = 0 })))
+      (λ q. ap is_some (standing.each q) ∙ kept_has q es ∙ sym (bare_found q ts ∙ transactions-any q (live es)))
+      ∙ bare_ids ts
+
+  -- what is found under the id of a place
+  pub found_at : (n : ℕ) (tx : List ℕ) → slice_get (map (λ (r : List ℕ × Standing). r.0) kept.rows) n ≡ Some tx → find id_cmp tx kept.rows ≡ Some (standing_with (energy_of tx (stored c)) tx (stored c))
+  found_at n tx at =
+      let es = stored c in
+      let any = is_any (transactions_of (live es)) n tx (ap (λ ts. slice_get ts n) (sym kept_ids) ∙ at) in
+      standing.each tx ∙ sym (kept_some (energy_of tx es) tx es (some_own tx (live es) (sym (transactions-any tx (live es)) ∙ any)))
+
+-- the lines with that of the next id
+pub line_more : {X : Type 0} (line : List ℕ → X) (ids : List (List ℕ)) (n : ℕ) (tx : List ℕ) → slice_get ids n ≡ Some tx → map line (take (n + 1) ids) ≡ map line (take n ids) ++ line tx ∷ []
+line_more line ids n tx at = map_more line ids n tx (slice_get_within ids n tx at) ∙ ap (λ t. map line (take n ids) ++ line t ∷ []) (get_or_from_slice_get ids n tx tx at)
+
+-- the first and the last, or nothing
+pub first_is_or : (ns : List ℕ) → unwrap_or (slice_get ns 0) 0 ≡ first_or_none ns
+first_is_or [] = refl
+first_is_or (n ∷ ns) = refl
+
+pub last_is_or : (ns : List ℕ) → unwrap_or (slice_get ns (length ns - 1)) 0 ≡ last_or_none ns
+last_is_or [] = refl
+last_is_or (n ∷ []) = refl
+last_is_or (n ∷ m ∷ ns) =
+    let at : length (n ∷ m ∷ ns) - 1 ≡ suc (length (m ∷ ns) - 1) = omega arith in
+    ap (λ k. unwrap_or (slice_get (n ∷ m ∷ ns) k) 0) at ∙ last_is_or (m ∷ ns)

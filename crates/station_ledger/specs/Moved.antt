@@ -1,0 +1,107 @@
+-- What a change of one transaction's live events moves.
+use Rattle.std.specs.Prelude.{◌≡◌, ℕ, ◌+◌, ◌-◌, ◌<◌, ◌≤◌, ◌^◌, ◌==◌, false, unwrap_or, slice_get, if◌then◌else◌, List, Option, None, Some, length, count_by, sum_by}
+use Rattle.std.specs.Str.{bytes_eq}
+use Rattle.energy_flow.specs.Flow.{Energy, no_energy, plus, minus, CanPlus, CanMinus}
+use Rattle.ledger_model.specs.Complete.{is_complete}
+use Rattle.ledger_model.specs.Content.{Entry, live, live_of, transactions_of}
+use Rattle.ledger_model.specs.Deltas.{flow_if}
+use Rattle.ledger_model.specs.Evse.{energy_at, transactions_at}
+use Rattle.ledger_model.specs.Gaps.{numbers_of, missing}
+use Rattle.ledger_model.specs.declared.figures.Figures.{Figures}
+use Rattle.station_ledger.specs.declared.totals.EvseSum.{EvseSum}
+use Rattle.station_ledger.specs.declared.standing.Standing.{Standing}
+use Rattle.station_ledger.specs.Standing.{kept_of}
+
+-- What a transaction counts for in the figures, nothing where it has no live event.
+abbrev pub live_in : Option Standing → ℕ
+live_in None = 0
+live_in (Some s) = s.live
+
+abbrev pub one_in : Option Standing → ℕ
+one_in None = 0
+one_in (Some s) = 1
+
+abbrev pub complete_in : Option Standing → ℕ
+complete_in None = 0
+complete_in (Some s) = if s.complete then 1 else 0
+
+abbrev pub missing_in : Option Standing → ℕ
+missing_in None = 0
+missing_in (Some s) = s.missing
+
+-- Its energy.
+abbrev pub flow_in : Option Standing → Energy
+flow_in None = no_energy
+flow_in (Some s) = s.flow
+
+-- What it counts for at an EVSE.
+abbrev pub one_at : ℕ → Option Standing → ℕ
+one_at n None = 0
+one_at n (Some s) = if s.evse == n then 1 else 0
+
+-- Its energy at an EVSE.
+abbrev pub flow_at : ℕ → Option Standing → Energy
+flow_at n None = no_energy
+flow_at n (Some s) = flow_if (s.evse == n) s.flow
+
+-- The live events of one transaction changed: no other's did, and each sum changed by what that one counts for.
+pub record IsMoved (tx : List ℕ) (es new : List Entry) : Type 0 where
+  pub others : (u : List ℕ) → bytes_eq u tx ≡ false → live_of u new ≡ live_of u es
+  pub events : length (live new) + live_in (kept_of tx es) ≡ length (live es) + live_in (kept_of tx new)
+  pub transactions : length (transactions_of (live new)) + one_in (kept_of tx es) ≡ length (transactions_of (live es)) + one_in (kept_of tx new)
+  pub complete : count_by (λ u. is_complete u new) (transactions_of (live new)) + complete_in (kept_of tx es) ≡ count_by (λ u. is_complete u es) (transactions_of (live es)) + complete_in (kept_of tx new)
+  pub missing_are : sum_by (λ u. missing (numbers_of u new)) (transactions_of (live new)) + missing_in (kept_of tx es) ≡ sum_by (λ u. missing (numbers_of u es)) (transactions_of (live es)) + missing_in (kept_of tx new)
+  pub at_evse : (n : ℕ) → length (transactions_at n new) + one_at n (kept_of tx es) ≡ length (transactions_at n es) + one_at n (kept_of tx new)
+  pub flow_at_evse : (n : ℕ) → plus (energy_at n new) (flow_at n (kept_of tx es)) ≡ plus (energy_at n es) (flow_at n (kept_of tx new))
+
+-- An EVSE without transactions.
+abbrev pub no_sum : EvseSum
+no_sum = record { transactions = 0; flow = no_energy }
+
+-- The sum of an EVSE among those of all, by its number.
+abbrev pub sum_at : List EvseSum → ℕ → EvseSum
+sum_at sums n = unwrap_or (slice_get sums n) no_sum
+
+-- The sum of an EVSE from scratch.
+abbrev pub evse_sum : ℕ → List Entry → EvseSum
+evse_sum n es = record { transactions = length (transactions_at n es); flow = energy_at n es }
+
+-- The sum of an EVSE with what a transaction counts for there.
+abbrev pub with_one : ℕ → Option Standing → EvseSum → EvseSum
+with_one n o sum = record { transactions = sum.transactions + one_at n o; flow = plus sum.flow (flow_at n o) }
+
+-- The sum of an EVSE without it.
+abbrev pub without_one : ℕ → Option Standing → EvseSum → EvseSum
+without_one n o sum = record { transactions = sum.transactions - one_at n o; flow = minus sum.flow (flow_at n o) }
+
+-- There is room for what a transaction counts for at an EVSE.
+pub record HasRoomAt (n : ℕ) (o : Option Standing) (sum : EvseSum) : Type 0 where
+  pub number : sum.transactions + one_at n o < 2 ^ 32
+  pub energy : CanPlus sum.flow (flow_at n o)
+
+-- What a transaction counts for is in the sum of an EVSE.
+pub record CountsAt (n : ℕ) (o : Option Standing) (sum : EvseSum) : Type 0 where
+  pub number : one_at n o ≤ sum.transactions
+  pub energy : CanMinus sum.flow (flow_at n o)
+
+-- The figures with what a transaction counts for, but for its energy.
+abbrev pub with_figures : Option Standing → Figures → Figures
+with_figures o f = record f { events = f.events + live_in o; transactions = f.transactions + one_in o; complete = f.complete + complete_in o; missing = f.missing + missing_in o }
+
+-- The figures without it.
+abbrev pub without_figures : Option Standing → Figures → Figures
+without_figures o f = record f { events = f.events - live_in o; transactions = f.transactions - one_in o; complete = f.complete - complete_in o; missing = f.missing - missing_in o }
+
+-- There is room in the figures for what a transaction counts for.
+pub record HaveRoom (o : Option Standing) (f : Figures) : Type 0 where
+  pub events : f.events + live_in o < 2 ^ 64
+  pub transactions : f.transactions + one_in o < 2 ^ 64
+  pub complete : f.complete + complete_in o < 2 ^ 64
+  pub missing_fit : f.missing + missing_in o < 2 ^ 64
+
+-- What a transaction counts for is in the figures.
+pub record DoCount (o : Option Standing) (f : Figures) : Type 0 where
+  pub events : live_in o ≤ f.events
+  pub transactions : one_in o ≤ f.transactions
+  pub complete : complete_in o ≤ f.complete
+  pub missing_fit : missing_in o ≤ f.missing

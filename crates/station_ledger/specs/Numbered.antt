@@ -1,0 +1,14 @@
+-- Entries whose numbers are in range.
+use Rattle.std.specs.Prelude.{◌<◌, ◌≤◌, List, [], ◌∷◌, IfSome}
+use Rattle.ledger_model.specs.Content.{Entry}
+use Rattle.ledger_model.specs.Ranges.{greatest_evse, sequence_end}
+
+-- The number of the event, and that of the EVSE where it names one.
+pub record IsNumbered (e : Entry) : Type 0 where
+  pub sequence : e.0.seq < sequence_end
+  pub evse : IfSome e.1.event.evse (λ number. number ≤ greatest_evse)
+
+-- The numbers of all of them.
+abbrev pub AreNumbered : List Entry → Type 0
+AreNumbered [] = Unit {0}
+AreNumbered (e ∷ es) = IsNumbered e × AreNumbered es

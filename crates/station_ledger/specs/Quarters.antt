@@ -1,0 +1,43 @@
+-- The rows of pairs, each pair given by its quarter and its difference.
+use Rattle.std.specs.Prelude.{◌≡◌, ℕ, ◌+◌, ◌*◌, ◌≤◌, List, ◌++◌, length}
+use Rattle.std.specs.FinMap as finite
+use Rattle.event_chain.specs.Chains.{Chained}
+use Rattle.event_chain.specs.Room.{readings_under}
+use Rattle.energy_flow.specs.Flow.{Energy}
+use Rattle.ledger_model.specs.Board.{Flowed}
+use Rattle.ledger_model.specs.Energy.{Pair}
+use Rattle.ledger_model.specs.Event.{MeterReading}
+use Rattle.ledger_model.specs.Key.{KeyName}
+use Rattle.ledger_model.specs.Quarter.{quarter_seconds}
+use Rattle.ledger_model.specs.Ranges.{greatest_reading, most_readings}
+use Rattle.quarter_table.specs.Table.{Table}
+use Rattle.quarter_table.specs.Pairs.{rows_of, flows_of, total}
+
+-- A difference of two readings: neither its rise nor its fall is more than a reading can show.
+pub record IsDifference (flow : Energy) : Type 0 where
+  pub up : flow.up ≤ greatest_reading
+  pub down : flow.down ≤ greatest_reading
+
+-- Pairs by their quarters and their differences.
+abbrev pub quartered : List Pair → List Flowed
+quartered ps = flows_of quarter_seconds ps
+
+-- A table of these pairs, with room for so many more; what all of them add up to stays far below 2^64.
+pub record AreRows (pairs : List Flowed) (more : ℕ) (t : Table) : Type 0 where
+  pub rows : t.rows ≡ rows_of pairs
+  pub room : length pairs + more ≤ t.capacity
+  pub up : (total pairs).up + greatest_reading * more ≤ greatest_reading * (2 * most_readings)
+  pub down : (total pairs).down + greatest_reading * more ≤ greatest_reading * (2 * most_readings)
+  pub few : t.capacity ≤ most_readings
+
+-- A table of pairs with room for so many more.
+abbrev pub HasRoom : ℕ → Table → Type 0
+HasRoom more t = (pairs : List Flowed) × AreRows pairs more t
+
+-- A table of pairs, these among them.
+abbrev pub HoldsPairs : List Pair → Table → Type 0
+HoldsPairs ps t = (others : List Flowed) × (t.rows ≡ rows_of (quartered ps ++ others))
+
+-- The readings of the event of a key.
+abbrev pub readings_at : Chained → KeyName → List MeterReading
+readings_at chains key = readings_under (finite.get chains.events key)

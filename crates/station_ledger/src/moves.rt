@@ -1,0 +1,125 @@
+//! What an accepted command does to the events and to their sums.
+ghost use Rattle.std.specs.Prelude.{◌≡◌, ◌+◌, ◌<◌, ◌≤◌, None, Some, length};
+ghost use Rattle.std.specs.FinMap as finite;
+ghost use Rattle.event_chain.specs.Chains.{stored};
+ghost use Rattle.event_chain.specs.Room.{found_of, room_of};
+ghost use Rattle.event_chain.specs.declared.answers.Found.TheVariants.{Live, Voided};
+ghost use Rattle.event_chain.specs.declared.answers.Room.TheVariants.{Fits};
+ghost use Rattle.ledger_model.specs.Ranges.{most_events};
+ghost use Rattle.ledger_model.specs.Step.{events_after};
+ghost use Rattle.ledger_model.specs.declared.command.Command.TheVariants.{Deliver, Erase, Restore, Void};
+ghost use Rattle.station_ledger.specs.Kept.{voided_in, IsReady};
+ghost use Rattle.station_ledger.specs.Spent.{most_spent};
+ghost use Rattle.station_ledger.specs.Quarters.{readings_at};
+ghost use Rattle.station_ledger.specs.Sums.{AreAllowed, AreSummed};
+
+use crate::pairs::Place;
+use crate::sums::{Sums, come, go};
+use energy_flow::Work;
+use event_chain::Chains;
+use ledger_model::{Command, Event, Key};
+
+// Puts in a live event under a new key, for which there is room.
+pub(crate) fn deliver(
+    chains: &mut Chains,
+    sums: &mut Sums,
+    key: Key,
+    event: &Event,
+    work: &mut Work,
+)
+    requires absent { finite.get chains.old.events key ≡ None }
+    requires room { room_of chains.old.limits (stored chains.old) key.tx (length event.now.readings) ≡ Fits }
+    requires before { AreAllowed chains.old.limits (stored chains.old) }
+    requires after { AreAllowed chains.old.limits (finite.entries (events_after chains.old.events (Deliver key event.now))) }
+    requires summed { AreSummed chains.old.limits (stored chains.old) sums.old.kept sums.old.evses.items sums.old.quarters sums.old.energy sums.old.figures }
+    ensures limits { chains.new.limits ≡ chains.old.limits }
+    ensures events { chains.new.events ≡ events_after chains.old.events (Deliver key event.now) }
+    ensures summed { AreSummed chains.new.limits (stored chains.new) sums.new.kept sums.new.evses.items sums.new.quarters sums.new.energy sums.new.figures }
+    ensures voided { sums.new.figures.voided ≡ sums.old.figures.voided }
+    ensures work { work.new ≤ work.old + length event.now.readings + 2 }
+    ensures grows { work.old ≤ work.new }
+{
+    let at = key.copied();
+    let (before, behind) = chains.neighbours(&at);
+    chains.insert(key, event);
+    come(chains, sums, &at, &Place { before, behind }, work);
+}
+
+// Makes a voided event live again.
+pub(crate) fn restore(chains: &mut Chains, sums: &mut Sums, key: &Key, work: &mut Work)
+    requires voided { found_of (finite.get chains.old.events key.now) ≡ Some Voided }
+    requires counted { 0 < sums.old.figures.voided }
+    requires before { AreAllowed chains.old.limits (stored chains.old) }
+    requires after { AreAllowed chains.old.limits (finite.entries (events_after chains.old.events (Restore key.now))) }
+    requires summed { AreSummed chains.old.limits (stored chains.old) sums.old.kept sums.old.evses.items sums.old.quarters sums.old.energy sums.old.figures }
+    ensures limits { chains.new.limits ≡ chains.old.limits }
+    ensures events { chains.new.events ≡ events_after chains.old.events (Restore key.now) }
+    ensures summed { AreSummed chains.new.limits (stored chains.new) sums.new.kept sums.new.evses.items sums.new.quarters sums.new.energy sums.new.figures }
+    ensures voided { sums.new.figures.voided + 1 ≡ sums.old.figures.voided }
+    ensures work { work.new ≤ work.old + length (readings_at chains.old key.now) + 2 }
+    ensures grows { work.old ≤ work.new }
+{
+    let (before, behind) = chains.neighbours(key);
+    chains.relink(key);
+    come(chains, sums, key, &Place { before, behind }, work);
+    sums.figures.voided -= 1;
+}
+
+// Voids a live event.
+pub(crate) fn void(chains: &mut Chains, sums: &mut Sums, key: &Key, work: &mut Work)
+    requires live { found_of (finite.get chains.old.events key.now) ≡ Some Live }
+    requires few { sums.old.figures.voided ≤ most_events }
+    requires before { AreAllowed chains.old.limits (stored chains.old) }
+    requires after { AreAllowed chains.old.limits (finite.entries (events_after chains.old.events (Void key.now))) }
+    requires summed { AreSummed chains.old.limits (stored chains.old) sums.old.kept sums.old.evses.items sums.old.quarters sums.old.energy sums.old.figures }
+    ensures limits { chains.new.limits ≡ chains.old.limits }
+    ensures events { chains.new.events ≡ events_after chains.old.events (Void key.now) }
+    ensures summed { AreSummed chains.new.limits (stored chains.new) sums.new.kept sums.new.evses.items sums.new.quarters sums.new.energy sums.new.figures }
+    ensures voided { sums.new.figures.voided ≡ sums.old.figures.voided + 1 }
+    ensures work { work.new ≤ work.old + length (readings_at chains.old key.now) + 2 }
+    ensures grows { work.old ≤ work.new }
+{
+    let (before, behind) = chains.neighbours(key);
+    chains.unlink(key);
+    go(chains, sums, key, &Place { before, behind }, work);
+    sums.figures.voided += 1;
+}
+
+// Takes out a voided event.
+pub(crate) fn erase(chains: &mut Chains, sums: &mut Sums, key: &Key)
+    requires voided { found_of (finite.get chains.old.events key.now) ≡ Some Voided }
+    requires counted { 0 < sums.old.figures.voided }
+    requires before { AreAllowed chains.old.limits (stored chains.old) }
+    requires after { AreAllowed chains.old.limits (finite.entries (events_after chains.old.events (Erase key.now))) }
+    requires summed { AreSummed chains.old.limits (stored chains.old) sums.old.kept sums.old.evses.items sums.old.quarters sums.old.energy sums.old.figures }
+    ensures limits { chains.new.limits ≡ chains.old.limits }
+    ensures events { chains.new.events ≡ events_after chains.old.events (Erase key.now) }
+    ensures summed { AreSummed chains.new.limits (stored chains.new) sums.new.kept sums.new.evses.items sums.new.quarters sums.new.energy sums.new.figures }
+    ensures voided { sums.new.figures.voided + 1 ≡ sums.old.figures.voided }
+{
+    chains.remove(key);
+    sums.figures.voided -= 1;
+}
+
+// Carries out a command that may be accepted.
+#[tactic(auto, unfolding(crate::specs::Spent::most_spent))]
+pub(crate) fn carry_out(chains: &mut Chains, sums: &mut Sums, command: Command, work: &mut Work)
+    requires ready { IsReady chains.old command }
+    requires before { AreAllowed chains.old.limits (stored chains.old) }
+    requires after { AreAllowed chains.old.limits (finite.entries (events_after chains.old.events command)) }
+    requires summed { AreSummed chains.old.limits (stored chains.old) sums.old.kept sums.old.evses.items sums.old.quarters sums.old.energy sums.old.figures }
+    requires voided { sums.old.figures.voided ≡ voided_in chains.old }
+    ensures limits { chains.new.limits ≡ chains.old.limits }
+    ensures events { chains.new.events ≡ events_after chains.old.events command }
+    ensures summed { AreSummed chains.new.limits (stored chains.new) sums.new.kept sums.new.evses.items sums.new.quarters sums.new.energy sums.new.figures }
+    ensures voided { sums.new.figures.voided ≡ voided_in chains.new }
+    ensures work { work.new ≤ work.old + most_spent chains.old.events command }
+    ensures grows { work.old ≤ work.new }
+{
+    match command {
+        Command::Deliver(key, event) => deliver(chains, sums, key, &event, work),
+        Command::Void(key) => void(chains, sums, &key, work),
+        Command::Restore(key) => restore(chains, sums, &key, work),
+        Command::Erase(key) => erase(chains, sums, &key),
+    }
+}

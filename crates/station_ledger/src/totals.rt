@@ -1,0 +1,115 @@
+//! Sums over transactions, and what one transaction counts for in them.
+ghost use Rattle.std.specs.Prelude.{◌≡◌, ℕ, ◌+◌, ◌≤◌, length, Some};
+ghost use Rattle.ledger_model.specs.Ranges.{greatest_evse};
+ghost use Rattle.station_ledger.specs.Moved.{sum_at, with_one, without_one, with_figures, without_figures, HasRoomAt, CountsAt, HaveRoom, DoCount};
+
+use crate::standing::Standing;
+use energy_flow::Flow;
+use ledger_model::Figures;
+
+// What was kept of a transaction, and what is.
+#[derive(Clone, Copy)]
+pub(crate) struct Change {
+    pub(crate) was: Option<Standing>,
+    pub(crate) is: Option<Standing>,
+}
+
+/// The transactions with a live event of an EVSE, and their energy.
+#[derive(Clone, Copy, Debug, PartialEq, Eq)]
+pub struct EvseSum {
+    /// How many transactions it has.
+    pub transactions: u32,
+    /// Their energy, in milliwatt-hours.
+    pub flow: Flow,
+}
+
+// Counts a transaction at its EVSE.
+fn add_at_evse(evses: &mut Vec<EvseSum>, s: Standing)
+    requires all { length evses.old.items ≡ greatest_evse + 1 }
+    requires room { HasRoomAt s.evse (Some s) (sum_at evses.old.items s.evse) }
+    ensures all { length evses.new.items ≡ greatest_evse + 1 }
+    ensures sums { (n : ℕ) → sum_at evses.new.items n ≡ with_one n (Some s) (sum_at evses.old.items n) }
+{
+    // An EVSE's number is at most 64.
+    let at = usize::from(s.evse.number());
+    let sum = evses[at];
+    evses[at] = EvseSum {
+        transactions: sum.transactions + 1,
+        flow: sum.flow.plus(s.flow),
+    };
+}
+
+// Counts a transaction no more at its EVSE.
+fn take_at_evse(evses: &mut Vec<EvseSum>, s: Standing)
+    requires all { length evses.old.items ≡ greatest_evse + 1 }
+    requires counts { CountsAt s.evse (Some s) (sum_at evses.old.items s.evse) }
+    ensures all { length evses.new.items ≡ greatest_evse + 1 }
+    ensures sums { (n : ℕ) → sum_at evses.new.items n ≡ without_one n (Some s) (sum_at evses.old.items n) }
+{
+    // An EVSE's number is at most 64.
+    let at = usize::from(s.evse.number());
+    let sum = evses[at];
+    evses[at] = EvseSum {
+        transactions: sum.transactions - 1,
+        flow: sum.flow.minus(s.flow),
+    };
+}
+
+// Moves a transaction in the sums of EVSEs, from what it was to what it is.
+pub(crate) fn move_at_evses(evses: &mut Vec<EvseSum>, change: &Change)
+    requires all { length evses.old.items ≡ greatest_evse + 1 }
+    requires room { (n : ℕ) → n ≤ greatest_evse → HasRoomAt n change.now.is (sum_at evses.old.items n) }
+    requires counts { (n : ℕ) → n ≤ greatest_evse → CountsAt n change.now.was (with_one n change.now.is (sum_at evses.old.items n)) }
+    ensures all { length evses.new.items ≡ greatest_evse + 1 }
+    ensures sums { (n : ℕ) → sum_at evses.new.items n ≡ without_one n change.now.was (with_one n change.now.is (sum_at evses.old.items n)) }
+{
+    let Change { was, is } = *change;
+    if let Some(s) = is {
+        add_at_evse(evses, s);
+    }
+    if let Some(s) = was {
+        take_at_evse(evses, s);
+    }
+}
+
+// The figures with a transaction counted.
+fn counted(figures: Figures, s: Standing) -> Figures
+    requires { HaveRoom (Some s) figures }
+    ensures { result ≡ with_figures (Some s) figures }
+{
+    Figures {
+        events: figures.events + u64::from(s.live),
+        transactions: figures.transactions + 1,
+        complete: figures.complete + u64::from(s.complete),
+        missing: figures.missing + s.missing,
+        ..figures
+    }
+}
+
+// The figures with a transaction no more counted.
+fn uncounted(figures: Figures, s: Standing) -> Figures
+    requires { DoCount (Some s) figures }
+    ensures { result ≡ without_figures (Some s) figures }
+{
+    Figures {
+        events: figures.events - u64::from(s.live),
+        transactions: figures.transactions - 1,
+        complete: figures.complete - u64::from(s.complete),
+        missing: figures.missing - s.missing,
+        ..figures
+    }
+}
+
+// Moves a transaction in the figures, from what it was to what it is.
+pub(crate) fn move_in_figures(figures: &mut Figures, change: &Change)
+    requires room { HaveRoom change.now.is figures.old }
+    requires counts { DoCount change.now.was (with_figures change.now.is figures.old) }
+    ensures { figures.new ≡ without_figures change.now.was (with_figures change.now.is figures.old) }
+{
+    if let Some(s) = change.is {
+        *figures = counted(*figures, s);
+    }
+    if let Some(s) = change.was {
+        *figures = uncounted(*figures, s);
+    }
+}
