@@ -15,13 +15,13 @@ IsSpent Repeat before after = after ≡ before
 IsSpent (Refused why) before after = after ≡ before
 
 -- How many readings the event under a key has, 0 where there is none.
-abbrev pub readings_under : Option Stored → ℕ
-readings_under None = 0
-readings_under (Some s) = length s.event.readings
+abbrev pub reading_count_under : Option Stored → ℕ
+reading_count_under None = 0
+reading_count_under (Some s) = length s.event.readings
 
 -- The most differences that a command may evaluate: two more than the readings of the event that it delivers, voids or restores, and none for an erasure.
 unfoldable pub most_spent : FinMap key_cmp Stored → Command → ℕ
 most_spent events (Deliver key event) = length event.readings + 2
-most_spent events (Void key) = readings_under (finite.get events key) + 2
-most_spent events (Restore key) = readings_under (finite.get events key) + 2
+most_spent events (Void key) = reading_count_under (finite.get events key) + 2
+most_spent events (Restore key) = reading_count_under (finite.get events key) + 2
 most_spent events (Erase key) = 0

@@ -89,7 +89,7 @@ fn keep(kept: &mut TransactionMap<Standing>, tx: &TxId, change: &Change)
 }
 
 // Keeps what a transaction is now, in place of what it was, in all sums.
-fn stand(sums: &mut Sums, tx: &TxId, change: &Change)
+fn replace_standing(sums: &mut Sums, tx: &TxId, change: &Change)
     requires all { length sums.old.evses.items ≡ greatest_evse + 1 }
     requires place { find id_cmp tx.now sums.old.kept.rows ≡ None → (change.now.is ≡ None → ⊥) → length sums.old.kept.rows < sums.old.kept.capacity }
     requires room_at { (n : ℕ) → n ≤ greatest_evse → HasRoomAt n change.now.is (sum_at sums.old.evses.items n) }
@@ -110,7 +110,7 @@ fn stand(sums: &mut Sums, tx: &TxId, change: &Change)
 }
 
 // Takes into all sums a live event that the chains have more.
-pub(crate) fn come(chains: &Chains, sums: &mut Sums, key: &Key, place: &Place, work: &mut Work)
+pub(crate) fn add_event(chains: &Chains, sums: &mut Sums, key: &Key, place: &Place, work: &mut Work)
     requires within { AreAllowed chains.now.limits (stored chains.now) }
     requires to_come { (es : List Entry) × (AreAllowed chains.now.limits es × (IsToCome es chains.now key.now place.now.before place.now.behind × AreSummed chains.now.limits es sums.old.kept sums.old.evses.items sums.old.quarters sums.old.energy sums.old.figures)) }
     ensures summed { (es : List Entry) → AreAllowed chains.now.limits es → IsToCome es chains.now key.now place.now.before place.now.behind → AreSummed chains.now.limits es sums.old.kept sums.old.evses.items sums.old.quarters sums.old.energy sums.old.figures → AreSummed chains.now.limits (stored chains.now) sums.new.kept sums.new.evses.items sums.new.quarters sums.new.energy sums.new.figures }
@@ -132,11 +132,17 @@ pub(crate) fn come(chains: &Chains, sums: &mut Sums, key: &Key, place: &Place, w
     sums.energy = sums.energy.plus(more).minus(less);
     let flow = traded(&was, more, less);
     let is = standing_of(chains, tx, flow);
-    stand(sums, tx, &Change { was, is });
+    replace_standing(sums, tx, &Change { was, is });
 }
 
 // Takes out of all sums a live event that the chains have no more.
-pub(crate) fn go(chains: &Chains, sums: &mut Sums, key: &Key, place: &Place, work: &mut Work)
+pub(crate) fn take_event(
+    chains: &Chains,
+    sums: &mut Sums,
+    key: &Key,
+    place: &Place,
+    work: &mut Work,
+)
     requires within { AreAllowed chains.now.limits (stored chains.now) }
     requires to_go { (es : List Entry) × (AreAllowed chains.now.limits es × (IsToGo es chains.now key.now place.now.before place.now.behind × AreSummed chains.now.limits es sums.old.kept sums.old.evses.items sums.old.quarters sums.old.energy sums.old.figures)) }
     ensures summed { (es : List Entry) → AreAllowed chains.now.limits es → IsToGo es chains.now key.now place.now.before place.now.behind → AreSummed chains.now.limits es sums.old.kept sums.old.evses.items sums.old.quarters sums.old.energy sums.old.figures → AreSummed chains.now.limits (stored chains.now) sums.new.kept sums.new.evses.items sums.new.quarters sums.new.energy sums.new.figures }
@@ -158,5 +164,5 @@ pub(crate) fn go(chains: &Chains, sums: &mut Sums, key: &Key, place: &Place, wor
     sums.energy = sums.energy.plus(more).minus(less);
     let flow = traded(&was, more, less);
     let is = standing_of(chains, tx, flow);
-    stand(sums, tx, &Change { was, is });
+    replace_standing(sums, tx, &Change { was, is });
 }

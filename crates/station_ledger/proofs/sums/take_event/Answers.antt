@@ -10,7 +10,7 @@ use Rattle.station_ledger.specs.Standing.{kept_with}
 use Rattle.station_ledger.proofs.Changes.{going}
 use Rattle.station_ledger.proofs.Stands.{was_kept, own_flow, place, stands, room_at, counts_at, sums_stand, have_room, do_count, counts_stand}
 use Rattle.station_ledger.proofs.Trades.{own_room, own_holds, own_left, all_room, all_holds, all_left, holds, room, filled}
-use Rattle.station_ledger.proofs.sums.go.Goals as goal
+use Rattle.station_ledger.proofs.sums.take_event.Goals as goal
 
 pub take_pairs-less-requires-clause-holds : goal.take_pairs-less-requires-clause-holds
 take_pairs-less-requires-clause-holds c =
@@ -54,35 +54,35 @@ traded-flow-requires-clause-holds c =
     let ch = going c.args.chains.now.limits c.tx-tx.result.now es c.args.chains.now c.args.key.now c.args.place.now.before c.args.place.now.behind c.tx-tx.ensures c.requires.to_go.1.0 c.requires.within h in
     own_holds c.args.chains.now.limits c.tx-tx.result.now es (stored c.args.chains.now) (pairs_between c.args.place.now.before (readings_at c.args.chains.now c.args.key.now) c.args.place.now.behind) (across c.args.place.now.before c.args.place.now.behind) ch.kept ch.traded ch.before ch.after (flow_in c.get-was.result) c.take_pairs-less.result c.add_across-more.result c.take_pairs-less.ensures.flow c.add_across-more.ensures.flow (omega (arith, c.add_across-more.ensures.up, ch.few_came)) (omega (arith, c.add_across-more.ensures.down, ch.few_came)) (own_flow c.args.chains.now.limits es c.tx-tx.result.now c.args.sums.now.kept c.get-was.result c.get-was.ensures s.standing)
 
-pub stand-requires-clause-place : goal.stand-requires-clause-place
-stand-requires-clause-place c =
+pub replace_standing-requires-clause-place : goal.replace_standing-requires-clause-place
+replace_standing-requires-clause-place c =
     let es = c.requires.to_go.0 in let h = c.requires.to_go.1.1.0 in let s = c.requires.to_go.1.1.1 in
     let ch = going c.args.chains.now.limits c.tx-tx.result.now es c.args.chains.now c.args.key.now c.args.place.now.before c.args.place.now.behind c.tx-tx.ensures c.requires.to_go.1.0 c.requires.within h in
     place c.args.chains.now.limits c.tx-tx.result.now es (stored c.args.chains.now) ch.moved ch.before ch.after c.get-was.result c.standing_of-is.result (c.standing_of-is.ensures ∙ ap (λ f. kept_with f c.tx-tx.result.now (stored c.args.chains.now)) (c.traded-flow.ensures ∙ own_left c.args.chains.now.limits c.tx-tx.result.now es (stored c.args.chains.now) (pairs_between c.args.place.now.before (readings_at c.args.chains.now c.args.key.now) c.args.place.now.behind) (across c.args.place.now.before c.args.place.now.behind) ch.kept ch.traded ch.before ch.after (flow_in c.get-was.result) c.take_pairs-less.result c.add_across-more.result c.take_pairs-less.ensures.flow c.add_across-more.ensures.flow (omega (arith, c.add_across-more.ensures.up, ch.few_came)) (omega (arith, c.add_across-more.ensures.down, ch.few_came)) (own_flow c.args.chains.now.limits es c.tx-tx.result.now c.args.sums.now.kept c.get-was.result c.get-was.ensures s.standing))) c.args.sums.now.kept s.standing c.get-was.ensures
 
-pub stand-requires-clause-room_at : goal.stand-requires-clause-room_at
-stand-requires-clause-room_at c =
+pub replace_standing-requires-clause-room_at : goal.replace_standing-requires-clause-room_at
+replace_standing-requires-clause-room_at c =
     let es = c.requires.to_go.0 in let h = c.requires.to_go.1.1.0 in let s = c.requires.to_go.1.1.1 in
     let ch = going c.args.chains.now.limits c.tx-tx.result.now es c.args.chains.now c.args.key.now c.args.place.now.before c.args.place.now.behind c.tx-tx.ensures c.requires.to_go.1.0 c.requires.within h in
     let is = (c.standing_of-is.ensures ∙ ap (λ f. kept_with f c.tx-tx.result.now (stored c.args.chains.now)) (c.traded-flow.ensures ∙ own_left c.args.chains.now.limits c.tx-tx.result.now es (stored c.args.chains.now) (pairs_between c.args.place.now.before (readings_at c.args.chains.now c.args.key.now) c.args.place.now.behind) (across c.args.place.now.before c.args.place.now.behind) ch.kept ch.traded ch.before ch.after (flow_in c.get-was.result) c.take_pairs-less.result c.add_across-more.result c.take_pairs-less.ensures.flow c.add_across-more.ensures.flow (omega (arith, c.add_across-more.ensures.up, ch.few_came)) (omega (arith, c.add_across-more.ensures.down, ch.few_came)) (own_flow c.args.chains.now.limits es c.tx-tx.result.now c.args.sums.now.kept c.get-was.result c.get-was.ensures s.standing))) in
     room_at c.args.chains.now.limits c.tx-tx.result.now es (stored c.args.chains.now) ch.moved ch.before ch.after c.get-was.result c.standing_of-is.result is (was_kept c.args.chains.now.limits c.tx-tx.result.now es (stored c.args.chains.now) ch.moved ch.before ch.after c.get-was.result c.standing_of-is.result is c.args.sums.now.kept s.standing c.get-was.ensures) c.args.sums.now.evses.items s.at_evses
 
-pub stand-requires-clause-counts_at : goal.stand-requires-clause-counts_at
-stand-requires-clause-counts_at c =
+pub replace_standing-requires-clause-counts_at : goal.replace_standing-requires-clause-counts_at
+replace_standing-requires-clause-counts_at c =
     let es = c.requires.to_go.0 in let h = c.requires.to_go.1.1.0 in let s = c.requires.to_go.1.1.1 in
     let ch = going c.args.chains.now.limits c.tx-tx.result.now es c.args.chains.now c.args.key.now c.args.place.now.before c.args.place.now.behind c.tx-tx.ensures c.requires.to_go.1.0 c.requires.within h in
     let is = (c.standing_of-is.ensures ∙ ap (λ f. kept_with f c.tx-tx.result.now (stored c.args.chains.now)) (c.traded-flow.ensures ∙ own_left c.args.chains.now.limits c.tx-tx.result.now es (stored c.args.chains.now) (pairs_between c.args.place.now.before (readings_at c.args.chains.now c.args.key.now) c.args.place.now.behind) (across c.args.place.now.before c.args.place.now.behind) ch.kept ch.traded ch.before ch.after (flow_in c.get-was.result) c.take_pairs-less.result c.add_across-more.result c.take_pairs-less.ensures.flow c.add_across-more.ensures.flow (omega (arith, c.add_across-more.ensures.up, ch.few_came)) (omega (arith, c.add_across-more.ensures.down, ch.few_came)) (own_flow c.args.chains.now.limits es c.tx-tx.result.now c.args.sums.now.kept c.get-was.result c.get-was.ensures s.standing))) in
     counts_at c.args.chains.now.limits c.tx-tx.result.now es (stored c.args.chains.now) ch.moved ch.before ch.after c.get-was.result c.standing_of-is.result is (was_kept c.args.chains.now.limits c.tx-tx.result.now es (stored c.args.chains.now) ch.moved ch.before ch.after c.get-was.result c.standing_of-is.result is c.args.sums.now.kept s.standing c.get-was.ensures) c.args.sums.now.evses.items s.at_evses
 
-pub stand-requires-clause-room : goal.stand-requires-clause-room
-stand-requires-clause-room c =
+pub replace_standing-requires-clause-room : goal.replace_standing-requires-clause-room
+replace_standing-requires-clause-room c =
     let es = c.requires.to_go.0 in let h = c.requires.to_go.1.1.0 in let s = c.requires.to_go.1.1.1 in
     let ch = going c.args.chains.now.limits c.tx-tx.result.now es c.args.chains.now c.args.key.now c.args.place.now.before c.args.place.now.behind c.tx-tx.ensures c.requires.to_go.1.0 c.requires.within h in
     let is = (c.standing_of-is.ensures ∙ ap (λ f. kept_with f c.tx-tx.result.now (stored c.args.chains.now)) (c.traded-flow.ensures ∙ own_left c.args.chains.now.limits c.tx-tx.result.now es (stored c.args.chains.now) (pairs_between c.args.place.now.before (readings_at c.args.chains.now c.args.key.now) c.args.place.now.behind) (across c.args.place.now.before c.args.place.now.behind) ch.kept ch.traded ch.before ch.after (flow_in c.get-was.result) c.take_pairs-less.result c.add_across-more.result c.take_pairs-less.ensures.flow c.add_across-more.ensures.flow (omega (arith, c.add_across-more.ensures.up, ch.few_came)) (omega (arith, c.add_across-more.ensures.down, ch.few_came)) (own_flow c.args.chains.now.limits es c.tx-tx.result.now c.args.sums.now.kept c.get-was.result c.get-was.ensures s.standing))) in
     have_room c.args.chains.now.limits c.tx-tx.result.now es (stored c.args.chains.now) ch.moved ch.before ch.after c.get-was.result c.standing_of-is.result is (was_kept c.args.chains.now.limits c.tx-tx.result.now es (stored c.args.chains.now) ch.moved ch.before ch.after c.get-was.result c.standing_of-is.result is c.args.sums.now.kept s.standing c.get-was.ensures) c.args.sums.now.figures s.counts
 
-pub stand-requires-clause-counts : goal.stand-requires-clause-counts
-stand-requires-clause-counts c =
+pub replace_standing-requires-clause-counts : goal.replace_standing-requires-clause-counts
+replace_standing-requires-clause-counts c =
     let es = c.requires.to_go.0 in let h = c.requires.to_go.1.1.0 in let s = c.requires.to_go.1.1.1 in
     let ch = going c.args.chains.now.limits c.tx-tx.result.now es c.args.chains.now c.args.key.now c.args.place.now.before c.args.place.now.behind c.tx-tx.ensures c.requires.to_go.1.0 c.requires.within h in
     let is = (c.standing_of-is.ensures ∙ ap (λ f. kept_with f c.tx-tx.result.now (stored c.args.chains.now)) (c.traded-flow.ensures ∙ own_left c.args.chains.now.limits c.tx-tx.result.now es (stored c.args.chains.now) (pairs_between c.args.place.now.before (readings_at c.args.chains.now c.args.key.now) c.args.place.now.behind) (across c.args.place.now.before c.args.place.now.behind) ch.kept ch.traded ch.before ch.after (flow_in c.get-was.result) c.take_pairs-less.result c.add_across-more.result c.take_pairs-less.ensures.flow c.add_across-more.ensures.flow (omega (arith, c.add_across-more.ensures.up, ch.few_came)) (omega (arith, c.add_across-more.ensures.down, ch.few_came)) (own_flow c.args.chains.now.limits es c.tx-tx.result.now c.args.sums.now.kept c.get-was.result c.get-was.ensures s.standing))) in
@@ -94,11 +94,11 @@ returns-clause-summed c = λ es allowed h s.
     let is = (c.standing_of-is.ensures ∙ ap (λ f. kept_with f c.tx-tx.result.now (stored c.args.chains.now)) (c.traded-flow.ensures ∙ own_left c.args.chains.now.limits c.tx-tx.result.now es (stored c.args.chains.now) (pairs_between c.args.place.now.before (readings_at c.args.chains.now c.args.key.now) c.args.place.now.behind) (across c.args.place.now.before c.args.place.now.behind) ch.kept ch.traded ch.before ch.after (flow_in c.get-was.result) c.take_pairs-less.result c.add_across-more.result c.take_pairs-less.ensures.flow c.add_across-more.ensures.flow (omega (arith, c.add_across-more.ensures.up, ch.few_came)) (omega (arith, c.add_across-more.ensures.down, ch.few_came)) (own_flow c.args.chains.now.limits es c.tx-tx.result.now c.args.sums.now.kept c.get-was.result c.get-was.ensures s.standing))) in
     let was = was_kept c.args.chains.now.limits c.tx-tx.result.now es (stored c.args.chains.now) ch.moved ch.before ch.after c.get-was.result c.standing_of-is.result is c.args.sums.now.kept s.standing c.get-was.ensures in
     record {
-      standing = stands c.args.chains.now.limits c.tx-tx.result.now es (stored c.args.chains.now) ch.moved ch.before ch.after c.get-was.result c.standing_of-is.result is c.args.sums.now.kept s.standing c.get-was.ensures c.stand.new.sums.kept c.stand.ensures.kept c.stand.ensures.capacity;
-      at_evses = sums_stand c.args.chains.now.limits c.tx-tx.result.now es (stored c.args.chains.now) ch.moved ch.before ch.after c.get-was.result c.standing_of-is.result is was c.args.sums.now.evses.items s.at_evses c.stand.new.sums.evses.items c.stand.ensures.all c.stand.ensures.evses;
-      by_quarter = subst (AreQuarterRows c.args.chains.now.limits (stored c.args.chains.now)) (sym c.stand.ensures.quarters) (filled c.args.chains.now.limits c.tx-tx.result.now es (stored c.args.chains.now) (pairs_between c.args.place.now.before (readings_at c.args.chains.now c.args.key.now) c.args.place.now.behind) (across c.args.place.now.before c.args.place.now.behind) ch.kept ch.traded ch.before ch.after c.args.sums.now.quarters s.by_quarter c.take_pairs-less.new.quarters c.take_pairs-less.ensures.rows c.take_pairs-less.ensures.capacity c.add_across-more.new.quarters c.add_across-more.ensures.rows c.add_across-more.ensures.capacity);
-      total_is = c.stand.ensures.energy ∙ c.minus-sums.ensures ∙ ap (λ e. minus e c.take_pairs-less.result) c.plus.ensures ∙ all_left c.args.chains.now.limits c.tx-tx.result.now es (stored c.args.chains.now) (pairs_between c.args.place.now.before (readings_at c.args.chains.now c.args.key.now) c.args.place.now.behind) (across c.args.place.now.before c.args.place.now.behind) ch.kept ch.traded ch.before ch.after c.args.sums.now.energy c.take_pairs-less.result c.add_across-more.result c.take_pairs-less.ensures.flow c.add_across-more.ensures.flow (omega (arith, c.add_across-more.ensures.up, ch.few_came)) (omega (arith, c.add_across-more.ensures.down, ch.few_came)) s.total_is;
-      counts = counts_stand c.args.chains.now.limits c.tx-tx.result.now es (stored c.args.chains.now) ch.moved ch.before ch.after c.get-was.result c.standing_of-is.result is was c.args.sums.now.figures s.counts c.stand.new.sums.figures c.stand.ensures.figures;
+      standing = stands c.args.chains.now.limits c.tx-tx.result.now es (stored c.args.chains.now) ch.moved ch.before ch.after c.get-was.result c.standing_of-is.result is c.args.sums.now.kept s.standing c.get-was.ensures c.replace_standing.new.sums.kept c.replace_standing.ensures.kept c.replace_standing.ensures.capacity;
+      at_evses = sums_stand c.args.chains.now.limits c.tx-tx.result.now es (stored c.args.chains.now) ch.moved ch.before ch.after c.get-was.result c.standing_of-is.result is was c.args.sums.now.evses.items s.at_evses c.replace_standing.new.sums.evses.items c.replace_standing.ensures.all c.replace_standing.ensures.evses;
+      by_quarter = subst (AreQuarterRows c.args.chains.now.limits (stored c.args.chains.now)) (sym c.replace_standing.ensures.quarters) (filled c.args.chains.now.limits c.tx-tx.result.now es (stored c.args.chains.now) (pairs_between c.args.place.now.before (readings_at c.args.chains.now c.args.key.now) c.args.place.now.behind) (across c.args.place.now.before c.args.place.now.behind) ch.kept ch.traded ch.before ch.after c.args.sums.now.quarters s.by_quarter c.take_pairs-less.new.quarters c.take_pairs-less.ensures.rows c.take_pairs-less.ensures.capacity c.add_across-more.new.quarters c.add_across-more.ensures.rows c.add_across-more.ensures.capacity);
+      total_is = c.replace_standing.ensures.energy ∙ c.minus-sums.ensures ∙ ap (λ e. minus e c.take_pairs-less.result) c.plus.ensures ∙ all_left c.args.chains.now.limits c.tx-tx.result.now es (stored c.args.chains.now) (pairs_between c.args.place.now.before (readings_at c.args.chains.now c.args.key.now) c.args.place.now.behind) (across c.args.place.now.before c.args.place.now.behind) ch.kept ch.traded ch.before ch.after c.args.sums.now.energy c.take_pairs-less.result c.add_across-more.result c.take_pairs-less.ensures.flow c.add_across-more.ensures.flow (omega (arith, c.add_across-more.ensures.up, ch.few_came)) (omega (arith, c.add_across-more.ensures.down, ch.few_came)) s.total_is;
+      counts = counts_stand c.args.chains.now.limits c.tx-tx.result.now es (stored c.args.chains.now) ch.moved ch.before ch.after c.get-was.result c.standing_of-is.result is was c.args.sums.now.figures s.counts c.replace_standing.new.sums.figures c.replace_standing.ensures.figures;
     }
 
 pub returns-clause-work : goal.returns-clause-work
