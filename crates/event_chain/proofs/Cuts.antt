@@ -30,7 +30,7 @@ all_over t r n (e ∷ es) h le =
     ]
 
 -- Those of a transaction in front of a rank.
-seg_below : (t r : ℕ) (es : List Place) → AreRising es → filter (λ e. nat_lt e.0 r) (segment t es) ≡ segment t (below r es)
+pub seg_below : (t r : ℕ) (es : List Place) → AreRising es → filter (λ e. nat_lt e.0 r) (segment t es) ≡ segment t (below r es)
 seg_below t r [] h = refl
 seg_below t r (e ∷ es) h =
     let rest = seg_below t r es h.1 in let kept = filter (λ (x : Place). nat_lt x.0 r) (segment t es) in
@@ -47,7 +47,7 @@ seg_below t r (e ∷ es) h =
     ] refl
 
 -- Those behind it.
-seg_from : (t r n : ℕ) (es : List Place) → n ≡ r + 1 → AreRising es → filter (λ e. nat_lt r e.0) (segment t es) ≡ segment t (from n es)
+pub seg_from : (t r n : ℕ) (es : List Place) → n ≡ r + 1 → AreRising es → filter (λ e. nat_lt r e.0) (segment t es) ≡ segment t (from n es)
 seg_from t r n [] up h = refl
 seg_from t r n (e ∷ es) up h =
     let rest = seg_from t r n es up h.1 in let kept = filter (λ (x : Place). nat_lt r x.0) (segment t es) in

@@ -17,7 +17,10 @@ mod Lives
 mod Drops
 mod Cuts
 mod Members
+mod Splits
+mod Lists
 mod Neighbours
 mod Walks
+mod Used
 mod Counts
 mod Rows

@@ -21,11 +21,11 @@ AllPlaces P [] = Unit {0}
 AllPlaces P (p ∷ ps) = P p × AllPlaces P ps
 
 -- What is found is not absent.
-never : (o : Option ℕ) (s : ℕ) → o ≡ Some s → o ≡ None → ⊥
+pub never : (o : Option ℕ) (s : ℕ) → o ≡ Some s → o ≡ None → ⊥
 never o s a b = cc
 
 -- What holds of each place that is found holds of all.
-all_found : (P : Place → Type 0) (ps : List Place) → AreRanks ps → ((p : Place) → place_of p.0 ps ≡ Some p.1 → P p) → AllPlaces P ps
+pub all_found : (P : Place → Type 0) (ps : List Place) → AreRanks ps → ((p : Place) → place_of p.0 ps ≡ Some p.1 → P p) → AllPlaces P ps
 all_found P [] h each = tt
 all_found P (p ∷ ps) h each = (
   each p (ap (λ b. cond b (Some p.1) (place_of p.0 ps)) ((rank_test p.0 p.0).1 refl)),
@@ -38,7 +38,7 @@ all_left P f [] h = tt
 all_left P f (p ∷ ps) h = elim (f p) as (λ b. AllPlaces P (cond b (p ∷ filter f ps) (filter f ps))) [ true ↦ (h.0, all_left P f ps h.1) | false ↦ all_left P f ps h.1 ]
 
 -- What was chosen passes the test.
-chosen_test : (test : Stored → Bool) (slots : List (Option Held)) (o : Option ℕ) (s : ℕ) → chosen test slots o ≡ Some s → test (stored_at slots s) ≡ true
+pub chosen_test : (test : Stored → Bool) (slots : List (Option Held)) (o : Option ℕ) (s : ℕ) → chosen test slots o ≡ Some s → test (stored_at slots s) ≡ true
 chosen_test test slots None s h = cc
 chosen_test test slots (Some n) s h = elim (test (stored_at slots n)) as (λ b. test (stored_at slots n) ≡ b → cond b (Some n) None ≡ Some s → test (stored_at slots s) ≡ true) [
   | true ↦ λ is some. let same : n ≡ s = cc in ap (λ k. test (stored_at slots k)) (sym same) ∙ is

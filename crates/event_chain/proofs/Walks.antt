@@ -1,23 +1,26 @@
--- The steps of a walk over rising numbers.
-use Rattle.std.proofs.Common.{◌≡◌, ℕ, ◌<◌, ◌/◌, ◌%◌, ◌^◌, ◌==◌, nat_lt, true, false, cond, List, [], ◌∷◌, Option, length, map, drop, slice_get, option_map, refl, sym, ap, ◌∙◌, subst, arith}
+-- The steps of a walk over linked places.
+use Rattle.std.proofs.Common.{◌≡◌, ℕ, ◌+◌, ◌<◌, ◌/◌, ◌%◌, ◌^◌, ◌==◌, ◌&&◌, nat_lt, Bool, true, false, cond, List, [], ◌∷◌, ◌++◌, Option, Some, None, length, map, drop, slice_get, option_map, inl, inr, refl, sym, ap, ◌∙◌, subst, arith}
 use Rattle.std.specs.Prelude.{slice_index}
 use Rattle.std.specs.List.{filter}
+use Rattle.std.proofs.lemmas.Bool.{cases_eq, and_parts}
 use Rattle.std.proofs.lemmas.Bool.Decides.{Decides-ltb, Decides-eqb}
-use Rattle.gap_list.specs.Walk.{left, StandsAt}
-use Rattle.key_index.specs.Entries.{AreAbove}
+use Rattle.slot_arena.specs.Arena.{value_at}
+use Rattle.key_index.specs.Entries.{AreAbove, below}
 use Rattle.key_index.specs.Entries as entries
-use Rattle.key_index.specs.Key.{rank, slot_back}
 use Rattle.ledger_model.specs.BoardLaws.{AreRising}
-use Rattle.event_chain.specs.Flat.{Place, segment}
+use Rattle.ledger_model.proofs.Callers.{first, second}
+use Rattle.ledger_model.specs.Content.{Stored}
+use Rattle.event_store.specs.Slots.{Held}
+use Rattle.event_chain.specs.Flat.{Place, place_of, segment}
 use Rattle.event_chain.specs.Edits.{places_behind}
-use Rattle.event_chain.specs.Walk.{number_in, numbers_on}
-use Rattle.event_chain.proofs.Decided.{not_so}
-use Rattle.event_chain.proofs.Cuts.{map_cut, more_rank}
-use Rattle.event_chain.proofs.Lives.{first_map}
-
--- The numbers from a place on.
-abbrev pub ahead : List ℕ → ℕ → List ℕ
-ahead w n = numbers_on n w
+use Rattle.event_chain.specs.Kept.{AreRanks}
+use Rattle.event_chain.specs.Lists.{slot_in, HasRank, AreOwn}
+use Rattle.event_chain.specs.Walk.{number_in, is_under, are_under, numbers_on, numbers_from}
+use Rattle.event_chain.proofs.Decided.{rank_test, not_so}
+use Rattle.event_chain.proofs.Lives.{below_none}
+use Rattle.event_chain.proofs.Members.{AllPlaces, all_found, never}
+use Rattle.event_chain.proofs.Places.{AllUnder, below_under, ranks_of}
+use Rattle.event_chain.proofs.Splits.{cut_present, behind_present}
 
 -- Each number is above this one.
 abbrev AllAbove : ℕ → List ℕ → Type 0
@@ -64,99 +67,202 @@ numbers_rising t (e ∷ es) h =
       | false ↦ λ _. rest
     ] refl
 
--- From their first on they are all.
-on_here : (n : ℕ) (ns : List ℕ) → numbers_on n (n ∷ ns) ≡ n ∷ ns
-on_here n ns = ap (λ b. cond b (n ∷ ns) (numbers_on n ns)) ((Decides-eqb n n).1 refl)
+-- What is left of greater ranks is greater.
+left_above : (n : ℕ) (f : Place → Bool) (es : List Place) → AreAbove n es → AreAbove n (filter f es)
+left_above n f [] h = tt
+left_above n f (e ∷ es) h = elim (f e) as (λ b. AreAbove n (cond b (e ∷ filter f es) (filter f es))) [ true ↦ (h.0, left_above n f es h.1) | false ↦ left_above n f es h.1 ]
 
--- A walk starts at the first number.
-pub start_all : (w : List ℕ) → left ahead w (slice_get w 0) ≡ w
-start_all [] = refl
-start_all (n ∷ ns) = on_here n ns
+-- What is left of rising ranks rises.
+left_rising : (f : Place → Bool) (es : List Place) → entries.AreRising es → entries.AreRising (filter f es)
+left_rising f [] h = tt
+left_rising f (e ∷ es) h = elim (f e) as (λ b. entries.AreRising (cond b (e ∷ filter f es) (filter f es))) [ true ↦ (left_above e.0 f es h.0, left_rising f es h.1) | false ↦ left_rising f es h.1 ]
 
--- That is one, where there is any.
-pub start_stands : (w : List ℕ) → StandsAt ahead w (slice_get w 0)
-start_stands [] = tt
-start_stands (n ∷ ns) = let e = ap length (on_here n ns) in omega (arith, e)
+-- All greater ranks are greater.
+above_all : (n : ℕ) (es : List Place) → AreAbove n es → filter (λ e. nat_lt n e.0) es ≡ es
+above_all n [] h = refl
+above_all n (e ∷ es) h = ap (λ b. cond b (e ∷ filter (λ (x : Place). nat_lt n x.0) es) (filter (λ x. nat_lt n x.0) es)) ((Decides-ltb n e.0).1 h.0) ∙ ap (λ (xs : List Place). e ∷ xs) (above_all n es h.1)
 
--- The first of the numbers from one on is that.
-pub number_is : (n : ℕ) (w : List ℕ) → 0 < length (ahead w n) → slice_index (ahead w n) 0 ≡ n
-number_is n [] some = absurd (omega arith)
-number_is n (m ∷ ms) some =
-    elim (m == n) as (λ b. (m == n) ≡ b → 0 < length (cond b (m ∷ ms) (numbers_on n ms)) → slice_index (cond b (m ∷ ms) (numbers_on n ms)) 0 ≡ n) [
-      | true ↦ λ y _. (Decides-eqb m n).0 y
-      | false ↦ λ _ rest. number_is n ms rest
+-- Those greater than the first are the others.
+behind_first : (e : Place) (es : List Place) → entries.AreRising (e ∷ es) → filter (λ x. nat_lt e.0 x.0) (e ∷ es) ≡ es
+behind_first e es h = ap (λ b. cond b (e ∷ filter (λ (x : Place). nat_lt e.0 x.0) es) (filter (λ x. nat_lt e.0 x.0) es)) (not_so _ (Decides-ltb e.0 e.0) (λ lt. absurd (omega arith))) ∙ above_all e.0 es h.0
+
+-- Those greater than a greater rank are among the greater.
+greater_twice : (n m : ℕ) (es : List Place) → n < m → filter (λ e. nat_lt m e.0) (filter (λ e. nat_lt n e.0) es) ≡ filter (λ e. nat_lt m e.0) es
+greater_twice n m [] lt = refl
+greater_twice n m (e ∷ es) lt =
+    let rest = greater_twice n m es lt in let more = filter (λ (x : Place). nat_lt m x.0) es in
+    elim (nat_lt n e.0) as (λ b. nat_lt n e.0 ≡ b → filter (λ x. nat_lt m x.0) (cond b (e ∷ filter (λ x. nat_lt n x.0) es) (filter (λ x. nat_lt n x.0) es)) ≡ cond (nat_lt m e.0) (e ∷ more) more) [
+      | true ↦ λ _. ap (λ (xs : List Place). cond (nat_lt m e.0) (e ∷ xs) xs) rest
+      | false ↦ λ never. rest ∙ sym (ap (λ b. cond b (e ∷ more) more) (not_so _ (Decides-ltb m e.0) (λ up. let f : false ≡ true = sym never ∙ (Decides-ltb n e.0).1 (omega arith) in cc)))
+    ] refl
+
+-- What holds of all holds of those in front of a rank.
+all_below : (P : Place → Type 0) (n : ℕ) (es : List Place) → AllPlaces P es → AllPlaces P (below n es)
+all_below P n [] h = tt
+all_below P n (e ∷ es) h = elim (nat_lt e.0 n) as (λ b. AllPlaces P (cond b (e ∷ below n es) [])) [ true ↦ (h.0, all_below P n es h.1) | false ↦ tt ]
+
+-- The test holds too of what it leaves.
+all_tested : (P : Place → Type 0) (f : Place → Bool) (es : List Place) → AllPlaces P es → AllPlaces (λ p. (f p ≡ true) × P p) (filter f es)
+all_tested P f [] h = tt
+all_tested P f (e ∷ es) h = elim (f e) as (λ b. f e ≡ b → AllPlaces (λ p. (f p ≡ true) × P p) (cond b (e ∷ filter f es) (filter f es))) [ true ↦ λ y. ((y, h.0), all_tested P f es h.1) | false ↦ λ _. all_tested P f es h.1 ] refl
+
+-- No place in front of a slot's has the slot.
+none_front : (s r : ℕ) (es : List Place) → AllPlaces (λ p. p.1 ≡ s → p.0 ≡ r) es → AllUnder r es → AllPlaces (λ p. p.1 ≡ s → ⊥) es
+none_front s r [] own under = tt
+none_front s r (e ∷ es) own under = ((λ is. let same = own.0 is in let lt = under.0 in absurd (omega arith)), none_front s r es own.1 under.1)
+
+-- Places without the slot are passed over.
+on_passed : (s : ℕ) (xs ys : List Place) → AllPlaces (λ p. p.1 ≡ s → ⊥) xs → numbers_on s (xs ++ ys) ≡ numbers_on s ys
+on_passed s [] ys h = refl
+on_passed s (x ∷ xs) ys h = ap (λ b. cond b (number_in x ∷ map number_in (segment (x.0 / 2 ^ 31) (xs ++ ys))) (numbers_on s (xs ++ ys))) (not_so _ (Decides-eqb x.1 s) h.0) ∙ on_passed s xs ys h.1
+
+-- From a slot's place on come its number and those behind it.
+pub on_is : (r s : ℕ) (es : List Place) → entries.AreRising es → AreOwn es → place_of r es ≡ Some s → numbers_on s es ≡ number_in (r, s) ∷ map number_in (places_behind r es)
+on_is r s es rising own there =
+    let mine = all_found (λ p. p.1 ≡ s → p.0 ≡ r) es (ranks_of es rising) (λ p at e. own p.0 r s (at ∙ ap Some e) there) in
+    let rest = entries.from (r + 1) es in
+    ap (numbers_on s) (cut_present r es rising s there)
+    ∙ on_passed s (below r es) ((r, s) ∷ rest) (none_front s r (below r es) (all_below (λ p. p.1 ≡ s → p.0 ≡ r) r es mine) (below_under r es))
+    ∙ ap (λ b. cond b (number_in (r, s) ∷ map number_in (segment (r / 2 ^ 31) rest)) (numbers_on s rest)) ((Decides-eqb s s).1 refl)
+    ∙ ap (λ xs. number_in (r, s) ∷ map number_in xs) (behind_present r es rising s there)
+
+-- A slot from which there are numbers has a rank.
+pub rank_on : (s : ℕ) (es : List Place) → AreRanks es → 0 < length (numbers_on s es) → HasRank es s
+rank_on s [] ranks some = absurd (omega arith)
+rank_on s (e ∷ es) ranks some =
+    elim (e.1 == s) as (λ b. (e.1 == s) ≡ b → 0 < length (cond b (number_in e ∷ map number_in (segment (e.0 / 2 ^ 31) es)) (numbers_on s es)) → HasRank (e ∷ es) s) [
+      | true ↦ λ y _. record { rank = e.0; found = ap (λ b. cond b (Some e.1) (place_of e.0 es)) ((rank_test e.0 e.0).1 refl) ∙ ap Some ((Decides-eqb e.1 s).0 y) }
+      | false ↦ λ _ rest. let has = rank_on s es (second _ _ ranks) rest in
+          record { rank = has.rank; found = ap (λ b. cond b (Some e.1) (place_of has.rank es)) (not_so _ (rank_test has.rank e.0) (λ k. never (place_of has.rank es) s has.found (ap (λ r. place_of r es) k ∙ below_none e.0 es (first _ _ ranks)))) ∙ has.found }
     ] refl some
 
--- A number of a walk is one below 2^31.
-pub number_small : (n : ℕ) (ps : List Place) → 0 < length (ahead (map number_in ps) n) → n < 2 ^ 31
-number_small n [] some = absurd (omega arith)
-number_small n (p ∷ ps) some =
-    elim (number_in p == n) as (λ b. (number_in p == n) ≡ b → 0 < length (cond b (number_in p ∷ map number_in ps) (numbers_on n (map number_in ps))) → n < 2 ^ 31) [
-      | true ↦ λ y _. let is : p.0 % 2 ^ 31 ≡ n = (Decides-eqb (number_in p) n).0 y in omega (arith, is)
-      | false ↦ λ _ rest. number_small n ps rest
-    ] refl some
+-- The event of a place that is found has its rank.
+under_found : (slots : List (Option Held)) (r s : ℕ) (es : List Place) → are_under slots es ≡ true → place_of r es ≡ Some s → is_under r (value_at slots s) ≡ true
+under_found slots r s [] all there = cc
+under_found slots r s (e ∷ es) all there =
+    let parts = and_parts (is_under e.0 (value_at slots e.1)) (are_under slots es) all in
+    elim (cases_eq r e.0) [
+      | inl is ↦ let at : Some e.1 ≡ Some s = sym (ap (λ b. cond b (Some e.1) (place_of r es)) ((rank_test r e.0).1 is)) ∙ there in let same : e.1 ≡ s = cc in
+          ap (λ k. is_under k (value_at slots s)) is ∙ ap (λ k. is_under e.0 (value_at slots k)) (sym same) ∙ parts.0
+      | inr other ↦ under_found slots r s es parts.1 (sym (ap (λ b. cond b (Some e.1) (place_of r es)) (not_so _ (rank_test r e.0) other)) ∙ there)
+    ]
 
--- A number among greater ones is greater.
-on_above : (n m : ℕ) (ms : List ℕ) → AllAbove m ms → 0 < length (numbers_on n ms) → m < n
-on_above n m [] h some = absurd (omega arith)
-on_above n m (k ∷ ks) h some =
-    elim (k == n) as (λ b. (k == n) ≡ b → 0 < length (cond b (k ∷ ks) (numbers_on n ks)) → m < n) [
-      | true ↦ λ y _. let is = (Decides-eqb k n).0 y in let up = h.0 in omega arith
-      | false ↦ λ _ rest. on_above n m ks h.1 rest
-    ] refl some
+-- What a slot that has an event of a rank holds.
+under_held : (r : ℕ) (o : Option Held) → is_under r o ≡ true → (stored : Stored) × (o ≡ Some (r, stored))
+under_held r None h = cc
+under_held r (Some held) h = (held.1, ap (λ (k : ℕ). Some (k, held.1)) ((Decides-eqb held.0 r).0 h))
 
--- Greater numbers are all greater.
-greater_all : (n : ℕ) (ns : List ℕ) → AllAbove n ns → filter (λ m. nat_lt n m) ns ≡ ns
-greater_all n [] h = refl
-greater_all n (m ∷ ms) h = ap (λ b. cond b (m ∷ filter (λ (k : ℕ). nat_lt n k) ms) (filter (λ k. nat_lt n k) ms)) ((Decides-ltb n m).1 h.0) ∙ ap (λ (ks : List ℕ). m ∷ ks) (greater_all n ms h.1)
+-- Each event has its rank where each place that is found says so.
+pub all_under : (slots : List (Option Held)) (es : List Place) → AllPlaces (λ p. is_under p.0 (value_at slots p.1) ≡ true) es → are_under slots es ≡ true
+all_under slots [] h = refl
+all_under slots (e ∷ es) h = ap (λ b. b && are_under slots es) h.0 ∙ all_under slots es h.1
 
--- Those greater than a number of the walk are those that come after it.
-greater_rest : (n : ℕ) (w : List ℕ) → AreRising w → 0 < length (ahead w n) → filter (λ m. nat_lt n m) w ≡ drop 1 (ahead w n)
-greater_rest n [] h some = refl
-greater_rest n (m ∷ ms) h some =
-    let more = filter (λ (k : ℕ). nat_lt n k) ms in
-    elim (m == n) as (λ b. (m == n) ≡ b → 0 < length (cond b (m ∷ ms) (numbers_on n ms)) → cond (nat_lt n m) (m ∷ more) more ≡ drop 1 (cond b (m ∷ ms) (numbers_on n ms))) [
-      | true ↦ λ y _. let is = (Decides-eqb m n).0 y in
-          ap (λ b. cond b (m ∷ more) more) (not_so _ (Decides-ltb n m) (λ lt. absurd (omega arith))) ∙ greater_all n ms (subst (λ k. AllAbove k ms) is (above_first m ms h))
-      | false ↦ λ _ rest. let up = on_above n m ms (above_first m ms h) rest in
-          ap (λ b. cond b (m ∷ more) more) (not_so _ (Decides-ltb n m) (λ lt. absurd (omega arith))) ∙ greater_rest n ms (rising_rest m ms h) rest
-    ] refl some
+-- What is told where a test holds.
+told : (b : Bool) (ns : List ℕ) → 0 < length (cond b ns []) → (b ≡ true) × (0 < length ns)
+told true ns some = (refl, some)
+told false ns some = absurd (omega arith)
 
--- The next number is greater than those in front.
-next_above : (n m y : ℕ) (ms ys : List ℕ) → AllAbove m ms → drop 1 (numbers_on n ms) ≡ y ∷ ys → m < y
-next_above n m y [] ys h is = cc
-next_above n m y (k ∷ ks) ys h is =
-    elim (k == n) as (λ b. drop 1 (cond b (k ∷ ks) (numbers_on n ks)) ≡ y ∷ ys → m < y) [
-      | true ↦ λ next. let all = subst (AllAbove m) next h.1 in all.0
-      | false ↦ λ next. next_above n m y ks ys h.1 next
-    ] is
+-- A slot holds one event.
+held_same : (o : Option Held) (a b : Held) → o ≡ Some a → o ≡ Some b → a ≡ b
+held_same o a b x y = cc
 
--- From the next number on come those after the number.
-next_on : (n y : ℕ) (w ys : List ℕ) → AreRising w → drop 1 (ahead w n) ≡ y ∷ ys → ahead w y ≡ y ∷ ys
-next_on n y [] ys h is = cc
-next_on n y (m ∷ ms) ys h is =
-    elim (m == n) as (λ b. drop 1 (cond b (m ∷ ms) (numbers_on n ms)) ≡ y ∷ ys → numbers_on y (m ∷ ms) ≡ y ∷ ys) [
-      | true ↦ λ next. let all = subst (AllAbove m) next (above_first m ms h) in let up = all.0 in
-          ap (λ b. cond b (m ∷ ms) (numbers_on y ms)) (not_so _ (Decides-eqb m y) (λ e. absurd (omega arith))) ∙ ap (numbers_on y) next ∙ on_here y ys
-      | false ↦ λ next. let up = next_above n m y ms ys (above_first m ms h) next in
-          ap (λ b. cond b (m ∷ ms) (numbers_on y ms)) (not_so _ (Decides-eqb m y) (λ e. absurd (omega arith))) ∙ next_on n y ms ys (rising_rest m ms h) next
-    ] is
+-- A list that has a first is that and the rest.
+first_of_some : (xs : List Place) (e : Place) → slice_get xs 0 ≡ Some e → (ps : List Place) × (xs ≡ e ∷ ps)
+first_of_some [] e none = cc
+first_of_some (x ∷ xs) e some = let same : x ≡ e = cc in (xs, ap (λ (y : Place). y ∷ xs) same)
 
--- What a step of a walk leaves.
-pub record IsStep (w : List ℕ) (n : ℕ) (next : Option ℕ) : Type 0 where
-  pub rest : left ahead w next ≡ drop 1 (ahead w n)
-  pub stands : StandsAt ahead w next
+module _ (es : List Place) (slots : List (Option Held)) (rising : entries.AreRising es) (own : AreOwn es) where
+  -- Where a walk stands at a slot.
+  pub record IsAt (s : ℕ) : Type 0 where
+    pub rank : ℕ
+    pub found : place_of rank es ≡ Some s
+    pub stored : Stored
+    pub held_is : value_at slots s ≡ Some (rank, stored)
+    pub all : are_under slots es ≡ true
+    pub numbers : numbers_from es slots s ≡ number_in (rank, s) ∷ map number_in (places_behind rank es)
 
--- The first of the greater numbers is a step.
-step_first : (w : List ℕ) (n : ℕ) (ys : List ℕ) → AreRising w → drop 1 (ahead w n) ≡ ys → IsStep w n (slice_get ys 0)
-step_first w n [] h is = record { rest = sym is; stands = tt }
-step_first w n (y ∷ ys) h is = let on = next_on n y w ys h is in record { rest = on ∙ sym is; stands = let e = ap length on in omega (arith, e) }
+  -- There where a slot is found.
+  at_found : (r s : ℕ) → are_under slots es ≡ true → place_of r es ≡ Some s → IsAt s
+  at_found r s all there =
+      let held = under_held r (value_at slots s) (under_found slots r s es all there) in
+      record { rank = r; found = there; stored = held.0; held_is = held.1; all = all; numbers = ap (λ b. cond b (numbers_on s es) []) all ∙ on_is r s es rising own there }
 
--- The number of the first place behind that of a number is a step.
-pub step_is : (t n r : ℕ) (es : List Place) (next : Option ℕ) → entries.AreRising es → 0 < length (ahead (map number_in (segment t es)) n) → r ≡ rank t n → next ≡ option_map number_in (slice_get (places_behind r es) 0) → IsStep (map number_in (segment t es)) n next
-step_is t n r es next h some is next_is =
-    let w : List ℕ = map number_in (segment t es) in
-    let home : r / 2 ^ 31 ≡ t = ap (λ k. k / 2 ^ 31) is ∙ slot_back t n (number_small n (segment t es) some) in
-    let cut = map_cut number_in (λ m. nat_lt n m) (λ x. nat_lt r x) t es (λ e at. more_rank t n e.0 at ∙ ap (λ k. nat_lt k e.0) (sym is)) in
-    let rest : map number_in (places_behind r es) ≡ drop 1 (ahead w n) = ap (λ k. map number_in (filter (λ (e : Place). nat_lt r e.0) (segment k es))) home ∙ sym cut ∙ greater_rest n w (numbers_rising t es h) some in
-    subst (IsStep w n) (sym (next_is ∙ sym (first_map number_in (places_behind r es)) ∙ ap (λ ns. slice_get ns 0) rest)) (step_first w n (drop 1 (ahead w n)) (numbers_rising t es h) refl)
+  -- There where numbers come from it on.
+  pub at_place : (s : ℕ) → 0 < length (numbers_from es slots s) → IsAt s
+  at_place s some = let parts = told (are_under slots es) (numbers_on s es) some in let has = rank_on s es (ranks_of es rising) parts.1 in at_found has.rank s parts.0 has.found
+
+  -- Numbers from the first of some places on are theirs.
+  from_first : (e : Place) (ps : List Place) → are_under slots es ≡ true → place_of e.0 es ≡ Some e.1 → places_behind e.0 es ≡ ps → numbers_from es slots e.1 ≡ number_in e ∷ map number_in ps
+  unfolding at_found
+  from_first e ps all there behind = (at_found e.0 e.1 all there).numbers ∙ ap (λ xs. number_in e ∷ map number_in xs) behind
+
+  -- Places that are found.
+  found_all : AllPlaces (λ p. place_of p.0 es ≡ Some p.1) es
+  found_all = all_found (λ p. place_of p.0 es ≡ Some p.1) es (ranks_of es rising) (λ p at. at)
+
+  -- A walk starts at the first place of its transaction.
+  pub start_some : (t : ℕ) (e : Place) → are_under slots es ≡ true → slice_get (segment t es) 0 ≡ Some e → numbers_from es slots e.1 ≡ map number_in (segment t es)
+  start_some t e all first_is =
+      let split = first_of_some (segment t es) e first_is in
+      let mine = all_tested (λ p. place_of p.0 es ≡ Some p.1) (λ p. p.0 / 2 ^ 31 == t) es found_all in
+      let here = subst (AllPlaces (λ p. ((p.0 / 2 ^ 31 == t) ≡ true) × (place_of p.0 es ≡ Some p.1))) split.1 mine in
+      let home : e.0 / 2 ^ 31 ≡ t = (Decides-eqb (e.0 / 2 ^ 31) t).0 here.0.0 in
+      let up = subst entries.AreRising split.1 (left_rising (λ p. p.0 / 2 ^ 31 == t) es rising) in
+      from_first e split.0 all here.0.1 (ap (λ k. filter (λ (x : Place). nat_lt e.0 x.0) (segment k es)) home ∙ ap (filter (λ (x : Place). nat_lt e.0 x.0)) split.1 ∙ behind_first e split.0 up)
+      ∙ ap (map number_in) (sym split.1)
+
+  module _ (s : ℕ) (at : IsAt s) where
+    abbrev behind : List Place
+    behind = places_behind at.rank es
+
+    abbrev home_of : ℕ
+    home_of = at.rank / 2 ^ 31
+
+    rest_is : drop 1 (numbers_from es slots s) ≡ map number_in behind
+    rest_is = ap (drop 1) at.numbers
+
+    -- The number of the slot's event is the first.
+    pub number_read : (h : Held) → value_at slots s ≡ Some h → h.0 % 2 ^ 31 ≡ slice_index (numbers_from es slots s) 0
+    number_read h here = let same : (at.rank, at.stored) ≡ h = held_same (value_at slots s) (at.rank, at.stored) h at.held_is here in ap (λ (x : Held). x.0 % 2 ^ 31) (sym same) ∙ sym (ap (λ ns. slice_index ns 0) at.numbers)
+
+    next_from : (e : Place) (ps : List Place) → behind ≡ e ∷ ps → numbers_from es slots e.1 ≡ map number_in behind
+    next_from e ps is =
+        let mine = all_tested (λ p. place_of p.0 es ≡ Some p.1) (λ p. p.0 / 2 ^ 31 == home_of) es found_all in
+        let after = all_tested (λ p. ((p.0 / 2 ^ 31 == home_of) ≡ true) × (place_of p.0 es ≡ Some p.1)) (λ p. nat_lt at.rank p.0) (segment home_of es) mine in
+        let here = subst (AllPlaces (λ p. (nat_lt at.rank p.0 ≡ true) × (((p.0 / 2 ^ 31 == home_of) ≡ true) × (place_of p.0 es ≡ Some p.1)))) is after in
+        let home : e.0 / 2 ^ 31 ≡ home_of = (Decides-eqb (e.0 / 2 ^ 31) home_of).0 here.0.1.0 in
+        let more : at.rank < e.0 = (Decides-ltb at.rank e.0).0 here.0.0 in
+        let up = subst entries.AreRising is (left_rising (λ p. nat_lt at.rank p.0) (segment home_of es) (left_rising (λ p. p.0 / 2 ^ 31 == home_of) es rising)) in
+        from_first e ps at.all here.0.1.1 (ap (λ k. filter (λ (x : Place). nat_lt e.0 x.0) (segment k es)) home ∙ sym (greater_twice at.rank e.0 (segment home_of es) more) ∙ ap (filter (λ (x : Place). nat_lt e.0 x.0)) is ∙ behind_first e ps up)
+        ∙ ap (map number_in) (sym is)
+
+    -- A step goes to the first place behind.
+    pub next_some : (k : ℕ) → Some k ≡ option_map slot_in (slice_get behind 0) → numbers_from es slots k ≡ drop 1 (numbers_from es slots s)
+    next_some k is = step behind refl is ∙ sym rest_is where
+      step : (xs : List Place) → behind ≡ xs → Some k ≡ option_map slot_in (slice_get xs 0) → numbers_from es slots k ≡ map number_in behind
+      step [] _ none = cc
+      step (e ∷ ps) xs_is some = let same : k ≡ e.1 = cc in ap (numbers_from es slots) same ∙ next_from e ps xs_is
+
+    -- There are numbers from it on.
+    pub next_stands : (k : ℕ) → Some k ≡ option_map slot_in (slice_get behind 0) → 0 < length (numbers_from es slots k)
+    next_stands k is = step behind refl is where
+      step : (xs : List Place) → behind ≡ xs → Some k ≡ option_map slot_in (slice_get xs 0) → 0 < length (numbers_from es slots k)
+      step [] _ none = cc
+      step (e ∷ ps) xs_is some = let all = ap length (next_some k is ∙ rest_is ∙ ap (map number_in) xs_is) in omega (arith, all)
+
+    -- Where there is none behind, the walk is over.
+    pub next_none : None ≡ option_map slot_in (slice_get behind 0) → [] ≡ drop 1 (numbers_from es slots s)
+    next_none is = over behind refl is ∙ sym rest_is where
+      over : (xs : List Place) → behind ≡ xs → None ≡ option_map slot_in (slice_get xs 0) → [] ≡ map number_in behind
+      over [] xs_is _ = ap (map number_in) (sym xs_is)
+      over (e ∷ ps) _ none = cc
+
+-- Where a transaction has no first place it has no numbers.
+pub start_none : (ps : List Place) → None ≡ slice_get ps 0 → [] ≡ map number_in ps
+start_none [] none = refl
+start_none (p ∷ ps) none = cc
+
+-- Where it has one there are numbers.
+pub start_stands : (ps : List Place) (e : Place) → slice_get ps 0 ≡ Some e → 0 < length (map number_in ps)
+start_stands [] e none = cc
+start_stands (p ∷ ps) e some = omega arith

@@ -16,6 +16,7 @@ ghost use Rattle.event_chain.specs.Kept.{end_count, is_end};
 ghost use Rattle.event_chain.specs.Edits.{counts_under};
 
 use crate::answers::{Found, Room, Standing};
+use crate::live_lists::LiveLists;
 use crate::spots::{
     enter, evse_at, first_at, first_in, kind_at, last_at, last_in, leave, locate, number_of,
     out_place, place_before, place_behind, put_place, slot_of,
@@ -36,7 +37,7 @@ pub struct Chains {
     table: TransactionTable,
     store: EventStore,
     stored: KeyIndex,
-    live: KeyIndex,
+    live: LiveLists,
     carriers: KeyIndex,
     naming: KeyIndex,
 }
@@ -95,7 +96,7 @@ impl Chains {
             table: TransactionTable::open(alloc, transactions)?,
             store: EventStore::open(alloc, events, limits.readings())?,
             stored: KeyIndex::open(alloc, events)?,
-            live: KeyIndex::open(alloc, events)?,
+            live: LiveLists::open(alloc, events)?,
             carriers: KeyIndex::open(alloc, events)?,
             naming: KeyIndex::open(alloc, events)?,
         })
@@ -149,7 +150,7 @@ impl Chains {
         let slot = self.store.put(at, event);
         put_place(&mut self.stored, at, slot, true);
         let (carries, names) = (!event.readings().is_empty(), event.evse().is_some());
-        put_place(&mut self.live, at, slot, true);
+        self.live.insert(at, slot);
         put_place(&mut self.carriers, at, slot, carries);
         put_place(&mut self.naming, at, slot, names);
         let after = TableRow {
@@ -173,7 +174,7 @@ impl Chains {
         let (carries, names) = (event.reading_count() > 0, event.evse().is_some());
         let ends = ends_of(event.kind());
         self.store.set_voided(at.slot, true);
-        out_place(&mut self.live, at.key, true);
+        self.live.remove(at.key, at.slot);
         out_place(&mut self.carriers, at.key, carries);
         out_place(&mut self.naming, at.key, names);
         let after = TableRow {
@@ -197,7 +198,7 @@ impl Chains {
         let (carries, names) = (event.reading_count() > 0, event.evse().is_some());
         let ends = ends_of(event.kind());
         self.store.set_voided(at.slot, false);
-        put_place(&mut self.live, at.key, at.slot, true);
+        self.live.insert(at.key, at.slot);
         put_place(&mut self.carriers, at.key, at.slot, carries);
         put_place(&mut self.naming, at.key, at.slot, names);
         let after = TableRow {
@@ -284,7 +285,8 @@ impl Chains {
     pub fn first(&self, tx: &TxId) -> Option<u32>
         ensures { result ≡ slice_get (numbers_of tx.now (stored self.now)) 0 }
     {
-        number_of(first_in(&self.live, self.table.get(tx)))
+        let live = self.live.index();
+        number_of(first_in(live, self.table.get(tx)))
     }
 
     /// The highest live number of a transaction.
@@ -293,7 +295,8 @@ impl Chains {
     {
         // Slots are below the table's capacity.
         let (_count, _capacity) = (self.table.len(), self.table.capacity());
-        number_of(last_in(&self.live, self.table.get(tx)))
+        let live = self.live.index();
+        number_of(last_in(live, self.table.get(tx)))
     }
 
     /// A walk over the live numbers of a transaction, rising.
@@ -301,8 +304,8 @@ impl Chains {
         ensures { result ≡ numbers_of tx.now (stored self.now) }
     {
         match self.table.get(tx) {
-            Some(row) => TxWalk::over(&self.live, Some(row.slot)),
-            None => TxWalk::over(&self.live, None),
+            Some(row) => TxWalk::over(&self.live, &self.store, Some(row.slot)),
+            None => TxWalk::over(&self.live, &self.store, None),
         }
     }
 
@@ -327,8 +330,9 @@ impl Chains {
         // Slots are below the table's capacity.
         let (_count, _capacity) = (self.table.len(), self.table.capacity());
         let row = self.table.get(tx);
-        let first = first_in(&self.live, row);
-        let last = last_in(&self.live, row);
+        let live = self.live.index();
+        let first = first_in(live, row);
+        let last = last_in(live, row);
         let first_kind = kind_at(&self.store, &first);
         let last_kind = kind_at(&self.store, &last);
         let counts = counts_in(row);

@@ -2,14 +2,15 @@
 //!
 //! Events and their readings lie in two arenas; a sorted table has the transactions; four ordered
 //! indexes have the places of all events, of the live ones, of the live ones with a reading, and of the
-//! live ones that name an EVSE. [`Chains::open`] asks the allocator, and nothing else here asks it
-//! again. Each call is a number of look-ups in an index and in the table, and goes over no events.
+//! live ones that name an EVSE. The live events of each transaction are also a doubly linked list over
+//! their slots, in order. [`Chains::open`] asks the allocator, and nothing else here asks it again.
+//! Each call is a number of look-ups in an index and in the table, and goes over no events.
 //!
 //! The crate's one contract: chains are a map from keys to stored events, each live or voided, within
 //! the station's limits. [`Chains::insert`] puts in a live event, [`Chains::unlink`] voids one,
 //! [`Chains::relink`] makes it live again, [`Chains::remove`] takes a voided one out. Of a transaction
 //! [`Chains::standing`] tells the two ends with their kinds, two counts, and the EVSE, and
-//! [`Chains::walk`] goes over its live numbers, one look-up a step. [`Chains::neighbours`] gives the live
+//! [`Chains::walk`] goes over its live numbers, one link a step. [`Chains::neighbours`] gives the live
 //! readings on either side of a key.
 //!
 //! ```text
@@ -23,6 +24,7 @@
 
 mod answers;
 mod chains;
+mod live_lists;
 #[cfg(test)]
 mod plain_list;
 mod spots;
@@ -34,4 +36,4 @@ mod tx_walk;
 pub use answers::{Found, Room, Standing};
 pub use chains::Chains;
 pub use tx_ids::TxIds;
-pub use tx_walk::TxWalk;
+pub use tx_walk::{TxPlace, TxWalk};

@@ -201,6 +201,17 @@ impl PlainList {
         }
     }
 
+    // The live numbers of a transaction, rising.
+    pub(crate) fn numbers(&self, alloc: Global, tx: u32) -> Result<Vec<u32>, AllocError> {
+        let mut numbers = Vec::new(alloc);
+        for row in &self.rows {
+            if row.tx == tx && !row.voided {
+                numbers.push(row.seq)?;
+            }
+        }
+        Ok(numbers)
+    }
+
     // Puts a live event in under a number that is new.
     pub(crate) fn put(&mut self, tx: u32, seq: u32, event: &Event) -> Result<(), AllocError> {
         let place = self.place(tx, seq);

@@ -166,7 +166,7 @@ fn walks_over(walk: &TxWalk, numbers: &[u32]) -> bool {
             _ => return false,
         }
     }
-    place == None
+    place.is_none()
 }
 
 fn puts_the_later_number_first(chains: &mut Chains, sent: &Event) -> bool {
@@ -353,6 +353,12 @@ impl Pair {
         }
     }
 
+    // Tells whether a walk goes over the live numbers that the plain list has.
+    fn walk_agrees(&self, alloc: Global, key: &Key, tx: u32) -> Result<bool, AllocError> {
+        let numbers = self.plain.numbers(alloc, tx)?;
+        Ok(walks_over(&self.chains.walk(key.tx()), &numbers))
+    }
+
     // One call at a random number of a random transaction, and whether all answers agree before it.
     fn call(&mut self, alloc: Global, random: &mut Random) -> Result<bool, Fail> {
         let (tx, name) = match random.next() % 6 {
@@ -370,8 +376,9 @@ impl Pair {
         let readings = event.readings().len();
         let agree = Answers::of(&self.chains, &key, readings)
             == self.plain.answers(tx, seq, readings);
+        let walked = random.next() % 50 > 0 || self.walk_agrees(alloc, &key, tx)?;
         let changed = self.change(key, tx, &event, random.next())?;
-        Ok(agree && changed)
+        Ok(agree && walked && changed)
     }
 }
 

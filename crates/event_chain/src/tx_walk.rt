@@ -1,65 +1,86 @@
-ghost use Rattle.std.specs.Prelude.{◌≡◌};
-ghost use Rattle.event_chain.specs.Walk.{numbers_at};
+ghost use Rattle.std.specs.Prelude.{◌≡◌, true};
+ghost use Rattle.event_chain.specs.Walk.{numbers_at, are_under};
 
-use crate::spots::{first_place, number_of, place_behind};
+use crate::live_lists::LiveLists;
+use crate::spots::first_place;
+use event_store::EventStore;
 use gap_list::NumberWalk;
-use key_index::{IndexKey, KeyIndex};
 use std::marker::Model;
 
-/// A walk over the live numbers of a transaction, rising. A place is a number, from which the next one
-/// is found by a look-up. Contracts see the numbers.
+/// A walk over the live numbers of a transaction, rising. Its start is found by a look-up, and each
+/// step follows a link. Contracts see the numbers.
 #[derive(Drop)]
 pub struct TxWalk<'a> {
-    live: &'a KeyIndex,
+    live: &'a LiveLists,
+    store: &'a EventStore,
     // The transaction's slot, where it has one.
     slot: Option<u32>,
 }
 
 impl<'a> Model for TxWalk<'a> {
-    ghost use Rattle.std.specs.Prelude.{List, ℕ};
-    ghost use Rattle.event_chain.specs.Walk.{numbers_at};
+    ghost use Rattle.std.specs.Prelude.{◌≡◌, true, List, ℕ};
+    ghost use Rattle.event_chain.specs.Walk.{numbers_at, are_under};
 
     ghost Value = { List ℕ };
 
     ghost view = { λ w. numbers_at w.live.now.entries w.slot };
+
+    ghost invariant = { λ w. are_under w.store.now.slots w.live.now.entries ≡ true };
+}
+
+/// A place of a walk: the slot of a live event, with the links that lead on and the events.
+#[derive(Clone, Copy)]
+pub struct TxPlace<'a> {
+    live: &'a LiveLists,
+    store: &'a EventStore,
+    slot: u32,
 }
 
 impl<'a> TxWalk<'a> {
     // The walk over the live numbers of the transaction of a slot.
-    pub(crate) fn over(live: &'a KeyIndex, slot: Option<u32>) -> Self
+    pub(crate) fn over(live: &'a LiveLists, store: &'a EventStore, slot: Option<u32>) -> Self
+        requires { are_under store.now.slots live.now.entries ≡ true }
         ensures { result ≡ numbers_at live.now.entries slot }
     {
-        TxWalk { live, slot }
+        TxWalk { live, store, slot }
     }
 }
 
 impl<'a> NumberWalk for TxWalk<'a> {
-    ghost use Rattle.event_chain.specs.Walk.{numbers_on};
+    ghost use Rattle.event_chain.specs.Walk.{numbers_from};
 
-    type Place = u32;
+    type Place = TxPlace<'a>;
 
     ghost numbers = { λ w. w };
 
-    ghost ahead = { λ w place. numbers_on place w };
+    ghost ahead = { λ w place. numbers_from place.live.now.entries place.store.now.slots place.slot };
 
-    fn start(&self) -> Option<u32> {
-        // The indexed keys rise.
-        let _count = self.live.len();
+    fn start(&self) -> Option<TxPlace<'a>> {
+        let index = self.live.index();
         match self.slot {
-            Some(slot) => number_of(first_place(self.live, slot)),
+            Some(slot) => match first_place(index, slot) {
+                Some(first) => Some(TxPlace {
+                    live: self.live,
+                    store: self.store,
+                    slot: first.1,
+                }),
+                None => None,
+            },
             None => None,
         }
     }
 
-    fn number(&self, place: u32) -> u32 {
-        place
+    fn number(&self, place: TxPlace<'a>) -> u32 {
+        // The indexed keys rise, each with a slot of its own.
+        let _index = place.live.index();
+        place.store.get(place.slot).key().number()
     }
 
-    fn next(&self, place: u32) -> Option<u32> {
-        // The indexed keys rise.
-        let _count = self.live.len();
-        match self.slot {
-            Some(slot) => number_of(place_behind(self.live, IndexKey::new(slot, place))),
+    fn next(&self, place: TxPlace<'a>) -> Option<TxPlace<'a>> {
+        // The indexed keys rise, each with a slot of its own.
+        let _index = place.live.index();
+        match place.live.next(place.slot) {
+            Some(slot) => Some(TxPlace { slot, ..place }),
             None => None,
         }
     }

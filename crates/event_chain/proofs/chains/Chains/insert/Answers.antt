@@ -7,6 +7,7 @@ use Rattle.event_chain.specs.Chains.{Chained}
 use Rattle.event_chain.specs.Room.{room_of}
 use Rattle.event_chain.specs.Kept.{IsEntered, end_count}
 use Rattle.event_chain.proofs.Facts.{enter_room, event_room, reading_room, some_readings, entered_named}
+use Rattle.event_chain.proofs.Used.{unused_free}
 use Rattle.event_chain.proofs.Inserts.{opened, inserted, inserted_events}
 use Rattle.event_chain.proofs.chains.Chains.insert.Goals as goal
 
@@ -37,6 +38,30 @@ put_place-requires-clause-room c =
     let ready = opened m.limits m.table m.store m.stored m.live m.carriers m.naming c.self.invariant c.args.key mid row c.new-at.result entered number is absent c.args.key.tx (length c.args.event.now.readings) (ap (λ (x : Chained). room_of x.limits (finite.entries x.events) c.args.key.tx (length c.args.event.now.readings)) c.self.view_is ∙ c.requires.room) in
     ready.stored_room
 
+pub insert-requires-clause-absent : goal.insert-requires-clause-absent
+insert-requires-clause-absent c =
+    let m = c.self.inside in let row = c.enter-row.result in let mid = c.enter-row.new.table.rows in
+    let entered = subst (λ t. IsEntered m.table.rows mid t row) c.tx.ensures c.enter-row.ensures.entered in
+    let number : c.args.key.seq < 2 ^ 31 = omega (arith, c.seq.ensures.value, c.seq.ensures.range) in let is = c.new-at.ensures ∙ ap (rank row.slot) c.seq.ensures.value in
+    let absent = ap (λ (x : Chained). finite.get x.events c.args.key) c.self.view_is ∙ c.requires.absent in
+    let ready = opened m.limits m.table m.store m.stored m.live m.carriers m.naming c.self.invariant c.args.key mid row c.new-at.result entered number is absent c.args.key.tx (length c.args.event.now.readings) (ap (λ (x : Chained). room_of x.limits (finite.entries x.events) c.args.key.tx (length c.args.event.now.readings)) c.self.view_is ∙ c.requires.room) in
+    ready.live_absent
+
+pub insert-requires-clause-room : goal.insert-requires-clause-room
+insert-requires-clause-room c =
+    let m = c.self.inside in let row = c.enter-row.result in let mid = c.enter-row.new.table.rows in
+    let entered = subst (λ t. IsEntered m.table.rows mid t row) c.tx.ensures c.enter-row.ensures.entered in
+    let number : c.args.key.seq < 2 ^ 31 = omega (arith, c.seq.ensures.value, c.seq.ensures.range) in let is = c.new-at.ensures ∙ ap (rank row.slot) c.seq.ensures.value in
+    let absent = ap (λ (x : Chained). finite.get x.events c.args.key) c.self.view_is ∙ c.requires.absent in
+    let ready = opened m.limits m.table m.store m.stored m.live m.carriers m.naming c.self.invariant c.args.key mid row c.new-at.result entered number is absent c.args.key.tx (length c.args.event.now.readings) (ap (λ (x : Chained). room_of x.limits (finite.entries x.events) c.args.key.tx (length c.args.event.now.readings)) c.self.view_is ∙ c.requires.room) in
+    ready.live_room
+
+pub insert-requires-clause-slot : goal.insert-requires-clause-slot
+insert-requires-clause-slot c = let k = c.self.invariant in omega (arith, c.put-slot.ensures.within, k.counted.slots_are, k.roomy.for_live)
+
+pub insert-requires-clause-unused : goal.insert-requires-clause-unused
+insert-requires-clause-unused c rank at = let m = c.self.inside in unused_free m.table.rows m.stored.entries m.live.entries m.store.slots c.self.invariant.keyed c.self.invariant.indexed.lives c.put-slot.result c.put-slot.ensures.was_free rank at
+
 pub put_place-requires-2-clause-absent : goal.put_place-requires-2-clause-absent
 put_place-requires-2-clause-absent c =
     let m = c.self.inside in let row = c.enter-row.result in let mid = c.enter-row.new.table.rows in
@@ -44,7 +69,7 @@ put_place-requires-2-clause-absent c =
     let number : c.args.key.seq < 2 ^ 31 = omega (arith, c.seq.ensures.value, c.seq.ensures.range) in let is = c.new-at.ensures ∙ ap (rank row.slot) c.seq.ensures.value in
     let absent = ap (λ (x : Chained). finite.get x.events c.args.key) c.self.view_is ∙ c.requires.absent in
     let ready = opened m.limits m.table m.store m.stored m.live m.carriers m.naming c.self.invariant c.args.key mid row c.new-at.result entered number is absent c.args.key.tx (length c.args.event.now.readings) (ap (λ (x : Chained). room_of x.limits (finite.entries x.events) c.args.key.tx (length c.args.event.now.readings)) c.self.view_is ∙ c.requires.room) in
-    ready.live_absent
+    ready.carriers_absent
 
 pub put_place-requires-2-clause-room : goal.put_place-requires-2-clause-room
 put_place-requires-2-clause-room c =
@@ -53,7 +78,7 @@ put_place-requires-2-clause-room c =
     let number : c.args.key.seq < 2 ^ 31 = omega (arith, c.seq.ensures.value, c.seq.ensures.range) in let is = c.new-at.ensures ∙ ap (rank row.slot) c.seq.ensures.value in
     let absent = ap (λ (x : Chained). finite.get x.events c.args.key) c.self.view_is ∙ c.requires.absent in
     let ready = opened m.limits m.table m.store m.stored m.live m.carriers m.naming c.self.invariant c.args.key mid row c.new-at.result entered number is absent c.args.key.tx (length c.args.event.now.readings) (ap (λ (x : Chained). room_of x.limits (finite.entries x.events) c.args.key.tx (length c.args.event.now.readings)) c.self.view_is ∙ c.requires.room) in
-    ready.live_room
+    ready.carriers_room
 
 pub put_place-requires-3-clause-absent : goal.put_place-requires-3-clause-absent
 put_place-requires-3-clause-absent c =
@@ -62,28 +87,10 @@ put_place-requires-3-clause-absent c =
     let number : c.args.key.seq < 2 ^ 31 = omega (arith, c.seq.ensures.value, c.seq.ensures.range) in let is = c.new-at.ensures ∙ ap (rank row.slot) c.seq.ensures.value in
     let absent = ap (λ (x : Chained). finite.get x.events c.args.key) c.self.view_is ∙ c.requires.absent in
     let ready = opened m.limits m.table m.store m.stored m.live m.carriers m.naming c.self.invariant c.args.key mid row c.new-at.result entered number is absent c.args.key.tx (length c.args.event.now.readings) (ap (λ (x : Chained). room_of x.limits (finite.entries x.events) c.args.key.tx (length c.args.event.now.readings)) c.self.view_is ∙ c.requires.room) in
-    ready.carriers_absent
+    ready.naming_absent
 
 pub put_place-requires-3-clause-room : goal.put_place-requires-3-clause-room
 put_place-requires-3-clause-room c =
-    let m = c.self.inside in let row = c.enter-row.result in let mid = c.enter-row.new.table.rows in
-    let entered = subst (λ t. IsEntered m.table.rows mid t row) c.tx.ensures c.enter-row.ensures.entered in
-    let number : c.args.key.seq < 2 ^ 31 = omega (arith, c.seq.ensures.value, c.seq.ensures.range) in let is = c.new-at.ensures ∙ ap (rank row.slot) c.seq.ensures.value in
-    let absent = ap (λ (x : Chained). finite.get x.events c.args.key) c.self.view_is ∙ c.requires.absent in
-    let ready = opened m.limits m.table m.store m.stored m.live m.carriers m.naming c.self.invariant c.args.key mid row c.new-at.result entered number is absent c.args.key.tx (length c.args.event.now.readings) (ap (λ (x : Chained). room_of x.limits (finite.entries x.events) c.args.key.tx (length c.args.event.now.readings)) c.self.view_is ∙ c.requires.room) in
-    ready.carriers_room
-
-pub put_place-requires-4-clause-absent : goal.put_place-requires-4-clause-absent
-put_place-requires-4-clause-absent c =
-    let m = c.self.inside in let row = c.enter-row.result in let mid = c.enter-row.new.table.rows in
-    let entered = subst (λ t. IsEntered m.table.rows mid t row) c.tx.ensures c.enter-row.ensures.entered in
-    let number : c.args.key.seq < 2 ^ 31 = omega (arith, c.seq.ensures.value, c.seq.ensures.range) in let is = c.new-at.ensures ∙ ap (rank row.slot) c.seq.ensures.value in
-    let absent = ap (λ (x : Chained). finite.get x.events c.args.key) c.self.view_is ∙ c.requires.absent in
-    let ready = opened m.limits m.table m.store m.stored m.live m.carriers m.naming c.self.invariant c.args.key mid row c.new-at.result entered number is absent c.args.key.tx (length c.args.event.now.readings) (ap (λ (x : Chained). room_of x.limits (finite.entries x.events) c.args.key.tx (length c.args.event.now.readings)) c.self.view_is ∙ c.requires.room) in
-    ready.naming_absent
-
-pub put_place-requires-4-clause-room : goal.put_place-requires-4-clause-room
-put_place-requires-4-clause-room c =
     let m = c.self.inside in let row = c.enter-row.result in let mid = c.enter-row.new.table.rows in
     let entered = subst (λ t. IsEntered m.table.rows mid t row) c.tx.ensures c.enter-row.ensures.entered in
     let number : c.args.key.seq < 2 ^ 31 = omega (arith, c.seq.ensures.value, c.seq.ensures.range) in let is = c.new-at.ensures ∙ ap (rank row.slot) c.seq.ensures.value in
@@ -121,7 +128,7 @@ invariant_of-self c =
     let absent = ap (λ (x : Chained). finite.get x.events c.args.key) c.self.view_is ∙ c.requires.absent in
     let ev = c.args.event.now in let after : TableRow = record { slot = row.slot; live = row.live + 1; ends = row.ends + c.ends_of.result } in
     let carries = not c.is_empty.result in let names = c.is_some-names.result in
-    inserted m.limits m.table m.store m.stored m.live m.carriers m.naming c.self.invariant c.args.key mid row c.new-at.result entered number is absent c.set.new.self c.put-slot.new.self c.put_place.new.index c.put_place-2.new.index c.put_place-3.new.index c.put_place-4.new.index after c.put-slot.result ev carries names (record {
+    inserted m.limits m.table m.store m.stored m.live m.carriers m.naming c.self.invariant c.args.key mid row c.new-at.result entered number is absent c.set.new.self c.put-slot.new.self c.put_place.new.index c.insert.new.self c.put_place-2.new.index c.put_place-3.new.index after c.put-slot.result ev carries names (record {
       rows = c.set.ensures.rows ∙ ap (λ t. with_row t after mid) c.tx-2.ensures;
       transactions = c.set.ensures.capacity ∙ c.enter-row.ensures.capacity;
       rising = c.len-transactions.ensures.rising;
@@ -132,13 +139,13 @@ invariant_of-self c =
       readings = c.put-slot.ensures.readings;
       room = c.put-slot.ensures.capacity;
       stored_is = c.put_place.ensures.entries;
-      live_is = c.put_place-2.ensures.entries;
-      carriers_is = c.put_place-3.ensures.entries;
-      naming_is = c.put_place-4.ensures.entries;
+      live_is = c.insert.ensures.entries;
+      carriers_is = c.put_place-2.ensures.entries;
+      naming_is = c.put_place-3.ensures.entries;
       stored_cap = c.put_place.ensures.capacity;
-      live_cap = c.put_place-2.ensures.capacity;
-      carriers_cap = c.put_place-3.ensures.capacity;
-      naming_cap = c.put_place-4.ensures.capacity;
+      live_cap = c.insert.ensures.capacity;
+      carriers_cap = c.put_place-2.ensures.capacity;
+      naming_cap = c.put_place-3.ensures.capacity;
       carries_is = ap not (c.is_empty.ensures ∙ ap (λ rs. length rs == 0) c.readings.ensures.value) ∙ some_readings (length ev.readings);
       names_is = c.is_some-names.ensures ∙ ap is_some c.evse.ensures.value;
       same = refl;
@@ -154,7 +161,7 @@ returns-clause-events c =
     let absent = ap (λ (x : Chained). finite.get x.events c.args.key) c.self.view_is ∙ c.requires.absent in
     let ev = c.args.event.now in let after : TableRow = record { slot = row.slot; live = row.live + 1; ends = row.ends + c.ends_of.result } in
     let carries = not c.is_empty.result in let names = c.is_some-names.result in
-    inserted_events m.limits m.table m.store m.stored m.live m.carriers m.naming c.self.invariant c.args.key mid row c.new-at.result entered number is absent c.set.new.self c.put-slot.new.self c.put_place.new.index c.put_place-2.new.index c.put_place-3.new.index c.put_place-4.new.index after c.put-slot.result ev carries names (record {
+    inserted_events m.limits m.table m.store m.stored m.live m.carriers m.naming c.self.invariant c.args.key mid row c.new-at.result entered number is absent c.set.new.self c.put-slot.new.self c.put_place.new.index c.insert.new.self c.put_place-2.new.index c.put_place-3.new.index after c.put-slot.result ev carries names (record {
       rows = c.set.ensures.rows ∙ ap (λ t. with_row t after mid) c.tx-2.ensures;
       transactions = c.set.ensures.capacity ∙ c.enter-row.ensures.capacity;
       rising = c.len-transactions.ensures.rising;
@@ -165,13 +172,13 @@ returns-clause-events c =
       readings = c.put-slot.ensures.readings;
       room = c.put-slot.ensures.capacity;
       stored_is = c.put_place.ensures.entries;
-      live_is = c.put_place-2.ensures.entries;
-      carriers_is = c.put_place-3.ensures.entries;
-      naming_is = c.put_place-4.ensures.entries;
+      live_is = c.insert.ensures.entries;
+      carriers_is = c.put_place-2.ensures.entries;
+      naming_is = c.put_place-3.ensures.entries;
       stored_cap = c.put_place.ensures.capacity;
-      live_cap = c.put_place-2.ensures.capacity;
-      carriers_cap = c.put_place-3.ensures.capacity;
-      naming_cap = c.put_place-4.ensures.capacity;
+      live_cap = c.insert.ensures.capacity;
+      carriers_cap = c.put_place-2.ensures.capacity;
+      naming_cap = c.put_place-3.ensures.capacity;
       carries_is = ap not (c.is_empty.ensures ∙ ap (λ rs. length rs == 0) c.readings.ensures.value) ∙ some_readings (length ev.readings);
       names_is = c.is_some-names.ensures ∙ ap is_some c.evse.ensures.value;
       same = refl;

@@ -5,7 +5,14 @@ use Rattle.event_chain.specs.Chains.{Chained, stored}
 use Rattle.event_chain.specs.Walk.{numbers_at}
 use Rattle.event_chain.proofs.Facts.{entries_all}
 use Rattle.event_chain.proofs.Lives.{live_numbers}
+use Rattle.event_chain.proofs.Used.{live_under}
 use Rattle.event_chain.proofs.chains.Chains.walk.Goals as goal
+
+pub over-requires : goal.over-requires
+over-requires c = let m = c.self.inside in let k = c.self.invariant in live_under m.table.rows m.stored.entries m.live.entries m.store.slots k.keyed k.indexed.lives
+
+pub over-requires-in-None : goal.over-requires-in-None
+over-requires-in-None c = let m = c.self.inside in let k = c.self.invariant in live_under m.table.rows m.stored.entries m.live.entries m.store.slots k.keyed k.indexed.lives
 
 pub returns-in-Some : goal.returns-in-Some
 returns-in-Some c =

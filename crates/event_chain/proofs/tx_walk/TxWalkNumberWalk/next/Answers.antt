@@ -1,22 +1,23 @@
-use Rattle.std.proofs.Common.{◌<◌, length, option_map, sym, ap, ◌∙◌, subst}
-use Rattle.event_chain.specs.Flat.{segment}
-use Rattle.event_chain.specs.Walk.{number_in, numbers_at, numbers_on}
-use Rattle.event_chain.proofs.Walks.{IsStep, number_small, step_is}
+use Rattle.std.proofs.Common.{sym, ◌∙◌}
+use Rattle.event_chain.proofs.Walks.{at_place, next_some, next_stands, next_none}
 use Rattle.event_chain.proofs.tx_walk.TxWalkNumberWalk.next.Goals as goal
 
-pub new-requires : goal.new-requires
-new-requires c =
-    let es = c.self.inside.live.now.entries in let t = c.in-Some.slot in
-    number_small c.args.place (segment t es) (subst (λ w. 0 < length (numbers_on c.args.place w)) (sym (ap (numbers_at es) (sym c.in-Some.is) ∙ c.self.view_is)) c.requires)
+pub next-requires : goal.next-requires
+next-requires c =
+    let p = c.args.place in let at = at_place p.live.now.entries p.store.now.slots c.index-index.ensures.rising c.index-index.ensures.own p.slot c.requires in
+    record { rank = at.rank; found = at.found }
 
 pub returns-in-Some-clause-rest : goal.returns-in-Some-clause-rest
 returns-in-Some-clause-rest c =
-    let es = c.self.inside.live.now.entries in let t = c.in-Some.slot in let whole = ap (numbers_at es) (sym c.in-Some.is) ∙ c.self.view_is in
-    let step = step_is t c.args.place c.new.result es c.number_of.result c.len-count.ensures.rising (subst (λ w. 0 < length (numbers_on c.args.place w)) (sym whole) c.requires) c.new.ensures (c.number_of.ensures ∙ ap (option_map number_in) c.place_behind.ensures) in
-    (subst (λ w. IsStep w c.args.place c.number_of.result) whole step).rest
+    let p = c.args.place in let es = p.live.now.entries in let slots = p.store.now.slots in let at = at_place es slots c.index-index.ensures.rising c.index-index.ensures.own p.slot c.requires in
+    next_some es slots c.index-index.ensures.rising c.index-index.ensures.own p.slot at c.in-Some.slot (sym c.in-Some.is ∙ c.next.ensures at.rank at.found)
 
 pub returns-in-Some-clause-stands : goal.returns-in-Some-clause-stands
 returns-in-Some-clause-stands c =
-    let es = c.self.inside.live.now.entries in let t = c.in-Some.slot in let whole = ap (numbers_at es) (sym c.in-Some.is) ∙ c.self.view_is in
-    let step = step_is t c.args.place c.new.result es c.number_of.result c.len-count.ensures.rising (subst (λ w. 0 < length (numbers_on c.args.place w)) (sym whole) c.requires) c.new.ensures (c.number_of.ensures ∙ ap (option_map number_in) c.place_behind.ensures) in
-    (subst (λ w. IsStep w c.args.place c.number_of.result) whole step).stands
+    let p = c.args.place in let es = p.live.now.entries in let slots = p.store.now.slots in let at = at_place es slots c.index-index.ensures.rising c.index-index.ensures.own p.slot c.requires in
+    next_stands es slots c.index-index.ensures.rising c.index-index.ensures.own p.slot at c.in-Some.slot (sym c.in-Some.is ∙ c.next.ensures at.rank at.found)
+
+pub returns-in-None-clause-rest : goal.returns-in-None-clause-rest
+returns-in-None-clause-rest c =
+    let p = c.args.place in let es = p.live.now.entries in let slots = p.store.now.slots in let at = at_place es slots c.index-index.ensures.rising c.index-index.ensures.own p.slot c.requires in
+    next_none es slots c.index-index.ensures.rising c.index-index.ensures.own p.slot at (sym c.in-None.is ∙ c.next.ensures at.rank at.found)

@@ -1,0 +1,253 @@
+-- The linked lists of the live events, under an edit.
+use Rattle.std.proofs.Common.{◌≡◌, ◌≢◌, ℕ, ◌<◌, ◌/◌, ◌^◌, ◌==◌, Bool, true, false, cond, List, [], ◌∷◌, ◌++◌, Option, Some, None, map, slice_get, option_map, replicate, refl, sym, ap, ◌∙◌, subst, inl, inr}
+use Rattle.std.proofs.lemmas.Bool.{cases_eq}
+use Rattle.std.proofs.lemmas.Bool.Decides.{Decides-eqb}
+use Rattle.std.proofs.lemmas.List.{map-append, length-replicate}
+use Rattle.std.specs.List.{filter}
+use Rattle.std.specs.Ordering.{nat_cmp}
+use Rattle.std.specs.Cmp.{nat_cmp_total}
+use Rattle.std.specs.FinMap.{put}
+use Rattle.std.specs.FinMap.Entries.{is_sorted-put}
+use Rattle.key_index.specs.Entries.{last_of, AreRising}
+use Rattle.key_index.specs.Index.{Index, index}
+use Rattle.slot_links.specs.Links.{Links, links, linked_in, linked_out, prev_of, next_of, IsSlot}
+use Rattle.slot_links.specs.Chain.{head_or, last_or, IsChain, IsAbsent, AreElsewhere, AreSlots, IsLinked}
+use Rattle.slot_links.proofs.Chains.{chain_parts, slots_parts, length-linked_in, length-linked_out}
+use Rattle.slot_links.proofs.Lists.{linked_with_slot, linked_without_slot, linked_beside_in, linked_beside_out}
+use Rattle.event_chain.specs.Flat.{Place, place_of}
+use Rattle.event_chain.specs.Kept.{AreRanks}
+use Rattle.event_chain.specs.Edits.{out, places_before, places_behind}
+use Rattle.event_chain.specs.Lists.{slot_in, slots_of, AreOwn, AreListed}
+use Rattle.event_chain.proofs.Members.{AllPlaces, all_found}
+use Rattle.event_chain.proofs.Moves.{put_here, put_other, out_here, out_other}
+use Rattle.event_chain.proofs.Places.{ranks_of, last_cons}
+use Rattle.event_chain.proofs.Subs.{out_if_ranks}
+use Rattle.event_chain.proofs.Splits.{seg_absent, seg_put, seg_put_other, seg_present, seg_out, seg_out_other}
+
+-- The first slot of places.
+pub first_slot : (ps : List Place) → head_or None (map slot_in ps) ≡ option_map slot_in (slice_get ps 0)
+first_slot [] = refl
+first_slot (p ∷ ps) = refl
+
+-- The last one.
+pub last_slot : (ps : List Place) → last_or None (map slot_in ps) ≡ option_map slot_in (last_of ps)
+last_slot [] = refl
+last_slot (p ∷ []) = refl
+last_slot (p ∷ q ∷ ps) = last_slot (q ∷ ps) ∙ ap (option_map slot_in) (sym (last_cons p q ps))
+
+-- The first of slots is one.
+first_is_slot : (l : Links) (ss : List ℕ) → AreSlots l ss → (x : ℕ) → head_or None ss ≡ Some x → IsSlot l x
+first_is_slot l [] h x is = cc
+first_is_slot l (s ∷ ss) h x is = let same : s ≡ x = cc in subst (IsSlot l) same h.0
+
+-- So is the last.
+last_is_slot : (l : Links) (ss : List ℕ) → AreSlots l ss → (x : ℕ) → last_or None ss ≡ Some x → IsSlot l x
+last_is_slot l [] h x is = cc
+last_is_slot l (s ∷ []) h x is = let same : s ≡ x = cc in subst (IsSlot l) same h.0
+last_is_slot l (s ∷ t ∷ ts) h x is = last_is_slot l (t ∷ ts) h.1 x is
+
+-- What comes after the last slot of a chain.
+after_last : (l : Links) (before : Option ℕ) (ss : List ℕ) (after : Option ℕ) (s : ℕ) → IsChain l before ss after → last_or None ss ≡ Some s → next_of l s ≡ after
+after_last l before [] after s chain last = cc
+after_last l before (x ∷ []) after s chain last = let same : x ≡ s = cc in ap (next_of l) (sym same) ∙ chain.1
+after_last l before (x ∷ y ∷ ys) after s chain last = after_last l (Some x) (y ∷ ys) after s chain.2 last
+
+-- A slot is absent where no place that passes a test has it.
+absent_left : (s : ℕ) (f : Place → Bool) (ps : List Place) → AllPlaces (λ p. f p ≡ true → s ≢ p.1) ps → IsAbsent s (map slot_in (filter f ps))
+absent_left s f [] h = tt
+absent_left s f (p ∷ ps) h = elim (f p) as (λ b. f p ≡ b → IsAbsent s (map slot_in (cond b (p ∷ filter f ps) (filter f ps)))) [
+  | true ↦ λ y. (h.0 y, absent_left s f ps h.1)
+  | false ↦ λ _. absent_left s f ps h.1
+] refl
+
+-- Slots are elsewhere where those of the places that pass a test are absent.
+elsewhere_left : (f : Place → Bool) (zs : List ℕ) (ps : List Place) → AllPlaces (λ p. f p ≡ true → IsAbsent p.1 zs) ps → AreElsewhere (map slot_in (filter f ps)) zs
+elsewhere_left f zs [] h = tt
+elsewhere_left f zs (p ∷ ps) h = elim (f p) as (λ b. f p ≡ b → AreElsewhere (map slot_in (cond b (p ∷ filter f ps) (filter f ps))) zs) [
+  | true ↦ λ y. (h.0 y, elsewhere_left f zs ps h.1)
+  | false ↦ λ _. elsewhere_left f zs ps h.1
+] refl
+
+-- A slot that has no place of a transaction is absent from its list.
+pub absent_of : (s t : ℕ) (es : List Place) → AreRanks es → ((r : ℕ) → place_of r es ≡ Some s → r / 2 ^ 31 ≡ t → ⊥) → IsAbsent s (slots_of t es)
+absent_of s t es ranks never = absent_left s (λ e. e.0 / 2 ^ 31 == t) es (all_found (λ p. (p.0 / 2 ^ 31 == t) ≡ true → s ≢ p.1) es ranks (λ p at y e. never p.0 (at ∙ ap Some (sym e)) ((Decides-eqb (p.0 / 2 ^ 31) t).0 y)))
+
+-- The lists of two transactions share no slot.
+pub lists_elsewhere : (t q : ℕ) (es : List Place) → AreRanks es → AreOwn es → (t ≡ q → ⊥) → AreElsewhere (slots_of t es) (slots_of q es)
+lists_elsewhere t q es ranks own other = elsewhere_left (λ e. e.0 / 2 ^ 31 == t) (slots_of q es) es (all_found (λ p. (p.0 / 2 ^ 31 == t) ≡ true → IsAbsent p.1 (slots_of q es)) es ranks (λ p at y.
+    absent_of p.1 q es ranks (λ r there home. other (sym ((Decides-eqb (p.0 / 2 ^ 31) t).0 y) ∙ ap (λ k. k / 2 ^ 31) (own p.0 r p.1 at there) ∙ home))))
+
+-- No slot gets two ranks where one is put in that had none.
+pub own_put : (r0 s0 : ℕ) (es : List Place) → AreOwn es → ((r : ℕ) → place_of r es ≡ Some s0 → ⊥) → AreOwn (put nat_cmp r0 s0 es)
+own_put r0 s0 es own unused q r s a b = elim (cases_eq q r0) [
+  | inl q_is ↦ elim (cases_eq r r0) [
+    | inl r_is ↦ q_is ∙ sym r_is
+    | inr r_other ↦ let e : Some s ≡ Some s0 = sym a ∙ ap (λ k. place_of k (put nat_cmp r0 s0 es)) q_is ∙ put_here r0 s0 es in absurd (unused r (sym (put_other r r0 s0 es r_other) ∙ b ∙ e))
+  ]
+  | inr q_other ↦ elim (cases_eq r r0) [
+    | inl r_is ↦ let e : Some s ≡ Some s0 = sym b ∙ ap (λ k. place_of k (put nat_cmp r0 s0 es)) r_is ∙ put_here r0 s0 es in absurd (unused q (sym (put_other q r0 s0 es q_other) ∙ a ∙ e))
+    | inr r_other ↦ own q r s (sym (put_other q r0 s0 es q_other) ∙ a) (sym (put_other r r0 s0 es r_other) ∙ b)
+  ]
+]
+
+-- What is there is not gone.
+not_gone : (o : Option ℕ) (s : ℕ) → o ≡ Some s → o ≡ None → ⊥
+not_gone o s a b = cc
+
+-- Nor where one is taken out.
+pub own_out : (r0 : ℕ) (es : List Place) → AreOwn es → AreOwn (out r0 es)
+own_out r0 es own q r s a b =
+    let still : (k : ℕ) → place_of k (out r0 es) ≡ Some s → place_of k es ≡ Some s = λ k at. sym (out_other k r0 es (λ e. not_gone (place_of k (out r0 es)) s at (ap (λ x. place_of x (out r0 es)) e ∙ out_here r0 es))) ∙ at in
+    own q r s (still q a) (still r b)
+
+-- What stands in front of a place put in, and what behind it.
+abbrev pub front_of : ℕ → List Place → List ℕ
+front_of r es = map slot_in (places_before r es)
+
+abbrev pub back_of : ℕ → List Place → List ℕ
+back_of r es = map slot_in (places_behind r es)
+
+-- What stands on a side of a rank is a slot, where there is one.
+abbrev pub IsSide : Links → Option ℕ → Type 0
+IsSide l o = (x : ℕ) → o ≡ Some x → IsSlot l x
+
+-- Links and an index, made of the same.
+pub listed_same : (a b : Index) (l m : Links) → a.entries ≡ b.entries → a.capacity ≡ b.capacity → l ≡ m → AreListed b m → AreListed a l
+listed_same a b l m entries capacity same h = subst (λ (x : Index). AreListed x l) (sym (λ i. index (entries i) (capacity i))) (subst (AreListed b) (sym same) h)
+
+-- The slots on either side of a rank.
+abbrev pub slot_before : ℕ → List Place → Option ℕ
+slot_before r es = option_map slot_in (last_of (places_before r es))
+
+abbrev pub slot_behind : ℕ → List Place → Option ℕ
+slot_behind r es = option_map slot_in (slice_get (places_behind r es) 0)
+
+module _ (live : Index) (l : Links) (listed : AreListed live l) (rising : AreRising live.entries) (r : ℕ) where
+  abbrev es : List Place
+  es = live.entries
+
+  abbrev t : ℕ
+  t = r / 2 ^ 31
+
+  abbrev front : List ℕ
+  front = front_of r es
+
+  abbrev back : List ℕ
+  back = back_of r es
+
+  module _ (none : place_of r es ≡ None) where
+    list_is : slots_of t es ≡ front ++ back
+    list_is = ap (map slot_in) (seg_absent r es rising none) ∙ map-append slot_in (places_before r es) (places_behind r es)
+
+    list : IsLinked l (front ++ back)
+    list = subst (IsLinked l) list_is (listed.lists t)
+
+    -- The slots on either side are slots.
+    pub sides_absent : IsSide l (slot_before r es) × IsSide l (slot_behind r es)
+    sides_absent = let parts = slots_parts l front back list.slots in
+        ((λ x is. last_is_slot l front parts.0 x (last_slot (places_before r es) ∙ is)), (λ x is. first_is_slot l back parts.1 x (first_slot (places_behind r es) ∙ is)))
+
+    -- The slot behind the one in front of a new rank comes behind the rank.
+    pub next_absent : (s : ℕ) → slot_before r es ≡ Some s → next_of l s ≡ slot_behind r es
+    next_absent s is = after_last l None front (head_or None back) s (chain_parts l None front back None list.chain).0 (last_slot (places_before r es) ∙ is) ∙ first_slot (places_behind r es)
+
+    module _ (s : ℕ) (within : s < live.capacity) (unused : (k : ℕ) → place_of k es ≡ Some s → ⊥) where
+      -- The slot is one.
+      pub slot_within : IsSlot l s
+      slot_within = record { prev = subst (λ n. s < n) (sym listed.prevs) within; next = subst (λ n. s < n) (sym listed.nexts) within }
+
+      abbrev more : List Place
+      more = put nat_cmp r s es
+
+      abbrev m : Links
+      m = linked_in l (slot_before r es) s s (slot_behind r es)
+
+      linked : linked_in l (last_or None front) s s (head_or None back) ≡ m
+      linked = (λ i. linked_in l (last_slot (places_before r es) i) s s (first_slot (places_behind r es) i))
+
+      more_is : slots_of t more ≡ front ++ s ∷ back
+      more_is = ap (map slot_in) (seg_put r es rising none s) ∙ map-append slot_in (places_before r es) ((r, s) ∷ places_behind r es)
+
+      -- The links with a slot put in.
+      pub listed_put : AreListed (index more live.capacity) m
+      listed_put =
+          let up : AreRanks more = is_sorted-put nat_cmp nat_cmp_total r s es (ranks_of es rising) in
+          let lens = length-linked_in l (slot_before r es) s s (slot_behind r es) in let own = own_put r s es listed.own unused in
+          record {
+            prevs = lens.0 ∙ listed.prevs;
+            nexts = lens.1 ∙ listed.nexts;
+            own = own;
+            lists = λ q. elim (cases_eq t q) [
+              | inl same ↦ subst (λ k. IsLinked m (slots_of k more)) same (subst (IsLinked m) (sym more_is) (subst (λ x. IsLinked x (front ++ s ∷ back)) linked
+                  (linked_with_slot l front s back slot_within (subst (IsAbsent s) list_is (absent_of s t es (ranks_of es rising) (λ k at _. unused k at))) list)))
+              | inr other ↦
+                  let apart = subst (λ zs. AreElsewhere zs (slots_of q more)) more_is (lists_elsewhere t q more up own other) in
+                  let same = ap (map slot_in) (seg_put_other r es rising none s q other) in
+                  subst (λ x. IsLinked x (slots_of q more)) linked (linked_beside_in l front (s ∷ []) back (slots_of q more) s s refl refl apart (subst (IsLinked l) (sym same) (listed.lists q)))
+            ];
+          }
+
+  module _ (s : ℕ) (some : place_of r es ≡ Some s) where
+    place_is : slots_of t es ≡ front ++ s ∷ back
+    place_is = ap (map slot_in) (seg_present r es rising s some) ∙ map-append slot_in (places_before r es) ((r, s) ∷ places_behind r es)
+
+    whole : IsLinked l (front ++ s ∷ back)
+    whole = subst (IsLinked l) place_is (listed.lists t)
+
+    -- The slots on either side are slots.
+    pub sides_present : IsSide l (slot_before r es) × IsSide l (slot_behind r es)
+    sides_present = let parts = slots_parts l front (s ∷ back) whole.slots in
+        ((λ x is. last_is_slot l front parts.0 x (last_slot (places_before r es) ∙ is)), (λ x is. first_is_slot l back parts.1.1 x (first_slot (places_behind r es) ∙ is)))
+
+    -- The slot is one.
+    pub slot_present : IsSlot l s
+    slot_present = (slots_parts l front (s ∷ back) whole.slots).1.0
+
+    -- The next slot is that of the next place.
+    pub next_present : next_of l s ≡ slot_behind r es
+    next_present = (chain_parts l None front (s ∷ back) None whole.chain).1.1 ∙ first_slot (places_behind r es)
+
+    -- The one before is that of the place in front.
+    pub prev_present : prev_of l s ≡ slot_before r es
+    prev_present = (chain_parts l None front (s ∷ back) None whole.chain).1.0 ∙ last_slot (places_before r es)
+
+    abbrev fewer : List Place
+    fewer = out r es
+
+    abbrev left : Links
+    left = linked_out l (slot_before r es) (slot_behind r es)
+
+    unlinked : linked_out l (last_or None front) (head_or None back) ≡ left
+    unlinked = (λ i. linked_out l (last_slot (places_before r es) i) (first_slot (places_behind r es) i))
+
+    rest_is : slots_of t fewer ≡ front ++ back
+    rest_is = ap (map slot_in) (seg_out r es rising s some) ∙ map-append slot_in (places_before r es) (places_behind r es)
+
+    -- The links with a slot left out.
+    pub listed_out : AreListed (index fewer live.capacity) left
+    listed_out =
+        let up : AreRanks fewer = out_if_ranks true r es (ranks_of es rising) in
+        let lens = length-linked_out l (slot_before r es) (slot_behind r es) in let own = own_out r es listed.own in
+        record {
+          prevs = lens.0 ∙ listed.prevs;
+          nexts = lens.1 ∙ listed.nexts;
+          own = own;
+          lists = λ q. elim (cases_eq t q) [
+            | inl same ↦ subst (λ k. IsLinked left (slots_of k fewer)) same (subst (IsLinked left) (sym rest_is) (subst (λ x. IsLinked x (front ++ back)) unlinked (linked_without_slot l front s back whole)))
+            | inr other ↦
+                let apart = subst (λ zs. AreElsewhere zs (slots_of q fewer)) rest_is (lists_elsewhere t q fewer up own other) in
+                let same = ap (map slot_in) (seg_out_other r es rising s some q other) in
+                subst (λ x. IsLinked x (slots_of q fewer)) unlinked (linked_beside_out l front back (slots_of q fewer) apart (subst (IsLinked l) (sym same) (listed.lists q)))
+          ];
+        }
+
+-- No links, no lists.
+pub listed_none : (n : ℕ) → AreListed (index [] n) (links (replicate n None) (replicate n None))
+listed_none n = record {
+  prevs = length-replicate n None;
+  nexts = length-replicate n None;
+  own = λ q r s a b. absurd (none q s a);
+  lists = λ t. record { chain = tt; apart = tt; slots = tt };
+} where
+  none : (q s : ℕ) → place_of q [] ≡ Some s → ⊥
+  none q s is = cc

@@ -1,0 +1,30 @@
+-- The live events in linked lists over their slots, one for each transaction.
+use Rattle.std.specs.Prelude.{◌≡◌, ℕ, List, Some, length, map}
+use Rattle.key_index.specs.Index.{Index}
+use Rattle.slot_links.specs.Links.{Links}
+use Rattle.slot_links.specs.Chain.{IsLinked}
+use Rattle.event_chain.specs.Flat.{Place, place_of, segment}
+
+-- The slot of a place.
+abbrev pub slot_in : Place → ℕ
+slot_in e = e.1
+
+-- The slots of a transaction's places, in order.
+abbrev pub slots_of : ℕ → List Place → List ℕ
+slots_of t es = map slot_in (segment t es)
+
+-- A rank under which the slot stands.
+pub record HasRank (es : List Place) (slot : ℕ) : Type 0 where
+  pub rank : ℕ
+  pub found : place_of rank es ≡ Some slot
+
+-- No slot stands under two ranks.
+abbrev pub AreOwn : List Place → Type 0
+AreOwn es = (q r s : ℕ) → place_of q es ≡ Some s → place_of r es ≡ Some s → q ≡ r
+
+-- The slots of each transaction's places are a linked list, in order.
+pub record AreListed (live : Index) (l : Links) : Type 0 where
+  pub prevs : length l.prevs ≡ live.capacity
+  pub nexts : length l.nexts ≡ live.capacity
+  pub own : AreOwn live.entries
+  pub lists : (t : ℕ) → IsLinked l (slots_of t live.entries)
