@@ -46,14 +46,18 @@ pub fn read_frame(alloc: Global, text: &str) -> Incoming
     if text.len() > MAX_MESSAGE {
         return refusal(None, FrameFault::TextTooLong);
     }
-    match read_marked(alloc, text) {
-        Ok(marked) => read_tree(marked),
-        Err(JsonFault::OutOfMemory) => Incoming::Reply {
-            text: memory_text(),
-            memory: true,
-        },
-        Err(_) => refusal(None, FrameFault::NotJson),
-    }
+    // The faults return at once: what a `match` gives as a whole is a copy of the largest reply.
+    let marked = match read_marked(alloc, text) {
+        Ok(marked) => marked,
+        Err(JsonFault::OutOfMemory) => {
+            return Incoming::Reply {
+                text: memory_text(),
+                memory: true,
+            };
+        }
+        Err(_) => return refusal(None, FrameFault::NotJson),
+    };
+    read_tree(marked)
 }
 
 // What a text asks for that was read.
@@ -62,18 +66,16 @@ fn read_tree(marked: Marked) -> Incoming
     ensures memory { IsMemoryTold result }
     ensures read { ¬ IsOutOfMemory result }
 {
-    match verdict_on(marked.root()) {
-        Verdict::Call { id, action } => {
-            let id = MessageId::new(id.as_str());
-            Incoming::Call(Call {
-                id,
-                action,
-                frame: marked,
-            })
-        }
-        Verdict::Silent => Incoming::Silent,
-        Verdict::Refused { id, fault } => refusal(id, fault),
-    }
+    let (id, action) = match verdict_on(marked.root()) {
+        Verdict::Call { id, action } => (MessageId::new(id.as_str()), action),
+        Verdict::Silent => return Incoming::Silent,
+        Verdict::Refused { id, fault } => return refusal(id, fault),
+    };
+    Incoming::Call(Call {
+        id,
+        action,
+        frame: marked,
+    })
 }
 
 // The reply that tells of a fault.

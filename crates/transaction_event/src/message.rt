@@ -62,17 +62,20 @@ fn event_message(alloc: Global, call: &Call) -> Message
     ensures memory { IsMemoryToldOfFrame (Called (id_of call.now) TransactionEvent (payload_of call.now)) result }
     ensures short { HasShortId result }
 {
-    match event_of(alloc, call.payload()) {
-        Ok((key, event, token)) => Message::Event {
-            id: kept_id(call),
-            key,
-            event,
-            token,
-        },
-        Err(fault) => Message::Reply {
-            text: fault_reply(call.id(), fault),
-            memory: fault.is_out_of_memory(),
-        },
+    let (key, event, token) = match event_of(alloc, call.payload()) {
+        Ok(asked) => asked,
+        Err(fault) => {
+            return Message::Reply {
+                text: fault_reply(call.id(), fault),
+                memory: fault.is_out_of_memory(),
+            };
+        }
+    };
+    Message::Event {
+        id: kept_id(call),
+        key,
+        event,
+        token,
     }
 }
 
@@ -100,12 +103,13 @@ pub fn message_of(alloc: Global, text: &str, now: Moment) -> Message
     ensures while_reading { IsOutOfMemory result → length text.now ≤ longest_message }
     ensures short { HasShortId result }
 {
-    match read_frame(alloc, text) {
-        Incoming::Call(call) => match call.action() {
-            Action::TransactionEvent => event_message(alloc, &call),
-            _ => other_message(&call, now),
-        },
-        Incoming::Silent => Message::Silent,
-        Incoming::Reply { text, memory } => Message::Reply { text, memory },
+    let call = match read_frame(alloc, text) {
+        Incoming::Call(call) => call,
+        Incoming::Silent => return Message::Silent,
+        Incoming::Reply { text, memory } => return Message::Reply { text, memory },
+    };
+    if let Action::TransactionEvent = call.action() {
+        return event_message(alloc, &call);
     }
+    other_message(&call, now)
 }

@@ -66,9 +66,11 @@ pub fn event_reply(id: &str, token: bool, answer: &Answer) -> ArrayString<512>
     requires delivery { spec.answers_delivery answer.now ≡ true }
     ensures { result.bytes ≡ spec.event_reply_bytes id.now token answer.now }
 {
-    match answer {
-        Answer::Refused(refusal) => { error_text(id, refusal_code(*refusal), name_of(*refusal)) }
-        Answer::Accepted(_) | Answer::Repeat if token => result_text(id, Body::TokenAccepted),
-        Answer::Accepted(_) | Answer::Repeat => result_text(id, Body::Empty),
+    if let Answer::Refused(refusal) = answer {
+        return error_text(id, refusal_code(*refusal), name_of(*refusal));
     }
+    if token {
+        return result_text(id, Body::TokenAccepted);
+    }
+    result_text(id, Body::Empty)
 }

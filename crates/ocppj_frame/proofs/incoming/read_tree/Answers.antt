@@ -13,7 +13,7 @@ invariant_of-result c =
     let calls : Calls (elements_of (tree c.args.marked)) c.in-Call.id c.in-Call.action said.0 =
     subst (λ shown. Calls (elements_of shown) c.in-Call.id c.in-Call.action said.0) c.root.ensures at_node in
     record {
-      short = subst (λ id. character_count id ≤ longest_message_id) (sym c.new-id.ensures) c.as_str.ensures.short;
+      short = subst (λ id. character_count id ≤ longest_message_id) (sym c.new.ensures) c.as_str.ensures.short;
       four = Calls-four _ _ _ _ calls;
       object = subst (λ payload. is_object payload ≡ true) (Calls-payload _ _ _ _ calls) calls.has_object;
     }
