@@ -25,48 +25,12 @@ use Rattle.site_desk.specs.Parts.{limits_at, row_at}
 use Rattle.site_desk.specs.Plan.{has_twice}
 use Rattle.site_desk.proofs.Rows.{limits_more_no, limits_more_yes}
 use Rattle.ocpp_board.specs.Drafts.{Drafted, IsPlan, planned_world, site_name}
-use Rattle.ocpp_board.specs.Running.{IsRunning, boards_at, filled}
+use Rattle.desk_report.specs.Boards.{boards_at}
+use Rattle.desk_report.proofs.SiteBoards.{boards_more_no, boards_more_yes}
+use Rattle.ocpp_board.specs.Running.{IsRunning, filled}
 use Rattle.ocpp_board.specs.Script.{shown_site, shown_station, stations_of}
 use Rattle.ocpp_board.proofs.Places.{neither, some_placed}
 use Rattle.ocpp_board.proofs.Settling.{some_same, stands}
-
--- ---- one station after the other
-
--- the boards of one station more
-boards_next : (xs : List StationPlan) (cells : List Cell) (site n : ℕ) (s : StationPlan) (c : Cell) → slice_get xs n ≡ Some s → slice_get cells n ≡ Some c
-    → boards_at (take (suc n) xs) cells site ≡ boards_at (take n xs) cells site ++ cond (eqb s.site site) ((s.name, board quarter_seconds (entries c.content)) ∷ []) []
-boards_next [] cells site n s c at is = absurd (cc at)
-boards_next (x ∷ xs) [] site n s c at is = absurd (cc is)
-boards_next (x ∷ xs) (d ∷ cells) site zero s c at is =
-    let same : x ≡ s = some_same x s at in
-    let cell : d ≡ c = some_same d c is in
-    λ i. cond {A = List (List ℕ × Board)} (eqb (same i).site site) (((same i).name, board quarter_seconds (entries (cell i).content)) ∷ []) []
-boards_next (x ∷ xs) (d ∷ cells) site (suc n) s c at is = more (eqb x.site site) (boards_next xs cells site n s c at is)
-  where
-    more : (b : Bool) → boards_at (take (suc n) xs) cells site ≡ boards_at (take n xs) cells site ++ cond (eqb s.site site) ((s.name, board quarter_seconds (entries c.content)) ∷ []) []
-        → cond b ((x.name, board quarter_seconds (entries d.content)) ∷ boards_at (take (suc n) xs) cells site) (boards_at (take (suc n) xs) cells site)
-        ≡ cond b ((x.name, board quarter_seconds (entries d.content)) ∷ boards_at (take n xs) cells site) (boards_at (take n xs) cells site) ++ cond (eqb s.site site) ((s.name, board quarter_seconds (entries c.content)) ∷ []) []
-    more true e = ap (λ l. (x.name, board quarter_seconds (entries d.content)) ∷ l) e
-    more false e = e
-
-boards_push : (xs : List StationPlan) (cells : List Cell) (site n : ℕ) (s : StationPlan) (c : Cell) → slice_get xs n ≡ Some s → slice_get cells n ≡ Some c
-    → boards_at (take (n + 1) xs) cells site ≡ boards_at (take n xs) cells site ++ cond (eqb s.site site) ((s.name, board quarter_seconds (entries c.content)) ∷ []) []
-boards_push xs cells site n s c at is = let same : n + 1 ≡ suc n = omega arith in ap (λ m. boards_at (take m xs) cells site) same ∙ boards_next xs cells site n s c at is
-
-pub boards_more_yes : (xs : List StationPlan) (cells : List Cell) (site n : ℕ) (s : StationPlan) (c : Cell) → slice_get xs n ≡ Some s → slice_get cells n ≡ Some c → s.site ≡ site
-    → boards_at (take (n + 1) xs) cells site ≡ boards_at (take n xs) cells site ++ (s.name, board quarter_seconds (entries c.content)) ∷ []
-boards_more_yes xs cells site n s c at is e = boards_push xs cells site n s c at is ∙ ap (λ b. boards_at (take n xs) cells site ++ cond b ((s.name, board quarter_seconds (entries c.content)) ∷ []) []) (eq-eqb s.site site e)
-
-pub boards_more_no : (xs : List StationPlan) (cells : List Cell) (site n : ℕ) (s : StationPlan) (c : Cell) → slice_get xs n ≡ Some s → slice_get cells n ≡ Some c → s.site ≢ site
-    → boards_at (take (n + 1) xs) cells site ≡ boards_at (take n xs) cells site
-boards_more_no xs cells site n s c at is e = boards_push xs cells site n s c at is ∙ ap (λ b. boards_at (take n xs) cells site ++ cond b ((s.name, board quarter_seconds (entries c.content)) ∷ []) []) (ne_eqb s.site site e) ∙ append-nil (boards_at (take n xs) cells site)
-
--- one board more is within its limits
-pub within_more : (ls : List Bounds) (bs : List (List ℕ × Board)) (l : Bounds) (b : List ℕ × Board) → AreBoardsWithin ls bs → IsBoardWithin l b.1 → AreBoardsWithin (ls ++ l ∷ []) (bs ++ b ∷ [])
-within_more [] [] l b all is = (is, tt)
-within_more [] (c ∷ bs) l b all is = absurd all
-within_more (k ∷ ls) [] l b all is = absurd all
-within_more (k ∷ ls) (c ∷ bs) l b all is = (all.0, within_more ls bs l b all.1 is)
 
 -- ---- the totals of a book
 
@@ -177,20 +141,6 @@ site_shown d cells name site plan e =
     let there = some_placed {X = SitePlan} (λ s. s.name) name d.sites site e in
     shown_alike d.sites d.stations cells name site
     (λ k s lt. found_alike d.sites name site (get_or d.stations k s).site plan.sites_once there.less (plan.placed k s lt) there.named)
-
--- ---- what the stations of a site may store
-
-sum_at : (xs : List StationPlan) (site : ℕ) → sum_by (λ (l : Bounds). l.readings) (limits_at xs site) ≤ sum_by (λ (s : StationPlan). s.limits.readings) xs
-sum_at [] site = omega arith
-sum_at (x ∷ xs) site = one (eqb x.site site) (sum_at xs site)
-  where
-    one : (t : Bool) → sum_by (λ (l : Bounds). l.readings) (limits_at xs site) ≤ sum_by (λ (s : StationPlan). s.limits.readings) xs
-        → sum_by (λ (l : Bounds). l.readings) (map (λ (s : StationPlan). s.limits) (cond t (x ∷ filter (λ s. eqb s.site site) xs) (filter (λ s. eqb s.site site) xs))) ≤ sum_by (λ (s : StationPlan). s.limits.readings) (x ∷ xs)
-    one true e = omega (arith, e, sum_by-cons (λ (l : Bounds). l.readings) x.limits (limits_at xs site), sum_by-cons (λ (s : StationPlan). s.limits.readings) x xs)
-    one false e = omega (arith, e, sum_by-cons (λ (s : StationPlan). s.limits.readings) x xs)
-
-pub few_at : (sites : List SitePlan) (stations : List StationPlan) (site : ℕ) → IsPlan sites stations → sum_by (λ (l : Bounds). l.readings) (limits_at stations site) ≤ most_plan_readings
-few_at sites stations site plan = omega (arith, sum_at stations site, plan.few_readings)
 
 -- ---- the board
 

@@ -11,4 +11,6 @@ pub mod ScriptLines
 pub mod Drafts
 pub mod Running
 pub mod Received
+pub mod Arguments
 pub mod Echoes
+pub mod StationWords

@@ -1,10 +1,7 @@
 -- How the opened ledgers of a script are kept, and how they are seen as its state.
-use Rattle.std.specs.Prelude.{◌≡◌, ◌==◌, ℕ, true, List, [], ◌∷◌, if◌then◌else◌, length, map, sum_by, Some, slice_get}
+use Rattle.std.specs.Prelude.{◌≡◌, ℕ, true, List, [], ◌∷◌, length, map, sum_by, Some, slice_get}
 use Rattle.ledger_model.specs.declared.answer.Answer.{Answer}
 use Rattle.ledger_model.specs.declared.command.Command.{Command}
-use Rattle.ledger_model.specs.Board.{Board, board}
-use Rattle.ledger_model.specs.Content.{entries}
-use Rattle.ledger_model.specs.Quarter.{quarter_seconds}
 use Rattle.ledger_model.specs.Step.{answer}
 use Rattle.ledger_model.specs.World.{Station, World, world_after}
 use Rattle.site_book.specs.Book.{Book}
@@ -57,10 +54,3 @@ pub record IsRunning (sites : List SitePlan) (stations : List StationPlan) (cell
 pub record Settles (old new : Script) (s : Station) (command : Command) (a : Answer) : Type 0 where
   pub answer_is : a ≡ answer s.limits s.content command
   pub script_is : new ≡ record old { world = world_after old.world (s.name, command) }
-
--- The boards of the stations of the site of this number, by the stations' names.
-abbrev pub boards_at : List StationPlan → List Cell → ℕ → List (List ℕ × Board)
-boards_at [] cells site = []
-boards_at (s ∷ stations) [] site = []
-boards_at (s ∷ stations) (c ∷ cells) site =
-    if s.site == site then (s.name, board quarter_seconds (entries c.content)) ∷ boards_at stations cells site else boards_at stations cells site

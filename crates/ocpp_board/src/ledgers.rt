@@ -1,15 +1,13 @@
 ghost use Rattle.std.specs.Prelude.{◌≡◌, ℕ, ◌+◌, ◌<◌, ◌≤◌, ◌^◌, ◌++◌, ◌∷◌, [], All, length, map, true, OnOk, IfOk, IfSome, slice_get, take, Some, refl};
 ghost use Rattle.std.specs.List.{position};
 ghost use Rattle.std.specs.Str.{bytes_eq};
-ghost use Rattle.board_report.specs.Plans.{AreBoardsWithin};
 ghost use Rattle.board_report.specs.Texts.{board_text};
 ghost use Rattle.site_book.specs.Tables.{HasTable, NamedBy};
 ghost use Rattle.site_desk.specs.Cell.{Cell, new_pass};
-ghost use Rattle.site_desk.specs.Parts.{limits_at};
 ghost use Rattle.ocpp_board.specs.Drafts.{planned};
 ghost use Rattle.ocpp_board.specs.Lines.{line_bytes};
 ghost use Rattle.ocpp_board.specs.Received.{TakesMessage};
-ghost use Rattle.ocpp_board.specs.Running.{running, posts_in, boards_at, IsRunning, Settles};
+ghost use Rattle.ocpp_board.specs.Running.{running, posts_in, IsRunning, Settles};
 ghost use Rattle.ocpp_board.specs.Script.{board_answer, commanded_to, energy_answer, line_step, script_text, sent_to, shown_site, station_named, stations_of, total_answer};
 ghost use Rattle.transaction_event.specs.MessageMeaning.{HasShortId};
 
@@ -17,11 +15,11 @@ use crate::draft::Draft;
 use crate::machine::Machine;
 use crate::script_line::{LineFault, ScriptLine, read_line};
 use crate::text::{put_answer, put_fault, put_line};
-use board_report::{energy_text, site_board, total_text, write_board};
+use board_report::{energy_text, total_text};
+use desk_report::site_text;
 use ledger_model::{Answer, Command, Name};
 use site_book::{Naming, SiteBook, Tables};
 use site_desk::{Parts, Pass, StationCell, enlist_cell, settle};
-use station_ledger::StationBoard;
 use std::alloc::{AllocError, Global};
 use std::thread::Threads;
 use transaction_event::{Message, event_reply, message_of};
@@ -227,44 +225,9 @@ impl<J: Naming> Ledgers<J> {
         requires { position (λ s. bytes_eq name.now s.name) self.now.draft.sites ≡ Some site }
         ensures { IfOk result (λ text. text.items ≡ board_text (shown_site name.now (stations_of name.now (running self.now.draft self.now.cells.items).world))) }
     {
-        let stations = self.boards_at(site)?;
+        let stations = self.draft.plan().stations.as_slice();
         let totals = self.books[site].totals();
-        let board = site_board(self.alloc, name, totals, stations)?;
-        write_board(self.alloc, &board)
-    }
-
-    // The boards of the stations of the site of this number, each with the station's name.
-    fn boards_at(&self, site: usize) -> Result<Vec<(Name, StationBoard)>, AllocError>
-        ensures boards { IfOk result (λ boards. boards.items ≡ boards_at self.now.draft.stations self.now.cells.items site) }
-        ensures within { IfOk result (λ boards. AreBoardsWithin (limits_at self.now.draft.stations site) boards.items) }
-    {
-        let mut boards = Vec::new(self.alloc);
-        for number in 0..self.cells.len() {
-            self.add_board(number, site, &mut boards)?;
-        }
-        Ok(boards)
-    }
-
-    // Adds the board of the station of this number, where it is at the site, to those of the stations before it.
-    fn add_board(
-        &self,
-        number: usize,
-        site: usize,
-        boards: &mut Vec<(Name, StationBoard)>,
-    ) -> Result<(), AllocError>
-        requires there { number < length self.now.draft.stations }
-        requires boards { boards.old.items ≡ boards_at (take number self.now.draft.stations) self.now.cells.items site }
-        requires within { AreBoardsWithin (limits_at (take number self.now.draft.stations) site) boards.old.items }
-        ensures boards { OnOk result (boards.new.items ≡ boards_at (take (number + 1) self.now.draft.stations) self.now.cells.items site) }
-        ensures within { OnOk result (AreBoardsWithin (limits_at (take (number + 1) self.now.draft.stations) site) boards.new.items) }
-    {
-        let station = &self.draft.plan().stations.as_slice()[number];
-        if station.site as usize != site {
-            return Ok(());
-        }
-        let board = self.cells[number].ledger().board(self.alloc)?;
-        boards.push((station.name.copied(), board))?;
-        Ok(())
+        site_text(self.alloc, stations, &self.cells, site, name, totals)
     }
 }
 

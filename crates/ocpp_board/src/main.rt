@@ -1,8 +1,8 @@
 //! `ocpp_board` answers a script of OCPP 2.0.1 traffic, line by line.
 //!
 //! `ocpp_board` or `ocpp_board replay` reads a script from standard input and writes the text of each line to
-//! standard output. What it writes is stated once, on [`stream::replay_stream`], over any reader and any
-//! writer: the text is a fold over the script's lines (`specs/Script.antt`), and each of the five ways to end
+//! standard output; `serve` and `sim` run a server of stations, and simulated ones, by `site_server`. What a
+//! replay writes is stated once, on [`stream::replay_stream`], over any reader and any writer: the text is a fold over the script's lines (`specs/Script.antt`), and each of the five ways to end
 //! says which bytes were read and which were written.
 //!
 //! The loops know lines and machines alone. [`line_reader`] cuts the input into lines and [`replay`] answers
@@ -10,6 +10,7 @@
 //! [`declaring`] and [`ledgers`] are the two machines.
 #![tactic(auto)]
 
+mod arguments;
 mod cli;
 mod declaring;
 mod draft;
@@ -20,17 +21,22 @@ mod line_reader;
 mod machine;
 mod replay;
 mod script_line;
+mod station_words;
 mod stream;
 #[cfg(test)]
 mod tests;
 mod text;
 
-use crate::cli::{run_command_line, tell_fault};
+use crate::cli::{STOPPED, run_command_line, tell_fault};
 use crate::fault::ReplayFault;
 use std::io::{BufRead, BufReader, BufWriter, Write};
+use std::net::{Net, TcpListener, TcpStream};
 use std::process::ExitCode;
+use std::random::RandomSource;
 use std::rt::Env;
+use std::sync::Wait;
 use std::thread::Threads;
+use std::time::Clock;
 use std::{env, io};
 
 const BUFFER: usize = 65_536;
@@ -40,22 +46,36 @@ fn main(rt: HostRuntime) -> ExitCode {
     let writer = BufWriter::with_capacity(rt.alloc(), BUFFER, rt.stdout());
     let mut errors = rt.stderr();
     let status = match (reader, writer) {
-        (Ok(mut reader), Ok(mut writer)) => run(&rt, &mut reader, &mut writer, &mut errors),
-        _ => tell_fault(&mut errors, ReplayFault::OutOfMemory),
+        (Ok(mut reader), Ok(mut writer)) => run(
+            &rt,
+            &mut reader,
+            &mut writer,
+            &mut errors,
+            rt.stderr(),
+        ),
+        _ => tell_fault(&mut errors, ReplayFault::OutOfMemory, STOPPED),
     };
     ExitCode::from(status)
 }
 
 // Runs the program's words, and gives its exit status.
-fn run<X: AllocGlobal + Env + Threads, R: BufRead, W: Write + Drop, E: Write>(
-    rt: &X,
-    reader: &mut R,
-    writer: &mut BufWriter<W>,
-    errors: &mut E,
-) -> u8 {
+fn run<
+    X: AllocGlobal
+        + Env
+        + Threads
+        + Wait
+        + Clock
+        + RandomSource
+        + Sync
+        + Net<Listener = TcpListener, Stream = TcpStream>,
+    R: BufRead,
+    W: Write + Drop,
+    E: Write,
+    L: Write + Send + Drop,
+>(rt: &X, reader: &mut R, writer: &mut BufWriter<W>, errors: &mut E, lines: L) -> u8 {
     match program_words(rt) {
-        Ok(words) => run_command_line(rt, words.as_slice(), reader, writer, errors),
-        Err(_) => tell_fault(errors, ReplayFault::OutOfMemory),
+        Ok(words) => run_command_line(rt, words.as_slice(), reader, writer, errors, lines),
+        Err(_) => tell_fault(errors, ReplayFault::OutOfMemory, STOPPED),
     }
 }
 

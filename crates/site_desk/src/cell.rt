@@ -138,6 +138,7 @@ impl StationCell {
         ensures pass { pass.new ≡ pass_after pass.old result }
     {
         let answer = self.ledger.apply(command, &mut pass.work);
+        // Asked for what its contract tells of the ledger: so many accepted commands lead to its content.
         let changes = self.ledger.changes();
         if let Answer::Accepted(_) = answer {
             self.counts[pass.slot] += 1;

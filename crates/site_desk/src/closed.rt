@@ -59,6 +59,13 @@ impl<J: Naming> Closed<J> {
         self.books.len()
     }
 
+    /// The cells of all stations, in the plan's order.
+    pub fn cells(&self) -> &[StationCell]
+        ensures { result.now ≡ self.now.cells }
+    {
+        self.cells.as_slice()
+    }
+
     /// The ledger of the station of this number.
     ///
     /// Condition: it has the station ([`Closed::stations`] tells).

@@ -87,6 +87,13 @@ impl<J: Naming> Desk<J> {
         }
     }
 
+    /// How many stations it has.
+    pub fn stations(&self) -> usize
+        ensures { result ≡ length self.now.stations }
+    {
+        self.places.len()
+    }
+
     /// A pass of the station of this name, which made no change yet. It waits for the station's lock.
     pub fn enlist<R: Wait + Threads>(&self, rt: &R, name: &Name) -> Result<Pass, EnlistFault>
         ensures unknown { (result ≡ Err EnlistFault.UnknownStation) ↔ (list_any (λ p. bytes_eq name.now p.name) self.now.stations ≡ false) }

@@ -19,7 +19,8 @@ pub struct TooManyPasses;
 pub enum EnlistFault {
     /// No station of the desk has this name.
     UnknownStation,
-    /// The station gave out 65,536 passes.
+    /// The station gave out 65,536 passes, or what lies behind its lock is not its own, which no run of
+    /// these calls meets.
     TooManyPasses,
 }
 

@@ -1,0 +1,14 @@
+-- The passes that sessions give back.
+use Rattle.std.specs.Prelude.{ℕ, ◌<◌, ◌≤◌, List, [], ◌∷◌, ◌++◌, Option, None, Some}
+use Rattle.site_desk.specs.Cell.{Held}
+use Rattle.station_link.specs.Session.{most_messages}
+
+-- A pass of a desk with so many stations, which made no more changes than a session takes messages.
+pub record IsPassOf (stations : ℕ) (p : Held) : Type 0 where
+  pub station : p.station < stations
+  pub changes : p.changes ≤ most_messages
+
+-- These passes, and the one that a session gave back.
+abbrev pub passes_with : List Held → Option Held → List Held
+passes_with passes None = passes
+passes_with passes (Some pass) = passes ++ pass ∷ []
