@@ -71,7 +71,7 @@ fn ends_of(kind: Kind) -> u32
 fn lacks_place(table: &TransactionTable, limit: u32, tx: &TxId) -> bool
     ensures { result ≡ (not (is_some (row_of tx.now table.now.rows)) && nat_le limit (length table.now.rows)) }
 {
-    table.get(tx).is_none() && limit <= table.len()
+    limit <= table.len() && table.get(tx).is_none()
 }
 
 // How many live events a transaction has, and how many of them are Started or Ended.

@@ -204,22 +204,22 @@ pub read_leaf : (leaves : List (List Entry)) (at : ℕ) (leaf : List Entry) → 
 read_leaf leaves at leaf lt is = is ∙ get_or_default leaves at leaf [] lt
 
 -- Where no two side by side fit one, none fit.
-pub none_from : (leaves : List (List Entry)) → ((k : ℕ) → k + 1 < length leaves → 256 < length (get_or leaves k []) + length (get_or leaves (k + 1) [])) → NoneFit leaves
+pub none_from : (leaves : List (List Entry)) → ((k : ℕ) → k + 1 < length leaves → 128 < length (get_or leaves k []) + length (get_or leaves (k + 1) [])) → NoneFit leaves
 none_from [] all = tt
 none_from (leaf ∷ []) all = tt
 none_from (leaf ∷ next ∷ leaves) all = (
   all 0 (omega arith),
   none_from (next ∷ leaves) (λ k lt. let up : k + 1 ≡ suc k = omega arith in
       let on : suc k + 1 ≡ suc (k + 1) = omega arith in
-      subst (λ n. 256 < length (get_or (next ∷ leaves) k []) + length (get_or (leaf ∷ next ∷ leaves) n [])) on (all (suc k) (omega arith))),
+      subst (λ n. 128 < length (get_or (next ∷ leaves) k []) + length (get_or (leaf ∷ next ∷ leaves) n [])) on (all (suc k) (omega arith))),
 )
 
 -- Where none fit, the leaves are few for their entries.
-few_after : (leaf : List Entry) (leaves : List (List Entry)) → NoneFit (leaf ∷ leaves) → 256 * length (leaf ∷ leaves) + length leaf ≤ 2 * length (all_of (leaf ∷ leaves)) + 256
+few_after : (leaf : List Entry) (leaves : List (List Entry)) → NoneFit (leaf ∷ leaves) → 128 * length (leaf ∷ leaves) + length leaf ≤ 2 * length (all_of (leaf ∷ leaves)) + 128
 few_after leaf [] none = let long = length-append leaf [] in omega arith
 few_after leaf (next ∷ leaves) none = let rest = few_after next leaves none.1 in let long = length-append leaf (all_of (next ∷ leaves)) in omega (arith, rest, long, none.0)
 
 -- So the leaves of few entries have two that fit one.
-pub few_leaves : (leaves : List (List Entry)) → NoneFit leaves → 256 * length leaves ≤ 2 * length (all_of leaves) + 256
+pub few_leaves : (leaves : List (List Entry)) → NoneFit leaves → 128 * length leaves ≤ 2 * length (all_of leaves) + 128
 few_leaves [] none = omega arith
 few_leaves (leaf ∷ leaves) none = omega (arith, few_after leaf leaves none)

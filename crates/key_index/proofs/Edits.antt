@@ -114,19 +114,19 @@ under key a [] rising some le = absurd (omega arith)
 under key a (y ∷ b) rising some le = below_more y.0 key a le (rising_front a y b rising)
 
 -- A full leaf that was split, with the key in one half or the other.
-module _ (old new : List (List Entry)) (key at : ℕ) (belongs : Belongs key old at) (filled : AreFilled old) (rising : AreRising (all_of old)) (full : length (get_or old at []) ≡ 256)
-    (is : new ≡ insert (set old at (take 128 (get_or old at []))) (suc at) (drop 128 (get_or old at []))) where
+module _ (old new : List (List Entry)) (key at : ℕ) (belongs : Belongs key old at) (filled : AreFilled old) (rising : AreRising (all_of old)) (full : length (get_or old at []) ≡ 128)
+    (is : new ≡ insert (set old at (take 64 (get_or old at []))) (suc at) (drop 64 (get_or old at []))) where
   -- The leaf that was full.
   abbrev whole : List Entry
   whole = get_or old at []
 
   -- Its first half.
   abbrev lower : List Entry
-  lower = take 128 whole
+  lower = take 64 whole
 
   -- Its second half.
   abbrev upper : List Entry
-  upper = drop 128 whole
+  upper = drop 64 whole
 
   -- The split, seen from both halves.
   parts : IsSplit old new at lower upper
@@ -137,16 +137,16 @@ module _ (old new : List (List Entry)) (key at : ℕ) (belongs : Belongs key old
   long = ap length is ∙ length-insert (set old at lower) (suc at) upper (omega (arith, length-set old at lower, belongs.within)) ∙ ap (λ n. n + 1) (length-set old at lower)
 
   -- The lower half is half.
-  half : length lower ≡ 128
-  half = omega (arith, length-take 128 whole, full)
+  half : length lower ≡ 64
+  half = omega (arith, length-take 64 whole, full)
 
   -- So is the upper one.
-  pub other_half : length upper ≡ 128
-  other_half = omega (arith, length-drop 128 whole, full)
+  pub other_half : length upper ≡ 64
+  other_half = omega (arith, length-drop 64 whole, full)
 
   -- Both are the whole.
   halves : lower ++ upper ≡ whole
-  halves = take-append-drop 128 whole
+  halves = take-append-drop 64 whole
 
   -- The leaf rises.
   rising_whole : AreRising whole
@@ -177,7 +177,7 @@ module _ (old new : List (List Entry)) (key at : ℕ) (belongs : Belongs key old
       front = subst (λ ls. AreBelow key (all_of ls)) (sym parts.front) belongs.front;
       back = subst (λ ls. AreAbove key (all_of ls)) (sym parts.behind) (above_both key upper (all_of (drop (suc at) old)) (leaf_above key upper (rising_parts lower upper rising_halves).1 lt) belongs.back);
     };
-    room = subst (λ l. length l < 256) (sym parts.first) (omega (arith, half));
+    room = subst (λ l. length l < 128) (sym parts.first) (omega (arith, half));
     front = subst AreFilled (sym parts.front) round.0;
     back = subst AreFilled (sym parts.behind) (omega (arith, other_half), round.1);
   }
@@ -192,7 +192,7 @@ module _ (old new : List (List Entry)) (key at : ℕ) (belongs : Belongs key old
           (below_both key (all_of (take at old)) (lower ++ []) belongs.front (below_both key lower [] (under key lower upper rising_halves (omega (arith, other_half)) le) tt)));
       back = subst (λ ls. AreAbove key (all_of ls)) (sym parts.back) belongs.back;
     };
-    room = subst (λ l. length l < 256) (sym parts.second) (omega (arith, other_half));
+    room = subst (λ l. length l < 128) (sym parts.second) (omega (arith, other_half));
     front = subst AreFilled (sym parts.front_more) (filled_both (take at old) (lower ∷ []) round.0 (omega (arith, half), tt));
     back = subst AreFilled (sym parts.back) round.1;
   }

@@ -44,7 +44,7 @@ pub record Belongs (key : ℕ) (leaves : List (List Entry)) (at : ℕ) : Type 0 
 abbrev pub NoneFit : List (List Entry) → Type 0
 NoneFit [] = Unit {0}
 NoneFit (leaf ∷ []) = Unit {0}
-NoneFit (leaf ∷ next ∷ leaves) = (256 < length leaf + length next) × NoneFit (next ∷ leaves)
+NoneFit (leaf ∷ next ∷ leaves) = (128 < length leaf + length next) × NoneFit (next ∷ leaves)
 
 -- Leaves in use and leaves to spare: the first hold rising entries, the others none.
 pub record IsKept (leaves spare : List (List Entry)) : Type 0 where
@@ -56,7 +56,7 @@ pub record IsKept (leaves spare : List (List Entry)) : Type 0 where
 pub record IsReady (old leaves : List (List Entry)) (key at : ℕ) : Type 0 where
   pub same : all_of leaves ≡ all_of old
   pub belongs : Belongs key leaves at
-  pub room : length (get_or leaves at []) < 256
+  pub room : length (get_or leaves at []) < 128
   pub front : AreFilled (take at leaves)
   pub back : AreFilled (drop (suc at) leaves)
 
@@ -64,10 +64,11 @@ pub record IsReady (old leaves : List (List Entry)) (key at : ℕ) : Type 0 wher
 abbrev pub HaveRoom : {X Z : Type 0} → Vec X Z → Vec X Z → Type 0
 HaveRoom v w = (vec_len v + vec_len w ≤ vec_capacity v) × (vec_len v + vec_len w ≤ vec_capacity w)
 
--- What an index keeps: its leaves, as many in all as its capacity wants, and the count of its entries.
-pub record IsIndex {Z : Type 0} (leaves spare : Vec (List Entry) Z) (len capacity : ℕ) : Type 0 where
+-- What an index keeps: its leaves, as many in all as its capacity wants, an empty one that moves go by way of, and the count of its entries.
+pub record IsIndex {Z : Type 0} (leaves spare : Vec (List Entry) Z) (scratch : List Entry) (len capacity : ℕ) : Type 0 where
   pub kept : IsKept leaves.items spare.items
   pub room : HaveRoom leaves spare
-  pub total : length leaves.items + length spare.items ≡ capacity / 128 + 2
+  pub clear : scratch ≡ []
+  pub total : length leaves.items + length spare.items ≡ capacity / 64 + 2
   pub count : len ≡ length (all_of leaves.items)
   pub few : len ≤ capacity

@@ -16,6 +16,7 @@ use std::marker::Model;
 pub struct KeyIndex {
     leaves: Vec<Leaf>,
     spare: Vec<Leaf>,
+    scratch: Leaf,
     len: u32,
     capacity: u32,
 }
@@ -29,7 +30,7 @@ impl Model for KeyIndex {
 
     ghost view = { λ i. index (all_of i.leaves.items) i.capacity };
 
-    ghost invariant = { λ i. IsIndex i.leaves i.spare i.len i.capacity };
+    ghost invariant = { λ i. IsIndex i.leaves i.spare i.scratch i.len i.capacity };
 }
 
 impl KeyIndex {
@@ -37,7 +38,7 @@ impl KeyIndex {
     pub fn open(alloc: Global, capacity: u32) -> Result<Self, AllocError>
         ensures { IfOk result (λ i. i ≡ index [] capacity) }
     {
-        let count = capacity as usize / 128 + 2;
+        let count = capacity as usize / 64 + 2;
         let leaves = Vec::with_capacity(alloc, count)?;
         let mut spare = Vec::with_capacity(alloc, count)?;
         for _ in 0..count {
@@ -46,6 +47,7 @@ impl KeyIndex {
         Ok(KeyIndex {
             leaves,
             spare,
+            scratch: Leaf::open(alloc)?,
             len: 0,
             capacity,
         })
@@ -110,7 +112,7 @@ impl KeyIndex {
     {
         reclaim(&mut self.leaves, &mut self.spare);
         let at = make_room(&mut self.leaves, &mut self.spare, key);
-        put(&mut self.leaves, at, key, slot);
+        put(&mut self.leaves, at, key, slot, &mut self.scratch);
         self.len += 1;
     }
 

@@ -8,7 +8,7 @@ use std::alloc::{AllocError, Global};
 use std::marker::Model;
 
 /// The most entries of a leaf.
-pub const LEAF_SIZE: usize = 256;
+pub const LEAF_SIZE: usize = 128;
 
 /// A run of entries. Contracts see the list of their keys and slot numbers.
 #[derive(Drop)]
@@ -72,15 +72,19 @@ impl Leaf {
         low
     }
 
-    /// Puts an entry at a place; those from there on move up.
-    pub(crate) fn insert(&mut self, place: usize, key: IndexKey, slot: u32)
-        requires { (place ≤ length self.old) × (length self.old < LEAF_SIZE) }
-        ensures { self.new ≡ insert self.old place (key, slot) }
+    /// Puts an entry at a place; those from there on move up, by way of an empty leaf, so that they
+    /// are copied as two whole runs.
+    pub(crate) fn insert(&mut self, place: usize, key: IndexKey, slot: u32, empty: &mut Leaf)
+        requires { (place ≤ length self.old) × (length self.old < LEAF_SIZE) × (empty.old ≡ []) }
+        ensures { (self.new ≡ insert self.old place (key, slot)) × (empty.new ≡ []) }
     {
-        match self.entries.insert(place, (key, slot)) {
-            Ok(()) => (),
-            Err(_) => unreachable!(),
+        if place == self.entries.len() {
+            self.entries.push_reserved((key, slot));
+            return;
         }
+        self.split_at(place, empty);
+        self.entries.push_reserved((key, slot));
+        self.append(empty);
     }
 
     /// Takes out the entry at a place; those after it move down.

@@ -56,21 +56,22 @@ pub(crate) fn last_before(leaves: &Vec<Leaf>, at: usize, place: usize) -> Option
     None
 }
 
-/// Puts an entry into a leaf that is not full, where its key belongs.
-pub(crate) fn put(leaves: &mut Vec<Leaf>, at: usize, key: IndexKey, slot: u32)
-    requires { (at < length leaves.old.items) × (length (get_or leaves.old.items at []) < 256) × AreRising (get_or leaves.old.items at []) }
+/// Puts an entry into a leaf that is not full, where its key belongs, by way of an empty leaf.
+pub(crate) fn put(leaves: &mut Vec<Leaf>, at: usize, key: IndexKey, slot: u32, empty: &mut Leaf)
+    requires { (at < length leaves.old.items) × (length (get_or leaves.old.items at []) < 128) × AreRising (get_or leaves.old.items at []) × (empty.old ≡ []) }
+    ensures empty { empty.new ≡ [] }
     ensures items { let leaf = get_or leaves.old.items at [] in leaves.new.items ≡ slice_set leaves.old.items at (insert leaf (length (below key leaf)) (key, slot)) }
     ensures capacity { vec_capacity leaves.new ≡ vec_capacity leaves.old }
 {
     let leaf = &mut leaves[at];
     let place = leaf.place_of(key);
-    leaf.insert(place, key, slot);
+    leaf.insert(place, key, slot, empty);
 }
 
 /// Moves the upper half of a full leaf into an empty one behind it.
 pub(crate) fn split(leaves: &mut Vec<Leaf>, at: usize, mut empty: Leaf)
-    requires { (at < length leaves.old.items) × (length (get_or leaves.old.items at []) ≡ 256) × (empty ≡ []) × (vec_len leaves.old < vec_capacity leaves.old) }
-    ensures items { let leaf = get_or leaves.old.items at [] in leaves.new.items ≡ insert (slice_set leaves.old.items at (take 128 leaf)) (at + 1) (drop 128 leaf) }
+    requires { (at < length leaves.old.items) × (length (get_or leaves.old.items at []) ≡ 128) × (empty ≡ []) × (vec_len leaves.old < vec_capacity leaves.old) }
+    ensures items { let leaf = get_or leaves.old.items at [] in leaves.new.items ≡ insert (slice_set leaves.old.items at (take 64 leaf)) (at + 1) (drop 64 leaf) }
     ensures capacity { vec_capacity leaves.new ≡ vec_capacity leaves.old }
 {
     leaves[at].split_at(LEAF_SIZE / 2, &mut empty);
@@ -82,7 +83,7 @@ pub(crate) fn split(leaves: &mut Vec<Leaf>, at: usize, mut empty: Leaf)
 
 /// Moves the entries of a leaf behind those of the one in front of it, and answers it, empty.
 pub(crate) fn join(leaves: &mut Vec<Leaf>, at: usize) -> Leaf
-    requires { (at + 1 < length leaves.old.items) × (length (get_or leaves.old.items at []) + length (get_or leaves.old.items (at + 1) []) ≤ 256) }
+    requires { (at + 1 < length leaves.old.items) × (length (get_or leaves.old.items at []) + length (get_or leaves.old.items (at + 1) []) ≤ 128) }
     ensures empty { result ≡ [] }
     ensures items { leaves.new.items ≡ slice_set (remove leaves.old.items (at + 1)) at (get_or leaves.old.items at [] ++ get_or leaves.old.items (at + 1) []) }
     ensures capacity { vec_capacity leaves.new ≡ vec_capacity leaves.old }
@@ -94,7 +95,7 @@ pub(crate) fn join(leaves: &mut Vec<Leaf>, at: usize) -> Leaf
 
 /// The first of two leaves side by side that fit one.
 pub(crate) fn pair_that_fits(leaves: &Vec<Leaf>) -> Option<usize>
-    ensures fits { IfSome result (λ at. (at + 1 < length leaves.now.items) × (length (get_or leaves.now.items at []) + length (get_or leaves.now.items (at + 1) []) ≤ 256)) }
+    ensures fits { IfSome result (λ at. (at + 1 < length leaves.now.items) × (length (get_or leaves.now.items at []) + length (get_or leaves.now.items (at + 1) []) ≤ 128)) }
     ensures none { IfNone result (NoneFit leaves.now.items) }
 {
     let mut at = 0;
@@ -124,7 +125,7 @@ fn taken(spare: &mut Vec<Leaf>) -> Leaf
 pub(crate) fn reclaim(leaves: &mut Vec<Leaf>, spare: &mut Vec<Leaf>)
     requires kept { IsKept leaves.old.items spare.old.items }
     requires room { HaveRoom leaves.old spare.old }
-    requires enough { 2 * length (all_of leaves.old.items) + 256 < 256 * (length leaves.old.items + length spare.old.items) }
+    requires enough { 2 * length (all_of leaves.old.items) + 128 < 128 * (length leaves.old.items + length spare.old.items) }
     ensures kept { IsKept leaves.new.items spare.new.items }
     ensures same { all_of leaves.new.items ≡ all_of leaves.old.items }
     ensures some { 0 < length spare.new.items }

@@ -1,7 +1,7 @@
 //! An ordered index from keys to slot numbers, with all its memory taken when it is opened.
 //!
 //! A key is a transaction's slot and a sequence number, and keys go by transaction first. The entries
-//! lie in leaves of up to 256. A full leaf is split into one of the leaves to spare; where none is
+//! lie in leaves of up to 128. A full leaf is split into one of the leaves to spare; where none is
 //! left, two neighbours that fit one are joined first, and two such are always there. So no call but
 //! [`KeyIndex::open`] takes memory, and each is two binary searches and the moving of one leaf.
 //!

@@ -163,6 +163,7 @@ fn first_but_blanks(bytes: &[u8]) -> Option<u8>
 }
 
 /// The length of what is left of a string, with its closing quote; of all, where none closes it.
+#[inline(never)]
 fn string_len(bytes: &[u8]) -> usize
     ensures value { result ≡ steps.string_len false bytes.now }
     ensures within { result ≤ length bytes.now }

@@ -73,6 +73,10 @@ fn member_named<'a>(members: &'a Map<String, Value>, name: &str) -> Option<&'a V
 fn is_marked(key: &str, name: &str) -> bool
     ensures { IsTrue result ↔ (key.now ≡ 36 ∷ name.now) }
 {
+    // Most keys have another length; their bytes are not looked at.
+    if key.len() != name.len() + 1 {
+        return false;
+    }
     match key.as_bytes() {
         [b'$', rest @ ..] => rest == name.as_bytes(),
         _ => false,

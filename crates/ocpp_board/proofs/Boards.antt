@@ -1,21 +1,18 @@
 -- The boards of the stations of a site, and the totals of its book.
-use Rattle.std.proofs.Common.{◌≡◌, ◌≢◌, ℕ, zero, suc, ◌+◌, ◌<◌, ◌≤◌, Bool, true, false, cond, eqb, List, [], ◌∷◌, ◌++◌, Some, All, append-nil, length, map, take, get_or, refl, subst, ap, sym, ◌∙◌, bytes_eq, arith, ⊎_elim}
-use Rattle.std.specs.Prelude.{filter, slice_get, sum_by, count_by}
+use Rattle.std.proofs.Common.{◌≡◌, ◌≢◌, ℕ, zero, suc, ◌+◌, ◌<◌, ◌≤◌, Bool, true, false, cond, eqb, List, [], ◌∷◌, ◌++◌, Some, All, length, map, take, get_or, refl, subst, ap, sym, ◌∙◌, bytes_eq, arith, ⊎_elim}
+use Rattle.std.specs.Prelude.{filter, slice_get, count_by}
 use Rattle.std.specs.List.{list_any, position, range_with_len}
 use Rattle.std.proofs.lemmas.Bool.{cases_eq, eq-eqb, false≢true, ne_eqb}
 use Rattle.std.proofs.lemmas.List.{length-append, length-map, map-append, take_all}
 use Rattle.std.proofs.lemmas.List.FromFn.{map-range_with_len_more}
-use Rattle.std.proofs.lemmas.List.Sums.{length-filter, sum_by-cons}
+use Rattle.std.proofs.lemmas.List.Sums.{length-filter}
 use Rattle.std.proofs.lemmas.Option.{get_or_from_slice_get}
 use Rattle.std.proofs.lemmas.Slice.Eq.{bytes_eq-Decides}
 use Rattle.ledger_model.specs.Board.{Board, board, figures, site_board, sum_of_figures}
 use Rattle.ledger_model.specs.Content.{entries}
-use Rattle.ledger_model.specs.Limits.{Bounds}
 use Rattle.ledger_model.specs.Posts.{row_after}
 use Rattle.ledger_model.specs.Quarter.{quarter_seconds}
-use Rattle.ledger_model.specs.Ranges.{most_plan_readings}
 use Rattle.ledger_model.specs.World.{Station, World}
-use Rattle.board_report.specs.Plans.{AreBoardsWithin, IsBoardWithin}
 use Rattle.board_report.specs.Named.{NamedBoard}
 use Rattle.site_book.specs.Book.{Book}
 use Rattle.site_desk.specs.declared.plan.SitePlan.{SitePlan}
@@ -26,11 +23,10 @@ use Rattle.site_desk.specs.Plan.{has_twice}
 use Rattle.site_desk.proofs.Rows.{limits_more_no, limits_more_yes}
 use Rattle.ocpp_board.specs.Drafts.{Drafted, IsPlan, planned_world, site_name}
 use Rattle.desk_report.specs.Boards.{boards_at}
-use Rattle.desk_report.proofs.SiteBoards.{boards_more_no, boards_more_yes}
+use Rattle.desk_report.proofs.SiteBoards.{boards_more_no, boards_more_yes, stands}
 use Rattle.ocpp_board.specs.Running.{IsRunning, filled}
 use Rattle.ocpp_board.specs.Script.{shown_site, shown_station, stations_of}
 use Rattle.ocpp_board.proofs.Places.{neither, some_placed}
-use Rattle.ocpp_board.proofs.Settling.{some_same, stands}
 
 -- ---- the totals of a book
 

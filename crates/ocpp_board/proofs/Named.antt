@@ -14,12 +14,13 @@ use Rattle.transaction_event.specs.declared.message.Message.{Message}
 use Rattle.transaction_event.specs.declared.message.Message.TheVariants as read
 use Rattle.transaction_event.specs.Message.{message}
 use Rattle.transaction_event.specs.MessageMeaning.{IsMeaningOf}
+use Rattle.desk_report.proofs.SiteBoards.{stands}
 use Rattle.ocpp_board.specs.Drafts.{Drafted, planned_world, site_name}
 use Rattle.ocpp_board.specs.Received.{TakesMessage}
 use Rattle.ocpp_board.specs.Running.{IsRunning, Settles, filled, running}
 use Rattle.ocpp_board.specs.Script.{Script, answer_text, by_meaning, commanded_to, ended_line, new_station, sent_to, station_named}
 use Rattle.ocpp_board.proofs.Places.{is_station, unnamed}
-use Rattle.ocpp_board.proofs.Settling.{alike_running, planned_at, stands, station_at}
+use Rattle.ocpp_board.proofs.Settling.{alike_running, planned_at, station_at}
 
 pub some_of : {X : Type 0} (o : Option X) (x : X) (P : X → Type 0) → o ≡ Some x → IfSome o P → P x
 some_of o x P e h = subst (λ p. IfSome p P) e h

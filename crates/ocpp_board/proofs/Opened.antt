@@ -11,11 +11,11 @@ use Rattle.site_desk.specs.declared.plan.StationPlan.{StationPlan}
 use Rattle.site_desk.specs.Cell.{Cell, Held, Knows, new_cell, new_pass}
 use Rattle.site_desk.specs.Parts.{AreApart, AreNewBooks, AreNewCells, AreTied, limits_at, new_book, row_at}
 use Rattle.site_desk.specs.Settle.{Holds, Tied}
+use Rattle.desk_report.proofs.SiteBoards.{some_same, stands}
 use Rattle.ocpp_board.specs.Drafts.{IsPlan, planned_world, site_name}
 use Rattle.ocpp_board.specs.Running.{IsPlaced, IsRunning, IsShown, filled, posts_in}
 use Rattle.ocpp_board.specs.Script.{new_station}
 use Rattle.ocpp_board.proofs.Enlisted.{first_given}
-use Rattle.ocpp_board.proofs.Settling.{some_same, stands}
 
 -- new cells have given no pass
 pub none_given : (stations : List StationPlan) (cells : List Cell) → AreNewCells stations cells → All (λ c. c.counts ≡ []) cells

@@ -23,19 +23,11 @@ use Rattle.site_desk.specs.Parts.{AreTied, limits_at}
 use Rattle.site_desk.specs.Plan.{has_twice}
 use Rattle.site_desk.specs.Settle.{Holds, Tied, cell_after, posts_after}
 use Rattle.site_desk.proofs.Ties.{apart_step, tied_step}
+use Rattle.desk_report.proofs.SiteBoards.{some_same, stands}
 use Rattle.ocpp_board.specs.Drafts.{Drafted, planned_world, site_name}
 use Rattle.ocpp_board.specs.Running.{IsPlaced, IsRunning, IsShown, Settles, filled, posts_in, running}
 use Rattle.ocpp_board.specs.Script.{new_station}
 use Rattle.ocpp_board.proofs.Places.{AreAlike, differ_back, neither}
-
-pub some_same : {X : Type 0} (x y : X) → Some x ≡ Some y → x ≡ y
-some_same x y e = cc
-
--- the element at a place
-pub stands : {X : Type 0} (xs : List X) (k : ℕ) → k < length xs → (x : X) × (slice_get xs k ≡ Some x)
-stands [] k less = absurd (omega arith)
-stands (x ∷ xs) zero less = (x, refl)
-stands (x ∷ xs) (suc k) less = stands xs k (omega (arith, less))
 
 module _ (sites : List SitePlan) (stations : List StationPlan) (cells : List Cell) (books : List Book) (passes : List Held) (r : IsRunning sites stations cells books passes) where
   -- ---- what holds of one station

@@ -1,4 +1,5 @@
-ghost use Rattle.std.specs.Prelude.{◌≡◌};
+ghost use Rattle.std.specs.Prelude.{◌≡◌, ◌+◌, ◌≤◌, ◌++◌};
+ghost use Rattle.arrayvec.specs.ArrayString.{array_string_len};
 ghost use Rattle.ocppj_frame.specs.Reply.{body_bytes};
 
 use arrayvec::ArrayString;
@@ -16,24 +17,24 @@ pub enum Body {
     Boot(ArrayString<20>),
 }
 
-// The body's JSON, without blanks.
-pub(crate) fn body_text(body: Body) -> ArrayString<80>
-    ensures { result.bytes ≡ body_bytes body }
+// Puts the body's JSON, without blanks, behind a text.
+pub(crate) fn push_body(out: &mut ArrayString<512>, body: Body)
+    requires { array_string_len out.old + 80 ≤ 512 }
+    ensures bytes { out.new.bytes ≡ out.old.bytes ++ body_bytes body }
+    ensures len { array_string_len out.new ≤ array_string_len out.old + 80 }
 {
-    let mut text = ArrayString::new();
     match body {
-        Body::Empty => text.push_str("{}"),
-        Body::TokenAccepted => text.push_str("{\"idTokenInfo\":{\"status\":\"Accepted\"}}"),
+        Body::Empty => out.push_str("{}"),
+        Body::TokenAccepted => out.push_str("{\"idTokenInfo\":{\"status\":\"Accepted\"}}"),
         Body::Now(now) => {
-            text.push_str("{\"currentTime\":\"");
-            text.push_str(now.as_str());
-            text.push_str("\"}");
+            out.push_str("{\"currentTime\":\"");
+            out.push_str(now.as_str());
+            out.push_str("\"}");
         }
         Body::Boot(now) => {
-            text.push_str("{\"currentTime\":\"");
-            text.push_str(now.as_str());
-            text.push_str("\",\"interval\":300,\"status\":\"Accepted\"}");
+            out.push_str("{\"currentTime\":\"");
+            out.push_str(now.as_str());
+            out.push_str("\",\"interval\":300,\"status\":\"Accepted\"}");
         }
     }
-    text
 }

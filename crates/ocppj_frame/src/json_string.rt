@@ -16,8 +16,8 @@ fn hex_digit(value: u32) -> char
 }
 
 // Puts a character behind the text, as it stands in a JSON string.
-fn push_escaped(text: &mut ArrayString<218>, character: char)
-    requires { array_string_len text.old + 6 ≤ 218 }
+fn push_escaped(text: &mut ArrayString<512>, character: char)
+    requires { array_string_len text.old + 6 ≤ 512 }
     ensures { text.new.bytes ≡ text.old.bytes ++ escaped character }
 {
     match character {
@@ -35,16 +35,16 @@ fn push_escaped(text: &mut ArrayString<218>, character: char)
     }
 }
 
-// A text of at most 36 characters, as a JSON string.
-pub(crate) fn json_string(text: &str) -> ArrayString<218>
-    requires { character_count text.now ≤ longest_message_id }
-    ensures { result.bytes ≡ json_string_of text.now }
+// Puts a text of at most 36 characters behind another, as a JSON string.
+pub(crate) fn push_json_string(out: &mut ArrayString<512>, text: &str)
+    requires short { character_count text.now ≤ longest_message_id }
+    requires room { array_string_len out.old + 218 ≤ 512 }
+    ensures bytes { out.new.bytes ≡ out.old.bytes ++ json_string_of text.now }
+    ensures len { array_string_len out.new ≤ array_string_len out.old + 218 }
 {
-    let mut string = ArrayString::new();
-    string.push('"');
+    out.push('"');
     for character in text.chars() {
-        push_escaped(&mut string, character);
+        push_escaped(out, character);
     }
-    string.push('"');
-    string
+    out.push('"');
 }

@@ -3,9 +3,9 @@ ghost use Rattle.std.specs.List.{list_all};
 ghost use Rattle.ocppj_frame.specs.Reply.{result_bytes, error_bytes, character_count, is_letter};
 ghost use Rattle.ocppj_frame.specs.Ranges.{longest_message_id};
 
-use crate::body::{Body, body_text};
+use crate::body::{Body, push_body};
 use crate::error_code::ErrorCode;
-use crate::json_string::json_string;
+use crate::json_string::push_json_string;
 use arrayvec::ArrayString;
 
 /// A CALLRESULT without blanks (OCPP 2.0.1 Part 4). The id has at most 36 characters, which are
@@ -16,9 +16,9 @@ pub fn result_text(id: &str, body: Body) -> ArrayString<512>
 {
     let mut text = ArrayString::new();
     text.push_str("[3,");
-    text.push_str(json_string(id).as_str());
+    push_json_string(&mut text, id);
     text.push_str(",");
-    text.push_str(body_text(body).as_str());
+    push_body(&mut text, body);
     text.push_str("]");
     text
 }
@@ -33,7 +33,7 @@ pub fn error_text(id: &str, code: ErrorCode, description: &str) -> ArrayString<5
 {
     let mut text = ArrayString::new();
     text.push_str("[4,");
-    text.push_str(json_string(id).as_str());
+    push_json_string(&mut text, id);
     text.push_str(",\"");
     text.push_str(code.name());
     text.push_str("\",\"");

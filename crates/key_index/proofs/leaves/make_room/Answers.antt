@@ -8,9 +8,9 @@ use Rattle.key_index.proofs.Edits.{filled_round, upper_read, other_half, ready_l
 use Rattle.key_index.proofs.leaves.make_room.Goals as goal
 
 -- A split told with the next number is one told with the successor.
-split_told : (old new : List (List Entry)) (at i : ℕ) → i ≡ suc at → new ≡ insert (set old at (take 128 (get_or old at []))) i (drop 128 (get_or old at []))
-    → new ≡ insert (set old at (take 128 (get_or old at []))) (suc at) (drop 128 (get_or old at []))
-split_told old new at i up is = is ∙ ap (λ n. insert (set old at (take 128 (get_or old at []))) n (drop 128 (get_or old at []))) up
+split_told : (old new : List (List Entry)) (at i : ℕ) → i ≡ suc at → new ≡ insert (set old at (take 64 (get_or old at []))) i (drop 64 (get_or old at []))
+    → new ≡ insert (set old at (take 64 (get_or old at []))) (suc at) (drop 64 (get_or old at []))
+split_told old new at i up is = is ∙ ap (λ n. insert (set old at (take 64 (get_or old at []))) n (drop 64 (get_or old at []))) up
 
 pub returns-then-len-lt-LEAF_SIZE-clause-ready : goal.returns-then-len-lt-LEAF_SIZE-clause-ready
 returns-then-len-lt-LEAF_SIZE-clause-ready c =
@@ -19,7 +19,7 @@ returns-then-len-lt-LEAF_SIZE-clause-ready c =
     record {
       same = refl;
       belongs = belongs;
-      room = subst (λ l. length l < 256) here (omega (arith, c.len.ensures.len, c.if-len-lt-LEAF_SIZE.true));
+      room = subst (λ l. length l < 128) here (omega (arith, c.len.ensures.len, c.if-len-lt-LEAF_SIZE.true));
       front = round.0;
       back = round.1;
     }
@@ -28,7 +28,7 @@ pub entry-requires : goal.entry-requires
 entry-requires c =
     let ls = c.args.leaves.now.items in let new = c.split.new.leaves.items in let at = c.leaf_of-at.result in let belongs = c.leaf_of-at.ensures in
     let here = read_leaf ls at c.index.result.now belongs.within c.index.ensures in let leaf = c.index-2.result.now in
-    let full : length (get_or ls at []) ≡ 256 = subst (λ l. length l ≡ 256) here (omega (arith, c.len.ensures.len, c.len.ensures.within, c.if-len-lt-LEAF_SIZE.false)) in
+    let full : length (get_or ls at []) ≡ 128 = subst (λ l. length l ≡ 128) here (omega (arith, c.len.ensures.len, c.len.ensures.within, c.if-len-lt-LEAF_SIZE.false)) in
     let is = split_told ls new at (at + 1) (omega arith) c.split.ensures.items in let key = c.args.key in
     let read = upper_read ls new key at belongs c.requires.kept.filled c.requires.kept.rising full is (at + 1) leaf (omega arith) c.index-2.ensures in
     subst (λ l. 0 < length l) (sym read) (omega (arith, other_half ls new key at belongs c.requires.kept.filled c.requires.kept.rising full is))
@@ -37,7 +37,7 @@ pub returns-then-is_before-clause-ready : goal.returns-then-is_before-clause-rea
 returns-then-is_before-clause-ready c =
     let ls = c.args.leaves.now.items in let new = c.split.new.leaves.items in let at = c.leaf_of-at.result in let belongs = c.leaf_of-at.ensures in
     let here = read_leaf ls at c.index.result.now belongs.within c.index.ensures in let leaf = c.index-2.result.now in
-    let full : length (get_or ls at []) ≡ 256 = subst (λ l. length l ≡ 256) here (omega (arith, c.len.ensures.len, c.len.ensures.within, c.if-len-lt-LEAF_SIZE.false)) in
+    let full : length (get_or ls at []) ≡ 128 = subst (λ l. length l ≡ 128) here (omega (arith, c.len.ensures.len, c.len.ensures.within, c.if-len-lt-LEAF_SIZE.false)) in
     let is = split_told ls new at (at + 1) (omega arith) c.split.ensures.items in let key = c.args.key in let e = c.entry.result in
     let read = upper_read ls new key at belongs c.requires.kept.filled c.requires.kept.rising full is (at + 1) leaf (omega arith) c.index-2.ensures in
     let first = first_is leaf e c.entry.ensures in let great : key < e.0 = grind (arith, nat_tests, c.is_before.ensures, c.if-is_before.true) in
@@ -47,7 +47,7 @@ pub returns-clause-ready : goal.returns-clause-ready
 returns-clause-ready c =
     let ls = c.args.leaves.now.items in let new = c.split.new.leaves.items in let at = c.leaf_of-at.result in let belongs = c.leaf_of-at.ensures in
     let here = read_leaf ls at c.index.result.now belongs.within c.index.ensures in let leaf = c.index-2.result.now in
-    let full : length (get_or ls at []) ≡ 256 = subst (λ l. length l ≡ 256) here (omega (arith, c.len.ensures.len, c.len.ensures.within, c.if-len-lt-LEAF_SIZE.false)) in
+    let full : length (get_or ls at []) ≡ 128 = subst (λ l. length l ≡ 128) here (omega (arith, c.len.ensures.len, c.len.ensures.within, c.if-len-lt-LEAF_SIZE.false)) in
     let is = split_told ls new at (at + 1) (omega arith) c.split.ensures.items in let key = c.args.key in let e = c.entry.result in
     let read = upper_read ls new key at belongs c.requires.kept.filled c.requires.kept.rising full is (at + 1) leaf (omega arith) c.index-2.ensures in
     let first = first_is leaf e c.entry.ensures in let small : e.0 ≤ key = grind (arith, nat_tests, c.is_before.ensures, c.if-is_before.false) in

@@ -4,7 +4,7 @@ use Rattle.key_index.proofs.leaves.pair_that_fits.Given as goal
 abbrev pub invariant-loop-at : goal.invariant-loop-at
 invariant-loop-at l = record {
   within : l.at ≤ length l.leaves.items;
-  none : (k : ℕ) → k < l.at → 256 < length (get_or l.leaves.items k []) + length (get_or l.leaves.items (k + 1) []);
+  none : (k : ℕ) → k < l.at → 128 < length (get_or l.leaves.items k []) + length (get_or l.leaves.items (k + 1) []);
 }
 
 abbrev pub decreases-loop-at : goal.decreases-loop-at

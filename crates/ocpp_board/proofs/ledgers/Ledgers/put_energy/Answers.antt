@@ -3,10 +3,10 @@ use Rattle.std.proofs.lemmas.Option.{slice_get_read}
 use Rattle.ledger_model.specs.Content.{entries}
 use Rattle.site_desk.specs.Cell.{Cell}
 use Rattle.ledger_model.specs.Energy.{energy}
+use Rattle.desk_report.proofs.SiteBoards.{some_same}
 use Rattle.ocpp_board.specs.Script.{ended_line, energy_answer, energy_line}
 use Rattle.ocpp_board.proofs.Answered.{ok_told}
 use Rattle.ocpp_board.proofs.Named.{is_none, is_of}
-use Rattle.ocpp_board.proofs.Settling.{some_same}
 use Rattle.ocpp_board.proofs.ledgers.Ledgers.put_energy.Goals as goal
 
 pub returns-in-Some : goal.returns-in-Some

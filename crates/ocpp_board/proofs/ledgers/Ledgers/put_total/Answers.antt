@@ -4,10 +4,10 @@ use Rattle.ledger_model.specs.Content.{entries}
 use Rattle.site_desk.specs.Cell.{Cell}
 use Rattle.ledger_model.specs.Board.{figures}
 use Rattle.board_report.specs.Texts.{total_text}
+use Rattle.desk_report.proofs.SiteBoards.{some_same}
 use Rattle.ocpp_board.specs.Script.{ended_line, total_answer}
 use Rattle.ocpp_board.proofs.Answered.{ok_told}
 use Rattle.ocpp_board.proofs.Named.{is_none, is_of}
-use Rattle.ocpp_board.proofs.Settling.{some_same}
 use Rattle.ocpp_board.proofs.ledgers.Ledgers.put_total.Goals as goal
 
 pub returns-in-Some : goal.returns-in-Some

@@ -1,8 +1,0 @@
-use Rattle.std.proofs.Common.{◌≡◌, ◌∷◌}
-use Rattle.std.specs.List.{flat_map}
-use Rattle.ocppj_frame.specs.Reply.{escaped}
-use Rattle.ocppj_frame.proofs.json_string.json_string.Given as goal
-
--- the opening quote, and the characters so far
-abbrev pub invariant-loop-character : goal.invariant-loop-character
-invariant-loop-character l = l.string.bytes ≡ 34 ∷ flat_map escaped l.yielded
