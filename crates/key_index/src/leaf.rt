@@ -72,8 +72,8 @@ impl Leaf {
         low
     }
 
-    /// Puts an entry at a place; those from there on move up, by way of an empty leaf, so that they
-    /// are copied as two whole runs.
+    /// Puts an entry at a place; those from there on, where there are any, move up by way of an empty
+    /// leaf, copied there and back as a whole run.
     pub(crate) fn insert(&mut self, place: usize, key: IndexKey, slot: u32, empty: &mut Leaf)
         requires { (place ≤ length self.old) × (length self.old < LEAF_SIZE) × (empty.old ≡ []) }
         ensures { (self.new ≡ insert self.old place (key, slot)) × (empty.new ≡ []) }
