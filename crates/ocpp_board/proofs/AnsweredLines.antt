@@ -5,7 +5,7 @@ use Rattle.std.proofs.lemmas.Bool.Decides.{nat_tests}
 use Rattle.std.specs.Result.{IsErrAnd}
 use Rattle.std.specs.Prelude.{OnSome}
 use Rattle.std.specs.Io.KnownBytes.{Keeps, Consumes, Appends, IsAtEnd}
-use Rattle.std.proofs.KnownBytes.{Consumes-nil, Consumes-trans, Appends-nil, Appends-trans, Appends-kept}
+use Rattle.std.proofs.KnownBytes.{Consumes-kept, Consumes-nil, Consumes-trans, Appends-nil, Appends-trans, Appends-kept}
 use Rattle.ocpp_board.specs.declared.fault.ReplayFault.{ReplayFault}
 use Rattle.ocpp_board.specs.declared.fault.ReplayFault.TheVariants.{ReadFault, WriteFault, TooMuchInput, OutOfMemory}
 use Rattle.ocpp_board.specs.declared.line_reader.LineEnd.{LineEnd}
@@ -125,6 +125,18 @@ begins text max_line_bytes room r w = record {
   wrote = Appends-nil w;
   within = omega arith;
   told = λ last more. refl;
+}
+
+-- a look at what comes next consumed nothing
+pub looked : (old now now' : List Line → List ℕ) (max_line_bytes room left : ℕ) (r0 r1 r1' w0 w1 : Option (List ℕ)) → AnsweredLines old now max_line_bytes room left r0 r1 w0 w1
+    → Keeps r1 r1' → now' ≡ now → AnsweredLines old now' max_line_bytes room left r0 r1' w0 w1
+looked old now now' max_line_bytes room left r0 r1 r1' w0 w1 answered kept same = record {
+  done = answered.done;
+  front = answered.front;
+  read = Consumes-kept r0 r1 r1' answered.done answered.read kept;
+  wrote = answered.wrote;
+  within = answered.within;
+  told = subst (λ t. AnsweredBy old t max_line_bytes answered.done answered.front) (sym same) answered.told;
 }
 
 -- a flush wrote nothing

@@ -22,6 +22,11 @@ use Rattle.ocpp_board.specs.Script.{Script, answer_text, by_meaning, commanded_t
 use Rattle.ocpp_board.proofs.Places.{is_station, unnamed}
 use Rattle.ocpp_board.proofs.Settling.{alike_running, planned_at, station_at}
 
+-- what follows of a value from what is told of it
+pub some_told : {X : Type 0} (o : Option X) (P Q : X → Type 0) → ((x : X) → P x → Q x) → IfSome o P → IfSome o Q
+some_told (Some x) P Q f p = f x p
+some_told None P Q f p = p
+
 pub some_of : {X : Type 0} (o : Option X) (x : X) (P : X → Type 0) → o ≡ Some x → IfSome o P → P x
 some_of o x P e h = subst (λ p. IfSome p P) e h
 

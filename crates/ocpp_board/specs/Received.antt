@@ -5,6 +5,7 @@ use Rattle.ledger_model.specs.Step.{answer}
 use Rattle.ledger_model.specs.World.{Station, world_after}
 use Rattle.transaction_event.specs.declared.message.Message.{Message}
 use Rattle.transaction_event.specs.declared.message.Message.TheVariants as message
+use Rattle.transaction_event.specs.MessageMeaning.{IsMeaningOf}
 use Rattle.transaction_event.specs.Reply.{event_reply_bytes}
 use Rattle.ocpp_board.specs.Script.{Script, ended_line}
 
@@ -16,3 +17,7 @@ TakesMessage old new s (message.Event id key event token) reply =
 TakesMessage old new s (message.Reply text true) reply = ⊥
 TakesMessage old new s (message.Reply text false) reply = (new ≡ old) × (reply ≡ ended_line text.bytes)
 TakesMessage old new s message.Silent reply = (new ≡ old) × (reply ≡ ended_line (codes "silent"))
+
+-- a text means something at the script's moment, and that is taken
+abbrev pub ReceivesText : Script → Script → Station → List ℕ → List ℕ → Type 0
+ReceivesText old new s text reply = (m : Message) × IsMeaningOf text old.moment m × TakesMessage old new s m reply

@@ -108,9 +108,15 @@ impl Opening {
         } = self;
         let (mut lines, mut reply) = (lines, reply);
         match Ledgers::<J>::open(rt, tables, draft) {
-            Ok(mut ledgers) => {
-                replay_from(&mut ledgers, &mut lines, end, &mut reply, reader, writer)
-            }
+            Ok(mut ledgers) => replay_from(
+                rt,
+                &mut ledgers,
+                &mut lines,
+                end,
+                &mut reply,
+                reader,
+                writer,
+            ),
             Err(_) => Err(ReplayFault::OutOfMemory),
         }
     }

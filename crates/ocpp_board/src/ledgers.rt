@@ -1,26 +1,31 @@
 ghost use Rattle.std.specs.Prelude.{◌≡◌, ℕ, ◌+◌, ◌<◌, ◌≤◌, ◌^◌, ◌++◌, ◌∷◌, [], All, length, map, true, OnOk, IfOk, IfSome, slice_get, take, Some, refl};
+ghost use Rattle.std.specs.Io.KnownBytes.{Keeps};
 ghost use Rattle.std.specs.List.{position};
 ghost use Rattle.std.specs.Str.{bytes_eq};
 ghost use Rattle.board_report.specs.Texts.{board_text};
 ghost use Rattle.site_book.specs.Tables.{HasTable, NamedBy};
 ghost use Rattle.site_desk.specs.Cell.{Cell, new_pass};
+ghost use Rattle.message_ahead.specs.Ahead.{asking};
 ghost use Rattle.ocpp_board.specs.Drafts.{planned};
 ghost use Rattle.ocpp_board.specs.Lines.{line_bytes};
-ghost use Rattle.ocpp_board.specs.Received.{TakesMessage};
+ghost use Rattle.ocpp_board.specs.Received.{ReceivesText, TakesMessage};
 ghost use Rattle.ocpp_board.specs.Running.{running, posts_in, IsRunning, Settles};
 ghost use Rattle.ocpp_board.specs.Script.{board_answer, commanded_to, energy_answer, line_step, script_text, sent_to, shown_site, station_named, stations_of, total_answer};
 ghost use Rattle.transaction_event.specs.MessageMeaning.{HasShortId};
 
 use crate::draft::Draft;
+use crate::line_reader::LineReader;
 use crate::machine::Machine;
-use crate::script_line::{LineFault, ScriptLine, read_line};
+use crate::script_line::{LineFault, ScriptLine, ScriptMessages, read_line};
 use crate::text::{put_answer, put_fault, put_line};
 use board_report::{energy_text, total_text};
 use desk_report::site_text;
 use ledger_model::{Answer, Command, Name};
+use message_ahead::{Delivery, Lookahead};
 use site_book::{Naming, SiteBook, Tables};
 use site_desk::{Parts, Pass, StationCell, enlist_cell, settle};
 use std::alloc::{AllocError, Global};
+use std::io::BufRead;
 use std::thread::Threads;
 use transaction_event::{Message, event_reply, message_of};
 
@@ -33,6 +38,8 @@ pub struct Ledgers<J: Naming> {
     pub cells: Vec<StationCell>,
     /// The book of each site, in the plan's order.
     pub books: Vec<SiteBook<J>>,
+    // What threads have read of the lines to come.
+    ahead: Lookahead,
     passes: Vec<Pass>,
     alloc: Global,
     ghost running: { IsRunning draft.sites draft.stations cells.items books.items passes.items },
@@ -61,6 +68,7 @@ impl<J: Naming> Ledgers<J> {
                     draft,
                     cells,
                     books: books.into_vec(),
+                    ahead: Lookahead::new(alloc),
                     passes,
                     alloc,
                 })
@@ -76,6 +84,9 @@ impl<J: Naming> Ledgers<J> {
         ensures step { OnOk result (line_step (running self.old.draft self.old.cells.items) (line_bytes line.entry) ≡ (running self.new.draft self.new.cells.items, reply.new.items)) }
         ensures posts { OnOk result (posts_in self.new.books.items ≤ posts_in self.old.books.items + 1) }
     {
+        if self.ahead.is_short() {
+            return Err(AllocError);
+        }
         match read_line(line) {
             ScriptLine::Nothing => Ok(()),
             ScriptLine::Fails(fault) => put_fault(reply, fault),
@@ -102,11 +113,31 @@ impl<J: Naming> Ledgers<J> {
         ensures posts { OnOk result (posts_in self.new.books.items ≤ posts_in self.old.books.items + 1) }
     {
         match self.draft.station(name) {
-            Some(number) => {
+            Some(number) => self.receive_at(number, text, reply),
+            None => put_fault(reply, LineFault::UnknownStation),
+        }
+    }
+
+    // Delivers a message to the station of this number, as it was read ahead or is read now, and puts its reply
+    // into the reply.
+    fn receive_at(
+        &mut self,
+        number: usize,
+        text: &str,
+        reply: &mut Vec<u8>,
+    ) -> Result<(), AllocError>
+        requires empty { reply.old.items ≡ [] }
+        requires there { number < length self.old.draft.stations }
+        requires few { posts_in self.old.books.items < 2 ^ 62 }
+        ensures receives { OnOk result (IfSome (slice_get (running self.old.draft self.old.cells.items).world number) (λ s. ReceivesText (running self.old.draft self.old.cells.items) (running self.new.draft self.new.cells.items) s text.now reply.new.items)) }
+        ensures posts { OnOk result (posts_in self.new.books.items ≤ posts_in self.old.books.items + 1) }
+    {
+        match self.ahead.take(text) {
+            Some(delivery) => self.deliver(number, delivery, reply),
+            None => {
                 let message = message_of(self.alloc, text, self.draft.moment());
                 self.take_message(number, message, reply)
             }
-            None => put_fault(reply, LineFault::UnknownStation),
         }
     }
 
@@ -153,8 +184,13 @@ impl<J: Naming> Ledgers<J> {
                 event,
                 token,
             } => {
-                let answer = self.settle(number, Command::Deliver(key, event));
-                put_line(reply, event_reply(id.as_str(), token, &answer).as_str())
+                let delivery = Delivery {
+                    id,
+                    key,
+                    event,
+                    token,
+                };
+                self.deliver(number, delivery, reply)
             }
             Message::Reply { text, memory } => {
                 if memory {
@@ -164,6 +200,30 @@ impl<J: Naming> Ledgers<J> {
             }
             Message::Silent => put_line(reply, "silent"),
         }
+    }
+
+    // Delivers an event to the station of this number, and puts the reply to it into the reply.
+    fn deliver(
+        &mut self,
+        number: usize,
+        delivery: Delivery,
+        reply: &mut Vec<u8>,
+    ) -> Result<(), AllocError>
+        requires empty { reply.old.items ≡ [] }
+        requires there { number < length self.old.draft.stations }
+        requires short { HasShortId (asking delivery) }
+        requires few { posts_in self.old.books.items < 2 ^ 62 }
+        ensures takes { OnOk result (IfSome (slice_get (running self.old.draft self.old.cells.items).world number) (λ s. TakesMessage (running self.old.draft self.old.cells.items) (running self.new.draft self.new.cells.items) s (asking delivery) reply.new.items)) }
+        ensures posts { OnOk result (posts_in self.new.books.items ≤ posts_in self.old.books.items + 1) }
+    {
+        let Delivery {
+            id,
+            key,
+            event,
+            token,
+        } = delivery;
+        let answer = self.settle(number, Command::Deliver(key, event));
+        put_line(reply, event_reply(id.as_str(), token, &answer).as_str())
     }
 
     // Settles a command on the station of this number.
@@ -241,6 +301,16 @@ impl<J: Naming> Machine for Ledgers<J> {
     fn answer(&mut self, line: Option<&[u8]>, reply: &mut Vec<u8>) -> Result<(), AllocError> {
         Ledgers::answer(self, line, reply)?;
         Ok(())
+    }
+
+    fn look_ahead<X: Threads, R: BufRead>(&mut self, rt: &X, lines: &LineReader, reader: &mut R) {
+        let is_due = self.ahead.is_due(lines.room);
+        if lines.is_drained || !is_due {
+            return;
+        }
+        if let Ok(shown) = reader.fill_buf() {
+            self.ahead.look::<ScriptMessages, X>(rt, shown);
+        }
     }
 }
 

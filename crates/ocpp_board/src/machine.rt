@@ -1,5 +1,5 @@
 ghost use Rattle.std.specs.Prelude.{◌≡◌, ℕ, ◌+◌, ◌<◌, ◌≤◌, ◌^◌, List, [], ◌∷◌, ◌++◌, length, IfOk, OnOk, Ok};
-ghost use Rattle.std.specs.Io.KnownBytes.{Consumes, Appends};
+ghost use Rattle.std.specs.Io.KnownBytes.{Keeps, Consumes, Appends};
 ghost use Rattle.ocpp_board.specs.Lines.{Line, line_bytes};
 ghost use Rattle.ocpp_board.specs.Outcome.{Replays};
 ghost use Rattle.ocpp_board.specs.Reading.{line_of, line_read, IsReadLine, ReadToEnd};
@@ -9,6 +9,7 @@ use crate::fault::ReplayFault;
 use crate::line_reader::{LineEnd, LineReader};
 use std::alloc::AllocError;
 use std::io::{BufRead, Write};
+use std::thread::Threads;
 
 /// What answers the lines of a script once its ledgers are opened.
 pub trait Machine {
@@ -24,6 +25,13 @@ pub trait Machine {
         requires few { answered self.old < 2 ^ 62 }
         ensures count { OnOk result (answered self.new ≤ answered self.old + 1) }
         ensures replies { OnOk result (Replies (text self.old) (text self.new) (line_bytes line.entry) reply.new.items) };
+
+    /// Looks at the bytes that the reader shows of lines to come, if that serves it. It consumes none and waits
+    /// for none.
+    fn look_ahead<X: Threads, R: BufRead>(&mut self, rt: &X, lines: &LineReader, reader: &mut R)
+        ensures reader { Keeps (R.remaining reader.old) (R.remaining reader.new) }
+        ensures text { text self.new ≡ text self.old }
+        ensures count { answered self.new ≡ answered self.old };
 
     ghost no_lines: { (s : Self) → text s [] ≡ [] };
 }

@@ -39,11 +39,15 @@ use std::thread::Threads;
 use std::time::Clock;
 use std::{env, io};
 
-const BUFFER: usize = 65_536;
+// How many bytes of the input are read at once; threads read ahead what is read, so it is many lines.
+const INPUT_BUFFER: usize = 2_097_152;
+
+// How many bytes of the output are written at once.
+const OUTPUT_BUFFER: usize = 65_536;
 
 fn main(rt: HostRuntime) -> ExitCode {
-    let reader = BufReader::with_capacity(rt.alloc(), BUFFER, rt.stdin());
-    let writer = BufWriter::with_capacity(rt.alloc(), BUFFER, rt.stdout());
+    let reader = BufReader::with_capacity(rt.alloc(), INPUT_BUFFER, rt.stdin());
+    let writer = BufWriter::with_capacity(rt.alloc(), OUTPUT_BUFFER, rt.stdout());
     let mut errors = rt.stderr();
     let status = match (reader, writer) {
         (Ok(mut reader), Ok(mut writer)) => run(

@@ -13,6 +13,7 @@ use crate::machine::{Declarations, LineOutcome, Machine};
 use crate::replay::reply::write_reply;
 use std::alloc::Global;
 use std::io::{BufRead, Write};
+use std::thread::Threads;
 
 /// How the declarations of a script ended.
 #[derive(Clone, Copy, Debug, PartialEq, Eq)]
@@ -109,7 +110,8 @@ fn answer_declaration<D: Declarations, W: Write>(
 }
 
 /// Answers the line that `lines` holds, which ended so, and all lines that come after it.
-pub fn replay_from<M: Machine, R: BufRead, W: Write>(
+pub fn replay_from<X: Threads, M: Machine, R: BufRead, W: Write>(
+    rt: &X,
     machine: &mut M,
     lines: &mut LineReader,
     end: LineEnd,
@@ -132,13 +134,14 @@ pub fn replay_from<M: Machine, R: BufRead, W: Write>(
     let line = lines.line(end);
     answer_command(machine, line, reply, writer)?;
     match end {
-        LineEnd::Feed => drive(machine, lines, reply, reader, writer),
+        LineEnd::Feed => drive(rt, machine, lines, reply, reader, writer),
         LineEnd::Input => Ok(()),
     }
 }
 
 // Answers all lines that are still to be read.
-fn drive<M: Machine, R: BufRead, W: Write>(
+fn drive<X: Threads, M: Machine, R: BufRead, W: Write>(
+    rt: &X,
     machine: &mut M,
     lines: &mut LineReader,
     reply: &mut Vec<u8>,
@@ -154,6 +157,7 @@ fn drive<M: Machine, R: BufRead, W: Write>(
     ensures end { OnOk result (OnSome (R.remaining reader.old) (IsAtEnd (R.remaining reader.new))) }
 {
     'lines: loop {
+        machine.look_ahead(rt, lines, reader);
         match lines.next_line(reader, writer)? {
             LineEnd::Feed => {
                 let line = lines.line(LineEnd::Feed);

@@ -6,6 +6,7 @@ ghost use Rattle.ocpp_board.specs.ScriptLines.{meaning_of};
 ghost use Rattle.ocpp_board.specs.LineMeaning as spec;
 
 use ledger_model::{Command, Key, Moment, Name, TxId};
+use message_ahead::MessageLines;
 use reading_decimal::moment_of;
 
 /// Why a line of a script changes no plan, content or moment; the first that applies, in this order.
@@ -103,6 +104,19 @@ pub fn read_line(line: Option<&[u8]>) -> ScriptLine<'_>
         Some([]) => ScriptLine::Nothing,
         Some([b'#', ..]) => ScriptLine::Nothing,
         Some(bytes) => by_words(bytes),
+    }
+}
+
+/// The messages of a script's lines.
+#[derive(Drop)]
+pub struct ScriptMessages;
+
+impl MessageLines for ScriptMessages {
+    fn text(line: &[u8]) -> Option<&str> {
+        match read_line(Some(line)) {
+            ScriptLine::Sends(_, text) => Some(text),
+            _ => None,
+        }
     }
 }
 

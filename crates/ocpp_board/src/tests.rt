@@ -10,6 +10,7 @@ mod messages;
 mod payload_orders;
 mod payloads;
 mod plan_rows;
+mod reading_ahead;
 mod script_rows;
 mod scripts;
 mod site_rows;

@@ -9,11 +9,12 @@ use crate::machine::{Declarations, LineOutcome, Machine};
 use crate::replay::replay_from;
 use std::alloc::{AllocError, Global};
 use std::io::{BufRead, Write};
+use std::thread::Threads;
 
 // Marks lines with `-`, up to the first that begins with `!`.
 #[derive(Drop)]
-pub struct Before {
-    pub alloc: Global,
+pub struct Before<'a, X> {
+    pub rt: &'a X,
 }
 
 // Marks lines with `+`.
@@ -44,9 +45,16 @@ impl Machine for After {
         put_marked(b'+', line, reply)?;
         Ok(())
     }
+
+    fn look_ahead<X: Threads, R: BufRead>(
+        &mut self,
+        _rt: &X,
+        _lines: &LineReader,
+        _reader: &mut R,
+    ) {}
 }
 
-impl Declarations for Before {
+impl<X: AllocGlobal + Threads> Declarations for Before<'_, X> {
     ghost text = { λ _. echoes false };
 
     ghost opens = { λ _ line. opens line ≡ true };
@@ -74,8 +82,10 @@ impl Declarations for Before {
         writer: &mut W,
     ) -> Result<(), ReplayFault> {
         let (mut lines, mut reply) = (lines, reply);
-        match After::open(self.alloc) {
-            Ok(mut after) => replay_from(&mut after, &mut lines, end, &mut reply, reader, writer),
+        match After::open(self.rt.alloc()) {
+            Ok(mut after) => replay_from(
+                self.rt, &mut after, &mut lines, end, &mut reply, reader, writer,
+            ),
             Err(_) => Err(ReplayFault::OutOfMemory),
         }
     }

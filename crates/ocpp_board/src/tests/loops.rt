@@ -35,7 +35,7 @@ fn text_of_complete(count: usize) -> &'static [u8] {
 fn stream_gives_up(rt: HostRuntime) -> Result<(), Fail> {
     let mut reader = SCRIPT;
     let mut written = Vec::new(rt.alloc());
-    let before = Before { alloc: rt.alloc() };
+    let before = Before { rt: &rt };
     let result = replay_lines(rt.alloc(), before, &mut reader, &mut written, MOST, LIMIT);
     assert_eq!(rt; result, Ok(()));
     assert_eq!(rt; written.as_slice(), TEXT);
@@ -52,7 +52,7 @@ fn reader_fails_after_each_byte(rt: HostRuntime) -> Result<(), Fail> {
                 step,
             };
             let mut written = Vec::new(rt.alloc());
-            let before = Before { alloc: rt.alloc() };
+            let before = Before { rt: &rt };
             let result = replay_lines(rt.alloc(), before, &mut reader, &mut written, MOST, LIMIT);
             assert_eq!(rt; result, Err(ReplayFault::ReadFault), "after {count}");
             assert_eq!(rt;
@@ -75,7 +75,7 @@ fn writer_fails_after_each_byte(rt: HostRuntime) -> Result<(), Fail> {
                 room,
                 takes_none,
             };
-            let before = Before { alloc: rt.alloc() };
+            let before = Before { rt: &rt };
             let result = replay_lines(rt.alloc(), before, &mut reader, &mut writer, MOST, LIMIT);
             assert_eq!(rt; result, Err(ReplayFault::WriteFault), "after {room}");
             assert_eq!(rt; writer.taken.as_slice(), &TEXT[..room], "after {room}");
@@ -89,7 +89,7 @@ fn input_stops_at_its_limit(rt: HostRuntime) -> Result<(), Fail> {
     for limit in 0..SCRIPT.len() {
         let mut reader = SCRIPT;
         let mut written = Vec::new(rt.alloc());
-        let before = Before { alloc: rt.alloc() };
+        let before = Before { rt: &rt };
         let result = replay_lines(rt.alloc(), before, &mut reader, &mut written, MOST, limit);
         assert_eq!(rt; result, Err(ReplayFault::TooMuchInput), "of {limit}");
         assert_eq!(rt; written.as_slice(), text_of_complete(limit), "of {limit}");
@@ -116,7 +116,7 @@ fn scripts_are_cut_into_lines(rt: HostRuntime) -> Result<(), Fail> {
     for (script, text) in SCRIPTS {
         let mut reader = script;
         let mut written = Vec::new(rt.alloc());
-        let before = Before { alloc: rt.alloc() };
+        let before = Before { rt: &rt };
         let result = replay_lines(rt.alloc(), before, &mut reader, &mut written, 3, LIMIT);
         assert_eq!(rt; result, Ok(()));
         assert_eq!(rt; written.as_slice(), text);

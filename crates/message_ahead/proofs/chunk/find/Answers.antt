@@ -1,0 +1,13 @@
+use Rattle.std.proofs.Common.{◌-◌, arith, length-take, subst}
+use Rattle.std.specs.Prelude.{IfSome}
+use Rattle.std.proofs.lemmas.List.Elements.{All-push, All-same}
+use Rattle.message_ahead.specs.Ahead.{IsFound}
+use Rattle.message_ahead.proofs.chunk.find.Goals as goal
+
+pub lines-preserved-in_ok-push : goal.lines-preserved-in_ok-push
+lines-preserved-in_ok-push g c =
+    let P = IsFound c.args.bytes.now in
+    let one = subst (λ o. IfSome o P) c.in-Some.is c.in_ok-event.ensures in (
+      All-same P c.push.new.self.items _ c.in_ok-push.ensures.items (All-push P c.lines.found.items c.in-Some.event c.lines.invariant.0 one),
+      omega (arith, c.line_start-start.ensures, length-take (c.lines.end - 1) c.args.bytes.now, c.lines.invariant.1),
+    )

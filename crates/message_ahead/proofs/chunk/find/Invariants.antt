@@ -1,0 +1,9 @@
+use Rattle.std.proofs.Common.{◌≤◌, All, length}
+use Rattle.message_ahead.specs.Ahead.{IsFound}
+use Rattle.message_ahead.proofs.chunk.find.Given as goal
+
+abbrev pub invariant-lines : goal.invariant-lines
+invariant-lines g l = All (IsFound l.bytes) l.found.items × (l.end ≤ length l.bytes)
+
+abbrev pub decreases-lines : goal.decreases-lines
+decreases-lines g l = l.end

@@ -1,0 +1,207 @@
+//! The events of a run of lines, read by one thread.
+ghost use Rattle.std.specs.Prelude.{◌≡◌, ◌≤◌, ◌<◌, ◌-◌, ◌+◌, ℕ, [], All, length, IfOk, IfSome, IsTrue, take, drop};
+ghost use Rattle.message_ahead.specs.Ahead.{Asks, IsFound};
+
+use crate::delivery::Delivery;
+use ledger_model::Moment;
+use memchr::memrchr;
+use std::alloc::{AllocError, Global};
+use transaction_event::{Message, message_of};
+
+// 2000-01-01T00:00:00Z. An event means the same at any moment.
+const FIRST_MOMENT: u64 = 946_684_800_000_000_000;
+
+// About how many bytes a line with an event has.
+const USUAL_LINE: usize = 256;
+
+/// What tells which lines have a message.
+pub trait MessageLines {
+    /// The text of the message that a line has, which stands without its line feed; None where it has none.
+    fn text(line: &[u8]) -> Option<&str>;
+}
+
+/// An event of a line, and where its text stands.
+#[derive(Drop)]
+pub struct Found {
+    /// How many bytes may still be read where its line begins.
+    pub room: usize,
+    /// Where its text begins in the chunk.
+    pub from: usize,
+    /// Where its text ends in the chunk.
+    pub to: usize,
+    /// The event.
+    pub delivery: Delivery,
+}
+
+/// A run of whole lines, and the events that were found in them.
+#[derive(Drop)]
+pub struct Chunk {
+    bytes: Vec<u8>,
+    // The last first.
+    found: Vec<Found>,
+    // Whether a growth was refused.
+    is_short: bool,
+    ghost read: { All (IsFound bytes.items) found.items },
+}
+
+impl Chunk {
+    /// Reads the events of these lines, each of which a line feed ends, before the first of which `room` bytes
+    /// may be read. Where memory runs out, those that were found by then are the last ones.
+    pub fn read<T: MessageLines>(alloc: Global, bytes: Vec<u8>, room: usize) -> Chunk {
+        let mut found = Vec::new(alloc);
+        let is_short = found.reserve(bytes.len() / USUAL_LINE).is_err()
+            || find::<T>(alloc, &bytes, room, &mut found).is_err();
+        Chunk {
+            bytes,
+            found,
+            is_short,
+        }
+    }
+
+    /// Whether a growth was refused while the chunk was read.
+    pub fn is_short(&self) -> bool {
+        self.is_short
+    }
+
+    /// The event of the line before which `room` bytes may be read, if it was found, has this text, and was
+    /// not taken; those of lines before it are dropped.
+    pub fn take(&mut self, room: usize, text: &str) -> Option<Delivery>
+        ensures { IfSome result (λ d. Asks text.now d) }
+    {
+        'stale: loop {
+            match self.found.last() {
+                Some(next) if next.room >= room => {}
+                _ => return None,
+            }
+            let Some(next) = self.found.pop() else {
+                return None;
+            };
+            if next.room == room {
+                return with_text(&self.bytes, next, text);
+            }
+        }
+    }
+}
+
+// The event that was found, if its text is this one.
+fn with_text(bytes: &[u8], found: Found, text: &str) -> Option<Delivery>
+    requires { IsFound bytes.now found }
+    ensures { IfSome result (λ d. Asks text.now d) }
+{
+    let Found {
+        room: _,
+        from,
+        to,
+        delivery,
+    } = found;
+    if is_text_at(bytes, from, to, text) {
+        Some(delivery)
+    } else {
+        None
+    }
+}
+
+// Whether this text stands between these places.
+fn is_text_at(bytes: &[u8], from: usize, to: usize, text: &str) -> bool
+    requires { (from ≤ to) × (to ≤ length bytes.now) }
+    ensures { IsTrue result → take (to - from) (drop from bytes.now) ≡ text.now }
+{
+    match str::from_utf8(&bytes[from..to]) {
+        Ok(own) => own == text,
+        Err(_) => false,
+    }
+}
+
+// Finds the events of lines, the last first.
+fn find<T: MessageLines>(
+    alloc: Global,
+    bytes: &[u8],
+    room: usize,
+    found: &mut Vec<Found>,
+) -> Result<(), AllocError>
+    requires { All (IsFound bytes.now) found.old.items }
+    ensures { All (IsFound bytes.now) found.new.items }
+{
+    let mut end = bytes.len();
+    'lines: while end > 0 {
+        let start = line_start(&bytes[..end - 1]);
+        if let Some(event) = event_of_line::<T>(alloc, bytes, start, end - 1, room)? {
+            found.push(event)?;
+        }
+        end = start;
+    }
+    Ok(())
+}
+
+// Where the line begins that follows these bytes' last line feed.
+fn line_start(bytes: &[u8]) -> usize
+    ensures { result ≤ length bytes.now }
+{
+    match memrchr(b'\n', bytes) {
+        Some(feed) => feed + 1,
+        None => 0,
+    }
+}
+
+// The event of the line from `start` to `end`, where its line feed stands.
+fn event_of_line<T: MessageLines>(
+    alloc: Global,
+    bytes: &[u8],
+    start: usize,
+    end: usize,
+    room: usize,
+) -> Result<Option<Found>, AllocError>
+    requires { (start ≤ end) × (end ≤ length bytes.now) }
+    ensures { IfOk result (λ event. IfSome event (λ f. IsFound bytes.now f)) }
+{
+    let line = without_return(&bytes[start..end]);
+    let Some(text) = T::text(line) else {
+        return Ok(None);
+    };
+    let to = start + line.len();
+    let from = to.saturating_sub(text.len());
+    if !is_text_at(bytes, from, to, text) {
+        return Ok(None);
+    }
+    match delivery_of(alloc, text)? {
+        Some(delivery) => Ok(Some(Found {
+            room: room.saturating_sub(start),
+            from,
+            to,
+            delivery,
+        })),
+        None => Ok(None),
+    }
+}
+
+// The bytes without the one carriage return at their end.
+fn without_return(line: &[u8]) -> &[u8]
+    ensures { length result.now ≤ length line.now }
+{
+    match line {
+        [front @ .., b'\r'] => front,
+        _ => line,
+    }
+}
+
+// The event that a text asks to deliver, if it does.
+fn delivery_of(alloc: Global, text: &str) -> Result<Option<Delivery>, AllocError>
+    ensures { IfOk result (λ event. IfSome event (λ d. Asks text.now d)) }
+{
+    let moment = Moment::new(FIRST_MOMENT).unwrap();
+    match message_of(alloc, text, moment) {
+        Message::Event {
+            id,
+            key,
+            event,
+            token,
+        } => Ok(Some(Delivery {
+            id,
+            key,
+            event,
+            token,
+        })),
+        Message::Reply { memory: true, .. } => Err(AllocError),
+        Message::Reply { memory: false, .. } | Message::Silent => Ok(None),
+    }
+}
