@@ -1,13 +1,21 @@
 #!/usr/bin/env bash
-# Compares what the program and the two Python programs make of the days of traffic in this folder with the stored texts.
-#     examples/compare.sh             builds the program without its proofs, which takes about half a minute
+# Compares what the program and the Python programs make of the rows, the words and the days of traffic in this folder
+# with the stored texts. The last line counts what differs; the status is 1 where something does.
+#     examples/compare.sh             builds the program without its proofs, which takes some minutes, and leaves out the
+#                                     words, which need a built one
 #     examples/compare.sh PROGRAM     takes a built one, such as crates/ocpp_board/out/ocpp_board
 set -u
 program=${1:+$(realpath "$1")}
 cd "$(dirname "$0")" || exit
 made=$(mktemp -d) || exit
 trap 'rm -r "$made"' EXIT
-status=0
+different=0
+
+# differs NAME: tells that it is not as stored.
+differs() {
+    echo "$1: differs"
+    different=$((different + 1))
+}
 
 # same NAME..: the file of this name that was made is the stored one.
 same() {
@@ -15,15 +23,14 @@ same() {
         if diff "$name" "$made/$name"; then
             echo "$name: as stored"
         else
-            echo "$name: differs"
-            status=1
+            differs "$name"
         fi
     done
 }
 
 # made_by COMMAND..: runs it; what it tells on standard error is shown where it fails.
 made_by() {
-    "$@" 2> "$made/told" || { cat "$made/told" >&2; status=1; }
+    "$@" 2> "$made/told" || { cat "$made/told" >&2; differs "$1"; }
 }
 
 # The logs become scripts. That of the first day has other fields, and its messages are JSON.
@@ -32,20 +39,24 @@ made_by ./log_to_script.py day.jsonl --site-field location --station-field charg
 made_by ./log_to_script.py site_day.jsonl > "$made/site_day.jsonl.script"
 same day.jsonl.script site_day.jsonl.script
 
-# The scripts, those by hand and those of the logs, become replies and boards.
+# The rows, and the scripts of days, those by hand and those of the logs, become replies and boards.
 mkdir "$made/cases"
+made_by ./rows.py "$made/cases" rows/*.rows
 for script in *.script; do
-    day=${script%.script}
-    if [ -n "$program" ]; then
-        made_by "$program" replay < "$script" > "$made/$day.expected"
-        same "$day.expected"
-    else
-        cp "$script" "$made/cases/$day"
-        cp "$day.expected" "$made/cases/$day.stdout"
-    fi
+    cp "$script" "$made/cases/${script%.script}"
+    cp "${script%.script}.expected" "$made/cases/${script%.script}.stdout"
 done
-if [ -z "$program" ]; then
-    (cd ../crates/ocpp_board && rt try --cases "$made/cases" -- replay) || status=1
+if [ -n "$program" ]; then
+    for text in "$made"/cases/*.stdout; do
+        "$program" replay < "${text%.stdout}" 2>&1 | diff --label stored --label written -u "$text" - || differs "$(basename "$text" .stdout)"
+    done
+    echo "scripts: $(ls "$made"/cases/*.stdout | wc -l) compared"
+    ./words.py "$program" words.txt || differs words.txt
+else
+    (cd ../crates/ocpp_board && rt try --steps 1 --seconds 300 --cases "$made/cases" -- replay) > "$made/tried" ||
+        differs "scripts"
+    grep -v ' output=expected ' "$made/tried"
+    echo "words.txt: not run, which needs a built program"
 fi
 
 # The boards become tables and a page.
@@ -53,4 +64,5 @@ for day in day site_day; do
     made_by ./board_to_tables.py --out "$made/$day" "$day.expected"
     same "$day.quarters.csv" "$day.transactions.csv" "$day.html"
 done
-exit $status
+echo "different: $different"
+[ $different = 0 ]
