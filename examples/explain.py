@@ -25,7 +25,7 @@ import sys
 import threading
 import time
 from collections import deque
-from collections.abc import Iterator
+from collections.abc import Iterable, Iterator
 from datetime import datetime, timezone
 from typing import Any, BinaryIO, NamedTuple
 
@@ -372,12 +372,14 @@ class Plan:
         return (f"with it the stations' limits of readings would add up to {self.readings + self.limit:,}, more than "
                 "1,048,576", "a `limits` line with fewer readings before the stations")
 
-    def near(self, what: str, name: str, names: Iterator[str] | dict) -> str:
+    def near(self, what: str, name: str, names: Iterable[str]) -> str:
         known = {each.lower(): each for each in names}
         if not known:
-            return f"declare it: no {what} is declared"
+            return f"declare it before line {self.opened_at()}; the script declares no {what}"
         near = difflib.get_close_matches(name.lower(), known, 1, 0.5)
-        return f"the nearest declared name is {known[near[0]]}" if near else f"declare it before line {self.opened_at()}"
+        if near:
+            return f"the nearest declared name is {known[near[0]]}"
+        return f"declare it before line {self.opened_at()}; declared are {', '.join(list(known.values())[:5])}"
 
     def opened_at(self) -> int:
         return self.opened[0] if self.opened else 1
