@@ -185,16 +185,17 @@ class Progress:
     """How far a file was read, on standard error where that is a terminal."""
 
     def __init__(self, file: BinaryIO) -> None:
-        self.file, self.size, self.next = file, os.fstat(file.fileno()).st_size, 0.0
+        self.file, self.size, self.read, self.next = file, os.fstat(file.fileno()).st_size, 0, 0.0
         self.is_shown = sys.stderr.isatty()
 
-    def tell(self, lines: int) -> None:
+    def tell(self, lines: int, count: int) -> None:
+        """So many lines were read, the last of so many bytes."""
+        self.read += count
         if not self.is_shown or lines % 1_024 or time.monotonic() < self.next:
             return
         self.next = time.monotonic() + 0.5
-        read = self.file.tell() if self.file.seekable() else 0
-        share = f", {read / 1e6:,.0f} MB, {100 * read / self.size:.0f} %" if self.size and read else ""
-        print(f"\r{lines:,} lines{share} \033[K", end="", file=sys.stderr, flush=True)
+        share = f", {100 * self.file.tell() / self.size:.0f} %" if self.size and self.file.seekable() else ""
+        print(f"\r{lines:,} lines, {self.read / 1e6:,.1f} MB{share} \033[K", end="", file=sys.stderr, flush=True)
 
     def end(self) -> None:
         if self.is_shown and self.next:
@@ -261,7 +262,7 @@ class Reader:
     def read(self, text: BinaryIO) -> None:
         number = 0
         for number, line in lines(text):
-            self.progress.tell(number)
+            self.progress.tell(number, len(line) + 1)
             self.take(number, line)
         self.break_off(number, "the text ends")
         if not self.counts["boards"]:

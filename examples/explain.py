@@ -397,16 +397,17 @@ class Progress:
     """How far a file was read, on standard error where that is a terminal."""
 
     def __init__(self, file: BinaryIO) -> None:
-        self.file, self.size, self.next = file, os.fstat(file.fileno()).st_size, 0.0
+        self.file, self.size, self.read, self.next = file, os.fstat(file.fileno()).st_size, 0, 0.0
         self.is_shown = sys.stderr.isatty()
 
-    def tell(self, lines: int) -> None:
+    def tell(self, lines: int, count: int) -> None:
+        """So many lines were read, the last of so many bytes."""
+        self.read += count
         if not self.is_shown or lines % 1_024 or time.monotonic() < self.next:
             return
         self.next = time.monotonic() + 0.5
-        read = self.file.tell() if self.file.seekable() else 0
-        share = f", {read / 1e6:,.0f} MB, {100 * read / self.size:.0f} %" if self.size and read else ""
-        print(f"\r{lines:,} lines{share} \033[K", end="", file=sys.stderr, flush=True)
+        share = f", {100 * self.file.tell() / self.size:.0f} %" if self.size and self.file.seekable() else ""
+        print(f"\r{lines:,} lines, {self.read / 1e6:,.1f} MB{share} \033[K", end="", file=sys.stderr, flush=True)
 
     def end(self) -> None:
         if self.is_shown and self.next:
@@ -458,7 +459,7 @@ class Run:
         for answer in iter(out.readline, b""):
             text = answer.decode("utf-8", "replace").rstrip("\n")
             line = self.sent.popleft()
-            self.progress.tell(line.number)
+            self.progress.tell(line.number, len(line.line) + 1)
             if line.is_marked:
                 texts = [text]
                 while not (len(texts) > 1 and texts[-1] in MARKED and texts[-2] == "fault BadLine"):
