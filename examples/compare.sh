@@ -134,7 +134,8 @@ for script in *.script; do
 done
 if [ -n "$program" ]; then
     for text in "$made"/cases/*.stdout; do
-        "$program" replay < "${text%.stdout}" 2>&1 | diff --label stored --label written -u "$text" - || differs "$(basename "$text" .stdout)"
+        "$program" replay < "${text%.stdout}" > "$made/written" 2>&1 || echo "status $?" >> "$made/written"
+        diff --label stored --label written -u "$text" "$made/written" || differs "$(basename "$text" .stdout)"
     done
     echo "scripts: $(ls "$made"/cases/*.stdout | wc -l) compared"
     ./words.py "$program" words.txt || differs words.txt
