@@ -92,10 +92,10 @@ Section: utils
 Priority: optional
 Homepage: https://birchsatin.example/ocpp_board
 Description: transaction ledger and site board of an OCPP 2.0.1 CSMS
- Takes the TransactionEvent messages that charging stations sent, live or queued,
- repeated, late or out of order, answers each, and shows for each site its
- sessions, their missing sequence numbers, and the energy between meter readings
- by transaction, EVSE, station, site and quarter of an hour.
+ Takes the TransactionEvent messages that charging stations sent, live or
+ queued, repeated, late or out of order, answers each, and shows for each site
+ its sessions, their missing sequence numbers, and the energy between meter
+ readings by transaction, EVSE, station, site and quarter of an hour.
  .
  Beside the program there are ocpp-board-log-to-script, which reads logs of a
  CSMS, ocpp-board-tables and ocpp-board-live, which write tables and pages,
