@@ -110,8 +110,8 @@ def words_fault(words: list[str]) -> Said | None:
         told = (number_fault(f"number of {what}", text, 2**64 - 1) for (what, _), text in zip(LIMITS, rest))
         return next(filter(None, told), None)
     if kind == "now":
-        fault = time_fault(rest[0])
-        return fault and (f"the time {shown(rest[0])} {fault}", "a time such as 2026-03-01T10:00:00Z")
+        # Nothing else can be wrong with such a line, whatever Python takes for a time.
+        return f"the time {shown(rest[0])} {time_fault(rest[0]) or 'is no time'}", "a time such as 2026-03-01T10:00:00Z"
     if fault := name_fault("station's name", rest[0]):
         return fault
     if kind in ("void", "restore", "erase"):
@@ -321,7 +321,8 @@ def message_fault(text: str, told: str) -> Said:
         return (f"the action {shown(frame[2])} is none that is answered",
                 f"the nearest is {near[0]}" if near else "leave it out: it keeps nothing of a transaction")
     failed = Checks(frame[3]).failed
-    fault, member, what = next((each for each in failed if each[0] == told), (told, "a member", "broke the check"))
+    other = (told, "a timestamp", "is no time") if told == "Moment" else (told, "a member", "broke the check")
+    fault, member, what = next((each for each in failed if each[0] == told), other)
     return f"{member} {what}", "the station's message is to be corrected, or left out"
 
 

@@ -219,14 +219,20 @@ class Run:
         while not self.has_ended() and self.ledger.process.poll() is None:
             self.ends[0 if not self.ends[0].is_set() else 1].wait(0.1)
             if time.monotonic() >= due:
-                self.write()
+                if fault := self.write():
+                    print(f"live_board.py: {fault}; tried again in {self.words.every:g} s", file=sys.stderr, flush=True)
                 due = time.monotonic() + self.words.every
                 self.progress()
 
-    def write(self) -> None:
-        if self.ledger.is_open.is_set() and self.ledger.station:
-            for site in self.ledger.sites:
-                self.pages.write(site, self.ledger.ask(f"board {site}".encode()))
+    def write(self) -> str | None:
+        """Writes the pages, and gives what went wrong. The ledger goes on, and they are tried again."""
+        try:
+            if self.ledger.is_open.is_set() and self.ledger.station:
+                for site in self.ledger.sites:
+                    self.pages.write(site, self.ledger.ask(f"board {site}".encode()))
+        except OSError as fault:
+            return str(fault)
+        return None
 
     def progress(self) -> None:
         if sys.stderr.isatty():
@@ -236,7 +242,7 @@ class Run:
     def end(self) -> int:
         """The pages once more, and how it all ended."""
         try:
-            self.write()
+            self.faults += filter(None, [self.write()])
         except Ended:
             pass
         status = self.ledger.close()
