@@ -27,13 +27,14 @@ as_stored() {
     diff --label stored --label made -u "$1" "$2" && echo "$1: as stored" || differs "$1"
 }
 
-# gives STATUS NAME COMMAND..: the command ends with this status, writes the stored text NAME, where there is one, and
-# tells NAME.told, where there is one; else what it tells is shown where its status is another.
+# gives STATUS NAME COMMAND..: the command ends with this status, writes the stored text NAME and tells NAME.told, where
+# one of them may not be stored; else what it tells is shown where its status is another. A NAME of - stands for neither.
 gives() {
     local status=$1 name=$2
     shift 2
     "$@" > "$made/given" 2> "$made/told"
     local ended=$?
+    [ "$name" = - ] || [ -e "$name" ] || [ -e "$name.told" ] || differs "$name, which is not stored,"
     [ ! -e "$name" ] || as_stored "$name" "$made/given"
     [ ! -e "$name.told" ] || as_stored "$name.told" "$made/told"
     [ $ended = "$status" ] || { cat "$made/told"; differs "the status of $*: $ended, not $status,"; }
