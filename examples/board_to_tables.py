@@ -888,11 +888,17 @@ def zone(name: str) -> ZoneInfo:
         raise argparse.ArgumentTypeError(f"no time zone of this system: {name!r} (Debian: package tzdata)") from None
 
 
+def plain(text: BinaryIO) -> BinaryIO:
+    if text.peek(2)[:2] == b"\x1f\x8b":
+        raise OSError("the text is compressed by gzip: gunzip -c TEXT | board_to_tables.py")
+    return text
+
+
 def main() -> int:
     words = arguments()
     calendar = Calendar(words)
     try:
-        with (open(0 if words.text == "-" else words.text, "rb") as text,
+        with (plain(open(0 if words.text == "-" else words.text, "rb")) as text,
               open(words.out + ".quarters.csv", "w", encoding="utf-8", newline="") as quarters,
               open(words.out + ".transactions.csv", "w", encoding="utf-8", newline="") as transactions):
             days = DayPages(words.out, calendar)

@@ -79,6 +79,7 @@ with_program() {
     as_stored live/north.transactions.csv "$made/live/north.transactions.csv"
     tells 1 "there is no board" ./live_board.py --program "$program" --out "$made/live" /dev/null < /dev/null
     tells 2 "No such file or directory" ./live_board.py --program "$program" --out "$made/live" nowhere.script
+    tells 2 "the script is compressed by gzip" ./live_board.py --program "$program" --out "$made/live" "$made/day.script.gz" < /dev/null
     tells 2 "No such file or directory" ./live_board.py --program ./nowhere --out "$made/live" forms/ocpp.script
 
     # 50 events of each of two stations: a session of 48 and one of 2, in each of which all but the first rise by 250 Wh.
@@ -162,7 +163,8 @@ for name in berlin.quarters berlin.transactions states.transactions; do
 done
 holds tables/berlin.said
 gives 1 tables/broken ./board_to_tables.py --out "$made/broken" tables/broken.text
-tells 1 "the text ends, and no board began in it" ./board_to_tables.py --out "$made/noise" "$made/day.jsonl.gz"
+tells 1 "the text ends, and no board began in it" ./board_to_tables.py --out "$made/noise" day.jsonl
+tells 2 "the text is compressed by gzip" ./board_to_tables.py --out "$made/noise" "$made/day.jsonl.gz"
 tells 2 "No such file or directory" ./board_to_tables.py --out "$made/nowhere/x" day.expected
 tells 2 "no time zone of this system: 'Mars'" ./board_to_tables.py --tz Mars --out "$made/x" day.expected
 tells 2 "--from is after --to" ./board_to_tables.py --from 2026-03-02 --to 2026-03-01 --out "$made/x" day.expected

@@ -195,7 +195,9 @@ class Run:
         end.set()
 
     def feed(self) -> None:
-        for line in iter(lambda: self.script.readline(LONGEST_LINE), b""):
+        for number, line in enumerate(iter(lambda: self.script.readline(LONGEST_LINE), b"")):
+            if number == 0 and line.startswith(b"\x1f\x8b"):
+                raise OSError("the script is compressed by gzip: <(gunzip -c SCRIPT)")
             self.ledger.send(line)
 
     def operate(self) -> None:
@@ -252,7 +254,7 @@ class Run:
             print(f"live_board.py: {fault}", file=sys.stderr)
         if status:
             print(f"live_board.py: the replay ended with status {status}", file=sys.stderr)
-        elif not self.ledger.station:
+        elif not self.ledger.station and not self.faults:
             print("live_board.py: the script declared no station, or had no line that needs the ledgers: there is no "
                   "board", file=sys.stderr)
         return 2 if self.faults else 1 if status or not self.ledger.station else 0
