@@ -61,7 +61,7 @@ class Ledger:
         self.is_open = threading.Event()
         self.marks = 0
         self.answers: dict[int, queue.Queue[bytes | None]] = {}
-        self.counts = dict.fromkeys(["lines", "accepted", "refused", "faults"], 0)
+        self.counts = dict.fromkeys(["lines", "bytes", "accepted", "refused", "faults"], 0)
         self.reader = threading.Thread(target=self.read, daemon=True)
         self.reader.start()
 
@@ -77,6 +77,7 @@ class Ledger:
         words = line.split(b" ")
         with self.sending:
             self.counts["lines"] += 1
+            self.counts["bytes"] += len(line)
             if words[0] == b"station" and len(words) == 3 and not self.is_probed():
                 self.declare(words[1], words[2].strip())
             self.write(line if line.endswith(b"\n") else line + b"\n")
@@ -217,14 +218,16 @@ class Run:
 
     def wait(self) -> None:
         """Writes the pages every so many seconds until all is at its end."""
-        due = time.monotonic() + self.words.every
+        due, shown = time.monotonic() + self.words.every, time.monotonic() + 0.5
         while not self.has_ended() and self.ledger.process.poll() is None:
             self.ends[0 if not self.ends[0].is_set() else 1].wait(0.1)
             if time.monotonic() >= due:
                 if fault := self.write():
                     print(f"live_board.py: {fault}; tried again in {self.words.every:g} s", file=sys.stderr, flush=True)
                 due = time.monotonic() + self.words.every
+            if time.monotonic() >= shown:
                 self.progress()
+                shown = time.monotonic() + 0.5
 
     def write(self) -> str | None:
         """Writes the pages, and gives what went wrong. The ledger goes on, and they are tried again."""
@@ -238,8 +241,10 @@ class Run:
 
     def progress(self) -> None:
         if sys.stderr.isatty():
-            print("\r{lines:,} lines, {refused:,} messages refused, {faults:,} faults \033[K".format(
-                **self.ledger.counts), end="", file=sys.stderr, flush=True)
+            counts, size = self.ledger.counts, os.fstat(self.script.fileno()).st_size
+            share = f", {100 * counts['bytes'] / size:.0f} %" if size else ""
+            print(f"\r{counts['lines']:,} lines, {counts['bytes'] / 1e6:,.1f} MB{share}, {counts['refused']:,} messages "
+                  f"refused, {counts['faults']:,} faults \033[K", end="", file=sys.stderr, flush=True)
 
     def end(self) -> int:
         """The pages once more, and how it all ended."""
@@ -248,6 +253,8 @@ class Run:
         except Ended:
             pass
         status = self.ledger.close()
+        if sys.stderr.isatty():
+            print("\r\033[K", end="", file=sys.stderr)
         print("lines of the script: {lines}, messages accepted: {accepted}, refused: {refused}, faults: {faults}; pages "
               "written: {pages}".format(pages=self.pages.count, **self.ledger.counts), file=sys.stderr)
         for fault in self.faults:
