@@ -51,7 +51,8 @@ class Ledger:
         self.process = subprocess.Popen([program, "replay"], stdin=subprocess.PIPE, stdout=subprocess.PIPE,
                                         start_new_session=True)
         self.token = secrets.token_hex(4)
-        self.mark = re.compile(rf'\[4,"live-{self.token}-([0-9]+)","NotImplemented","UnknownAction",\{{\}}\]\n'.encode())
+        mark = rf'\[4,"live-{self.token}-([0-9]+)","NotImplemented","UnknownAction",\{{\}}\]\n'
+        self.mark = re.compile(mark.encode())
         self.sending = threading.Lock()
         self.sites: list[str] = []
         self.stations: list[str] = []
@@ -255,8 +256,8 @@ class Run:
         status = self.ledger.close()
         if sys.stderr.isatty():
             print("\r\033[K", end="", file=sys.stderr)
-        print("lines of the script: {lines}, messages accepted: {accepted}, refused: {refused}, faults: {faults}; pages "
-              "written: {pages}".format(pages=self.pages.count, **self.ledger.counts), file=sys.stderr)
+        print("lines of the script: {lines}, messages accepted: {accepted}, refused: {refused}, faults: {faults}; "
+              "pages written: {pages}".format(pages=self.pages.count, **self.ledger.counts), file=sys.stderr)
         for fault in self.faults:
             print(f"live_board.py: {fault}", file=sys.stderr)
         if status:
@@ -283,8 +284,8 @@ def beside(*names: str) -> str:
 def arguments() -> argparse.Namespace:
     parser = argparse.ArgumentParser(
         description=__doc__, formatter_class=argparse.RawDescriptionHelpFormatter,
-        epilog="Exit status: 0; 1 when the replay ended with a fault or there is no board; 2 when the words are wrong or "
-        "a file can't be read or written.")
+        epilog="Exit status: 0; 1 when the replay ended with a fault or there is no board; 2 when the words are wrong "
+        "or a file can't be read or written.")
     parser.add_argument("script", metavar="SCRIPT", help="the script: a file, a named pipe, or what <(..) gives")
     parser.add_argument("--out", metavar="FOLDER", type=Path, required=True, help="where the pages are written")
     parser.add_argument("--every", metavar="SECONDS", type=seconds, default=10.0,
