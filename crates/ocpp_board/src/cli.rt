@@ -1,10 +1,9 @@
 ghost use Rattle.std.specs.Prelude.{◌≡◌};
 
 use crate::arguments::{Asked, read_arguments};
-use crate::fault::ReplayFault;
-use crate::stream::replay_buffered;
 use clap::Error;
 use clap::error::ErrorKind;
+use script_replay::{ReplayFault, replay_buffered};
 use site_server::{ServiceFault, serve_plan, simulate};
 use std::convert::AsStr;
 use std::fmt::Display;
