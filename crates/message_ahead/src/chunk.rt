@@ -5,6 +5,7 @@ ghost use Rattle.message_ahead.specs.Ahead.{Asks, IsFound};
 use crate::delivery::Delivery;
 use ledger_model::Moment;
 use memchr::memrchr;
+use script_lines::without_return;
 use std::alloc::{AllocError, Global};
 use transaction_event::{Message, message_of};
 
@@ -171,16 +172,6 @@ fn event_of_line<T: MessageLines>(
             delivery,
         })),
         None => Ok(None),
-    }
-}
-
-// The bytes without the one carriage return at their end.
-fn without_return(line: &[u8]) -> &[u8]
-    ensures { length result.now ≤ length line.now }
-{
-    match line {
-        [front @ .., b'\r'] => front,
-        _ => line,
     }
 }
 

@@ -1,4 +1,4 @@
-ghost use Rattle.std.specs.Prelude.{◌≡◌, ℕ, ◌<◌, ◌≤◌, ◌+◌, ◌^◌, List, [], OnSome};
+ghost use Rattle.std.specs.Prelude.{◌≡◌, ℕ, ◌<◌, ◌≤◌, ◌+◌, ◌^◌, List, [], length, OnSome};
 ghost use Rattle.std.specs.Io.KnownBytes.{Keeps, Consumes, IsAtEnd};
 ghost use Rattle.std.specs.Io.BufRead.{strip_last};
 ghost use Rattle.script_lines.specs.Lines.{line_bytes};
@@ -104,7 +104,8 @@ impl LineReader {
 
 /// The bytes without the one carriage return at their end.
 pub fn without_return(raw: &[u8]) -> &[u8]
-    ensures { result.now ≡ strip_last 13 raw.now }
+    ensures is { result.now ≡ strip_last 13 raw.now }
+    ensures shorter { length result.now ≤ length raw.now }
 {
     match raw {
         [front @ .., b'\r'] => front,
