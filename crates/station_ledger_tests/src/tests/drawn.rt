@@ -75,7 +75,7 @@ fn kind(place: u8, drawn: u8) -> Kind {
 }
 
 // A reading of 0 to 7 watt-hours at some minute of four hours.
-fn told(draws: &mut Draws) -> Told {
+fn draw_reading(draws: &mut Draws) -> Told {
     Told {
         minute: draws.next(),
         watt_hours: draws.next() % 8,
@@ -84,14 +84,18 @@ fn told(draws: &mut Draws) -> Told {
 
 // An event of no reading to three, that names no EVSE or one of 1 to 3. It is drawn from its key and a
 // version, so that the same one comes again, and another one under the same key.
-fn sent(tx: u8, place: u8, version: u8) -> Sent {
+fn draw_event(tx: u8, place: u8, version: u8) -> Sent {
     let mut draws = Draws::from_seed(tx as u64 * 65_536 + place as u64 * 256 + version as u64);
     Sent {
         kind: kind(place, draws.next()),
         minute: draws.next(),
         evse: draws.next() % 4,
         count: draws.next() % 4,
-        readings: [told(&mut draws), told(&mut draws), told(&mut draws)],
+        readings: [
+            draw_reading(&mut draws),
+            draw_reading(&mut draws),
+            draw_reading(&mut draws),
+        ],
     }
 }
 
@@ -127,8 +131,8 @@ impl Asked {
             0..=2 => Wish::Void,
             3..=5 => Wish::Restore,
             6..=7 => Wish::Erase,
-            8..=9 => Wish::Deliver(sent(tx, place, draws.next())),
-            _ => Wish::Deliver(sent(tx, place, 0)),
+            8..=9 => Wish::Deliver(draw_event(tx, place, draws.next())),
+            _ => Wish::Deliver(draw_event(tx, place, 0)),
         };
         let seq = [0, 1, 2, 3, 5, 6, 9, 2_147_483_647][place as usize % 8];
         Asked { tx, seq, wish }
