@@ -1,56 +1,145 @@
 #!/usr/bin/env bash
-# Compares what the program and the two Python programs make of the days of traffic in this folder with the stored texts.
-#     examples/compare.sh             builds the program without its proofs, which takes about half a minute
+# Compares what the program and the Python programs make of the rows, the words and the days of traffic in this folder
+# with the stored texts. The last line counts what differs; the status is 1 where something does.
+#     examples/compare.sh             builds the program without its proofs, which takes some minutes, and leaves out the
+#                                     words, which need a built one
 #     examples/compare.sh PROGRAM     takes a built one, such as crates/ocpp_board/out/ocpp_board
 set -u
 program=${1:+$(realpath "$1")}
 cd "$(dirname "$0")" || exit
 made=$(mktemp -d) || exit
 trap 'rm -r "$made"' EXIT
-status=0
+different=0
 
-# same NAME..: the file of this name that was made is the stored one.
-same() {
-    for name in "$@"; do
-        if diff "$name" "$made/$name"; then
-            echo "$name: as stored"
-        else
-            echo "$name: differs"
-            status=1
-        fi
-    done
+# differs NAME: tells that it is not as stored.
+differs() {
+    echo "$1: differs"
+    different=$((different + 1))
 }
 
 # made_by COMMAND..: runs it; what it tells on standard error is shown where it fails.
 made_by() {
-    "$@" 2> "$made/told" || { cat "$made/told" >&2; status=1; }
+    "$@" 2> "$made/told" || { cat "$made/told" >&2; differs "$1"; }
+}
+
+# as_stored NAME FILE: FILE is the stored text NAME.
+as_stored() {
+    diff --label stored --label made -u "$1" "$2" && echo "$1: as stored" || differs "$1"
+}
+
+# gives STATUS NAME COMMAND..: the command ends with this status, writes the stored text NAME, where there is one, and
+# tells NAME.told, where there is one; else what it tells is shown where its status is another.
+gives() {
+    local status=$1 name=$2
+    shift 2
+    "$@" > "$made/given" 2> "$made/told"
+    local ended=$?
+    [ ! -e "$name" ] || as_stored "$name" "$made/given"
+    [ ! -e "$name.told" ] || as_stored "$name.told" "$made/told"
+    [ $ended = "$status" ] || { cat "$made/told"; differs "the status of $*: $ended, not $status,"; }
+}
+
+# tells STATUS LINE COMMAND..: the command ends with this status, and LINE stands in what it tells.
+tells() {
+    local status=$1 line=$2
+    shift 2
+    "$@" > "$made/given" 2> "$made/told"
+    local ended=$?
+    if [ $ended = "$status" ] && grep -qF -- "$line" "$made/told"; then
+        echo "told: $line"
+    else
+        cat "$made/told"
+        differs "what $* tells (status $ended, not $status with '$line')"
+    fi
+}
+
+# holds LIST: each line of LIST, a file that was made, a tab and a text, tells a text that stands in that file.
+holds() {
+    while IFS=$'\t' read -r name text; do
+        grep -qF -- "$text" "$made/$name" || differs "$1, where $name has no '$text',"
+    done < "$1"
+    echo "$1: $(wc -l < "$1") texts looked for"
 }
 
 # The logs become scripts. That of the first day has other fields, and its messages are JSON.
-made_by ./log_to_script.py day.jsonl --site-field location --station-field chargePoint --time-field at \
-    --message-field frame --json-message --direction-field from --incoming station > "$made/day.jsonl.script"
-made_by ./log_to_script.py site_day.jsonl > "$made/site_day.jsonl.script"
-same day.jsonl.script site_day.jsonl.script
+day_of_log=(./log_to_script.py --site-field location --station-field chargePoint --time-field at --message-field frame
+    --json-message --direction-field from --incoming station)
+gives 0 day.jsonl.script "${day_of_log[@]}" day.jsonl
+gives 0 site_day.jsonl.script ./log_to_script.py site_day.jsonl
+gives 0 forms/ocpp.script ./log_to_script.py --form ocpp --site north --utc forms/ocpp.log
+gives 0 forms/maeve.script ./log_to_script.py --form maeve --stations forms/stations.txt --no-boards forms/maeve.mqtt
+citrineos=(--site north --site-map forms/sites.txt --limits 100 1000 2000 1000000)
+gives 0 forms/citrineos.script ./log_to_script.py --form citrineos "${citrineos[@]}" forms/citrineos.jsonl
+gives 0 forms/citrineos.script ./log_to_script.py --form citrineos-csv "${citrineos[@]}" forms/citrineos.csv
 
-# The scripts, those by hand and those of the logs, become replies and boards.
+# Logs that were compressed, one of which is cut short, and words and lines that can't be taken.
+gzip -c day.jsonl > "$made/day.jsonl.gz"
+gives 0 day.jsonl.script "${day_of_log[@]}" "$made/day.jsonl.gz"
+head -c -100 "$made/day.jsonl.gz" > "$made/cut.gz"
+tells 1 "the gzip is cut short" "${day_of_log[@]}" "$made/cut.gz"
+gives 1 forms/mistakes.script ./log_to_script.py forms/mistakes.jsonl
+tells 1 "a time has no offset from UTC (--utc takes such times as UTC)" \
+    ./log_to_script.py --form ocpp --site north forms/ocpp.log
+tells 1 "neither this line nor one before it is of the form ocpp" ./log_to_script.py --form ocpp --site n day.jsonl
+tells 1 "not a topic cs/in/ocpp2.0.1/STATION" ./log_to_script.py --form maeve --site north forms/ocpp.log
+tells 2 "line 1 names no column message, origin, stationId, timestamp" \
+    ./log_to_script.py --form citrineos-csv --site north forms/ocpp.log
+tells 2 "has no sites: --site, --site-map or --stations names them" ./log_to_script.py --form ocpp forms/ocpp.log
+tells 2 "forms/ocpp.log line 2: not two names" ./log_to_script.py --stations forms/ocpp.log day.jsonl
+tells 2 "No such file or directory" ./log_to_script.py nowhere.jsonl
+tells 2 "No space left on device" bash -c './log_to_script.py site_day.jsonl > /dev/full'
+tells 2 "No space left on device" bash -c './log_to_script.py --form maeve --stations forms/stations.txt forms/maeve.mqtt > /dev/full'
+
+# With --stations a line goes out before the next is there.
+coproc ./log_to_script.py --form maeve --stations forms/stations.txt 2> /dev/null
+if read -r -t 20 -u "${COPROC[0]}" first && read -r -t 20 -u "${COPROC[0]}" second &&
+    echo 'cs/in/ocpp2.0.1/CS-02 {"type":"call","action":"Heartbeat","id":"h1","request":{}}' >&"${COPROC[1]}" &&
+    read -r -t 20 -u "${COPROC[0]}" third && [ "$third" = 'msg CS-02 [2,"h1","Heartbeat",{}]' ]; then
+    echo "a line of a log that grows: at once"
+else
+    differs "a line of a log that grows"
+fi
+exec {COPROC[1]}>&-
+wait "$COPROC_PID"
+
+# The rows, and the scripts of days, those by hand and those of the logs, become replies and boards.
 mkdir "$made/cases"
+made_by ./rows.py "$made/cases" rows/*.rows
 for script in *.script; do
-    day=${script%.script}
-    if [ -n "$program" ]; then
-        made_by "$program" replay < "$script" > "$made/$day.expected"
-        same "$day.expected"
-    else
-        cp "$script" "$made/cases/$day"
-        cp "$day.expected" "$made/cases/$day.stdout"
-    fi
+    cp "$script" "$made/cases/${script%.script}"
+    cp "${script%.script}.expected" "$made/cases/${script%.script}.stdout"
 done
-if [ -z "$program" ]; then
-    (cd ../crates/ocpp_board && rt try --cases "$made/cases" -- replay) || status=1
+if [ -n "$program" ]; then
+    for text in "$made"/cases/*.stdout; do
+        "$program" replay < "${text%.stdout}" 2>&1 | diff --label stored --label written -u "$text" - || differs "$(basename "$text" .stdout)"
+    done
+    echo "scripts: $(ls "$made"/cases/*.stdout | wc -l) compared"
+    ./words.py "$program" words.txt || differs words.txt
+else
+    (cd ../crates/ocpp_board && rt try --steps 1 --seconds 300 --cases "$made/cases" -- replay) > "$made/tried" ||
+        differs "scripts"
+    grep -v ' output=expected ' "$made/tried"
+    echo "words.txt: not run, which needs a built program"
 fi
 
-# The boards become tables and a page.
+# The boards become tables and pages, in UTC and in a zone whose days have 23 and 25 hours.
 for day in day site_day; do
     made_by ./board_to_tables.py --out "$made/$day" "$day.expected"
-    same "$day.quarters.csv" "$day.transactions.csv" "$day.html"
+    for name in "$day".*.csv "$day.html" "$day".*.html; do
+        as_stored "$name" "$made/$name"
+    done
 done
-exit $status
+made_by ./board_to_tables.py --tz Europe/Berlin --from 2026-03-29 --to 2026-10-25 --out "$made/berlin" tables/berlin.text
+made_by ./board_to_tables.py --out "$made/states" tables/states.text
+for name in berlin.quarters berlin.transactions states.transactions; do
+    as_stored "tables/$name.csv" "$made/$name.csv"
+done
+holds tables/berlin.said
+gives 1 tables/broken ./board_to_tables.py --out "$made/broken" tables/broken.text
+tells 1 "the text ends, and no board began in it" ./board_to_tables.py --out "$made/noise" "$made/day.jsonl.gz"
+tells 2 "No such file or directory" ./board_to_tables.py --out "$made/nowhere/x" day.expected
+tells 2 "no time zone of this system: 'Mars'" ./board_to_tables.py --tz Mars --out "$made/x" day.expected
+tells 2 "--from is after --to" ./board_to_tables.py --from 2026-03-02 --to 2026-03-01 --out "$made/x" day.expected
+tells 2 "File too large" bash -c 'ulimit -f 8; ./board_to_tables.py --out "$1" day.expected' _ "$made/full"
+echo "different: $different"
+[ $different = 0 ]
