@@ -10,7 +10,7 @@ mod arguments;
 mod cli;
 mod station_words;
 
-use crate::cli::{STOPPED, run_command_line, tell_fault};
+use crate::cli::{STOPPED, run_command_line, tell_bytes, tell_fault};
 use script_replay::ReplayFault;
 use std::io::{BufRead, BufReader, BufWriter, Write};
 use std::net::{Net, TcpListener, TcpStream};
@@ -62,6 +62,7 @@ fn run<
 >(rt: &X, reader: &mut R, writer: &mut BufWriter<W>, errors: &mut E, lines: L) -> u8 {
     match program_words(rt) {
         Ok(words) => run_command_line(rt, words.as_slice(), reader, writer, errors, lines),
+        Err(error) if error.kind() == io::ErrorKind::InvalidData => tell_bytes(errors),
         Err(_) => tell_fault(errors, ReplayFault::OutOfMemory, STOPPED),
     }
 }

@@ -39,7 +39,7 @@ impl Draft {
         Draft {
             plan: Plan::new(),
             limits: Limits::default(),
-            moment: Moment::new(946_684_800_000_000_000).unwrap(),
+            moment: Moment::first(),
         }
     }
 

@@ -1,5 +1,6 @@
 ghost use Rattle.std.specs.Prelude.{◌≡◌, ◌≤◌, ◌<◌, ◌*◌, IfSome, ◌++◌, ◌∷◌, [], false, None, map, sum_by, length, nat_le, nat_lt};
 ghost use Rattle.std.specs.List.{list_all, list_any, position};
+ghost use Rattle.std.specs.Option.{is_some};
 ghost use Rattle.std.specs.Str.{bytes_eq};
 ghost use Rattle.ledger_model.specs.Ranges.{most_sites};
 ghost use Rattle.site_desk.specs.Plan.{blank_name, has_twice, is_past, is_within_limits, most_viewers, plan_fault, site_number, sites_with};
@@ -110,6 +111,13 @@ impl Plan {
         }
     }
 
+    /// The first of the plan's stations whose name stands again behind it.
+    pub fn station_twice(&self) -> Option<&Name>
+        ensures { is_some result ≡ has_twice (map (λ s. s.name) self.now.stations.items) }
+    {
+        first_twice(self.stations.as_slice())
+    }
+
     /// What is wrong with the plan, if anything is: it leaves the limits, or two stations have one name.
     pub fn fault(&self) -> Option<DeskFault>
         ensures { result ≡ plan_fault self.now.sites.items self.now.stations.items }
@@ -118,7 +126,7 @@ impl Plan {
         let stations = self.stations.as_slice();
         if !is_within_limits(sites, stations) {
             Some(DeskFault::PlanLimit)
-        } else if are_stations_twice(stations) {
+        } else if self.station_twice().is_some() {
             Some(DeskFault::StationTwice)
         } else {
             None
@@ -231,14 +239,14 @@ fn are_sites_twice(sites: &[SitePlan]) -> bool
     false
 }
 
-// Tells whether two stations have one name.
-fn are_stations_twice(stations: &[StationPlan]) -> bool
-    ensures { result ≡ has_twice (map (λ s. s.name) stations.now) }
+// The name of the first station that has the name of one behind it.
+fn first_twice(stations: &[StationPlan]) -> Option<&Name>
+    ensures { is_some result ≡ has_twice (map (λ s. s.name) stations.now) }
 {
     for k in 0..stations.len() {
         if has_station(&stations[k + 1..], &stations[k].name) {
-            return true;
+            return Some(&stations[k].name);
         }
     }
-    false
+    None
 }

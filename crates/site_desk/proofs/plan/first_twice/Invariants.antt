@@ -1,6 +1,6 @@
 use Rattle.std.proofs.Common.{◌≡◌, drop, map}
 use Rattle.site_desk.specs.Plan.{has_twice}
-use Rattle.site_desk.proofs.plan.are_stations_twice.Given as goal
+use Rattle.site_desk.proofs.plan.first_twice.Given as goal
 
 -- names that stand twice do so among those that are left
 abbrev pub invariant-loop-k : goal.invariant-loop-k

@@ -1,6 +1,6 @@
 use Rattle.std.proofs.Common.{sym, ◌∙◌, arith}
 use Rattle.site_desk.proofs.Twice.{twice_here, twice_later}
-use Rattle.site_desk.proofs.plan.are_stations_twice.Goals as goal
+use Rattle.site_desk.proofs.plan.first_twice.Goals as goal
 
 pub returns-then-has_station : goal.returns-then-has_station
 returns-then-has_station c =
