@@ -8,12 +8,12 @@ mod texts;
 ghost use Rattle.std.specs.Prelude.{ℕ, ◌<◌, length};
 ghost use Rattle.site_book.specs.Tables.{HasTable, NamedBy};
 
-use crate::{MomentSource, SessionEnd, Why, serve_connection};
-use arrayvec::ArrayVec;
-use ledger_model::{Limits, Moment, Name};
-use memory::{Memory, Peer};
+use desk_fixtures::{opened, plan_of};
+use ledger_model::Moment;
+use memory::{Frames, Memory, Peer, TEXT};
 use site_book::{Naming, Tables};
-use site_desk::{Desk, Gate, Pass, Plan, SitePlan, StationPlan};
+use site_desk::{Desk, Gate, Pass, Plan};
+use station_link::{MomentSource, SessionEnd, Why, serve_connection};
 use std::alloc::{AllocError, Global};
 use std::cell::RefCell;
 use std::marker::Brand;
@@ -52,47 +52,23 @@ impl MomentSource for TenOClock {
 
 // What is played on a desk with stations A and B of one site, under the naming that its types carry.
 trait Scene {
-    fn play<J: Naming, R: Abort + Threads + Wait + Clock>(
+    fn play<J: Naming + Send + Sync, R: Abort + Threads + Wait + Clock + Sync>(
         rt: &R,
         alloc: Global,
         desk: Desk<J>,
     ) -> Result<(), Fail>;
 }
 
-fn station(text: &str) -> Result<StationPlan, Fail> {
-    Ok(StationPlan {
-        site: 0,
-        name: Name::new(text).ok_or("no name")?,
-        limits: Limits::default(),
-    })
-}
-
-fn plan() -> Result<Plan, Fail> {
-    let mut plan = Plan {
-        sites: ArrayVec::new(),
-        stations: ArrayVec::new(),
-    };
-    let site = SitePlan {
-        name: Name::new("north").ok_or("no name")?,
-        viewers: 0,
-    };
-    plan.sites.try_push(site).ok().ok_or("too many sites")?;
-    for text in ["A", "B"] {
-        plan.stations
-            .try_push(station(text)?)
-            .ok()
-            .ok_or("too many stations")?;
-    }
-    Ok(plan)
-}
-
-fn play<P: Scene, R: Abort + Threads + Wait + Clock>(rt: &R, alloc: Global) -> Result<(), Fail> {
-    let plan = plan()?;
+fn play<P: Scene, R: Abort + Threads + Wait + Clock + Sync>(
+    rt: &R,
+    alloc: Global,
+) -> Result<(), Fail> {
+    let plan = plan_of(&["north"], &[(0, "A"), (0, "B")], 0).ok_or("no plan")?;
     let tables = Tables::make(alloc, plan.sites.len() as u16)?;
     play_on::<P, Brand, R>(rt, alloc, tables, &plan)
 }
 
-fn play_on<P: Scene, J: Naming, R: Abort + Threads + Wait + Clock>(
+fn play_on<P: Scene, J: Naming + Send + Sync, R: Abort + Threads + Wait + Clock + Sync>(
     rt: &R,
     alloc: Global,
     tables: Tables,
@@ -101,15 +77,8 @@ fn play_on<P: Scene, J: Naming, R: Abort + Threads + Wait + Clock>(
     requires named { NamedBy J.table tables }
     requires there { (site : ℕ) → site < length plan.now.sites.items → HasTable tables site }
 {
-    P::play(rt, alloc, open::<J>(alloc, tables, plan)?)
-}
-
-fn open<J: Naming>(alloc: Global, tables: Tables, plan: &Plan) -> Result<Desk<J>, Fail>
-    requires named { NamedBy J.table tables }
-    requires there { (site : ℕ) → site < length plan.now.sites.items → HasTable tables site }
-{
-    let (desk, _viewers) = Desk::<J>::open(alloc, tables, plan).ok().ok_or("no desk")?;
-    Ok(desk)
+    let (desk, _viewers) = opened::<J>(alloc, tables, plan).ok_or("no desk")?;
+    P::play(rt, alloc, desk)
 }
 
 // A session that was served: how it ended, and what the server wrote.
@@ -124,6 +93,16 @@ impl Served {
     // How many changes its pass made.
     fn changes(&self) -> Option<u64> {
         Some(self.pass.as_ref()?.changes())
+    }
+
+    // Tells whether it ended so, after so many changes, and these frames were answered.
+    fn is(&self, why: Why, changes: u64, frames: &[u8]) -> bool {
+        self.why == why && self.changes() == Some(changes) && self.frames() == frames
+    }
+
+    // Tells whether it ended so without a pass.
+    fn lacks_pass(&self, why: Why) -> bool {
+        self.why == why && self.pass.is_none()
     }
 
     // Tells whether the answer to the handshake takes up the subprotocol.
@@ -146,6 +125,29 @@ impl Served {
     }
 }
 
+// The session of this request, in which the peer sends these frames and takes all that is written.
+fn serve_frames<J: Naming, R: Threads + Wait + Clock, G: Gate>(
+    rt: &R,
+    alloc: Global,
+    desk: &Desk<J>,
+    gate: &G,
+    request: (&str, &str),
+    frames: &[u8],
+) -> Result<Served, AllocError> {
+    let head = head(alloc, request.0, request.1)?;
+    let peer = Peer::of(head.as_str().as_bytes(), frames);
+    Ok(serve(rt, alloc, desk, gate, peer))
+}
+
+// Text messages of a client, or of a server.
+fn text_frames(alloc: Global, of_client: bool, texts: &[&str]) -> Result<Frames, AllocError> {
+    let mut frames = Frames::of(alloc, of_client);
+    for text in texts {
+        frames.add(TEXT, text.as_bytes())?;
+    }
+    Ok(frames)
+}
+
 fn serve<J: Naming, R: Threads + Wait + Clock, G: Gate>(
     rt: &R,
     alloc: Global,
@@ -161,6 +163,15 @@ fn serve<J: Naming, R: Threads + Wait + Clock, G: Gate>(
         pass,
         written: written.into_inner(),
     }
+}
+
+// The passes of these sessions.
+fn passes_of(alloc: Global, served: Vec<Served>) -> Option<Vec<Pass>> {
+    let mut passes = Vec::new(alloc);
+    for session in served {
+        passes.push(session.pass?).ok()?;
+    }
+    Some(passes)
 }
 
 // How many changes A and B made when the desk is closed with these passes.

@@ -117,18 +117,19 @@ pub(super) struct Frames {
 }
 
 impl Frames {
-    pub(super) fn of_client(alloc: Global) -> Self {
+    pub(super) fn of(alloc: Global, is_client: bool) -> Self {
         Frames {
             bytes: Vec::new(alloc),
-            is_client: true,
+            is_client,
         }
     }
 
+    pub(super) fn of_client(alloc: Global) -> Self {
+        Frames::of(alloc, true)
+    }
+
     pub(super) fn of_server(alloc: Global) -> Self {
-        Frames {
-            bytes: Vec::new(alloc),
-            is_client: false,
-        }
+        Frames::of(alloc, false)
     }
 
     pub(super) fn bytes(&self) -> &[u8] {
@@ -137,22 +138,28 @@ impl Frames {
 
     // One frame more.
     pub(super) fn add(&mut self, first: u8, payload: &[u8]) -> Result<(), AllocError> {
+        self.bytes.push(first)?;
+        self.add_length(payload.len())?;
+        if self.is_client {
+            self.bytes.extend_from_slice(&[0; 4])?;
+        }
+        self.bytes.extend_from_slice(payload)
+    }
+
+    // The length of a frame's payload, with the bit that tells whether it is masked.
+    fn add_length(&mut self, length: usize) -> Result<(), AllocError> {
         let mask = if self.is_client { 0x80 } else { 0 };
         let bytes = &mut self.bytes;
-        bytes.push(first)?;
-        if payload.len() < 126 {
-            bytes.push(mask | payload.len() as u8)?;
-        } else if payload.len() < 1 << 16 {
+        if length < 126 {
+            bytes.push(mask | length as u8)?;
+            Ok(())
+        } else if length < 1 << 16 {
             bytes.push(mask | 126)?;
-            bytes.extend_from_slice(&(payload.len() as u16).to_be_bytes())?;
+            bytes.extend_from_slice(&(length as u16).to_be_bytes())
         } else {
             bytes.push(mask | 127)?;
-            bytes.extend_from_slice(&(payload.len() as u64).to_be_bytes())?;
+            bytes.extend_from_slice(&(length as u64).to_be_bytes())
         }
-        if self.is_client {
-            bytes.extend_from_slice(&[0; 4])?;
-        }
-        bytes.extend_from_slice(payload)
     }
 
     // A close frame with a code.

@@ -1,10 +1,10 @@
 use super::memory::{CLOSE, Frames, Memory, PING, PONG, Peer, TEXT};
-use super::{Scene, play};
-use crate::{Answered, SimFault, SimStation, answer_text};
-use ledger_model::{Moment, Name};
+use super::{Scene, TenOClock, play, text_frames};
+use ledger_model::Name;
 use site_book::Naming;
-use site_desk::{Desk, NoGate};
-use std::alloc::Global;
+use site_desk::{Desk, NoGate, Pass};
+use station_link::{MomentSource, SimFault, SimStation, answer_text};
+use std::alloc::{AllocError, Global};
 use std::cell::RefCell;
 use std::io;
 use std::process::Abort;
@@ -29,34 +29,68 @@ const REPLIES: [&str; 4] = [
     "[3,\"4\",{}]",
 ];
 
-// Texts that are answered one by one: the last one repeats the first.
+// Tells whether these are such strings.
+fn are(strings: &[String], expected: &[&str]) -> bool {
+    let mut pairs = strings.iter().zip(expected);
+    strings.len() == expected.len() && pairs.all(|(text, expected)| text.as_str() == *expected)
+}
+
+// Tells whether a text of the pass has this reply, and is told to the site's viewers or not.
+fn is_answered<J: Naming, R: Wait + Clock>(
+    rt: &R,
+    alloc: Global,
+    desk: &Desk<J>,
+    pass: &mut Pass,
+    (text, reply): (&str, &str),
+    is_told: bool,
+) -> Option<bool> {
+    let now = TenOClock.now()?;
+    let answered = answer_text(desk, rt, alloc, pass, text, now, &NoGate);
+    let is_reply = answered.text?.as_str() == reply;
+    Some(is_reply && answered.told.is_some() == is_told && !answered.memory)
+}
+
+// How many changes the station's texts make when they are answered one by one: the last one repeats the
+// first, and alone is told to nobody.
+fn changes_of_texts<J: Naming, R: Threads + Wait + Clock>(
+    rt: &R,
+    alloc: Global,
+    desk: &Desk<J>,
+    name: &Name,
+) -> Option<u64> {
+    let mut pass = desk.enlist(rt, name).ok()?;
+    for number in 0..TEXTS.len() {
+        let asked = (TEXTS[number], REPLIES[number]);
+        if !is_answered(rt, alloc, desk, &mut pass, asked, number != 3)? {
+            return None;
+        }
+    }
+    Some(pass.changes())
+}
+
+// The events, complete transactions and energy of a station.
+fn shown<J: Naming, R: Wait>(
+    rt: &R,
+    alloc: Global,
+    desk: &Desk<J>,
+    name: &Name,
+) -> Option<(u64, u64, u64)> {
+    let figures = desk.station_board(rt, alloc, name).ok()?.figures();
+    Some((figures.events, figures.complete, figures.up))
+}
+
 struct EachText;
 
 impl Scene for EachText {
-    fn play<J: Naming, R: Abort + Threads + Wait + Clock>(
+    fn play<J: Naming + Send + Sync, R: Abort + Threads + Wait + Clock + Sync>(
         rt: &R,
         alloc: Global,
         desk: Desk<J>,
     ) -> Result<(), Fail> {
-        let texts = SimStation::new(7, 3).texts(alloc)?;
-        assert_eq!(rt; texts.len(), 4);
         let name = Name::new("A").ok_or("no name")?;
-        let mut pass = desk.enlist(rt, &name).ok().ok_or("no pass")?;
-        let now = Moment::new(1_772_359_200_000_000_000).ok_or("no moment")?;
-        for ((text, expected), reply) in texts.iter().zip(TEXTS).zip(REPLIES) {
-            assert_eq!(rt; text.as_str(), expected);
-            let answered = answer_text(&desk, rt, alloc, &mut pass, text.as_str(), now, &NoGate);
-            assert!(rt; answered.text.is_some_and(|text| text.as_str() == reply));
-            assert_eq!(rt; answered.told.is_some(), reply != REPLIES[3]);
-            assert!(rt; !answered.memory);
-        }
-        assert_eq!(rt; pass.changes(), 3);
-        let board = desk.station_board(rt, alloc, &name).ok().ok_or("no board")?;
-        let figures = board.figures();
-        assert_eq!(rt;
-            (figures.events, figures.complete, figures.up),
-            (3, 1, 200_000)
-        );
+        assert!(rt; are(&SimStation::new(7, 3).texts(alloc)?, &TEXTS));
+        assert!(rt; changes_of_texts(rt, alloc, &desk, &name) == Some(3));
+        assert!(rt; shown(rt, alloc, &desk, &name) == Some((3, 1, 200_000)));
         Ok(())
     }
 }
@@ -87,54 +121,61 @@ fn run(alloc: Global, peer: Peer<'_>) -> (Result<Vec<String>, SimFault>, Vec<u8>
     (replies, written.into_inner())
 }
 
+// A ping, and the replies.
+fn answers(alloc: Global) -> Result<Frames, AllocError> {
+    let mut frames = Frames::of_server(alloc);
+    frames.add(PING, b"")?;
+    for reply in REPLIES {
+        frames.add(TEXT, reply.as_bytes())?;
+    }
+    Ok(frames)
+}
+
+// What the station sends then: the pong goes behind its first text, and a close behind the last.
+fn sent(alloc: Global) -> Result<Frames, AllocError> {
+    let mut frames = Frames::of_client(alloc);
+    for text in TEXTS {
+        frames.add(TEXT, text.as_bytes())?;
+        if text == TEXTS[0] {
+            frames.add(PONG, b"")?;
+        }
+    }
+    frames.add(CLOSE, b"")?;
+    Ok(frames)
+}
+
 #[test]
 fn simulated_station(rt: HostRuntime) -> Result<(), Fail> {
-    let alloc = rt.alloc();
-    let mut answers = Frames::of_server(alloc);
-    answers.add(PING, b"")?;
-    for reply in REPLIES {
-        answers.add(TEXT, reply.as_bytes())?;
-    }
-    let peer = Peer::of(ANSWER, answers.bytes());
-    let (replies, written) = run(alloc, peer);
-    let replies = replies.ok().ok_or("no replies")?;
-    assert_eq!(rt; replies.len(), 4);
-    for (reply, expected) in replies.iter().zip(REPLIES) {
-        assert_eq!(rt; reply.as_str(), expected);
-    }
-    let mut sent = Frames::of_client(alloc);
-    sent.add(TEXT, TEXTS[0].as_bytes())?;
-    sent.add(PONG, b"")?;
-    for text in &TEXTS[1..] {
-        sent.add(TEXT, text.as_bytes())?;
-    }
-    sent.add(CLOSE, b"")?;
-    let written = written.as_slice();
-    assert!(rt; written.starts_with(b"GET /ocpp/CS-7 HTTP/1.1\r\n"));
-    assert!(rt; written.ends_with(sent.bytes()));
+    let answers = answers(rt.alloc())?;
+    let (replies, written) = run(rt.alloc(), Peer::of(ANSWER, answers.bytes()));
+    assert!(rt; are(&replies.ok().ok_or("no replies")?, &REPLIES));
+    assert!(rt;
+        written
+            .as_slice()
+            .starts_with(b"GET /ocpp/CS-7 HTTP/1.1\r\n")
+    );
+    assert!(rt; written.as_slice().ends_with(sent(rt.alloc())?.bytes()));
     Ok(())
+}
+
+// Why the station has not all its replies.
+fn fault(alloc: Global, peer: Peer<'_>) -> Option<SimFault> {
+    run(alloc, peer).0.err()
 }
 
 #[test]
 fn simulated_station_gives_up(rt: HostRuntime) -> Result<(), Fail> {
     let alloc = rt.alloc();
-    let mut answers = Frames::of_server(alloc);
-    answers.add(TEXT, REPLIES[0].as_bytes())?;
+    let answers = text_frames(alloc, false, &[REPLIES[0]])?;
     let peer = Peer::of(ANSWER, answers.bytes());
-    assert!(rt; run(alloc, Peer { given: 20, ..peer }).0.err() == Some(SimFault::HandshakeFailed));
-    assert!(rt;
-        run(
-            alloc,
-            Peer {
-                fails: true,
-                ..peer
-            }
-        )
-        .0
-        .err()
-            == Some(SimFault::ReadFault)
-    );
-    assert!(rt; run(alloc, peer).0.err() == Some(SimFault::ReadFault));
-    assert!(rt; run(alloc, Peer { writes: 2, ..peer }).0.err() == Some(SimFault::WriteFault));
+    let cut = Peer { given: 20, ..peer };
+    let fails = Peer {
+        fails: true,
+        ..peer
+    };
+    assert!(rt; fault(alloc, cut) == Some(SimFault::HandshakeFailed));
+    assert!(rt; fault(alloc, fails) == Some(SimFault::ReadFault));
+    assert!(rt; fault(alloc, peer) == Some(SimFault::ReadFault));
+    assert!(rt; fault(alloc, Peer { writes: 2, ..peer }) == Some(SimFault::WriteFault));
     Ok(())
 }

@@ -1,10 +1,10 @@
-use super::memory::{Frames, GOES_ON, GOES_ON_LAST, PING, PONG, Peer, TEXT, TEXT_BEGINS};
-use super::{FIRST, OFFER, SECOND, Scene, head, play, serve};
-use crate::Why;
+use super::memory::{Frames, GOES_ON, GOES_ON_LAST, PING, PONG, TEXT, TEXT_BEGINS};
+use super::{FIRST, OFFER, SECOND, Scene, Served, play, serve_frames};
 use ledger_model::Name;
 use site_book::Naming;
 use site_desk::{Desk, Gate, NoGate};
-use std::alloc::Global;
+use station_link::Why;
+use std::alloc::{AllocError, Global};
 use std::process::Abort;
 use std::sync::{Mutex, Wait};
 use std::test::Fail;
@@ -34,46 +34,66 @@ impl Gate for Counts {
     }
 }
 
+// These frames, and a close.
+fn closed_frames(
+    alloc: Global,
+    is_client: bool,
+    messages: &[(u8, &str)],
+) -> Result<Frames, AllocError> {
+    let mut frames = Frames::of(alloc, is_client);
+    for (first, payload) in messages {
+        frames.add(*first, payload.as_bytes())?;
+    }
+    frames.close(1000)?;
+    Ok(frames)
+}
+
 // Events, a heartbeat and an answer of the station; between them a ping and a pong.
+const SENT: [(u8, &str); 6] = [
+    (TEXT, FIRST),
+    (PING, "hi"),
+    (TEXT, SECOND),
+    (PONG, ""),
+    (TEXT, "[3,\"x\",{}]"),
+    (TEXT, "[2,\"h\",\"Heartbeat\",{}]"),
+];
+
+// Each text and the ping is answered.
+const ANSWERED: [(u8, &str); 4] = [
+    (TEXT, "[3,\"1\",{}]"),
+    (PONG, "hi"),
+    (TEXT, "[3,\"2\",{}]"),
+    (TEXT, "[3,\"h\",{\"currentTime\":\"2026-03-01T10:00:00Z\"}]"),
+];
+
+// The session of these messages, under a gate.
+fn each_kind<J: Naming, R: Threads + Wait + Clock>(
+    rt: &R,
+    alloc: Global,
+    desk: &Desk<J>,
+    gate: &Counts,
+) -> Result<Served, AllocError> {
+    let sent = closed_frames(alloc, true, &SENT)?;
+    serve_frames(rt, alloc, desk, gate, ("/ocpp/A", OFFER), sent.bytes())
+}
+
 struct EachKind;
 
 impl Scene for EachKind {
-    fn play<J: Naming, R: Abort + Threads + Wait + Clock>(
+    fn play<J: Naming + Send + Sync, R: Abort + Threads + Wait + Clock + Sync>(
         rt: &R,
         alloc: Global,
         desk: Desk<J>,
     ) -> Result<(), Fail> {
-        let mut sent = Frames::of_client(alloc);
-        sent.add(TEXT, FIRST.as_bytes())?;
-        sent.add(PING, b"hi")?;
-        sent.add(TEXT, SECOND.as_bytes())?;
-        sent.add(PONG, b"")?;
-        sent.add(TEXT, b"[3,\"x\",{}]")?;
-        sent.add(TEXT, b"[2,\"h\",\"Heartbeat\",{}]")?;
-        sent.close(1000)?;
-        let mut answers = Frames::of_server(alloc);
-        answers.add(TEXT, b"[3,\"1\",{}]")?;
-        answers.add(PONG, b"hi")?;
-        answers.add(TEXT, b"[3,\"2\",{}]")?;
-        answers.add(
-            TEXT,
-            b"[3,\"h\",{\"currentTime\":\"2026-03-01T10:00:00Z\"}]",
-        )?;
-        answers.close(1000)?;
         let gate = Counts {
             held: Mutex::new(0),
             calls: Mutex::new(0),
         };
-        let head = head(alloc, "/ocpp/A", OFFER)?;
-        let peer = Peer::of(head.as_str().as_bytes(), sent.bytes());
-        let served = serve(rt, alloc, &desk, &gate, peer);
-        assert_eq!(rt; (served.why, served.changes()), (Why::PeerClosed, Some(2)));
-        assert!(rt;
-            served.frames() == answers.bytes(),
-            "each text and the ping is answered"
-        );
+        let served = each_kind(rt, alloc, &desk, &gate)?;
+        let answers = closed_frames(alloc, false, &ANSWERED)?;
+        assert!(rt; served.is(Why::PeerClosed, 2, answers.bytes()));
         assert!(rt; served.takes_up_subprotocol());
-        assert_eq!(rt; (*gate.held.lock(rt), *gate.calls.lock(rt)), (2, 4));
+        assert!(rt; (*gate.held.lock(rt), *gate.calls.lock(rt)) == (2, 4));
         Ok(())
     }
 }
@@ -87,45 +107,66 @@ const NOT_JSON: &[u8] = b"[4,\"-1\",\"RpcFrameworkError\",\"NotJson\",{}]";
 
 const TOO_LONG: &[u8] = b"[4,\"-1\",\"RpcFrameworkError\",\"TextTooLong\",{}]";
 
-// The longest text that is read, longer ones, the longest message and one byte more, whole and in fragments.
+// The longest text that is read, longer ones, the longest message and one byte more, each with its reply.
+const LENGTHS: [(usize, Option<&[u8]>); 4] = [
+    (262_144, Some(NOT_JSON)),
+    (262_145, Some(TOO_LONG)),
+    (524_288, Some(TOO_LONG)),
+    (524_289, None),
+];
+
+// A text, whole or in fragments.
+fn add_text(frames: &mut Frames, text: &[u8], is_whole: bool) -> Result<(), AllocError> {
+    if is_whole {
+        return frames.add(TEXT, text);
+    }
+    frames.add(TEXT_BEGINS, text.get(..100_000).unwrap_or(&[]))?;
+    frames.add(GOES_ON, text.get(100_000..200_000).unwrap_or(&[]))?;
+    frames.add(GOES_ON_LAST, text.get(200_000..).unwrap_or(&[]))
+}
+
+fn long_texts(alloc: Global, is_whole: bool) -> Result<Frames, AllocError> {
+    let letters = vec![in alloc; b'x'; 524_289]?;
+    let mut sent = Frames::of_client(alloc);
+    for (length, _reply) in LENGTHS {
+        add_text(&mut sent, letters.get(..length).unwrap_or(&[]), is_whole)?;
+    }
+    Ok(sent)
+}
+
+fn long_answers(alloc: Global) -> Result<Frames, AllocError> {
+    let mut answers = Frames::of_server(alloc);
+    for (_length, reply) in LENGTHS {
+        match reply {
+            Some(reply) => answers.add(TEXT, reply)?,
+            None => answers.close(1009)?,
+        }
+    }
+    Ok(answers)
+}
+
+// Tells whether these texts are answered, and the message that is too long ends the session.
+fn are_answered<J: Naming, R: Threads + Wait + Clock>(
+    rt: &R,
+    alloc: Global,
+    desk: &Desk<J>,
+    is_whole: bool,
+) -> Result<bool, AllocError> {
+    let sent = long_texts(alloc, is_whole)?;
+    let served = serve_frames(rt, alloc, desk, &NoGate, ("/ocpp/A", OFFER), sent.bytes())?;
+    Ok(served.is(Why::ReadFault, 0, long_answers(alloc)?.bytes()))
+}
+
 struct LongTexts;
 
 impl Scene for LongTexts {
-    fn play<J: Naming, R: Abort + Threads + Wait + Clock>(
+    fn play<J: Naming + Send + Sync, R: Abort + Threads + Wait + Clock + Sync>(
         rt: &R,
         alloc: Global,
         desk: Desk<J>,
     ) -> Result<(), Fail> {
-        let letters = vec![in alloc; b'x'; 524_289]?;
-        let head = head(alloc, "/ocpp/A", OFFER)?;
-        for is_whole in [true, false] {
-            let mut sent = Frames::of_client(alloc);
-            let mut answers = Frames::of_server(alloc);
-            for (length, reply) in [
-                (262_144, NOT_JSON),
-                (262_145, TOO_LONG),
-                (524_288, TOO_LONG),
-                (524_289, &[]),
-            ] {
-                let text = letters.get(..length).unwrap_or(&[]);
-                if is_whole {
-                    sent.add(TEXT, text)?;
-                } else {
-                    sent.add(TEXT_BEGINS, text.get(..100_000).unwrap_or(&[]))?;
-                    sent.add(GOES_ON, text.get(100_000..200_000).unwrap_or(&[]))?;
-                    sent.add(GOES_ON_LAST, text.get(200_000..).unwrap_or(&[]))?;
-                }
-                if reply.is_empty() {
-                    answers.close(1009)?;
-                } else {
-                    answers.add(TEXT, reply)?;
-                }
-            }
-            let peer = Peer::of(head.as_str().as_bytes(), sent.bytes());
-            let served = serve(rt, alloc, &desk, &NoGate, peer);
-            assert_eq!(rt; (served.why, served.changes()), (Why::ReadFault, Some(0)));
-            assert!(rt; served.frames() == answers.bytes());
-        }
+        assert!(rt; are_answered(rt, alloc, &desk, true)?, "whole");
+        assert!(rt; are_answered(rt, alloc, &desk, false)?, "in fragments");
         Ok(())
     }
 }
