@@ -13,7 +13,7 @@ use Rattle.site_desk.specs.Close.{Ended, IsClosable}
 use Rattle.site_desk.specs.Roster.{AreNewPlaces, Roster, StandsAt, new_place}
 use Rattle.desk_report.specs.Boards.{boards_at, site_named}
 use Rattle.desk_report.proofs.SiteBoards.{some_same}
-use Rattle.site_server.specs.Closed.{IsClosedOf}
+use Rattle.desk_report.specs.Closed.{IsClosedOf}
 
 pub figures_alike : (xs : List StationPlan) (cells : List Cell) (site : ℕ) → length cells ≡ length xs
     → ((k : ℕ) (s : StationPlan) (c : Cell) → slice_get xs k ≡ Some s → slice_get cells k ≡ Some c → c.site ≡ s.site)
@@ -49,15 +49,16 @@ value_told (Ok x) P Q f p = f x p
 value_told (Err e) P Q f p = p
 
 -- a desk that was closed is one of the stations that it was opened for
-pub closed_of : (xs : List StationPlan) (desk : Roster) (closed : Ended) (passes : List Held) (viewers : List Known) → AreNewPlaces xs desk.stations → length closed.cells ≡ length desk.stations
-    → IsClosable desk closed.cells closed.books passes viewers → IsClosedOf xs closed
-closed_of xs desk closed passes viewers new count whole =
+pub closed_of : (sites : ℕ) (xs : List StationPlan) (desk : Roster) (closed : Ended) (passes : List Held) (viewers : List Known) → desk.sites ≡ sites → AreNewPlaces xs desk.stations → length closed.cells ≡ length desk.stations
+    → length closed.books ≡ desk.sites → IsClosable desk.stations desk.viewers closed.cells closed.books passes viewers → IsClosedOf sites xs closed
+closed_of sites xs desk closed passes viewers planned new count books whole =
     let stands : (k : ℕ) (s : StationPlan) (c : Cell) → slice_get xs k ≡ Some s → slice_get closed.cells k ≡ Some c → StandsAt k (new_place xs k s) c
     = λ k s c at is.
     let placed = (whole.whole k c is).placed in
     subst (λ p. StandsAt k p c) (some_same placed.place (new_place xs k s) (sym placed.there ∙ new.each k s at)) placed.stands in
     record {
+      books = books ∙ planned;
       cells = record { count = count ∙ new.count; limits = λ k s c at is. (stands k s c at is).limits };
-      sites = λ k s c at is. (stands k s c at is).site;
+      at_sites = λ k s c at is. (stands k s c at is).site;
       summed = whole.summed;
     }

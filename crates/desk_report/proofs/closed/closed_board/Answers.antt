@@ -1,12 +1,12 @@
-use Rattle.std.proofs.Common.{[], ap, ◌∙◌, map, get_or}
+use Rattle.std.proofs.Common.{[], ap, ◌∙◌, map, get_or, arith}
 use Rattle.ledger_model.specs.Board.{sum_of_figures}
 use Rattle.board_report.specs.Texts.{board_text}
 use Rattle.site_desk.specs.declared.plan.SitePlan.{SitePlan}
 use Rattle.site_desk.specs.Close.{figures_at}
 use Rattle.desk_report.specs.Boards.{boards_at, site_named}
 use Rattle.desk_report.proofs.SiteBoards.{stands}
-use Rattle.site_server.proofs.ClosedSites.{figures_alike, name_at, named_alike, value_told}
-use Rattle.site_server.proofs.close.closed_board.Goals as goal
+use Rattle.desk_report.proofs.ClosedSites.{figures_alike, name_at, named_alike, value_told}
+use Rattle.desk_report.proofs.closed.closed_board.Goals as goal
 
 pub returns : goal.returns
 returns g c =
@@ -14,11 +14,11 @@ returns g c =
     let xs = c.args.plan.now.stations.items in
     let closed = c.args.closed.now in
     let site = c.args.site in
-    let book = stands closed.books site c.requires.there in
+    let book = stands closed.books site (omega (arith, c.requires.planned, c.requires.closed.books)) in
     let summed = c.requires.closed.summed site book.0 book.1 in
     let boards = boards_at xs closed.cells site in
     let totals = c.totals-totals.ensures book.0 book.1 ∙ summed.totals in
-    let sums = ap sum_of_figures (figures_alike xs closed.cells site c.requires.closed.cells.count c.requires.closed.sites) in
+    let sums = ap sum_of_figures (figures_alike xs closed.cells site c.requires.closed.cells.count c.requires.closed.at_sites) in
     let x = c.index-as_slice-number.result in
     let name = c.copied-name.ensures ∙ ap (λ l. (get_or l site x).name) c.as_slice.ensures.value ∙ name_at sites site x c.requires.planned in
     let stations = c.as_slice-2.ensures.value in
