@@ -57,6 +57,11 @@ past_plan d site o kept e =
     (sites_after (is_among site names) site names few ∙ ap (λ b. not b && nat_le most_sites (length names)) (among_found site d.sites o e)
     ∙ ap (λ n. not (is_some o) && nat_le most_sites n) (length-map d.sites (λ (s : SitePlan). s.name)))
 
+-- the same of declarations that are seen as these
+pub past_drafted : (v d : Drafted) (site : List ℕ) → v ≡ d → IsPlan v.sites v.stations
+    → is_past (position (λ s. bytes_eq site s.name) v.sites) v.sites v.stations v.limits ≡ is_past_plan (planned d) site
+past_drafted v d site is kept = sym (past_plan v site (position (λ s. bytes_eq site s.name) v.sites) kept refl) ∙ ap (λ x. is_past_plan (planned x) site) is
+
 -- ---- one site more
 
 site_kept : (sites : List SitePlan) (stations : List StationPlan) (name : List ℕ) → IsPlan sites stations → length sites < most_sites → position (λ s. bytes_eq name s.name) sites ≡ None
