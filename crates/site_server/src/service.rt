@@ -1,5 +1,5 @@
 //! A whole server, from its desk to its boards.
-ghost use Rattle.std.specs.Prelude.{◌≤◌, ◌<◌, ℕ, IfOk, OnOk, length, sum_by};
+ghost use Rattle.std.specs.Prelude.{◌≡◌, ◌≤◌, ◌<◌, ℕ, IfOk, OnOk, length, sum_by};
 ghost use Rattle.site_book.specs.Tables.{HasTable, NamedBy};
 ghost use Rattle.ledger_model.specs.Ranges.{most_plan_readings};
 ghost use Rattle.site_desk.specs.Roster.{AreNewPlaces};
@@ -110,6 +110,7 @@ pub(crate) fn open_desk<J: Naming>(
 ) -> Result<(Desk<J>, Vec<Viewer<J>>), ServiceFault>
     requires named { NamedBy J.table tables }
     requires there { (site : ℕ) → site < length plan.now.sites.items → HasTable tables site }
+    ensures sites { IfOk result (λ r. r.0.sites ≡ length plan.now.sites.items) }
     ensures opened { IfOk result (λ r. AreNewPlaces plan.now.stations.items r.0.stations) }
     ensures readings { OnOk result (sum_by (λ s. s.limits.readings) plan.now.stations.items ≤ most_plan_readings) }
 {

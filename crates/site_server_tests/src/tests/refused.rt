@@ -1,16 +1,10 @@
 // Connections that end before a session begins, and one that is cut.
-ghost use Rattle.std.specs.Prelude.{ℕ, ◌<◌, length};
-ghost use Rattle.site_book.specs.Tables.{HasTable, NamedBy};
-
-use super::client::{ask, connect, leave, open};
-use super::{FIRST, REPLY, changes_of, listen, plan};
-use crate::serve::serve_on;
-use crate::serve_many;
-use crate::service::open_desk;
-use site_book::{Naming, Tables};
-use site_desk::{NoGate, Plan};
+use super::client::{is_answered, leave, open};
+use super::{Scene, changes_of, listen, play};
+use site_book::{Naming, Viewer};
+use site_desk::{Desk, NoGate, Pass};
+use site_server::serve_many;
 use std::alloc::Global;
-use std::marker::Brand;
 use std::net::{Net, SocketAddr, TcpListener, TcpStream};
 use std::process::Abort;
 use std::random::RandomSource;
@@ -20,137 +14,95 @@ use std::thread;
 use std::thread::Threads;
 use std::time::Clock;
 
-// A stack for which no thread starts.
-const TOO_LARGE: usize = usize::MAX / 2;
+// An accept that fails at once, as often as there are connections.
+struct NoConnection;
 
-// Tells whether A is let in.
-fn is_let_in<R: RandomSource + Net<Listener = TcpListener, Stream = TcpStream>>(
-    rt: &R,
-    alloc: Global,
-    address: SocketAddr,
-) -> bool {
-    match connect(rt, address) {
-        Ok(stream) => open(rt, alloc, stream, "ws://127.0.0.1/ocpp/A").is_ok(),
-        Err(_) => false,
+impl Scene for NoConnection {
+    fn play<
+        J: Naming + Send + Sync,
+        R: Abort
+            + Threads
+            + Wait
+            + Clock
+            + RandomSource
+            + Sync
+            + Net<Listener = TcpListener, Stream = TcpStream>,
+    >(rt: &R, alloc: Global, desk: Desk<J>, viewers: Vec<Viewer<J>>) -> Result<(), Fail> {
+        let (listener, _address) = listen(rt)?;
+        listener.set_nonblocking(true)?;
+        let passes = serve_many(rt, alloc, &listener, 64, &desk, &NoGate)?;
+        assert!(rt; passes.is_empty() && desk.close(passes, viewers).is_ok());
+        Ok(())
     }
-}
-
-fn no_thread<
-    J: Naming + Send + Sync,
-    R: Abort
-        + Threads
-        + Wait
-        + Clock
-        + RandomSource
-        + Sync
-        + Net<Listener = TcpListener, Stream = TcpStream>,
->(rt: &R, alloc: Global, tables: Tables, plan: &Plan) -> Result<(), Fail>
-    requires named { NamedBy J.table tables }
-    requires there { (site : ℕ) → site < length plan.now.sites.items → HasTable tables site }
-{
-    let (desk, viewers) = open_desk::<J>(alloc, tables, plan).ok().ok_or("no desk")?;
-    let (listener, address) = listen(rt)?;
-    let (shared, socket) = (&desk, &listener);
-    let (passes, client) = thread::join(
-        rt,
-        move || serve_on(rt, alloc, socket, 1, shared, &NoGate, TOO_LARGE),
-        move || is_let_in(rt, alloc, address),
-    );
-    assert!(rt; !client, "the connection was dropped");
-    let passes = passes?;
-    assert_eq!(rt; passes.len(), 0);
-    assert!(rt; desk.close(passes, viewers).is_ok());
-    Ok(())
-}
-
-#[test]
-fn thread_that_cant_start_counts_as_ended(rt: HostRuntime) -> Result<(), Fail> {
-    let plan = plan()?;
-    let tables = Tables::make(rt.alloc(), plan.sites.len() as u16)?;
-    no_thread::<Brand, _>(&rt, rt.alloc(), tables, &plan)
-}
-
-fn no_connection<
-    J: Naming + Send + Sync,
-    R: Abort
-        + Threads
-        + Wait
-        + Clock
-        + RandomSource
-        + Sync
-        + Net<Listener = TcpListener, Stream = TcpStream>,
->(rt: &R, alloc: Global, tables: Tables, plan: &Plan) -> Result<(), Fail>
-    requires named { NamedBy J.table tables }
-    requires there { (site : ℕ) → site < length plan.now.sites.items → HasTable tables site }
-{
-    let (desk, viewers) = open_desk::<J>(alloc, tables, plan).ok().ok_or("no desk")?;
-    let (listener, _address) = listen(rt)?;
-    listener.set_nonblocking(true)?;
-    let passes = serve_many(rt, alloc, &listener, 64, &desk, &NoGate)?;
-    assert_eq!(rt; passes.len(), 0);
-    assert!(rt; desk.close(passes, viewers).is_ok());
-    Ok(())
 }
 
 #[test]
 fn accept_that_fails_counts_as_ended(rt: HostRuntime) -> Result<(), Fail> {
-    let plan = plan()?;
-    let tables = Tables::make(rt.alloc(), plan.sites.len() as u16)?;
-    no_connection::<Brand, _>(&rt, rt.alloc(), tables, &plan)
+    play::<NoConnection, _>(&rt, rt.alloc())
 }
 
-// A station that is cut off after its event was sent, and sends it again.
-fn send_twice<
-    R: Abort
-        + Threads
-        + Wait
-        + Clock
-        + RandomSource
-        + Sync
-        + Net<Listener = TcpListener, Stream = TcpStream>,
->(rt: &R, alloc: Global, address: SocketAddr) -> Result<(), Fail> {
-    for is_cut in [true, false] {
-        let mut client = open(rt, alloc, connect(rt, address)?, "ws://127.0.0.1/ocpp/A")?;
-        assert_eq!(rt; ask(alloc, &mut client, FIRST)?.as_str(), REPLY);
-        if !is_cut {
-            leave(&mut client);
-        }
-    }
-    Ok(())
+// A station that is cut off after its event was sent, and sends it again; tells whether both were answered.
+fn send_twice<R: RandomSource + Net<Listener = TcpListener, Stream = TcpStream>>(
+    rt: &R,
+    alloc: Global,
+    address: SocketAddr,
+) -> Result<bool, &'static str> {
+    let mut cut = open(rt, alloc, address, "ws://127.0.0.1/ocpp/A")?;
+    let first = is_answered(alloc, &mut cut);
+    drop(cut);
+    let mut client = open(rt, alloc, address, "ws://127.0.0.1/ocpp/A")?;
+    let second = is_answered(alloc, &mut client);
+    leave(&mut client);
+    Ok(first && second)
 }
 
-fn cut_once<
+// The passes of both connections, where both events were answered.
+fn served_twice<
     J: Naming + Send + Sync,
-    R: Abort
-        + Threads
+    R: Threads
         + Wait
         + Clock
         + RandomSource
         + Sync
         + Net<Listener = TcpListener, Stream = TcpStream>,
->(rt: &R, alloc: Global, tables: Tables, plan: &Plan) -> Result<(), Fail>
-    requires named { NamedBy J.table tables }
-    requires there { (site : ℕ) → site < length plan.now.sites.items → HasTable tables site }
-{
-    let (desk, viewers) = open_desk::<J>(alloc, tables, plan).ok().ok_or("no desk")?;
-    let (listener, address) = listen(rt)?;
-    let (shared, socket) = (&desk, &listener);
+>(
+    rt: &R,
+    alloc: Global,
+    desk: &Desk<J>,
+    listener: &TcpListener,
+    address: SocketAddr,
+) -> Option<Vec<Pass>> {
     let (passes, sent) = thread::join(
         rt,
-        move || serve_many(rt, alloc, socket, 2, shared, &NoGate),
+        move || serve_many(rt, alloc, listener, 2, desk, &NoGate),
         move || send_twice(rt, alloc, address),
     );
-    sent?;
-    let passes = passes?;
-    assert_eq!(rt; passes.len(), 2);
-    let closed = desk.close(passes, viewers).ok().ok_or("not closed")?;
-    assert_eq!(rt; changes_of(&closed, 0), Some(1));
-    Ok(())
+    if sent == Ok(true) { passes.ok() } else { None }
+}
+
+struct CutOnce;
+
+impl Scene for CutOnce {
+    fn play<
+        J: Naming + Send + Sync,
+        R: Abort
+            + Threads
+            + Wait
+            + Clock
+            + RandomSource
+            + Sync
+            + Net<Listener = TcpListener, Stream = TcpStream>,
+    >(rt: &R, alloc: Global, desk: Desk<J>, viewers: Vec<Viewer<J>>) -> Result<(), Fail> {
+        let (listener, address) = listen(rt)?;
+        let passes = served_twice(rt, alloc, &desk, &listener, address).ok_or("not answered")?;
+        assert!(rt; passes.len() == 2);
+        let closed = desk.close(passes, viewers).ok().ok_or("not closed")?;
+        assert!(rt; changes_of(&closed, 0) == Some(1));
+        Ok(())
+    }
 }
 
 #[test]
 fn event_is_sent_again_after_a_cut(rt: HostRuntime) -> Result<(), Fail> {
-    let plan = plan()?;
-    let tables = Tables::make(rt.alloc(), plan.sites.len() as u16)?;
-    cut_once::<Brand, _>(&rt, rt.alloc(), tables, &plan)
+    play::<CutOnce, _>(&rt, rt.alloc())
 }

@@ -1,4 +1,4 @@
-use crate::simulate;
+use site_server::simulate;
 use std::test::Fail;
 
 // The board of two simulated stations with three events each.
@@ -23,7 +23,7 @@ end
 fn simulated_site(rt: HostRuntime) -> Result<(), Fail> {
     let mut output = Vec::new(rt.alloc());
     let ended = simulate(&rt, rt.alloc(), 2, 3, &mut output);
-    assert_eq!(rt; ended, Ok(()));
-    assert_eq!(rt; str::from_utf8(&output)?, BOARD);
+    assert!(rt; ended.is_ok());
+    assert!(rt; output.as_slice() == BOARD.as_bytes());
     Ok(())
 }

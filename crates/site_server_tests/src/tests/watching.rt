@@ -1,138 +1,86 @@
 // The lines that a viewer's thread writes.
-ghost use Rattle.std.specs.Prelude.{ℕ, ◌<◌, length};
-ghost use Rattle.site_book.specs.Tables.{HasTable, NamedBy};
-
-use super::client::{ask, connect, leave, open};
-use super::{FIRST, REPLY, listen, plan};
-use crate::service::{Service, open_desk, serve_watched};
-use site_book::{Naming, Tables};
+use super::client::sends_one;
+use super::{Shown, address_in, plan};
 use site_desk::Plan;
+use site_server::{Service, ServiceFault, serve_plan};
 use std::alloc::Global;
-use std::marker::Brand;
-use std::net::{Net, SocketAddr, TcpListener, TcpStream};
-use std::process::Abort;
+use std::net::{Net, TcpListener, TcpStream};
 use std::random::RandomSource;
-use std::sync::Wait;
+use std::sync::{Mutex, Wait};
 use std::test::Fail;
 use std::thread;
 use std::thread::Threads;
 use std::time::Clock;
 
-// The size of a stack that each thread has, and one for which no thread starts.
-const SMALL: usize = 1 << 20;
-
-const TOO_LARGE: usize = usize::MAX / 2;
-
-// A station that sends one event.
-fn send<
-    R: Abort
-        + Threads
-        + Wait
-        + Clock
-        + RandomSource
-        + Sync
-        + Net<Listener = TcpListener, Stream = TcpStream>,
->(rt: &R, alloc: Global, address: SocketAddr) -> Result<(), Fail> {
-    let mut client = open(rt, alloc, connect(rt, address)?, "ws://127.0.0.1/ocpp/C")?;
-    assert_eq!(rt; ask(alloc, &mut client, FIRST)?.as_str(), REPLY);
-    leave(&mut client);
-    Ok(())
-}
-
-// The lines that are written while one station is served, with such a stack for the viewers' thread.
-fn lines_of<
-    J: Naming + Send + Sync,
-    R: Abort
-        + Threads
-        + Wait
-        + Clock
-        + RandomSource
-        + Sync
-        + Net<Listener = TcpListener, Stream = TcpStream>,
->(rt: &R, alloc: Global, plan: &Plan, tables: Tables, stack: usize) -> Result<Vec<u8>, Fail>
-    requires named { NamedBy J.table tables }
-    requires there { (site : ℕ) → site < length plan.now.sites.items → HasTable tables site }
-{
-    let (desk, viewers) = open_desk::<J>(alloc, tables, plan).ok().ok_or("no desk")?;
-    let (listener, address) = listen(rt)?;
-    let lines = Vec::new(alloc);
-    let (shared, socket) = (&desk, &listener);
-    let ((passes, viewers, lines), sent) = thread::join(
+// Serves one connection, with one glance at each site.
+fn serve_one<R: Threads + Wait + Clock + Sync + Net<Listener = TcpListener, Stream = TcpStream>>(
+    rt: &R,
+    alloc: Global,
+    plan: &Plan,
+    output: &Mutex<Vec<u8>>,
+    lines: &Mutex<Vec<u8>>,
+) -> Result<(), ServiceFault> {
+    let service = Service {
+        port: 0,
+        connections: 1,
+        glances: 1,
+    };
+    let mut output = Shown { rt, bytes: output };
+    serve_plan(
         rt,
-        move || {
-            let service = Service {
-                port: 0,
-                connections: 1,
-                glances: 1,
-            };
-            serve_watched(
-                rt, alloc, socket, service, shared, plan, viewers, lines, stack,
-            )
-        },
-        move || send(rt, alloc, address),
-    );
-    sent?;
-    assert!(rt;
-        desk.close(passes?, viewers).is_ok(),
-        "all passes and viewers came back"
-    );
-    Ok(lines)
+        alloc,
+        plan,
+        service,
+        &mut output,
+        Shown { rt, bytes: lines },
+    )
 }
 
-fn one_glance<
-    J: Naming + Send + Sync,
-    R: Abort
-        + Threads
-        + Wait
-        + Clock
-        + RandomSource
-        + Sync
-        + Net<Listener = TcpListener, Stream = TcpStream>,
->(rt: &R, alloc: Global, tables: Tables, plan: &Plan) -> Result<(), Fail>
-    requires named { NamedBy J.table tables }
-    requires there { (site : ℕ) → site < length plan.now.sites.items → HasTable tables site }
-{
-    let lines = lines_of::<J, R>(rt, alloc, plan, tables, SMALL)?;
-    let text = str::from_utf8(&lines)?;
-    let mut words = text.lines();
-    for site in ["live north", "live south"] {
-        assert_eq!(rt; words.next(), Some(site));
-        let total = words.next().ok_or("no total line")?;
-        assert!(rt; total.starts_with("total events="), "{total}");
+// A station that sends one event once the server listens.
+fn send<R: Wait + Clock + RandomSource + Net<Listener = TcpListener, Stream = TcpStream>>(
+    rt: &R,
+    alloc: Global,
+    output: &Mutex<Vec<u8>>,
+) -> Result<bool, &'static str> {
+    match address_in(rt, output) {
+        Some(address) => sends_one(rt, alloc, address, "ws://127.0.0.1/ocpp/C"),
+        None => Err("no address"),
     }
-    assert!(rt; words.next().is_none());
-    Ok(())
+}
+
+// Tells whether each site has its two lines, and there are no others.
+fn are_live_lines(text: &str) -> bool {
+    let mut lines = text.lines();
+    for site in ["live north", "live south"] {
+        if lines.next() != Some(site) {
+            return false;
+        }
+        match lines.next() {
+            Some(total) => {
+                if !total.starts_with("total events=") {
+                    return false;
+                }
+            }
+            None => return false,
+        }
+    }
+    lines.next().is_none()
 }
 
 // A viewer's line left out would be missed here.
 #[test]
 fn one_live_line_a_site(rt: HostRuntime) -> Result<(), Fail> {
-    let plan = plan()?;
-    let tables = Tables::make(rt.alloc(), plan.sites.len() as u16)?;
-    one_glance::<Brand, _>(&rt, rt.alloc(), tables, &plan)
-}
-
-fn no_glance<
-    J: Naming + Send + Sync,
-    R: Abort
-        + Threads
-        + Wait
-        + Clock
-        + RandomSource
-        + Sync
-        + Net<Listener = TcpListener, Stream = TcpStream>,
->(rt: &R, alloc: Global, tables: Tables, plan: &Plan) -> Result<(), Fail>
-    requires named { NamedBy J.table tables }
-    requires there { (site : ℕ) → site < length plan.now.sites.items → HasTable tables site }
-{
-    let lines = lines_of::<J, R>(rt, alloc, plan, tables, TOO_LARGE)?;
-    assert_eq!(rt; lines.len(), 0);
+    let (plan, alloc) = (plan().ok_or("no plan")?, rt.alloc());
+    let output = Mutex::new(Vec::new(alloc));
+    let lines = Mutex::new(Vec::new(alloc));
+    let (rt, plan, written, shown) = (&rt, &plan, &output, &lines);
+    let (ended, sent) = thread::join(
+        rt,
+        move || serve_one(rt, alloc, plan, written, shown),
+        move || send(rt, alloc, written),
+    );
+    assert!(rt; ended.is_ok() && sent?, "all passes and viewers came back");
+    let lines = lines.into_inner();
+    assert!(rt; are_live_lines(str::from_utf8(&lines)?));
     Ok(())
-}
-
-#[test]
-fn no_line_where_the_thread_cant_start(rt: HostRuntime) -> Result<(), Fail> {
-    let plan = plan()?;
-    let tables = Tables::make(rt.alloc(), plan.sites.len() as u16)?;
-    no_glance::<Brand, _>(&rt, rt.alloc(), tables, &plan)
 }
