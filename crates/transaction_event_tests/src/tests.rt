@@ -107,12 +107,11 @@ fn counted_readings(rt: HostRuntime) -> Result<(), Fail> {
 
 // Tells whether the text is an event of the message `a` and of transaction t1, number 0, with a token.
 fn is_first_of_t1(alloc: Global, text: &str) -> Result<bool, Fail> {
-    Ok(match message_of(alloc, text, ten()?) {
-        Message::Event { id, key, token, .. } => {
-            id.as_str() == "a" && key.tx().text() == "t1" && key.seq() == 0 && token
-        }
-        Message::Reply { .. } | Message::Silent => false,
-    })
+    let Message::Event { id, key, token, .. } = message_of(alloc, text, ten()?) else {
+        return Err("no event")?;
+    };
+    let is_first = key.tx().text() == "t1" && key.seq() == 0;
+    Ok(id.as_str() == "a" && is_first && token)
 }
 
 // Tells whether an event is Ended at ten o'clock at EVSE 3, with one reading of 1,000 watt-hours.
