@@ -1,8 +1,11 @@
 //! What no clause says: that reads succeed while there is memory, and examples of the marked reading whose answers
 //! come from RFC 8259 and from this product's profile.
 
+ghost use Rattle.std.specs.Prelude.{◌≤◌, length};
+
 use marked_json::{JsonFault, Marked, read_marked};
 use std::alloc::Global;
+use std::process::Abort;
 use std::test::Fail;
 
 // Tells whether a text is refused with this fault.
@@ -120,7 +123,9 @@ fn strings(rt: HostRuntime) {
 const FIELDS: &str = r#"{"a":null,"b":7,"c":1,"c":null,"d":{},"e":[null]}"#;
 
 // Tells whether a field stands there.
-fn has(marked: &Marked, name: &str) -> bool {
+fn has(marked: &Marked, name: &str) -> bool
+    requires { length name.now ≤ 63 }
+{
     marked.root().field(name).is_some()
 }
 
@@ -173,7 +178,7 @@ fn deep_and_long_texts(rt: HostRuntime) -> Result<(), Fail> {
 }
 
 // A text of 262,144 letters, without and with its quotes.
-fn long_text(rt: &impl std::process::Abort, alloc: Global) -> Result<(), Fail> {
+fn long_text(rt: &impl Abort, alloc: Global) -> Result<(), Fail> {
     let long = repeated(alloc, 'a', 262_144)?;
     assert!(rt; is_refused(alloc, long.as_str(), JsonFault::NotJson));
     let quoted = format!(in alloc; "\"{long}\"")?;

@@ -105,16 +105,6 @@ fn counted_readings(rt: HostRuntime) -> Result<(), Fail> {
     Ok(())
 }
 
-// Tells whether the text is an event of the message `a` and of transaction t1, number 0, with a token.
-fn is_first_of_t1(alloc: Global, text: &str) -> Result<bool, Fail> {
-    Ok(match message_of(alloc, text, ten()?) {
-        Message::Event { id, key, token, .. } => {
-            id.as_str() == "a" && key.tx().text() == "t1" && key.seq() == 0 && token
-        }
-        Message::Reply { .. } | Message::Silent => false,
-    })
-}
-
 // Tells whether an event is Ended at ten o'clock at EVSE 3, with one reading of 1,000 watt-hours.
 fn is_ended(event: &Event) -> Result<bool, Fail> {
     let ten = ten()?;
@@ -128,12 +118,26 @@ fn is_ended(event: &Event) -> Result<bool, Fail> {
     )
 }
 
+// Tells whether the text is that event, of the message `a` and of transaction t1, number 0, with a token.
+fn is_ended_of_t1(alloc: Global, text: &str) -> Result<bool, Fail> {
+    let Message::Event {
+        id,
+        key,
+        event,
+        token,
+    } = message_of(alloc, text, ten()?)
+    else {
+        return Err("no event")?;
+    };
+    let is_first = key.tx().text() == "t1" && key.seq() == 0;
+    Ok(id.as_str() == "a" && is_first && token && is_ended(&event)?)
+}
+
 #[test]
 fn events_hold_what_was_sent(rt: HostRuntime) -> Result<(), Fail> {
     let ended = r#""Ended","evse":{"id":3},"idToken":{}"#;
     let text = edited(rt.alloc(), EVENT, r#""Started""#, ended)?;
-    assert!(rt; is_first_of_t1(rt.alloc(), text.as_str())?);
-    assert!(rt; is_ended(&event_in(rt.alloc(), text.as_str())?)?);
+    assert!(rt; is_ended_of_t1(rt.alloc(), text.as_str())?);
     Ok(())
 }
 
