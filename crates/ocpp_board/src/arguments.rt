@@ -115,7 +115,10 @@ fn sim_asked<'a>(matches: &ArgMatches<'a>) -> Asked<'a>
 {
     let stations = matches.get_one::<u16>("stations").unwrap_or(2);
     let events = matches.get_one::<u32>("events").unwrap_or(3);
-    Asked::Simulate(stations.clamp(1, MAX_SIMULATED_STATIONS), events.clamp(2, MAX_SIMULATED_EVENTS))
+    Asked::Simulate(
+        stations.clamp(1, MAX_SIMULATED_STATIONS),
+        events.clamp(2, MAX_SIMULATED_EVENTS),
+    )
 }
 
 // The program and its commands.
@@ -151,7 +154,9 @@ fn serve_command<'a>(alloc: Global) -> Result<Command<'a>, AllocError> {
         .value_name("TIMES")
         .value_parser(value_parser!(u16).range(0..=i64::from(MAX_GLANCES)))
         .default_value("0")
-        .help("How many times to write each site's totals to standard error, one second apart, 0 to 600");
+        .help(
+            "How many times to write each site's totals to standard error, one second apart, 0 to 600",
+        );
     let stations = Arg::new(alloc, "stations")
         .value_name("SITE/STATION")
         .required(true)

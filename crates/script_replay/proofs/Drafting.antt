@@ -170,18 +170,20 @@ joins d None site name e kept room none =
     let world : planned_world (d.sites ++ new ∷ []) (d.stations ++ station ∷ []) ≡ planned_world d.sites d.stations ++ new_station d.limits site name ∷ [] =
     map-append (λ (s : StationPlan). new_station s.limits (site_name (d.sites ++ new ∷ []) s.site) s.name) d.stations (station ∷ [])
     ∙ ap (λ w. w ++ new_station d.limits (site_name (d.sites ++ new ∷ []) (length d.sites)) name ∷ []) (same_worlds d.sites new d.stations kept.placed)
-    ∙ ap (λ n. planned_world d.sites d.stations ++ new_station d.limits n name ∷ []) (last_named d.sites new) in
-    (station_kept (d.sites ++ new ∷ []) d.stations (length d.sites) name d.limits begun (omega (arith, more)) r.few r.fit none,
-    (λ i. record { limits = d.limits; sites = sites_more site d.sites (sym e) i; world = world i; opened = false; moment = d.moment }))
+    ∙ ap (λ n. planned_world d.sites d.stations ++ new_station d.limits n name ∷ []) (last_named d.sites new) in (
+      station_kept (d.sites ++ new ∷ []) d.stations (length d.sites) name d.limits begun (omega (arith, more)) r.few r.fit none,
+      (λ i. record { limits = d.limits; sites = sites_more site d.sites (sym e) i; world = world i; opened = false; moment = d.moment }),
+    )
 joins d (Some n) site name e kept room none =
     let station : StationPlan = record { site = n; name = name; limits = d.limits } in
     let r = has_room (Some n) d.sites d.stations d.limits room in
     let there = some_placed {X = SitePlan} (λ s. s.name) site d.sites n (sym e) in
     let world : planned_world d.sites (d.stations ++ station ∷ []) ≡ planned_world d.sites d.stations ++ new_station d.limits site name ∷ [] =
     map-append (λ (s : StationPlan). new_station s.limits (site_name d.sites s.site) s.name) d.stations (station ∷ [])
-    ∙ ap (λ x. planned_world d.sites d.stations ++ new_station d.limits x name ∷ []) (site_there site d.sites n (sym e)) in
-    (station_kept d.sites d.stations n name d.limits kept there.less r.few r.fit none,
-    (λ i. record { limits = d.limits; sites = sites_same site d.sites n (sym e) i; world = world i; opened = false; moment = d.moment }))
+    ∙ ap (λ x. planned_world d.sites d.stations ++ new_station d.limits x name ∷ []) (site_there site d.sites n (sym e)) in (
+      station_kept d.sites d.stations n name d.limits kept there.less r.few r.fit none,
+      (λ i. record { limits = d.limits; sites = sites_same site d.sites n (sym e) i; world = world i; opened = false; moment = d.moment }),
+    )
 
 -- ---- declarations
 

@@ -8,11 +8,10 @@ ghost use Rattle.script_lines.specs.Reading.{line_of, line_read, IsReadLine, Rea
 ghost use Rattle.script_replay.specs.Script.{opening, script_text};
 
 use crate::draft::Draft;
-use script_lines::ReplayFault;
 use crate::ledgers::Ledgers;
-use script_lines::{LineEnd, LineReader};
 use crate::machine::{Declarations, LineOutcome};
 use crate::replay::replay_from;
+use script_lines::{LineEnd, LineReader, ReplayFault};
 use site_book::{Naming, Tables};
 use std::alloc::AllocError;
 use std::io::{BufRead, Write};

@@ -6,9 +6,8 @@ ghost use Rattle.script_replay.specs.Drafts.{planned, DraftAnswers, IsPlan};
 ghost use Rattle.script_replay.specs.Script.{start, declared_to, is_past_plan, joined_by, limited_to};
 
 use crate::machine::LineOutcome;
-use script_lines::{LineFault, ScriptLine, read_line};
-use script_lines::put_fault;
 use ledger_model::{Limits, Moment, Name};
+use script_lines::{LineFault, ScriptLine, put_fault, read_line};
 use site_desk::Plan;
 use std::alloc::AllocError;
 use std::marker::Model;

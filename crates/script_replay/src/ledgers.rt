@@ -14,15 +14,13 @@ ghost use Rattle.script_replay.specs.Script.{board_answer, commanded_to, energy_
 ghost use Rattle.transaction_event.specs.MessageMeaning.{HasShortId};
 
 use crate::draft::Draft;
-use script_lines::LineReader;
 use crate::machine::Machine;
 use crate::messages::ScriptMessages;
-use script_lines::{LineFault, ScriptLine, read_line};
-use script_lines::{put_answer, put_fault, put_line};
 use board_report::{energy_text, total_text};
 use desk_report::site_text;
 use ledger_model::{Answer, Command, Name};
 use message_ahead::{Delivery, Lookahead};
+use script_lines::{LineFault, LineReader, ScriptLine, put_answer, put_fault, put_line, read_line};
 use site_book::{Naming, SiteBook, Tables};
 use site_desk::{Parts, Pass, StationCell, enlist_cell, settle};
 use std::alloc::{AllocError, Global};

@@ -5,8 +5,7 @@ ghost use Rattle.script_replay.specs.Outcome.{Replays};
 ghost use Rattle.script_lines.specs.Reading.{line_of, line_read, IsReadLine, ReadToEnd};
 ghost use Rattle.script_replay.specs.Answering.{Replies, AnswersOrOpens};
 
-use script_lines::ReplayFault;
-use script_lines::{LineEnd, LineReader};
+use script_lines::{LineEnd, LineReader, ReplayFault};
 use std::alloc::AllocError;
 use std::io::{BufRead, Write};
 use std::thread::Threads;

@@ -7,10 +7,9 @@ ghost use Rattle.script_replay.specs.Answering.{AgreeFrom, WritesLine, WritesOrO
 
 mod reply;
 
-use script_lines::ReplayFault;
-use script_lines::{LineEnd, LineReader};
 use crate::machine::{Declarations, LineOutcome, Machine};
 use crate::replay::reply::write_reply;
+use script_lines::{LineEnd, LineReader, ReplayFault};
 use std::alloc::Global;
 use std::io::{BufRead, Write};
 use std::thread::Threads;

@@ -8,8 +8,8 @@ ghost use Rattle.script_replay.specs.Script.{start, script_text};
 
 use crate::declaring::Declaring;
 use crate::draft::Draft;
-use script_lines::{MAX_LINE_BYTES, ReplayFault};
 use crate::replay::replay_lines;
+use script_lines::{MAX_LINE_BYTES, ReplayFault};
 use std::io::{BufRead, BufWriter, Write};
 use std::thread::Threads;
 

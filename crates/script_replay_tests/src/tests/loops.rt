@@ -135,7 +135,14 @@ const SCRIPTS: [(&[u8], &[u8]); 9] = [
 fn is_cut<X: AllocGlobal + Threads>(rt: &X, script: &[u8], text: &[u8]) -> bool {
     let mut reader = script;
     let mut written = Vec::new(rt.alloc());
-    let result = replay_lines(rt.alloc(), Before { rt }, &mut reader, &mut written, 3, LIMIT);
+    let result = replay_lines(
+        rt.alloc(),
+        Before { rt },
+        &mut reader,
+        &mut written,
+        3,
+        LIMIT,
+    );
     result == Ok(()) && written.as_slice() == text
 }
 

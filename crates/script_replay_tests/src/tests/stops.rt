@@ -96,7 +96,10 @@ fn script_stops_at_each_byte(rt: HostRuntime) -> Result<(), Fail> {
     let (script, text) = script_and_text(rt.alloc())?;
     for count in 0..=script.len() {
         let step = 1 + count % 9;
-        assert!(rt; stops_reading(&rt, &script, &text, count, step), "read {count}");
+        assert!(rt;
+            stops_reading(&rt, &script, &text, count, step),
+            "read {count}"
+        );
     }
     Ok(())
 }
@@ -105,8 +108,14 @@ fn script_stops_at_each_byte(rt: HostRuntime) -> Result<(), Fail> {
 fn text_stops_at_each_byte(rt: HostRuntime) -> Result<(), Fail> {
     let (script, text) = script_and_text(rt.alloc())?;
     for room in 0..text.len() {
-        assert!(rt; stops_writing(&rt, &script, &text, room, false), "after {room}");
-        assert!(rt; stops_writing(&rt, &script, &text, room, true), "after {room}");
+        assert!(rt;
+            stops_writing(&rt, &script, &text, room, false),
+            "after {room}"
+        );
+        assert!(rt;
+            stops_writing(&rt, &script, &text, room, true),
+            "after {room}"
+        );
     }
     Ok(())
 }
@@ -134,7 +143,10 @@ fn stops_behind_buffer<X: AllocGlobal + Threads>(
 fn buffer_is_handed_on(rt: HostRuntime) -> Result<(), Fail> {
     let (script, text) = script_and_text(rt.alloc())?;
     for room in 0..text.len() {
-        assert!(rt; stops_behind_buffer(&rt, &script, &text, room)?, "after {room}");
+        assert!(rt;
+            stops_behind_buffer(&rt, &script, &text, room)?,
+            "after {room}"
+        );
     }
     Ok(())
 }

@@ -114,6 +114,6 @@ fn port_that_is_taken(rt: HostRuntime) -> Result<(), Fail> {
     let plan = plan().ok_or("no plan")?;
     let lines = Vec::<u8>::new(rt.alloc());
     let ended = serve_plan(&rt, rt.alloc(), &plan, service, &mut output, lines);
-    assert!(rt; ended == Err(ServiceFault::ListenFailed) && output.is_empty());
+    assert!(rt; matches!(ended, Err(ServiceFault::ListenFailed(Some(_)))) && output.is_empty());
     Ok(())
 }
