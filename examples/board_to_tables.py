@@ -39,6 +39,7 @@ import sys
 import time
 from collections.abc import Iterable, Iterator
 from datetime import date, datetime, timedelta, timezone
+from functools import lru_cache
 from html import escape
 from itertools import groupby
 from typing import BinaryIO, NamedTuple, TextIO
@@ -51,6 +52,8 @@ PAGE_CHARACTERS = 1_000_000
 TABLE_SESSIONS = 500
 # Complaints that are told; the others are counted.
 MOST_COMPLAINTS = 20
+# Moments whose texts are kept, since all stations share them.
+KEPT_MOMENTS = 131_072
 # Seconds of a settlement period: a quarter of an hour.
 PERIOD = 900
 
@@ -97,10 +100,6 @@ class Period(NamedTuple):
     start: datetime
     up: int
     down: int
-
-    @property
-    def end(self) -> datetime:
-        return self.start + timedelta(seconds=PERIOD)
 
 
 class Evse(NamedTuple):
@@ -154,6 +153,7 @@ class Part:
         return True
 
 
+@lru_cache(KEPT_MOMENTS)
 def moment_of(text: str) -> datetime | None:
     """The first moment of a period."""
     try:
@@ -185,16 +185,17 @@ class Progress:
     """How far a file was read, on standard error where that is a terminal."""
 
     def __init__(self, file: BinaryIO) -> None:
-        self.file, self.size, self.next = file, os.fstat(file.fileno()).st_size, 0.0
+        self.file, self.size, self.read, self.next = file, os.fstat(file.fileno()).st_size, 0, 0.0
         self.is_shown = sys.stderr.isatty()
 
-    def tell(self, lines: int) -> None:
+    def tell(self, lines: int, count: int) -> None:
+        """So many lines were read, the last of so many bytes."""
+        self.read += count
         if not self.is_shown or lines % 1_024 or time.monotonic() < self.next:
             return
         self.next = time.monotonic() + 0.5
-        read = self.file.tell() if self.file.seekable() else 0
-        share = f", {read / 1e6:,.0f} MB, {100 * read / self.size:.0f} %" if self.size and read else ""
-        print(f"\r{lines:,} lines{share} \033[K", end="", file=sys.stderr, flush=True)
+        share = f", {100 * self.file.tell() / self.size:.0f} %" if self.size and self.file.seekable() else ""
+        print(f"\r{lines:,} lines, {self.read / 1e6:,.1f} MB{share} \033[K", end="", file=sys.stderr, flush=True)
 
     def end(self) -> None:
         if self.is_shown and self.next:
@@ -261,7 +262,7 @@ class Reader:
     def read(self, text: BinaryIO) -> None:
         number = 0
         for number, line in lines(text):
-            self.progress.tell(number)
+            self.progress.tell(number, len(line) + 1)
             self.take(number, line)
         self.break_off(number, "the text ends")
         if not self.counts["boards"]:
@@ -354,8 +355,11 @@ class Calendar:
         self.zone, self.name = words.tz, words.tz.key if isinstance(words.tz, ZoneInfo) else "UTC"
         self.first, self.last = words.first, words.last
         self.is_utc = self.name == "UTC"
+        self.day = lru_cache(KEPT_MOMENTS)(self.day_of)
+        self.times = lru_cache(KEPT_MOMENTS)(self.times_of)
+        self.cells = lru_cache(KEPT_MOMENTS)(self.cells_of)
 
-    def day(self, moment: datetime) -> date:
+    def day_of(self, moment: datetime) -> date:
         return moment.astimezone(self.zone).date()
 
     def shown(self, periods: Iterable[Period]) -> list[Period]:
@@ -371,17 +375,22 @@ class Calendar:
     def time(self, moment: datetime) -> str:
         return moment.astimezone(self.zone).strftime("%H:%M")
 
-    def times(self, period: Period) -> str:
-        """From when to when a period is; the end of a day is 24:00."""
-        end = self.time(period.end)
-        return f"{self.time(period.start)} to {'24:00' if end == '00:00' else end}"
+    def times_of(self, start: datetime) -> str:
+        """From when to when a period is, and from when in UTC as another cell; the end of a day is 24:00."""
+        end = self.time(start + timedelta(seconds=PERIOD))
+        beside = "" if self.is_utc else f"<td>{start:%H:%M}"
+        return f"{self.time(start)} to {'24:00' if end == '00:00' else end}{beside}"
+
+    def cells_of(self, start: datetime) -> list[str]:
+        """A period's first moment in UTC, and in the zone where that is another, for the CSV file."""
+        local = [] if self.is_utc else [start.astimezone(self.zone).isoformat()]
+        return [start.strftime("%Y-%m-%dT%H:%M:%SZ"), *local]
+
+    def said(self) -> str:
+        return "Times are UTC" if self.is_utc else f"Times are those of {self.name}"
 
     def is_all(self) -> bool:
         return (self.first, self.last) == (date.min, date.max)
-
-
-def utc(moment: datetime) -> str:
-    return moment.strftime("%Y-%m-%dT%H:%M:%SZ")
 
 
 def kwh_of(mwh: int) -> str:
@@ -418,8 +427,7 @@ class Tables(Sink):
     def part(self, part: Part) -> None:
         level, station = ("site", "") if part.is_site else ("station", self.cell(part.name))
         for p in self.calendar.shown(part.periods):
-            local = [] if self.calendar.is_utc else [p.start.astimezone(self.calendar.zone).isoformat()]
-            self.quarters.writerow([self.number, level, self.site, station, utc(p.start), *local,
+            self.quarters.writerow([self.number, level, self.site, station, *self.calendar.cells(p.start),
                                     *self.flows(p.up, p.down)])
         for t in part.sessions:
             self.transactions.writerow(
@@ -598,14 +606,13 @@ def bar(left: float, wide: float, p: Period, scale: Scale) -> Iterator[str]:
                    f'height="{short(height)}"/>')
 
 
-def hours(calendar: Calendar, day: date) -> Iterator[tuple[float, str]]:
+@lru_cache(2)
+def hours(calendar: Calendar, day: date) -> list[tuple[float, str]]:
     """Where the third hours of a day stand, in parts of the picture's width, with their texts."""
     begin, length = calendar.begin(day), calendar.seconds(day)
-    for hour in range(round(length / 3600)):
-        text = calendar.time(begin + timedelta(hours=hour))
-        if text.endswith(":00") and int(text[:2]) % 3 == 0:
-            yield hour * 3600 / length * 100, text
-    yield 100, "24:00"
+    texts = ((hour * 3600 / length * 100, calendar.time(begin + timedelta(hours=hour)))
+             for hour in range(round(length / 3600)))
+    return [(x, text) for x, text in texts if text.endswith(":00") and int(text[:2]) % 3 == 0] + [(100.0, "24:00")]
 
 
 def picture(label: str, day: date, periods: list[Period], scale: Scale, calendar: Calendar) -> Iterator[str]:
@@ -637,8 +644,7 @@ def periods_of(day: date, periods: list[Period], calendar: Calendar) -> Iterator
     yield (f'<table class="plain"><caption>{day}, kWh</caption>\n<thead><tr><th scope="col">Quarter ({zone}){beside}'
            '<th scope="col">Up<th scope="col">Down</thead>\n<tbody>\n')
     for p in periods:
-        at = "" if calendar.is_utc else f"<td>{p.start:%H:%M}"
-        yield f'<tr><th scope="row">{calendar.times(p)}{at}<td>{kwh(p.up)}<td>{kwh(p.down)}\n'
+        yield f'<tr><th scope="row">{calendar.times(p.start)}<td>{kwh(p.up)}<td>{kwh(p.down)}\n'
     yield "</tbody></table>\n"
 
 
@@ -750,8 +756,7 @@ class DayPages(Sink):
     def put(self, day: date, text: str) -> None:
         if day not in self.pages:
             length = self.calendar.seconds(day) / 3600
-            zone = f"Times are those of {self.calendar.name}" + (
-                "." if length == 24 else f", where this day has {length:g} hours.")
+            zone = self.calendar.said() + ("." if length == 24 else f", where this day has {length:g} hours.")
             links = f"<nav>{link(self.out + '.html', 'All days, stations and sessions')}</nav>\n"
             self.pages[day] = Page(self.path(day), head(f"Site boards, {day}", f"<p>{zone}</p>\n{BARS}", links))
         if day not in self.begun:
@@ -775,7 +780,7 @@ class Index(Sink):
 
     def __init__(self, out: str, calendar: Calendar, days: DayPages) -> None:
         self.out, self.calendar, self.days = out, calendar, days
-        zone = f"<p>Times are those of {calendar.name}.</p>\n"
+        zone = f"<p>{calendar.said()}.</p>\n"
         if not calendar.is_all():
             zone += (f"<p>Days from {calendar.first} to {calendar.last} are shown. The figures and the sessions are "
                      "those of all days.</p>\n")

@@ -2,7 +2,7 @@
 # Compares what the program and the Python programs make of the rows, the words and the days of traffic in this folder
 # with the stored texts. The last line counts what differs; the status is 1 where something does.
 #     examples/compare.sh             builds the program without its proofs, which takes some minutes, and leaves out the
-#                                     words, which need a built one
+#                                     words and the programs that run it, which need a built one
 #     examples/compare.sh PROGRAM     takes a built one, such as crates/ocpp_board/out/ocpp_board
 set -u
 program=${1:+$(realpath "$1")}
@@ -61,6 +61,29 @@ holds() {
     echo "$1: $(wc -l < "$1") texts looked for"
 }
 
+# What explain.py, live_board.py and traffic.py give, which run the program or write for it.
+with_program() {
+    gives 1 explain/mistakes.told ./explain.py --program "$program" explain/mistakes.script
+    gives 0 explain/nothing.told ./explain.py --program "$program" forms/ocpp.script
+    gives 1 explain/mark.told ./explain.py --program "$program" explain/mark.script
+    gzip -c day.script > "$made/day.script.gz"
+    gives 1 explain/gzip.told ./explain.py --program "$program" "$made/day.script.gz"
+    tells 2 "No such file or directory" ./explain.py --program "$program" nowhere.script
+    tells 2 "No such file or directory" ./explain.py --program ./nowhere day.script
+    tells 2 "No space left on device" bash -c './explain.py --program "$1" explain/mistakes.script > /dev/full' _ "$program"
+
+    # The ledgers stand by the time that the operator's lines come.
+    gives 0 live/answers bash -c '{ sleep 2; cat live/operator; } | ./live_board.py --program "$1" --out "$2" --every 0.2 \
+        --tz Europe/Berlin <(cat forms/ocpp.script; sleep 4)' _ "$program" "$made/live"
+    as_stored live/north.transactions.csv "$made/live/north.transactions.csv"
+    tells 1 "there is no board" ./live_board.py --program "$program" --out "$made/live" /dev/null < /dev/null
+    tells 2 "No such file or directory" ./live_board.py --program "$program" --out "$made/live" nowhere.script
+    tells 2 "No such file or directory" ./live_board.py --program ./nowhere --out "$made/live" forms/ocpp.script
+
+    # 50 events of each of two stations: a session of 48 and one of 2, in each of which all but the first rise by 250 Wh.
+    gives 0 forms/traffic.text bash -c './traffic.py 100 --stations 2 | "$1" replay | grep -v "^.3,"' _ "$program"
+}
+
 # The logs become scripts. That of the first day has other fields, and its messages are JSON.
 day_of_log=(./log_to_script.py --site-field location --station-field chargePoint --time-field at --message-field frame
     --json-message --direction-field from --incoming station)
@@ -111,15 +134,17 @@ for script in *.script; do
 done
 if [ -n "$program" ]; then
     for text in "$made"/cases/*.stdout; do
-        "$program" replay < "${text%.stdout}" 2>&1 | diff --label stored --label written -u "$text" - || differs "$(basename "$text" .stdout)"
+        "$program" replay < "${text%.stdout}" > "$made/written" 2>&1 || echo "status $?" >> "$made/written"
+        diff --label stored --label written -u "$text" "$made/written" || differs "$(basename "$text" .stdout)"
     done
     echo "scripts: $(ls "$made"/cases/*.stdout | wc -l) compared"
     ./words.py "$program" words.txt || differs words.txt
+    with_program
 else
     (cd ../crates/ocpp_board && rt try --steps 1 --seconds 300 --cases "$made/cases" -- replay) > "$made/tried" ||
         differs "scripts"
     grep -v ' output=expected ' "$made/tried"
-    echo "words.txt: not run, which needs a built program"
+    echo "words.txt, explain.py and live_board.py: not run, which needs a built program"
 fi
 
 # The boards become tables and pages, in UTC and in a zone whose days have 23 and 25 hours.
@@ -141,5 +166,22 @@ tells 2 "No such file or directory" ./board_to_tables.py --out "$made/nowhere/x"
 tells 2 "no time zone of this system: 'Mars'" ./board_to_tables.py --tz Mars --out "$made/x" day.expected
 tells 2 "--from is after --to" ./board_to_tables.py --from 2026-03-02 --to 2026-03-01 --out "$made/x" day.expected
 tells 2 "File too large" bash -c 'ulimit -f 8; ./board_to_tables.py --out "$1" day.expected' _ "$made/full"
+# Traffic for measuring, and the clients' words.
+gives 0 forms/traffic.script ./traffic.py 3
+tells 2 "N is from 0 to 1,048,576" ./traffic.py 1048577
+tells 2 "200,000 events need 4 to 64 stations" ./traffic.py 200000 --stations 3
+tells 2 "No space left on device" bash -c './traffic.py 10 > /dev/full'
+gives 0 - ./clients/station.py --help
+tells 1 "Debian: apt-get install python3-websockets" python3 -c 'import runpy, sys
+sys.modules["websockets"] = None
+sys.argv = ["station.py", "ws://127.0.0.1:1/ocpp", "CS-01"]
+runpy.run_path("clients/station.py", run_name="__main__")'
+if node=$(command -v node); then
+    gives 0 - ./clients/station.js --help
+    mkdir "$made/alone"
+    cp clients/station.js "$made/alone"
+    tells 1 "Debian: apt-get install node-ws" env NODE_PATH= "$node" "$made/alone/station.js" ws://127.0.0.1:1/ocpp CS-01
+    tells 2 "a URL and a station are needed" ./clients/station.js
+fi
 echo "different: $different"
 [ $different = 0 ]

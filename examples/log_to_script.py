@@ -111,16 +111,17 @@ class Progress:
     """How far a file was read, on standard error where that is a terminal."""
 
     def __init__(self, file: BinaryIO) -> None:
-        self.file, self.size, self.next = file, os.fstat(file.fileno()).st_size, 0.0
+        self.file, self.size, self.read, self.next = file, os.fstat(file.fileno()).st_size, 0, 0.0
         self.is_shown = sys.stderr.isatty()
 
-    def tell(self, lines: int) -> None:
+    def tell(self, lines: int, count: int) -> None:
+        """So many lines were read, the last of so many bytes."""
+        self.read += count
         if not self.is_shown or lines % 1_024 or time.monotonic() < self.next:
             return
         self.next = time.monotonic() + 0.5
-        read = self.file.tell() if self.file.seekable() else 0
-        share = f", {read / 1e6:,.0f} MB, {100 * read / self.size:.0f} %" if self.size and read else ""
-        print(f"\r{lines:,} lines{share} \033[K", end="", file=sys.stderr, flush=True)
+        share = f", {100 * self.file.tell() / self.size:.0f} %" if self.size and self.file.seekable() else ""
+        print(f"\r{lines:,} lines, {self.read / 1e6:,.1f} MB{share} \033[K", end="", file=sys.stderr, flush=True)
 
     def end(self) -> None:
         if self.is_shown and self.next:
@@ -176,20 +177,42 @@ def object_of(text: str) -> dict[str, Any]:
     return entry
 
 
-def cut(text: str, field: str) -> str:
-    """A member of the object that is this text, as it is written there; of two of one name the last."""
-    at = text.index("{") + 1
-    while True:
-        name, at = JSON.raw_decode(text, BLANKS.match(text, at).end())
-        colon = BLANKS.match(text, at).end()
-        start = BLANKS.match(text, colon + 1).end()
-        _, end = JSON.raw_decode(text, start)
-        if name == field:
-            found = text[start:end]
-        at = BLANKS.match(text, end).end()
-        if text[at] == "}":
-            return found
-        at += 1
+def members_of(text: str) -> tuple[dict[str, Any], dict[str, str]]:
+    """The members of the JSON object that a text is, and each as it is written there; of two of one name the last."""
+    values: dict[str, Any] = {}
+    texts: dict[str, str] = {}
+    at = BLANKS.match(text).end()
+    if not text.startswith("{", at):
+        object_of(text)
+    try:
+        after = BLANKS.match(text, at + 1).end()
+        while not text.startswith("}", after):
+            name, colon = JSON.raw_decode(text, after)
+            start = BLANKS.match(text, expected(text, colon, ":")).end()
+            values[name], end = JSON.raw_decode(text, start)
+            texts[name] = text[start:end]
+            after = BLANKS.match(text, end).end()
+            if text.startswith(",", after):
+                after = BLANKS.match(text, after + 1).end()
+                if not text.startswith('"', after):
+                    raise json.JSONDecodeError("Expecting a member", text, after)
+            elif not text.startswith("}", after):
+                raise json.JSONDecodeError("Expecting ',' or '}'", text, after)
+        if BLANKS.match(text, after + 1).end() != len(text):
+            raise json.JSONDecodeError("Extra data", text, after + 1)
+    except json.JSONDecodeError as fault:
+        raise Refused("not JSON", f"{fault.msg} at character {fault.pos + 1}") from None
+    except RecursionError:
+        raise Refused("nested too deep") from None
+    return values, texts
+
+
+def expected(text: str, at: int, character: str) -> int:
+    """Where what follows this character begins, which comes next but for blanks."""
+    at = BLANKS.match(text, at).end()
+    if not text.startswith(character, at):
+        raise json.JSONDecodeError(f"Expecting '{character}'", text, at)
+    return at + 1
 
 
 def text_member(entry: dict[str, Any], field: str) -> str:
@@ -252,19 +275,20 @@ class JsonForm:
         self.has_site = not (words.one_site or words.site_map or words.stations)
 
     def read(self, text: str) -> Entry | None:
-        words, entry = self.words, object_of(text)
+        words = self.words
+        entry, texts = members_of(text) if words.json_message else (object_of(text), {})
         site = text_member(entry, words.site) if self.has_site else None
         station, told = text_member(entry, words.station), text_member(entry, words.time)
         is_stations = words.direction is None or text_member(entry, words.direction) == words.incoming
-        return Entry(site, station, told, self.message(text, entry), is_stations)
+        return Entry(site, station, told, self.message(entry, texts), is_stations)
 
-    def message(self, text: str, entry: dict[str, Any]) -> str:
+    def message(self, entry: dict[str, Any], texts: dict[str, str]) -> str:
         """The message as the station sent it."""
         field = self.words.message
         if not self.words.json_message:
             return text_member(entry, field)
         if isinstance(entry.get(field), (dict, list)):
-            return cut(text, field)
+            return texts[field]
         raise Refused(f"{shown(field)} is {'no array or object' if field in entry else 'missing'}")
 
 
@@ -289,17 +313,17 @@ class CitrineForm:
     """Rows of CitrineOS as JSON objects."""
 
     def read(self, text: str) -> Entry | None:
-        return self.entry(object_of(text), text)
+        return self.entry(*members_of(text))
 
     @staticmethod
-    def entry(row: dict[str, Any], text: str) -> Entry:
+    def entry(row: dict[str, Any], texts: dict[str, str]) -> Entry:
         protocol, origin = row.get("protocol") or "ocpp2.0.1", text_member(row, "origin")
         if protocol != "ocpp2.0.1":
             raise Refused("'protocol' is not ocpp2.0.1", shown(str(protocol)))
         if origin not in ("cs", "csms"):
             raise Refused("'origin' is neither cs nor csms", shown(origin))
         message = row.get("message")
-        frame = cut(text, "message") if isinstance(message, (dict, list)) else text_member(row, "message")
+        frame = texts["message"] if isinstance(message, (dict, list)) else text_member(row, "message")
         return Entry(None, text_member(row, "stationId"), text_member(row, "timestamp"), frame, origin == "cs")
 
 
@@ -324,7 +348,7 @@ class CitrineCsvForm:
             return None
         if len(cells) != len(self.heads):
             raise Refused("a row has not as many cells as the first line", str(len(cells)))
-        return CitrineForm.entry(dict(zip(self.heads, cells)), text)
+        return CitrineForm.entry(dict(zip(self.heads, cells)), {})
 
 
 class MaeveForm:
@@ -338,11 +362,10 @@ class MaeveForm:
             raise Refused("not a topic cs/in/ocpp2.0.1/STATION, a blank and an object")
         if match["protocol"] != "ocpp2.0.1":
             raise Refused("the topic's protocol is not ocpp2.0.1", shown(match["protocol"]))
-        told = match["object"]
-        return Entry(None, match["station"], None, self.frame(told, object_of(told)), match["way"] == "in")
+        return Entry(None, match["station"], None, self.frame(*members_of(match["object"])), match["way"] == "in")
 
     @staticmethod
-    def frame(told: str, entry: dict[str, Any]) -> str:
+    def frame(entry: dict[str, Any], texts: dict[str, str]) -> str:
         kind = text_member(entry, "type")
         if kind in ("call-result", "call-error"):
             return "[3]"
@@ -352,7 +375,7 @@ class MaeveForm:
             text_member(entry, field)
         if "request" not in entry:
             raise Refused("'request' is missing")
-        return f"[2,{cut(told, 'id')},{cut(told, 'action')},{cut(told, 'request')}]"
+        return f"[2,{texts['id']},{texts['action']},{texts['request']}]"
 
 
 Form = JsonForm | OcppForm | CitrineForm | CitrineCsvForm | MaeveForm
@@ -514,7 +537,7 @@ class Conversion:
         try:
             for number, line in lines(log):
                 self.counts["lines"] += 1
-                progress.tell(number)
+                progress.tell(number, len(line or b""))
                 try:
                     self.counts[self.take(line)] += 1
                 except Refused as why:

@@ -18,7 +18,7 @@ node-ws; a Node that is not Debian's finds it with NODE_PATH=/usr/share/nodejs).
 const { randomUUID } = require('node:crypto');
 const { once } = require('node:events');
 const { parseArgs } = require('node:util');
-const WebSocket = require('ws');
+let WebSocket; // The package ws, once the words are read.
 
 // A TransactionEventRequest, ten minutes after the one before, at 7.2 kW (1200 Wh in ten minutes).
 function transactionEvent(session, seqNo, eventType, triggerReason, more = {}) {
@@ -82,13 +82,40 @@ async function charge(url, session) {
   socket.close(1000);
 }
 
-const options = { help: { type: 'boolean' }, transaction: { type: 'string' }, start: { type: 'string' } };
-const { values, positionals } = parseArgs({ options, allowPositionals: true });
-const session = { transaction: values.transaction ?? randomUUID(),
-  start: values.start ? Date.parse(values.start) : Date.now() - 70 * 60_000 };
-if (values.help || positionals.length !== 2) {
-  console.log(HELP);
-  process.exitCode = values.help ? 0 : 2;
-} else {
-  charge(positionals.join('/'), session).catch((fault) => { console.error(String(fault)); process.exit(1); });
+// The words, or what is wrong with them.
+function readWords() {
+  const options = { help: { type: 'boolean', short: 'h' }, transaction: { type: 'string' }, start: { type: 'string' } };
+  const { values, positionals } = parseArgs({ options, allowPositionals: true });
+  if (!values.help && positionals.length !== 2) throw new Error('a URL and a station are needed');
+  const start = values.start ? Date.parse(values.start) : Date.now() - 70 * 60_000;
+  if (Number.isNaN(start)) throw new Error(`--start is no time: ${values.start}`);
+  return { help: values.help, url: positionals.join('/'),
+    session: { transaction: values.transaction ?? randomUUID(), start } };
 }
+
+function end(status, told) {
+  console.error(`station.js: ${told}`);
+  process.exit(status);
+}
+
+function main() {
+  let words;
+  try {
+    words = readWords();
+  } catch (fault) {
+    end(2, `${fault.message}; station.js --help says more`);
+  }
+  if (words.help) {
+    console.log(HELP);
+    return;
+  }
+  try {
+    WebSocket = require('ws');
+  } catch {
+    end(1, 'there is no package ws (Debian: apt-get install node-ws; elsewhere: npm install ws; a Node that is not ' +
+      "Debian's finds Debian's package with NODE_PATH=/usr/share/nodejs)");
+  }
+  charge(words.url, words.session).catch((fault) => end(1, String(fault)));
+}
+
+main();

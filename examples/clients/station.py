@@ -19,8 +19,6 @@ import sys
 from datetime import datetime, timedelta, timezone
 from uuid import uuid4
 
-import websockets
-
 
 def transaction_event(args, seq_no, kind, reason, *, offline=False, state=None, **more):
     """A TransactionEventRequest, ten minutes after the one before, at 7.2 kW (1200 Wh in ten minutes)."""
@@ -88,7 +86,13 @@ parser.add_argument("station", help="the station's name, such as CS-01")
 parser.add_argument("--transaction", default=str(uuid4()), help="the transaction's id; else a new one")
 parser.add_argument("--start", type=utc, default=datetime.now(timezone.utc) - timedelta(minutes=70),
                     help="when charging begins, such as 2026-03-01T10:00:00Z; else 70 minutes ago")
+words = parser.parse_args()
 try:
-    asyncio.run(charge(parser.parse_args()))
+    import websockets
+except ImportError:
+    sys.exit("station.py: there is no package `websockets` (Debian: apt-get install python3-websockets; "
+             "elsewhere: pip install websockets)")
+try:
+    asyncio.run(charge(words))
 except (OSError, websockets.WebSocketException) as fault:
-    sys.exit(str(fault))
+    sys.exit(f"station.py: {fault}")
