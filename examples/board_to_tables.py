@@ -448,7 +448,8 @@ dl.figures div.mark{border:3px double var(--ink)}
 dl.figures dt{font-size:.8rem}dl.figures dd{margin:0;font-weight:600}
 .warning{border:3px double var(--ink);padding:.5rem .7rem;font-weight:600}
 .day{display:grid;grid-template-columns:minmax(0,1fr) 21rem;gap:0 1.25rem;margin:0 0 1.25rem}
-figure{margin:0;padding-left:4rem}figcaption,caption{text-align:left;font-size:.85rem;padding:.2rem 0}figcaption{margin-left:-4rem}
+figure{margin:0;padding-left:4rem}figcaption,caption{text-align:left;font-size:.85rem;padding:.2rem 0}
+figcaption{margin-left:-4rem}
 svg{display:block;overflow:visible}
 svg text{font:11px system-ui,sans-serif;fill:var(--ink)}
 .grid{stroke:var(--line)}.zero{stroke:var(--ink)}
@@ -838,8 +839,8 @@ class Index(Sink):
 
     def end(self) -> None:
         label = f"b{self.number}"
-        warning = "" if self.whole else ('<p class="warning">This board is not whole: lines of it could not be read, or '
-                                         "its end is missing.</p>\n")
+        warning = "" if self.whole else ('<p class="warning">This board is not whole: lines of it could not be read, '
+                                         "or its end is missing.</p>\n")
         self.index.put(f'<section aria-labelledby="{label}">\n<h2 id="{label}">Site {self.name}</h2>\n'
                        f"<p>Board {self.number} of the text, from its line {self.line} on.</p>\n{warning}")
         self.index.put("".join(figures(self.site.total)))
@@ -858,13 +859,14 @@ class Index(Sink):
 def arguments() -> argparse.Namespace:
     parser = argparse.ArgumentParser(
         description=__doc__, formatter_class=argparse.RawDescriptionHelpFormatter,
-        epilog="One station at a time is held in memory, the quarters of one site, and a line for each session. Pages of "
-        "days that an earlier run wrote and this one has not stay. Exit status: 0; 1 when the text has no board, a line "
-        "of a board could not be read or a board has no end; 2 when the words are wrong or a file can't be read or "
-        "written.")
+        epilog="One station at a time is held in memory, the quarters of one site, and a line for each session. Pages "
+        "of days that an earlier run wrote and this one has not stay. Exit status: 0; 1 when the text has no board, a "
+        "line of a board could not be read or a board has no end; 2 when the words are wrong or a file can't be read "
+        "or written.")
     parser.add_argument("text", nargs="?", default="-", help="the text with the boards, standard input if absent or -")
     parser.add_argument("--out", metavar="NAME", default="board",
-                        help="how the files begin, a folder included (default: board); what stands there is overwritten")
+                        help="how the files begin, a folder included (default: board); what stands there is "
+                        "overwritten")
     parser.add_argument("--tz", metavar="ZONE", type=zone, default=timezone.utc,
                         help="the time zone of days and hours, such as Europe/Berlin (default: UTC)")
     parser.add_argument("--day", metavar="DAY", type=date.fromisoformat, help="this day alone, such as 2026-03-01")
@@ -888,11 +890,17 @@ def zone(name: str) -> ZoneInfo:
         raise argparse.ArgumentTypeError(f"no time zone of this system: {name!r} (Debian: package tzdata)") from None
 
 
+def plain(text: BinaryIO) -> BinaryIO:
+    if text.peek(2)[:2] == b"\x1f\x8b":
+        raise OSError("the text is compressed by gzip: gunzip -c TEXT | board_to_tables.py")
+    return text
+
+
 def main() -> int:
     words = arguments()
     calendar = Calendar(words)
     try:
-        with (open(0 if words.text == "-" else words.text, "rb") as text,
+        with (plain(open(0 if words.text == "-" else words.text, "rb")) as text,
               open(words.out + ".quarters.csv", "w", encoding="utf-8", newline="") as quarters,
               open(words.out + ".transactions.csv", "w", encoding="utf-8", newline="") as transactions):
             days = DayPages(words.out, calendar)

@@ -27,13 +27,14 @@ as_stored() {
     diff --label stored --label made -u "$1" "$2" && echo "$1: as stored" || differs "$1"
 }
 
-# gives STATUS NAME COMMAND..: the command ends with this status, writes the stored text NAME, where there is one, and
-# tells NAME.told, where there is one; else what it tells is shown where its status is another.
+# gives STATUS NAME COMMAND..: the command ends with this status, writes the stored text NAME and tells NAME.told, where
+# one of them may not be stored; else what it tells is shown where its status is another. A NAME of - stands for neither.
 gives() {
     local status=$1 name=$2
     shift 2
     "$@" > "$made/given" 2> "$made/told"
     local ended=$?
+    [ "$name" = - ] || [ -e "$name" ] || [ -e "$name.told" ] || differs "$name, which is not stored,"
     [ ! -e "$name" ] || as_stored "$name" "$made/given"
     [ ! -e "$name.told" ] || as_stored "$name.told" "$made/told"
     [ $ended = "$status" ] || { cat "$made/told"; differs "the status of $*: $ended, not $status,"; }
@@ -78,6 +79,7 @@ with_program() {
     as_stored live/north.transactions.csv "$made/live/north.transactions.csv"
     tells 1 "there is no board" ./live_board.py --program "$program" --out "$made/live" /dev/null < /dev/null
     tells 2 "No such file or directory" ./live_board.py --program "$program" --out "$made/live" nowhere.script
+    tells 2 "the script is compressed by gzip" ./live_board.py --program "$program" --out "$made/live" "$made/day.script.gz" < /dev/null
     tells 2 "No such file or directory" ./live_board.py --program ./nowhere --out "$made/live" forms/ocpp.script
 
     # 50 events of each of two stations: a session of 48 and one of 2, in each of which all but the first rise by 250 Wh.
@@ -141,9 +143,9 @@ if [ -n "$program" ]; then
     ./words.py "$program" words.txt || differs words.txt
     with_program
 else
-    (cd ../crates/ocpp_board && rt try --steps 1 --seconds 300 --cases "$made/cases" -- replay) > "$made/tried" ||
-        differs "scripts"
-    grep -v ' output=expected ' "$made/tried"
+    (cd ../crates/ocpp_board && rt try --steps 1 --seconds 300 --cases "$made/cases" -- replay) 2>&1 |
+        grep -v ' output=expected '
+    [ "${PIPESTATUS[0]}" = 0 ] || differs "scripts"
     echo "words.txt, explain.py and live_board.py: not run, which needs a built program"
 fi
 
@@ -160,8 +162,12 @@ for name in berlin.quarters berlin.transactions states.transactions; do
     as_stored "tables/$name.csv" "$made/$name.csv"
 done
 holds tables/berlin.said
+made_by ./board_to_tables.py --tz Europe/Berlin --day 2026-03-29 --out "$made/one" tables/berlin.text
+grep -E '^board|:00Z,2026-03-29T' tables/berlin.quarters.csv > "$made/one.rows"
+diff "$made/one.rows" "$made/one.quarters.csv" || differs "a day of tables/berlin.quarters.csv"
 gives 1 tables/broken ./board_to_tables.py --out "$made/broken" tables/broken.text
-tells 1 "the text ends, and no board began in it" ./board_to_tables.py --out "$made/noise" "$made/day.jsonl.gz"
+tells 1 "the text ends, and no board began in it" ./board_to_tables.py --out "$made/noise" day.jsonl
+tells 2 "the text is compressed by gzip" ./board_to_tables.py --out "$made/noise" "$made/day.jsonl.gz"
 tells 2 "No such file or directory" ./board_to_tables.py --out "$made/nowhere/x" day.expected
 tells 2 "no time zone of this system: 'Mars'" ./board_to_tables.py --tz Mars --out "$made/x" day.expected
 tells 2 "--from is after --to" ./board_to_tables.py --from 2026-03-02 --to 2026-03-01 --out "$made/x" day.expected

@@ -110,8 +110,8 @@ def words_fault(words: list[str]) -> Said | None:
         told = (number_fault(f"number of {what}", text, 2**64 - 1) for (what, _), text in zip(LIMITS, rest))
         return next(filter(None, told), None)
     if kind == "now":
-        fault = time_fault(rest[0])
-        return fault and (f"the time {shown(rest[0])} {fault}", "a time such as 2026-03-01T10:00:00Z")
+        # Nothing else can be wrong with such a line, whatever Python takes for a time.
+        return f"the time {shown(rest[0])} {time_fault(rest[0]) or 'is no time'}", "a time such as 2026-03-01T10:00:00Z"
     if fault := name_fault("station's name", rest[0]):
         return fault
     if kind in ("void", "restore", "erase"):
@@ -139,7 +139,8 @@ def bytes_fault(line: bytes, number: int) -> Said | None:
     if "\t" in " ".join(words_of(text)[:2] if text.startswith("msg ") else words_of(text)):
         return f"a tab stands at character {text.index(chr(9)) + 1}", "one blank between words"
     if text.endswith("\r"):
-        return "a carriage return stands at the end, not right before a line feed or twice", "end the line by a line feed"
+        return ("a carriage return stands at the end, not right before a line feed or twice",
+                "end the line by a line feed")
     if text.startswith(" "):
         return "a blank stands in front", "begin the line with its word"
     return None
@@ -282,8 +283,8 @@ REMEDIES = {
     "TextTooLong": ("the message has more than 262,144 bytes", "a shorter message"),
     "OutOfMemory": ("there was no memory", "run it where there is more, or with less in `limits`"),
     "Format": ("the payload is no object", "an object as the fourth element"),
-    "ConflictingEvent": ("an event with this seqNo of this transaction stands already, with another kind, time, EVSE or "
-                         "other readings", "leave it out; or, where the one that stands is wrong, void and erase that "
+    "ConflictingEvent": ("an event with this seqNo of this transaction stands already, with another kind, time, EVSE "
+                         "or other readings", "leave it out; or, where the one that stands is wrong, void and erase that "
                          "and send this one again"),
     "TooManyTransactions": ("the station has as many transactions as its limits allow",
                             "a line `limits <transactions> <events> <readings> <changes>` before its `station` line"),
@@ -307,11 +308,13 @@ def message_fault(text: str, told: str) -> Said:
     try:
         frame = JSON.decode(text)
     except (json.JSONDecodeError, RecursionError) as fault:
-        where = f"{fault.msg} at character {fault.pos + 1}" if isinstance(fault, json.JSONDecodeError) else "nested too deep"
+        is_deep = isinstance(fault, RecursionError)
+        where = "nested too deep" if is_deep else f"{fault.msg} at character {fault.pos + 1}"
         return ("the message is empty" if not text.strip() else f"the message is no JSON: {where}",
                 "the message as the station sent it, on one line")
     if told == "NotJson":
-        return "the message is no JSON, as a number with zeros in front, or is nested deeper than 127", "JSON of RFC 8259"
+        return ("the message is no JSON, as a number with zeros in front, or is nested deeper than 127",
+                "JSON of RFC 8259")
     if told == "NotACall":
         return not_a_call(frame), 'a CALL: [2,"<id>","<action>",{<payload>}]'
     if told == "MessageType":
@@ -321,7 +324,8 @@ def message_fault(text: str, told: str) -> Said:
         return (f"the action {shown(frame[2])} is none that is answered",
                 f"the nearest is {near[0]}" if near else "leave it out: it keeps nothing of a transaction")
     failed = Checks(frame[3]).failed
-    fault, member, what = next((each for each in failed if each[0] == told), (told, "a member", "broke the check"))
+    other = (told, "a timestamp", "is no time") if told == "Moment" else (told, "a member", "broke the check")
+    fault, member, what = next((each for each in failed if each[0] == told), other)
     return f"{member} {what}", "the station's message is to be corrected, or left out"
 
 
@@ -484,7 +488,8 @@ class Run:
             cause, remedy = self.line_fault(name, line, words)
         elif text.startswith("refused "):
             self.plan.take(line.number, words)
-            cause, remedy = REMEDIES.get(text.removeprefix("refused "), ("the command was refused", "see docs/rules.md"))
+            cause, remedy = REMEDIES.get(text.removeprefix("refused "),
+                                         ("the command was refused", "see docs/rules.md"))
         elif text.startswith("[4,"):
             self.plan.take(line.number, words)
             told = re.search(r',"([A-Za-z]+)",\{\}\]$', text)
@@ -543,8 +548,8 @@ class Run:
 def arguments() -> argparse.Namespace:
     parser = argparse.ArgumentParser(
         description=__doc__, formatter_class=argparse.RawDescriptionHelpFormatter,
-        epilog="Exit status: 0 when there is nothing to tell; 1 when something was told; 2 when the words are wrong, the "
-        "program is not there, or a file can't be read or written.")
+        epilog="Exit status: 0 when there is nothing to tell; 1 when something was told; 2 when the words are wrong, "
+        "the program is not there, or a file can't be read or written.")
     parser.add_argument("script", nargs="?", default="-", metavar="SCRIPT",
                         help="the script, standard input if absent or -")
     parser.add_argument("--program", metavar="PATH", default="ocpp_board", help="the program (default: ocpp_board)")

@@ -51,7 +51,8 @@ class Ledger:
         self.process = subprocess.Popen([program, "replay"], stdin=subprocess.PIPE, stdout=subprocess.PIPE,
                                         start_new_session=True)
         self.token = secrets.token_hex(4)
-        self.mark = re.compile(rf'\[4,"live-{self.token}-([0-9]+)","NotImplemented","UnknownAction",\{{\}}\]\n'.encode())
+        mark = rf'\[4,"live-{self.token}-([0-9]+)","NotImplemented","UnknownAction",\{{\}}\]\n'
+        self.mark = re.compile(mark.encode())
         self.sending = threading.Lock()
         self.sites: list[str] = []
         self.stations: list[str] = []
@@ -61,7 +62,7 @@ class Ledger:
         self.is_open = threading.Event()
         self.marks = 0
         self.answers: dict[int, queue.Queue[bytes | None]] = {}
-        self.counts = dict.fromkeys(["lines", "accepted", "refused", "faults"], 0)
+        self.counts = dict.fromkeys(["lines", "bytes", "accepted", "refused", "faults"], 0)
         self.reader = threading.Thread(target=self.read, daemon=True)
         self.reader.start()
 
@@ -77,6 +78,7 @@ class Ledger:
         words = line.split(b" ")
         with self.sending:
             self.counts["lines"] += 1
+            self.counts["bytes"] += len(line)
             if words[0] == b"station" and len(words) == 3 and not self.is_probed():
                 self.declare(words[1], words[2].strip())
             self.write(line if line.endswith(b"\n") else line + b"\n")
@@ -195,7 +197,9 @@ class Run:
         end.set()
 
     def feed(self) -> None:
-        for line in iter(lambda: self.script.readline(LONGEST_LINE), b""):
+        for number, line in enumerate(iter(lambda: self.script.readline(LONGEST_LINE), b"")):
+            if number == 0 and line.startswith(b"\x1f\x8b"):
+                raise OSError("the script is compressed by gzip: <(gunzip -c SCRIPT)")
             self.ledger.send(line)
 
     def operate(self) -> None:
@@ -215,38 +219,50 @@ class Run:
 
     def wait(self) -> None:
         """Writes the pages every so many seconds until all is at its end."""
-        due = time.monotonic() + self.words.every
+        due, shown = time.monotonic() + self.words.every, time.monotonic() + 0.5
         while not self.has_ended() and self.ledger.process.poll() is None:
             self.ends[0 if not self.ends[0].is_set() else 1].wait(0.1)
             if time.monotonic() >= due:
-                self.write()
+                if fault := self.write():
+                    print(f"live_board.py: {fault}; tried again in {self.words.every:g} s", file=sys.stderr, flush=True)
                 due = time.monotonic() + self.words.every
+            if time.monotonic() >= shown:
                 self.progress()
+                shown = time.monotonic() + 0.5
 
-    def write(self) -> None:
-        if self.ledger.is_open.is_set() and self.ledger.station:
-            for site in self.ledger.sites:
-                self.pages.write(site, self.ledger.ask(f"board {site}".encode()))
+    def write(self) -> str | None:
+        """Writes the pages, and gives what went wrong. The ledger goes on, and they are tried again."""
+        try:
+            if self.ledger.is_open.is_set() and self.ledger.station:
+                for site in self.ledger.sites:
+                    self.pages.write(site, self.ledger.ask(f"board {site}".encode()))
+        except OSError as fault:
+            return str(fault)
+        return None
 
     def progress(self) -> None:
         if sys.stderr.isatty():
-            print("\r{lines:,} lines, {refused:,} messages refused, {faults:,} faults \033[K".format(
-                **self.ledger.counts), end="", file=sys.stderr, flush=True)
+            counts, size = self.ledger.counts, os.fstat(self.script.fileno()).st_size
+            share = f", {100 * counts['bytes'] / size:.0f} %" if size else ""
+            print(f"\r{counts['lines']:,} lines, {counts['bytes'] / 1e6:,.1f} MB{share}, {counts['refused']:,} messages "
+                  f"refused, {counts['faults']:,} faults \033[K", end="", file=sys.stderr, flush=True)
 
     def end(self) -> int:
         """The pages once more, and how it all ended."""
         try:
-            self.write()
+            self.faults += filter(None, [self.write()])
         except Ended:
             pass
         status = self.ledger.close()
-        print("lines of the script: {lines}, messages accepted: {accepted}, refused: {refused}, faults: {faults}; pages "
-              "written: {pages}".format(pages=self.pages.count, **self.ledger.counts), file=sys.stderr)
+        if sys.stderr.isatty():
+            print("\r\033[K", end="", file=sys.stderr)
+        print("lines of the script: {lines}, messages accepted: {accepted}, refused: {refused}, faults: {faults}; "
+              "pages written: {pages}".format(pages=self.pages.count, **self.ledger.counts), file=sys.stderr)
         for fault in self.faults:
             print(f"live_board.py: {fault}", file=sys.stderr)
         if status:
             print(f"live_board.py: the replay ended with status {status}", file=sys.stderr)
-        elif not self.ledger.station:
+        elif not self.ledger.station and not self.faults:
             print("live_board.py: the script declared no station, or had no line that needs the ledgers: there is no "
                   "board", file=sys.stderr)
         return 2 if self.faults else 1 if status or not self.ledger.station else 0
@@ -268,8 +284,8 @@ def beside(*names: str) -> str:
 def arguments() -> argparse.Namespace:
     parser = argparse.ArgumentParser(
         description=__doc__, formatter_class=argparse.RawDescriptionHelpFormatter,
-        epilog="Exit status: 0; 1 when the replay ended with a fault or there is no board; 2 when the words are wrong or "
-        "a file can't be read or written.")
+        epilog="Exit status: 0; 1 when the replay ended with a fault or there is no board; 2 when the words are wrong "
+        "or a file can't be read or written.")
     parser.add_argument("script", metavar="SCRIPT", help="the script: a file, a named pipe, or what <(..) gives")
     parser.add_argument("--out", metavar="FOLDER", type=Path, required=True, help="where the pages are written")
     parser.add_argument("--every", metavar="SECONDS", type=seconds, default=10.0,

@@ -384,7 +384,8 @@ Form = JsonForm | OcppForm | CitrineForm | CitrineCsvForm | MaeveForm
 def form_of(words: argparse.Namespace) -> Form:
     if words.form == "json":
         return JsonForm(words)
-    return {"ocpp": OcppForm, "citrineos": CitrineForm, "citrineos-csv": CitrineCsvForm, "maeve": MaeveForm}[words.form]()
+    forms = {"ocpp": OcppForm, "citrineos": CitrineForm, "citrineos-csv": CitrineCsvForm, "maeve": MaeveForm}
+    return forms[words.form]()
 
 
 def named(field: str, name: str) -> str:

@@ -1,7 +1,7 @@
 #!/usr/bin/env bash
 # Makes a Debian package of the built program, the Python programs, their man pages, a systemd unit and the clients.
-#     examples/package.sh PROGRAM [FOLDER]      writes FOLDER/ocpp-board_<version>_<architecture>.deb, FOLDER being . if absent
-# It needs dpkg-deb and strip (packages dpkg and binutils), and no root. The program needs the C library alone, the others python3.
+#     examples/package.sh PROGRAM [FOLDER]      writes ocpp-board_<version>_<architecture>.deb to FOLDER, or here
+# It needs dpkg-deb and strip (packages dpkg and binutils), and no root. What it installs needs the C library and python3.
 set -eu -o pipefail
 if [ $# -lt 1 ] || [ $# -gt 2 ] || [ "$1" = --help ] || [ "$1" = -h ]; then
     sed -n '2,5s/^# \?//p' "$0"

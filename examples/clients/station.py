@@ -76,7 +76,7 @@ async def charge(args):
     await socket.close()
 
 
-def utc(text):
+def time(text):
     return datetime.fromisoformat(text).astimezone(timezone.utc)
 
 
@@ -84,7 +84,7 @@ parser = argparse.ArgumentParser(description=__doc__, formatter_class=argparse.R
 parser.add_argument("url", help="where the server listens, such as ws://127.0.0.1:9000/ocpp")
 parser.add_argument("station", help="the station's name, such as CS-01")
 parser.add_argument("--transaction", default=str(uuid4()), help="the transaction's id; else a new one")
-parser.add_argument("--start", type=utc, default=datetime.now(timezone.utc) - timedelta(minutes=70),
+parser.add_argument("--start", type=time, default=datetime.now(timezone.utc) - timedelta(minutes=70),
                     help="when charging begins, such as 2026-03-01T10:00:00Z; else 70 minutes ago")
 words = parser.parse_args()
 try:
