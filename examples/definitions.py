@@ -16,7 +16,9 @@ BEGIN, END = "<!-- definitions: made by examples/definitions.py -->", "<!-- end 
 
 # Files of specs/ whose words stand in no clause of a public call and in no other definition of such a clause.
 INNER = {
-    "ocpp_board": {"Reading", "Answering", "Writing", "ScriptLines", "Plans", "Received", "Echoes"},
+    "script_lines": {"Reading", "ScriptLines"},
+    "script_replay": {"Answering", "Writing", "Received"},
+    "script_replay_tests": {"Echoes"},
     "station_ledger": set(),
     "board_report": {"Lines"},
     "site_book": set(),

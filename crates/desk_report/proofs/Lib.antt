@@ -1,1 +1,2 @@
 pub mod SiteBoards
+pub mod ClosedSites

@@ -2,12 +2,12 @@
 //!
 //! A desk has one list of stations and one of cells, each station's cell in its place; a site's stations
 //! are those that name its number. [`site_text`] makes their boards, adds up their quarters and writes the
-//! text, `quarter` lines, stations and all. Whoever has the cells uses it: a replay, and a server whose desk
-//! is closed.
+//! text, `quarter` lines, stations and all. Whoever has the cells uses it: a replay, and [`closed_board`], which
+//! makes the board of a site of a desk that was closed.
 //!
 //! The crate's one contract: the text is that of the board under the name and the totals that are handed
 //! in, with each of the site's stations once, in the plan's order, its board from scratch from its cell's
-//! content.
+//! content. Of a closed desk the totals are the sums over the site's stations.
 //!
 //! ```text
 //! site_text(alloc, plan.stations.as_slice(), &cells, site, &name, book.totals())?   // board north ..
@@ -15,5 +15,7 @@
 #![tactic(auto)]
 
 mod boards;
+mod closed;
 
 pub use boards::site_text;
+pub use closed::closed_board;

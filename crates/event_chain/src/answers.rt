@@ -24,7 +24,7 @@ pub enum Found {
 
 /// What the live events of a transaction come to.
 #[derive(Clone, Copy, Debug, PartialEq, Eq)]
-pub struct Standing {
+pub struct TxStanding {
     /// The lowest live number.
     pub first: Option<u32>,
     /// The highest live number.

@@ -15,7 +15,7 @@ ghost use Rattle.event_chain.specs.Room.{room_of, found_of, readings_under};
 ghost use Rattle.event_chain.specs.Kept.{end_count, is_end};
 ghost use Rattle.event_chain.specs.Edits.{counts_under};
 
-use crate::answers::{Found, Room, Standing};
+use crate::answers::{Found, Room, TxStanding};
 use crate::live_lists::LiveLists;
 use crate::spots::{
     enter, evse_at, first_at, first_in, kind_at, last_at, last_in, leave, locate, number_of,
@@ -159,8 +159,7 @@ impl Chains {
             ends: row.ends + ends_of(event.kind()),
         };
         self.table.set(key.tx(), after);
-        // The rows rise, each with a slot of its own.
-        let _transactions = self.table.len();
+        self.table.rows_rise();
     }
 
     /// Voids a live event; it keeps its slots.
@@ -183,8 +182,7 @@ impl Chains {
             ends: at.row.ends - ends,
         };
         self.table.set(key.tx(), after);
-        // The rows rise, each with a slot of its own.
-        let _transactions = self.table.len();
+        self.table.rows_rise();
     }
 
     /// Makes a voided event live again; it takes no slot.
@@ -207,8 +205,7 @@ impl Chains {
             ends: at.row.ends + ends,
         };
         self.table.set(key.tx(), after);
-        // The rows rise, each with a slot of its own.
-        let _transactions = self.table.len();
+        self.table.rows_rise();
     }
 
     /// Takes out a voided event with its readings; a transaction without events gives its place back.
@@ -221,8 +218,7 @@ impl Chains {
         out_place(&mut self.stored, at.key, true);
         self.store.take_out(at.slot);
         leave(&mut self.table, &self.stored, key.tx(), at.row);
-        // The rows rise, each with a slot of its own.
-        let _transactions = self.table.len();
+        self.table.rows_rise();
     }
 
     /// The readings of the event of a key, in the order in which they were sent; none where the key is
@@ -293,8 +289,7 @@ impl Chains {
     pub fn last(&self, tx: &TxId) -> Option<u32>
         ensures { let numbers = numbers_of tx.now (stored self.now) in result ≡ slice_get numbers (length numbers - 1) }
     {
-        // Slots are below the table's capacity.
-        let (_count, _capacity) = (self.table.len(), self.table.capacity());
+        self.table.rows_rise();
         let live = self.live.index();
         number_of(last_in(live, self.table.get(tx)))
     }
@@ -318,7 +313,7 @@ impl Chains {
 
     /// What the live events of a transaction come to, with one look-up of the transaction: the two ends
     /// and their kinds, the two counts, and the EVSE.
-    pub fn standing(&self, tx: &TxId) -> Standing
+    pub fn standing(&self, tx: &TxId) -> TxStanding
         ensures first { result.first ≡ slice_get (numbers_of tx.now (stored self.now)) 0 }
         ensures last { let numbers = numbers_of tx.now (stored self.now) in result.last ≡ slice_get numbers (length numbers - 1) }
         ensures first_kind { result.first_kind ≡ slice_get (kinds_of tx.now (stored self.now)) 0 }
@@ -327,8 +322,7 @@ impl Chains {
         ensures ends { result.ends ≡ count_by is_end (kinds_of tx.now (stored self.now)) }
         ensures evse { result.evse ≡ evse_of tx.now (stored self.now) }
     {
-        // Slots are below the table's capacity.
-        let (_count, _capacity) = (self.table.len(), self.table.capacity());
+        self.table.rows_rise();
         let row = self.table.get(tx);
         let live = self.live.index();
         let first = first_in(live, row);
@@ -336,7 +330,7 @@ impl Chains {
         let first_kind = kind_at(&self.store, &first);
         let last_kind = kind_at(&self.store, &last);
         let counts = counts_in(row);
-        Standing {
+        TxStanding {
             first: number_of(first),
             last: number_of(last),
             first_kind,

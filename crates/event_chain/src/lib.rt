@@ -25,15 +25,11 @@
 mod answers;
 mod chains;
 mod live_lists;
-#[cfg(test)]
-mod plain_list;
 mod spots;
-#[cfg(test)]
-mod tests;
 mod tx_ids;
 mod tx_walk;
 
-pub use answers::{Found, Room, Standing};
+pub use answers::{Found, Room, TxStanding};
 pub use chains::Chains;
 pub use tx_ids::TxIds;
 pub use tx_walk::{TxPlace, TxWalk};

@@ -57,8 +57,7 @@ fn slot_behind(
     requires before { before ≡ option_map slot_in (last_of (places_before key index.now.entries)) }
     ensures { result ≡ option_map slot_in (slice_get (places_behind key index.now.entries) 0) }
 {
-    // The indexed keys rise.
-    let _count = index.len();
+    index.keys_rise();
     match before {
         Some(slot) => links.next(slot),
         None => slot_of_place(place_behind(index, key)),
@@ -82,8 +81,7 @@ impl LiveLists {
         ensures rising { AreRising self.now.entries }
         ensures own { AreOwn self.now.entries }
     {
-        // The indexed keys rise.
-        let _count = self.index.len();
+        self.index.keys_rise();
         &self.index
     }
 
@@ -96,8 +94,7 @@ impl LiveLists {
         ensures entries { self.new.entries ≡ put nat_cmp key slot self.old.entries }
         ensures capacity { self.new.capacity ≡ self.old.capacity }
     {
-        // The indexed keys rise.
-        let _count = self.index.len();
+        self.index.keys_rise();
         let before = slot_of_place(place_before(&self.index, key));
         let after = slot_behind(&self.index, &self.links, key, before);
         self.links.link_in(before, slot, slot, after);
@@ -110,8 +107,7 @@ impl LiveLists {
         ensures entries { self.new.entries ≡ out key self.old.entries }
         ensures capacity { self.new.capacity ≡ self.old.capacity }
     {
-        // The indexed keys rise.
-        let _count = self.index.len();
+        self.index.keys_rise();
         let before = self.links.prev(slot);
         let after = self.links.next(slot);
         self.links.link_out(before, after);
@@ -123,8 +119,7 @@ impl LiveLists {
         requires { HasRank self.now.entries slot }
         ensures { (rank : ℕ) → place_of rank self.now.entries ≡ Some slot → result ≡ option_map slot_in (slice_get (places_behind rank self.now.entries) 0) }
     {
-        // The indexed keys rise.
-        let _count = self.index.len();
+        self.index.keys_rise();
         self.links.next(slot)
     }
 }

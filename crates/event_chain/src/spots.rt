@@ -30,8 +30,7 @@ pub(crate) struct Spot {
 pub(crate) fn slot_of(table: &TransactionTable, stored: &KeyIndex, key: &Key) -> Option<u32>
     ensures { result ≡ place_at table.now.rows stored.now.entries key.now }
 {
-    // The indexed keys rise.
-    let _count = stored.len();
+    stored.keys_rise();
     match table.get(key.tx()) {
         Some(row) => stored.get(IndexKey::new(row.slot, key.seq())),
         None => None,
@@ -46,8 +45,7 @@ pub(crate) fn locate(table: &TransactionTable, stored: &KeyIndex, key: &Key) -> 
     ensures slot { place_of result.key stored.now.entries ≡ Some result.slot }
     ensures number { key.now.seq < sequence_end }
 {
-    // The indexed keys rise.
-    let _count = stored.len();
+    stored.keys_rise();
     let row = match table.get(key.tx()) {
         Some(row) => row,
         None => unreachable!(),
@@ -87,8 +85,7 @@ fn has_place(stored: &KeyIndex, slot: u32) -> bool
     ensures some { result ≡ true → HasPlace stored.now.entries slot }
     ensures bare { result ≡ false → IsBare stored.now.entries slot }
 {
-    // The indexed keys rise.
-    let _count = stored.len();
+    stored.keys_rise();
     first_place(stored, slot).is_some()
 }
 
@@ -96,8 +93,7 @@ fn has_place(stored: &KeyIndex, slot: u32) -> bool
 pub(crate) fn first_place(index: &KeyIndex, slot: u32) -> Option<(IndexKey, u32)>
     ensures { result ≡ slice_get (segment slot index.now.entries) 0 }
 {
-    // The indexed keys rise.
-    let _count = index.len();
+    index.keys_rise();
     own(index.at_or_after(IndexKey::new(slot, 0)), slot)
 }
 
@@ -116,8 +112,7 @@ fn last_place(index: &KeyIndex, slot: u32) -> Option<(IndexKey, u32)>
     requires { slot < 4294967295 }
     ensures { result ≡ last_of (segment slot index.now.entries) }
 {
-    // The indexed keys rise.
-    let _count = index.len();
+    index.keys_rise();
     own(index.before(IndexKey::new(slot + 1, 0)), slot)
 }
 
@@ -136,8 +131,7 @@ pub(crate) fn last_in(index: &KeyIndex, row: Option<TableRow>) -> Option<(IndexK
 pub(crate) fn place_before(index: &KeyIndex, key: IndexKey) -> Option<(IndexKey, u32)>
     ensures { result ≡ last_of (places_before key index.now.entries) }
 {
-    // The indexed keys rise.
-    let _count = index.len();
+    index.keys_rise();
     own(index.before(key), key.transaction())
 }
 
@@ -145,8 +139,7 @@ pub(crate) fn place_before(index: &KeyIndex, key: IndexKey) -> Option<(IndexKey,
 pub(crate) fn place_behind(index: &KeyIndex, key: IndexKey) -> Option<(IndexKey, u32)>
     ensures { result ≡ slice_get (places_behind key index.now.entries) 0 }
 {
-    // The indexed keys rise.
-    let _count = index.len();
+    index.keys_rise();
     let (slot, number) = (key.transaction(), key.number());
     if number == GREATEST_NUMBER {
         return None;
@@ -226,8 +219,7 @@ pub(crate) fn put_place(index: &mut KeyIndex, key: IndexKey, slot: u32, wanted: 
     ensures entries { index.new.entries ≡ put_if wanted key slot index.old.entries }
     ensures capacity { index.new.capacity ≡ index.old.capacity }
 {
-    // The indexed keys rise.
-    let _count = index.len();
+    index.keys_rise();
     if wanted {
         index.insert(key, slot);
     }
@@ -239,8 +231,7 @@ pub(crate) fn out_place(index: &mut KeyIndex, key: IndexKey, wanted: bool)
     ensures entries { index.new.entries ≡ out_if wanted key index.old.entries }
     ensures capacity { index.new.capacity ≡ index.old.capacity }
 {
-    // The indexed keys rise.
-    let _count = index.len();
+    index.keys_rise();
     if wanted {
         index.remove(key);
     }

@@ -39,8 +39,7 @@ impl<'a> Iterator for TxIds<'a> {
     ghost remaining = { item_count (λ s. s) };
 
     fn next(&mut self) -> Option<TxId> {
-        // There are at most as many as a table may hold.
-        let _count = self.table.len();
+        self.table.rows_rise();
         match self.table.id_at(self.next) {
             Some(id) => {
                 self.next += 1;

@@ -62,6 +62,15 @@ impl KeyIndex {
         self.len
     }
 
+    /// The keys rise, and the entries are no more than it may hold. It does nothing: a caller names the
+    /// fact by it.
+    pub fn keys_rise(&self)
+        ensures rising { AreRising self.now.entries }
+        ensures within { length self.now.entries ≤ self.now.capacity }
+    {
+        let _ = self.len();
+    }
+
     /// How many entries it may hold.
     pub fn capacity(&self) -> u32
         ensures { result ≡ self.now.capacity }

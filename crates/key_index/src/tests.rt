@@ -24,28 +24,42 @@ fn cut(index: &mut KeyIndex, key: IndexKey) -> bool {
     true
 }
 
+// Three entries of two transactions, put in out of order.
+fn three_entries(index: &mut KeyIndex) -> bool {
+    put(index, key(2, 5), 25) && put(index, key(1, 9), 19) && put(index, key(2, 1), 21)
+}
+
+// Whether the three are found by their keys, and nothing by another.
+fn finds_three(index: &KeyIndex) -> bool {
+    index.len() == 3 && index.get(key(1, 9)) == Some(19) && index.get(key(2, 9)).is_none()
+}
+
+// Whether each of the three has its neighbours.
+fn neighbours_of_three(index: &KeyIndex) -> bool {
+    index.before(key(2, 5)) == Some((key(2, 1), 21))
+        && index.before(key(1, 9)).is_none()
+        && index.at_or_after(key(1, 10)) == Some((key(2, 1), 21))
+        && index.at_or_after(key(2, 5)) == Some((key(2, 5), 25))
+        && index.at_or_after(key(2, 6)).is_none()
+}
+
+// Whether the first entry has these parts of a key.
+fn begins_with(index: &KeyIndex, transaction: u32, number: u32) -> bool {
+    match index.at_or_after(key(1, 0)) {
+        Some((found, _)) => found.transaction() == transaction && found.number() == number,
+        None => false,
+    }
+}
+
 #[test]
 fn keys_go_by_transaction_then_number(rt: HostRuntime) -> Result<(), Fail> {
     let mut index = KeyIndex::open(rt.alloc(), 4)?;
-    assert_eq!(rt; index.capacity(), 4);
-    assert_eq!(rt; index.at_or_after(key(0, 0)), None);
-    assert!(rt; put(&mut index, key(2, 5), 25));
-    assert!(rt; put(&mut index, key(1, 9), 19));
-    assert!(rt; put(&mut index, key(2, 1), 21));
-    assert_eq!(rt; index.len(), 3);
-    assert_eq!(rt;
-        (index.get(key(1, 9)), index.get(key(2, 9))),
-        (Some(19), None)
-    );
-    assert_eq!(rt; index.before(key(2, 5)), Some((key(2, 1), 21)));
-    assert_eq!(rt; index.before(key(1, 9)), None);
-    assert_eq!(rt; index.at_or_after(key(1, 10)), Some((key(2, 1), 21)));
-    assert_eq!(rt; index.at_or_after(key(2, 5)), Some((key(2, 5), 25)));
-    assert_eq!(rt; index.at_or_after(key(2, 6)), None);
+    assert!(rt; index.capacity() == 4 && index.at_or_after(key(0, 0)).is_none());
+    assert!(rt; three_entries(&mut index));
+    assert!(rt; finds_three(&index) && neighbours_of_three(&index));
     assert!(rt; cut(&mut index, key(2, 1)));
-    assert_eq!(rt; index.before(key(2, 5)), Some((key(1, 9), 19)));
-    let (found, _) = index.at_or_after(key(1, 0)).ok_or("no entry")?;
-    assert_eq!(rt; (found.transaction(), found.number()), (1, 9));
+    assert!(rt; index.before(key(2, 5)) == Some((key(1, 9), 19)));
+    assert!(rt; begins_with(&index, 1, 9));
     Ok(())
 }
 
@@ -55,33 +69,56 @@ fn jumping(n: u32) -> IndexKey {
     key(mixed & 0xff, mixed >> 8)
 }
 
+// Fills the index by that walk; tells whether each entry went in.
+fn fill(index: &mut KeyIndex) -> bool {
+    for n in 0..65_536 {
+        if !put(index, jumping(n), n) {
+            return false;
+        }
+    }
+    true
+}
+
+// Takes out all but each eighth entry; tells whether each was there.
+fn thin(index: &mut KeyIndex) -> bool {
+    for n in 0..65_536u32 {
+        let is_there = index.get(jumping(n)) == Some(n);
+        if !is_there || (n % 8 != 0 && !cut(index, jumping(n))) {
+            return false;
+        }
+    }
+    true
+}
+
+// Fills the index again, in another order.
+fn fill_again(index: &mut KeyIndex) -> bool {
+    for n in 0..57_344u32 {
+        if !put(index, key(1_000 + n % 7, n), n) {
+            return false;
+        }
+    }
+    true
+}
+
+// How many entries stand one after the other, up to one more than there is room for.
+fn count_rising(index: &KeyIndex) -> u32 {
+    let mut at = key(0, 0);
+    for count in 0..65_537 {
+        match index.at_or_after(at) {
+            Some((found, _)) => at = key(found.transaction(), found.number().wrapping_add(1)),
+            None => return count,
+        }
+    }
+    65_537
+}
+
 #[test]
 fn a_full_index_is_emptied_and_filled_in_another_order(rt: HostRuntime) -> Result<(), Fail> {
     let mut index = KeyIndex::open(rt.alloc(), 65_536)?;
-    for n in 0..65_536 {
-        assert!(rt; put(&mut index, jumping(n), n), "entry {n}");
-    }
-    assert_eq!(rt; index.len(), 65_536);
+    assert!(rt; fill(&mut index) && index.len() == 65_536);
     assert!(rt; !put(&mut index, key(300, 0), 0));
-    for n in 0..65_536u32 {
-        assert_eq!(rt; index.get(jumping(n)), Some(n), "entry {n}");
-        if n % 8 != 0 {
-            assert!(rt; cut(&mut index, jumping(n)), "entry {n}");
-        }
-    }
-    assert_eq!(rt; index.len(), 8_192);
-    for n in 0..57_344u32 {
-        assert!(rt; put(&mut index, key(1_000 + n % 7, n), n), "late entry {n}");
-    }
-    assert_eq!(rt; index.len(), 65_536);
-    let mut at = index.at_or_after(key(0, 0));
-    let mut count = 0u32;
-    for _ in 0..65_536 {
-        if let Some((found, _)) = at {
-            count = count.wrapping_add(1);
-            at = index.at_or_after(key(found.transaction(), found.number().wrapping_add(1)));
-        }
-    }
-    assert_eq!(rt; (count, at), (65_536, None));
+    assert!(rt; thin(&mut index) && index.len() == 8_192);
+    assert!(rt; fill_again(&mut index) && index.len() == 65_536);
+    assert!(rt; count_rising(&index) == 65_536);
     Ok(())
 }

@@ -37,6 +37,13 @@ fn read_event(event: &Event)
 impl Command {
     ghost use Rattle.ledger_model.specs.Admissible.{IsAdmissible, key_of};
 
+    /// Its parts are in range, as their types keep them. It does nothing: a caller names the fact by it.
+    pub fn keeps_ranges(&self)
+        ensures { IsAdmissible self.now }
+    {
+        let _ = self.key();
+    }
+
     /// The key of the event that the command is about.
     pub fn key(&self) -> &Key
         ensures value { result.now ≡ key_of self.now }

@@ -112,6 +112,13 @@ impl Event {
         self.readings.as_slice()
     }
 
+    /// The vector of the readings.
+    pub fn into_readings(self) -> Vec<Reading>
+        ensures { result.items ≡ self.readings }
+    {
+        self.readings.into_vec()
+    }
+
     /// Tells whether both events have the same content.
     pub fn is_same(&self, other: &Event) -> bool
         ensures { IsTrue result ↔ (self.now ≡ other.now) }

@@ -48,6 +48,3 @@ pub use moment::{FIRST_MOMENT, FIRST_QUARTER, LAST_QUARTER, MOMENTS_END, Moment,
 pub use name::{MAX_NAME, Name};
 pub use reading::{GREATEST_READING, Reading};
 pub use tx_id::{MAX_TX_ID, TxId};
-
-#[cfg(test)]
-mod tests;

@@ -73,6 +73,16 @@ impl Limits {
         }
     }
 
+    /// Each limit is in its range. It does nothing: a caller names the fact by it.
+    pub fn keep_ranges(&self)
+        ensures transactions { self.now.transactions ≤ most_transactions }
+        ensures events { self.now.events ≤ most_events }
+        ensures readings { self.now.readings ≤ most_readings }
+        ensures changes { self.now.changes ≤ most_changes }
+    {
+        let _ = &self.transactions;
+    }
+
     /// How many transactions may be stored at once, 1 to 4,096.
     pub fn transactions(&self) -> u32
         ensures value { result ≡ self.now.transactions }

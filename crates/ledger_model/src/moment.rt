@@ -1,5 +1,5 @@
 ghost use Rattle.std.specs.Prelude.{◌≡◌, ◌↔◌, IsSome, IfSome};
-ghost use Rattle.ledger_model.specs.Moment.{IsMoment};
+ghost use Rattle.ledger_model.specs.Moment.{IsMoment, first_moment};
 ghost use Rattle.ledger_model.specs.Quarter.{IsQuarter};
 
 use std::marker::Model;
@@ -47,6 +47,15 @@ impl Moment {
             Some(Moment { nanos })
         } else {
             None
+        }
+    }
+
+    /// The first moment, 2000-01-01T00:00:00Z.
+    pub fn first() -> Self
+        ensures { result ≡ first_moment }
+    {
+        Moment {
+            nanos: FIRST_MOMENT,
         }
     }
 

@@ -23,8 +23,6 @@ mod marked;
 mod marking;
 mod node;
 mod number;
-#[cfg(test)]
-mod tests;
 
 pub use fault::JsonFault;
 pub use marked::{Marked, read_marked};

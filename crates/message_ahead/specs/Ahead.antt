@@ -4,7 +4,7 @@ use Rattle.transaction_event.specs.declared.message.Message.{Message}
 use Rattle.transaction_event.specs.declared.message.Message.TheVariants as message
 use Rattle.transaction_event.specs.MessageMeaning.{HasShortId, IsMeaningOf}
 use Rattle.message_ahead.specs.declared.delivery.Delivery.{Delivery}
-use Rattle.message_ahead.specs.declared.chunk.Found.{Found}
+use Rattle.message_ahead.specs.declared.chunk.FoundEvent.{FoundEvent}
 
 -- The message that asks for a delivery.
 abbrev pub asking : Delivery → Message
@@ -15,5 +15,5 @@ abbrev pub Asks : List ℕ → Delivery → Type 0
 Asks text d = HasShortId (asking d) × ((now : ℕ) → IsMeaningOf text now (asking d))
 
 -- What was found stands in these bytes, and the text there asks for it.
-abbrev pub IsFound : List ℕ → Found → Type 0
+abbrev pub IsFound : List ℕ → FoundEvent → Type 0
 IsFound bytes f = (f.from ≤ f.to) × (f.to ≤ length bytes) × Asks (take (f.to - f.from) (drop f.from bytes)) f.delivery

@@ -5,11 +5,9 @@ ghost use Rattle.message_ahead.specs.Ahead.{Asks, IsFound};
 use crate::delivery::Delivery;
 use ledger_model::Moment;
 use memchr::memrchr;
+use script_lines::without_return;
 use std::alloc::{AllocError, Global};
 use transaction_event::{Message, message_of};
-
-// 2000-01-01T00:00:00Z. An event means the same at any moment.
-const FIRST_MOMENT: u64 = 946_684_800_000_000_000;
 
 // About how many bytes a line with an event has.
 const USUAL_LINE: usize = 256;
@@ -22,7 +20,7 @@ pub trait MessageLines {
 
 /// An event of a line, and where its text stands.
 #[derive(Drop)]
-pub struct Found {
+pub struct FoundEvent {
     /// How many bytes may still be read where its line begins.
     pub room: usize,
     /// Where its text begins in the chunk.
@@ -38,7 +36,7 @@ pub struct Found {
 pub struct Chunk {
     bytes: Vec<u8>,
     // The last first.
-    found: Vec<Found>,
+    found: Vec<FoundEvent>,
     // Whether a growth was refused.
     is_short: bool,
     ghost read: { All (IsFound bytes.items) found.items },
@@ -84,11 +82,11 @@ impl Chunk {
 }
 
 // The event that was found, if its text is this one.
-fn with_text(bytes: &[u8], found: Found, text: &str) -> Option<Delivery>
+fn with_text(bytes: &[u8], found: FoundEvent, text: &str) -> Option<Delivery>
     requires { IsFound bytes.now found }
     ensures { IfSome result (λ d. Asks text.now d) }
 {
-    let Found {
+    let FoundEvent {
         room: _,
         from,
         to,
@@ -117,7 +115,7 @@ fn find<T: MessageLines>(
     alloc: Global,
     bytes: &[u8],
     room: usize,
-    found: &mut Vec<Found>,
+    found: &mut Vec<FoundEvent>,
 ) -> Result<(), AllocError>
     requires { All (IsFound bytes.now) found.old.items }
     ensures { All (IsFound bytes.now) found.new.items }
@@ -150,7 +148,7 @@ fn event_of_line<T: MessageLines>(
     start: usize,
     end: usize,
     room: usize,
-) -> Result<Option<Found>, AllocError>
+) -> Result<Option<FoundEvent>, AllocError>
     requires { (start ≤ end) × (end ≤ length bytes.now) }
     ensures { IfOk result (λ event. IfSome event (λ f. IsFound bytes.now f)) }
 {
@@ -164,7 +162,7 @@ fn event_of_line<T: MessageLines>(
         return Ok(None);
     }
     match delivery_of(alloc, text)? {
-        Some(delivery) => Ok(Some(Found {
+        Some(delivery) => Ok(Some(FoundEvent {
             room: room.saturating_sub(start),
             from,
             to,
@@ -174,22 +172,12 @@ fn event_of_line<T: MessageLines>(
     }
 }
 
-// The bytes without the one carriage return at their end.
-fn without_return(line: &[u8]) -> &[u8]
-    ensures { length result.now ≤ length line.now }
-{
-    match line {
-        [front @ .., b'\r'] => front,
-        _ => line,
-    }
-}
-
 // The event that a text asks to deliver, if it does.
 fn delivery_of(alloc: Global, text: &str) -> Result<Option<Delivery>, AllocError>
     ensures { IfOk result (λ event. IfSome event (λ d. Asks text.now d)) }
 {
-    let moment = Moment::new(FIRST_MOMENT).unwrap();
-    match message_of(alloc, text, moment) {
+    // An event means the same at any moment.
+    match message_of(alloc, text, Moment::first()) {
         Message::Event {
             id,
             key,

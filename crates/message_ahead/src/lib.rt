@@ -18,7 +18,7 @@ mod lookahead;
 mod tests;
 
 #[doc(hidden)]
-pub use chunk::Found;
+pub use chunk::FoundEvent;
 pub use chunk::MessageLines;
 pub use delivery::Delivery;
 pub use lookahead::Lookahead;

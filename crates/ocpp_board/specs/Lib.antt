@@ -1,16 +1,2 @@
-pub mod Ranges
-pub mod Lines
-pub mod LineMeaning
-pub mod Script
-pub mod Outcome
-pub mod Laws
-pub mod Reading
-pub mod Answering
-pub mod Writing
-pub mod ScriptLines
-pub mod Drafts
-pub mod Running
-pub mod Received
 pub mod Arguments
-pub mod Echoes
 pub mod StationWords

@@ -4,10 +4,17 @@ ghost use Rattle.ocpp_board.specs.Arguments.{IsAskable};
 
 use crate::station_words::{WordFault, plan_of};
 use clap::{Arg, ArgAction, ArgMatches, Command, Error, value_parser};
+use ledger_model::MAX_STATIONS;
 use site_desk::Plan;
 use site_server::{MAX_CONNECTIONS, MAX_SIMULATED_EVENTS, Service};
 use std::alloc::{AllocError, Global};
 use std::convert::AsStr;
+
+// How many times a server's totals may be shown.
+const MAX_GLANCES: u16 = 600;
+
+// How many stations a simulation may have: as many as a plan.
+const MAX_SIMULATED_STATIONS: u16 = MAX_STATIONS as u16;
 
 const ABOUT: &str =
     "The transaction ledger and site board of an OCPP 2.0.1 charging station management system";
@@ -39,7 +46,8 @@ end (ReadFault, WriteFault, TooMuchInput, OutOfMemory, ListenFailed, HandshakeFa
 const SERVE_EXAMPLE: &str = "\
 Writes `listening 127.0.0.1:<port>`, serves the connections, each of a station at
 ws://127.0.0.1:<port>/ocpp/<station> with the subprotocol ocpp2.0.1, and when all have ended
-writes the board of each site. Nothing is kept when it ends.
+writes the board of each site. It ends after one connection unless --connections says more.
+Nothing is kept when it ends.
 
 A connection is given up after 600 seconds in which its station sends nothing, and after 30
 seconds in which it takes nothing.
@@ -48,7 +56,8 @@ Example: two stations of one site, the totals each second for a minute, four con
   ocpp_board serve --port 9000 --connections 4 --watch 60 north/CS-01 north/CS-02
 
 Exit status: 0; 1 with `fault <name>` (ListenFailed, WriteFault, OutOfMemory, Torn); 2 for a
-fault of the arguments, or with `fault BadStation`, `fault PlanLimit` or `fault StationTwice`.";
+fault of the arguments, or with `fault BadStation`, `fault PlanLimit` or `fault StationTwice`.
+A second line tells the cause: the word, the station, or the system's words for the port.";
 
 const SIM_EXAMPLE: &str = "\
 Each station CS-<k> of site sim sends its transaction SIM-<k> out of order and its first event
@@ -62,17 +71,17 @@ Exit status: 0; 1 with `fault <name>` (ListenFailed, HandshakeFailed, ReadFault,
 OutOfMemory, Torn); 2 for a fault of the arguments.";
 
 /// What the program is asked to do.
-pub enum Asked {
+pub enum Asked<'a> {
     /// To answer a script.
     Replay,
     /// To serve the stations of a plan, over 1 to 64 connections; or what is wrong with their words.
-    Serve(Result<Plan, WordFault>, Service),
+    Serve(Result<Plan, WordFault<'a>>, Service),
     /// To play so many simulated stations, 1 to 64, each with so many events, 2 to 64.
     Simulate(u16, u32),
 }
 
 /// What these words ask for, the first of which is the program's name.
-pub fn read_arguments<S: AsStr>(alloc: Global, words: &[S]) -> Result<Asked, Error>
+pub fn read_arguments<'a, S: AsStr>(alloc: Global, words: &'a [S]) -> Result<Asked<'a>, Error>
     ensures { IfOk result IsAskable }
 {
     let matches = program(alloc)?.try_get_matches_from(words)?;
@@ -84,7 +93,7 @@ pub fn read_arguments<S: AsStr>(alloc: Global, words: &[S]) -> Result<Asked, Err
 }
 
 // What `serve` is asked for. Its numbers are in range already, which the checker sees by the clamp.
-fn serve_asked(matches: &ArgMatches<'_>) -> Asked
+fn serve_asked<'a>(matches: &ArgMatches<'a>) -> Asked<'a>
     ensures { IsAskable result }
 {
     let service = Service {
@@ -101,12 +110,15 @@ fn serve_asked(matches: &ArgMatches<'_>) -> Asked
 }
 
 // What `sim` is asked for. Its numbers are in range already, which the checker sees by the clamps.
-fn sim_asked(matches: &ArgMatches<'_>) -> Asked
+fn sim_asked<'a>(matches: &ArgMatches<'a>) -> Asked<'a>
     ensures { IsAskable result }
 {
     let stations = matches.get_one::<u16>("stations").unwrap_or(2);
     let events = matches.get_one::<u32>("events").unwrap_or(3);
-    Asked::Simulate(stations.clamp(1, 64), events.clamp(2, MAX_SIMULATED_EVENTS))
+    Asked::Simulate(
+        stations.clamp(1, MAX_SIMULATED_STATIONS),
+        events.clamp(2, MAX_SIMULATED_EVENTS),
+    )
 }
 
 // The program and its commands.
@@ -134,15 +146,17 @@ fn serve_command<'a>(alloc: Global) -> Result<Command<'a>, AllocError> {
     let connections = Arg::new(alloc, "connections")
         .long("connections")
         .value_name("COUNT")
-        .value_parser(value_parser!(u8).range(1..=64))
+        .value_parser(value_parser!(u8).range(1..=i64::from(MAX_CONNECTIONS)))
         .default_value("1")
-        .help("How many connections to serve before it closes, 1 to 64");
+        .help("How many connections to serve before it ends, 1 to 64; one unless this is given");
     let watch = Arg::new(alloc, "watch")
         .long("watch")
         .value_name("TIMES")
-        .value_parser(value_parser!(u16).range(0..=600))
+        .value_parser(value_parser!(u16).range(0..=i64::from(MAX_GLANCES)))
         .default_value("0")
-        .help("How often to write each site's totals to standard error, a second apart, 0 to 600");
+        .help(
+            "How many times to write each site's totals to standard error, one second apart, 0 to 600",
+        );
     let stations = Arg::new(alloc, "stations")
         .value_name("SITE/STATION")
         .required(true)
@@ -163,13 +177,13 @@ fn sim_command<'a>(alloc: Global) -> Result<Command<'a>, AllocError> {
     let stations = Arg::new(alloc, "stations")
         .long("stations")
         .value_name("COUNT")
-        .value_parser(value_parser!(u16).range(1..=64))
+        .value_parser(value_parser!(u16).range(1..=i64::from(MAX_SIMULATED_STATIONS)))
         .default_value("2")
         .help("How many stations, 1 to 64");
     let events = Arg::new(alloc, "events")
         .long("events")
         .value_name("COUNT")
-        .value_parser(value_parser!(u32).range(2..=64))
+        .value_parser(value_parser!(u32).range(2..=i64::from(MAX_SIMULATED_EVENTS)))
         .default_value("3")
         .help("How many events each sends, 2 to 64");
     Command::new(alloc, "sim")

@@ -1,11 +1,13 @@
 ghost use Rattle.std.specs.Prelude.{◌≡◌};
 
 use crate::arguments::{Asked, read_arguments};
-use crate::fault::ReplayFault;
-use crate::stream::replay_buffered;
+use crate::station_words::WordFault;
 use clap::Error;
 use clap::error::ErrorKind;
-use site_server::{ServiceFault, serve_plan, simulate};
+use ledger_model::{MAX_SITES, MAX_STATIONS};
+use script_replay::{ReplayFault, replay_buffered};
+use site_desk::Plan;
+use site_server::{Service, ServiceFault, serve_plan, simulate};
 use std::convert::AsStr;
 use std::fmt::Display;
 use std::io;
@@ -46,9 +48,11 @@ pub fn run_command_line<
         Ok(Asked::Serve(plan, service)) => match plan {
             Ok(plan) => {
                 let ended = serve_plan(rt, rt.alloc(), &plan, service, writer, lines);
-                tell_end(errors, ended)
+                let status = tell_end(errors, ended);
+                tell_cause(errors, &plan, service, ended);
+                status
             }
-            Err(fault) => tell_fault(errors, fault, MISTAKEN),
+            Err(fault) => tell_word(errors, fault),
         },
         Ok(Asked::Simulate(stations, events)) => {
             let ended = simulate(rt, rt.alloc(), stations, events, writer);
@@ -75,12 +79,60 @@ fn tell_end<E: Write>(errors: &mut E, ended: Result<(), ServiceFault>) -> u8 {
     }
 }
 
+// Writes why a server did not begin, where its stations or its port tell it.
+fn tell_cause<E: Write>(
+    errors: &mut E,
+    plan: &Plan,
+    service: Service,
+    ended: Result<(), ServiceFault>,
+) {
+    match ended {
+        Err(ServiceFault::StationTwice) => {
+            if let Some(name) = plan.station_twice() {
+                let _ = writeln!(errors, "the station {} stands twice", name.text());
+            }
+        }
+        Err(ServiceFault::ListenFailed(Some(code))) => {
+            let error = io::Error::from_raw_os_error(code);
+            let _ = writeln!(errors, "127.0.0.1:{}: {error}", service.port);
+        }
+        _ => {}
+    }
+}
+
+// Writes why the words of a server make no plan, and gives the status that goes with it.
+fn tell_word<E: Write>(errors: &mut E, fault: WordFault<'_>) -> u8
+    ensures { result ≡ MISTAKEN }
+{
+    let _ = match fault {
+        WordFault::BadStation(word) => writeln!(
+            errors,
+            "fault {fault}\n{word}: not a site and a station parted by one /"
+        ),
+        WordFault::PlanLimit(word) => writeln!(
+            errors,
+            "fault {fault}\n{word}: a server has at most {MAX_STATIONS} stations of {MAX_SITES} sites"
+        ),
+    };
+    MISTAKEN
+}
+
 /// Writes `fault <name>`, and gives the status that goes with it.
 pub fn tell_fault<E: Write, F: Display + Drop>(errors: &mut E, fault: F, status: u8) -> u8
     ensures { result ≡ status }
 {
     let _ = writeln!(errors, "fault {fault}");
     status
+}
+
+/// Writes that a word is no UTF-8, in the words that `clap` has for it, and gives the status that goes with it.
+pub fn tell_bytes<E: Write>(errors: &mut E) -> u8
+    ensures { result ≡ MISTAKEN }
+{
+    let _ = errors.write_all(
+        b"error: invalid UTF-8 was detected in one or more arguments\n\nFor more information, try '--help'.\n",
+    );
+    MISTAKEN
 }
 
 // Writes what is wrong with the words, or the help or the version that they ask for.

@@ -1,34 +1,17 @@
-//! `ocpp_board` answers a script of OCPP 2.0.1 traffic, line by line.
+//! `ocpp_board`, the program: its words, and what they start.
 //!
-//! `ocpp_board` or `ocpp_board replay` reads a script from standard input and writes the text of each line to
-//! standard output; `serve` and `sim` run a server of stations, and simulated ones, by `site_server`. What a
-//! replay writes is stated once, on [`stream::replay_stream`], over any reader and any writer: the text is a fold over the script's lines (`specs/Script.antt`), and each of the five ways to end
-//! says which bytes were read and which were written.
-//!
-//! The loops know lines and machines alone. [`line_reader`] cuts the input into lines and [`replay`] answers
-//! them, first the declarations and then, from the first line that needs the ledgers, the commands.
-//! [`declaring`] and [`ledgers`] are the two machines.
+//! `ocpp_board` or `ocpp_board replay` answers a script from standard input on standard output, by
+//! `script_replay`; `serve` and `sim` run a server of stations, and simulated ones, by `site_server`.
+//! `arguments` says what the words ask for, `station_words` which plan the words of `serve` make, and
+//! `cli` starts it and tells faults and exit statuses.
 #![tactic(auto)]
 
 mod arguments;
 mod cli;
-mod declaring;
-mod draft;
-mod fault;
-mod laws;
-mod ledgers;
-mod line_reader;
-mod machine;
-mod replay;
-mod script_line;
 mod station_words;
-mod stream;
-#[cfg(test)]
-mod tests;
-mod text;
 
-use crate::cli::{STOPPED, run_command_line, tell_fault};
-use crate::fault::ReplayFault;
+use crate::cli::{STOPPED, run_command_line, tell_bytes, tell_fault};
+use script_replay::ReplayFault;
 use std::io::{BufRead, BufReader, BufWriter, Write};
 use std::net::{Net, TcpListener, TcpStream};
 use std::process::ExitCode;
@@ -79,6 +62,7 @@ fn run<
 >(rt: &X, reader: &mut R, writer: &mut BufWriter<W>, errors: &mut E, lines: L) -> u8 {
     match program_words(rt) {
         Ok(words) => run_command_line(rt, words.as_slice(), reader, writer, errors, lines),
+        Err(error) if error.kind() == io::ErrorKind::InvalidData => tell_bytes(errors),
         Err(_) => tell_fault(errors, ReplayFault::OutOfMemory, STOPPED),
     }
 }

@@ -12,7 +12,7 @@ use crate::rounds::announce;
 use crate::row::Row;
 use crate::steps::{recall, share, take_in};
 use crate::sums::replaced;
-use crate::table::{Place, SiteTable};
+use crate::table::{SiteTable, TableSeat};
 use crate::tables::Tables;
 use crate::told::Told;
 use crate::viewer::Viewer;
@@ -26,7 +26,7 @@ use std::sync::Arc;
 pub struct SiteBook<J: Naming> {
     site: u16,
     table: Arc<SiteTable, Global>,
-    seat: Place,
+    seat: TableSeat,
     rows: Vec<Row>,
     totals: Figures,
     posts: u64,

@@ -4,12 +4,12 @@ ghost use Rattle.site_book.specs.Kept.{Sits};
 ghost use Rattle.site_book.specs.Rule.{numbers_of, shown, writing, looking};
 
 use crate::steps::{close_post, load_total, open_post, store_total};
-use crate::table::{Place, ThePost, Words};
+use crate::table::{TableSeat, ThePost, Words};
 use ledger_model::Figures;
 use std::marker::Brand;
 
 // A viewer loads all totals.
-pub(crate) fn gather(words: &Words, seat: &mut Place) -> [u64; 7]
+pub(crate) fn gather(words: &Words, seat: &mut TableSeat) -> [u64; 7]
     requires sits { Sits words.now.table_id seat.old.table_id }
     requires looks { seat.old.me ≡ (looking seat.old.me.0.log seat.old.me.0.version [], []) }
     ensures sits { Sits words.now.table_id seat.new.table_id }
@@ -24,7 +24,7 @@ pub(crate) fn gather(words: &Words, seat: &mut Place) -> [u64; 7]
 }
 
 // The book stores all totals of the post under way.
-fn publish(words: &Words, seat: &mut Place, totals: &[u64; 7])
+fn publish(words: &Words, seat: &mut TableSeat, totals: &[u64; 7])
     requires sits { Sits words.now.table_id seat.old.table_id }
     requires writes { seat.old.me ≡ (writing seat.old.me.0.log [] seat.old.me.0.pending 0, []) }
     requires totals { totals.now ≡ shown (seat.old.me.0.log ++ seat.old.me.0.pending) }
@@ -39,7 +39,7 @@ fn publish(words: &Words, seat: &mut Place, totals: &[u64; 7])
 // The book makes one post: nine stores.
 pub(crate) fn announce(
     words: &Words,
-    seat: &mut Place,
+    seat: &mut TableSeat,
     version: u64,
     post: &(u16, Figures),
     totals: &Figures,

@@ -21,9 +21,7 @@ impl Row {
         ensures figures { result.figures ≡ no_figures }
     {
         // What limits can be bounds the sums over all rows.
-        let _events = limits.events();
-        let _transactions = limits.transactions();
-        let _readings = limits.readings();
+        limits.keep_ranges();
         Row {
             limits: *limits,
             figures: Figures::zero(),

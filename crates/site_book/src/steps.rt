@@ -5,7 +5,7 @@ ghost use Rattle.site_book.specs.Prefix.{IsPrefix};
 ghost use Rattle.site_book.specs.Rule.{shown, writing, seeing, looking};
 
 use crate::table::{
-    Checks, Closes, Grows, Keeps, Loads, Looks, Opens, Place, Recalls, Shares, Stores, TakesIn,
+    Checks, Closes, Grows, Keeps, Loads, Looks, Opens, Recalls, Shares, Stores, TableSeat, TakesIn,
     ThePost, Words,
 };
 use ledger_model::Figures;
@@ -13,7 +13,7 @@ use ledger_model::Figures;
 // The book makes the version odd: this post is under way.
 pub(crate) fn open_post<Q: ThePost>(
     words: &Words,
-    seat: &mut Place,
+    seat: &mut TableSeat,
     version: u64,
     post: &(u16, Figures),
 )
@@ -29,7 +29,7 @@ pub(crate) fn open_post<Q: ThePost>(
 }
 
 // The book stores the next total of the post under way.
-pub(crate) fn store_total(words: &Words, seat: &mut Place, index: usize, total: u64)
+pub(crate) fn store_total(words: &Words, seat: &mut TableSeat, index: usize, total: u64)
     requires sits { Sits words.now.table_id seat.old.table_id }
     requires writes { seat.old.me ≡ (writing seat.old.me.0.log [] seat.old.me.0.pending index, []) }
     requires next { index < 7 }
@@ -41,7 +41,7 @@ pub(crate) fn store_total(words: &Words, seat: &mut Place, index: usize, total: 
 }
 
 // The book makes the version even: the post under way is one of its posts.
-pub(crate) fn close_post(words: &Words, seat: &mut Place, version: u64)
+pub(crate) fn close_post(words: &Words, seat: &mut TableSeat, version: u64)
     requires sits { Sits words.now.table_id seat.old.table_id }
     requires writes { seat.old.me ≡ (writing seat.old.me.0.log [] seat.old.me.0.pending 7, []) }
     requires one { length seat.old.me.0.pending ≡ 1 }
@@ -53,7 +53,7 @@ pub(crate) fn close_post(words: &Words, seat: &mut Place, version: u64)
 }
 
 // A viewer loads the version.
-pub(crate) fn look(words: &Words, seat: &mut Place) -> u64
+pub(crate) fn look(words: &Words, seat: &mut TableSeat) -> u64
     requires sits { Sits words.now.table_id seat.old.table_id }
     requires reads { seat.old.me.0.writes ≡ false }
     ensures sits { Sits words.now.table_id seat.new.table_id }
@@ -64,7 +64,7 @@ pub(crate) fn look(words: &Words, seat: &mut Place) -> u64
 }
 
 // The book loads the version after a join, and is told that the other's list begins its own.
-pub(crate) fn recall(words: &Words, seat: &mut Place)
+pub(crate) fn recall(words: &Words, seat: &mut TableSeat)
     requires sits { Sits words.now.table_id seat.old.table_id }
     requires joined { seat.old.me ≡ (writing seat.old.me.0.log seat.old.me.0.old [] 0, []) }
     ensures sits { Sits words.now.table_id seat.new.table_id }
@@ -75,7 +75,7 @@ pub(crate) fn recall(words: &Words, seat: &mut Place)
 }
 
 // A viewer loads the next total.
-pub(crate) fn load_total(words: &Words, seat: &mut Place, index: usize) -> u64
+pub(crate) fn load_total(words: &Words, seat: &mut TableSeat, index: usize) -> u64
     requires sits { Sits words.now.table_id seat.old.table_id }
     requires looks { seat.old.me ≡ (looking seat.old.me.0.log seat.old.me.0.version seat.old.me.0.read, []) }
     requires next { (length seat.old.me.0.read ≡ index) × (index < 7) }
@@ -86,7 +86,7 @@ pub(crate) fn load_total(words: &Words, seat: &mut Place, index: usize) -> u64
 }
 
 // A viewer loads the version again, after all totals.
-pub(crate) fn look_again(words: &Words, seat: &mut Place) -> u64
+pub(crate) fn look_again(words: &Words, seat: &mut TableSeat) -> u64
     requires sits { Sits words.now.table_id seat.old.table_id }
     requires looks { seat.old.me ≡ (looking seat.old.me.0.log seat.old.me.0.version seat.old.me.0.read, []) }
     requires even { seat.old.me.0.version % 2 ≡ 0 }
@@ -100,7 +100,7 @@ pub(crate) fn look_again(words: &Words, seat: &mut Place) -> u64
 }
 
 // Another seat that knows the same posts.
-pub(crate) fn share(words: &Words, seat: &mut Place) -> Place
+pub(crate) fn share(words: &Words, seat: &mut TableSeat) -> TableSeat
     requires { Sits words.now.table_id seat.old.table_id }
     ensures sits { Sits words.now.table_id seat.new.table_id × Sits words.now.table_id result.table_id }
     ensures same { seat.new.me ≡ seat.old.me }
@@ -110,7 +110,7 @@ pub(crate) fn share(words: &Words, seat: &mut Place) -> Place
 }
 
 // A viewer joins a seat that knows no more posts.
-pub(crate) fn keep(words: &Words, seat: &mut Place, other: Place)
+pub(crate) fn keep(words: &Words, seat: &mut TableSeat, other: TableSeat)
     requires sits { Sits words.now.table_id seat.old.table_id × Sits words.now.table_id other.table_id }
     requires no_slots { other.me.1 ≡ [] }
     requires longer { length other.me.0.log ≤ length seat.old.me.0.log }
@@ -121,7 +121,7 @@ pub(crate) fn keep(words: &Words, seat: &mut Place, other: Place)
 }
 
 // A viewer joins a seat that knows at least as many posts.
-pub(crate) fn grow(words: &Words, seat: &mut Place, other: Place)
+pub(crate) fn grow(words: &Words, seat: &mut TableSeat, other: TableSeat)
     requires sits { Sits words.now.table_id seat.old.table_id × Sits words.now.table_id other.table_id }
     requires no_slots { other.me.1 ≡ [] }
     requires longer { length seat.old.me.0.log ≤ length other.me.0.log }
@@ -132,7 +132,7 @@ pub(crate) fn grow(words: &Words, seat: &mut Place, other: Place)
 }
 
 // The book joins a viewer's seat.
-pub(crate) fn take_in(words: &Words, seat: &mut Place, other: Place)
+pub(crate) fn take_in(words: &Words, seat: &mut TableSeat, other: TableSeat)
     requires sits { Sits words.now.table_id seat.old.table_id × Sits words.now.table_id other.table_id }
     requires no_slots { other.me.1 ≡ [] }
     requires rests { seat.old.me ≡ (writing seat.old.me.0.log [] [] 0, []) }

@@ -40,7 +40,7 @@ pub(crate) type SiteTable = Table<(), View, (), Totals, Global>;
 
 pub(crate) type Words = Shared<(), View, (), Totals>;
 
-pub(crate) type Place = Seat<(), View>;
+pub(crate) type TableSeat = Seat<(), View>;
 
 // Names the post that the book opens, for the proof alone: a store carries no post.
 pub(crate) trait ThePost {

@@ -6,7 +6,7 @@ ghost use Rattle.site_book.specs.Tables.{HasTable};
 
 use crate::naming::Naming;
 use crate::steps::share;
-use crate::table::{Place, SiteTable};
+use crate::table::{SiteTable, TableSeat};
 use crate::viewer::Viewer;
 use std::alloc::{AllocError, Global};
 use std::marker::Model;
@@ -16,7 +16,7 @@ use std::sync::Arc;
 #[derive(Drop)]
 pub(crate) struct Unused {
     table: Arc<SiteTable, Global>,
-    seat: Place,
+    seat: TableSeat,
 }
 
 impl Model for Unused {
@@ -42,7 +42,7 @@ impl Unused {
         })
     }
 
-    pub(crate) fn into_parts(self) -> (Arc<SiteTable, Global>, Place)
+    pub(crate) fn into_parts(self) -> (Arc<SiteTable, Global>, TableSeat)
         ensures table { (arc_value result.0).shared.table_id ≡ self }
         ensures seat { IsUnused self result.1.table_id result.1.me }
     {

@@ -1,7 +1,7 @@
 ghost use Rattle.std.specs.Prelude.{◌≡◌, length};
 
 use crate::naming::Naming;
-use crate::table::Place;
+use crate::table::TableSeat;
 use ledger_model::Figures;
 use std::marker::{Model, PhantomData};
 
@@ -10,7 +10,7 @@ use std::marker::{Model, PhantomData};
 #[derive(Drop)]
 pub struct Told<J: Naming> {
     pub(crate) site: u16,
-    pub(crate) seat: Place,
+    pub(crate) seat: TableSeat,
     pub(crate) posts: u64,
     pub(crate) totals: Figures,
     pub(crate) desk: PhantomData<J>,

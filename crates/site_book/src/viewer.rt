@@ -9,7 +9,7 @@ ghost use Rattle.site_book.specs.Rule.{numbers_of, seeing};
 use crate::naming::Naming;
 use crate::rounds::gather;
 use crate::steps::{grow, keep, look, look_again};
-use crate::table::{Place, SiteTable};
+use crate::table::{SiteTable, TableSeat};
 use crate::told::Told;
 use ledger_model::Figures;
 use std::alloc::Global;
@@ -21,7 +21,7 @@ use std::sync::Arc;
 pub struct Viewer<J: Naming> {
     site: u16,
     table: Arc<SiteTable, Global>,
-    seat: Place,
+    seat: TableSeat,
     posts: u64,
     totals: Figures,
     desk: PhantomData<J>,
@@ -41,7 +41,7 @@ impl<J: Naming> Model for Viewer<J> {
 
 impl<J: Naming> Viewer<J> {
     // A viewer that knows no post.
-    pub(crate) fn new(site: u16, table: Arc<SiteTable, Global>, seat: Place) -> Self
+    pub(crate) fn new(site: u16, table: Arc<SiteTable, Global>, seat: TableSeat) -> Self
         requires named { (arc_value table).shared.table_id ≡ J.table site }
         requires sits { Sits (arc_value table).shared.table_id seat.table_id }
         requires knows { seat.me ≡ (seeing [] [], []) }
@@ -119,7 +119,7 @@ impl<J: Naming> Viewer<J> {
     }
 
     // Its seat, for the book to join.
-    pub(crate) fn into_seat(self) -> Place
+    pub(crate) fn into_seat(self) -> TableSeat
         ensures sits { Sits (J.table self.site) result.table_id }
         ensures knows { (result.me.0.log ≡ self.posts) × (result.me.1 ≡ []) }
     {

@@ -1,4 +1,5 @@
 pub mod Twice
+pub mod Declared
 pub mod Rows
 pub mod Counts
 pub mod Settled

@@ -1,5 +1,5 @@
 -- What a settled command tells one who does not know what lay behind the locks.
-use Rattle.std.proofs.Common.{◌≡◌, ℕ, ◌+◌, [], ◌∷◌, ◌++◌, sum, None, Some, Ok, Err, ap, sym, ◌∙◌, subst, arith}
+use Rattle.std.proofs.Common.{◌≡◌, ℕ, ◌+◌, [], ◌∷◌, ◌++◌, sum, get_or, List, None, Some, Ok, Err, ap, sym, ◌∙◌, subst, arith}
 use Rattle.std.specs.Prelude.{Option, Result, IfOk}
 use Rattle.ledger_model.specs.declared.answer.Answer.{Answer}
 use Rattle.ledger_model.specs.declared.answer.Answer.TheVariants.{Accepted, Repeat, Refused}
@@ -10,12 +10,13 @@ use Rattle.ledger_model.specs.Content.{Content, entries}
 use Rattle.ledger_model.specs.Limits.{Bounds}
 use Rattle.ledger_model.specs.Quarter.{quarter_seconds}
 use Rattle.ledger_model.specs.Step.{Reached, answer, step}
+use Rattle.std.proofs.lemmas.Option.{get_or_from_slice_get}
 use Rattle.site_book.specs.Book.{Book, Known, known}
 use Rattle.site_desk.specs.declared.roster.Place.{Place}
 use Rattle.site_desk.specs.Cell.{Cell, Held, Knows}
-use Rattle.site_desk.specs.Roster.{StandsAt}
+use Rattle.site_desk.specs.Roster.{IsNamed, StandsAt}
 use Rattle.site_desk.specs.Settle.{cell_after, pass_after, posts_after, told_after}
-use Rattle.site_desk.specs.Submit.{IsAnswered, IsBoardOfSome, IsTaken, Submitted}
+use Rattle.site_desk.specs.Submit.{IsAnswered, IsBoardOfName, IsBoardWithin, IsTaken, Submitted}
 use Rattle.site_desk.proofs.Counts.{count_part, next_number}
 
 module _ (at : Place) (number : ℕ) (c : Cell) (b : Book) (p : Held) (command : Command) (stands : StandsAt number at c) (site : b.site ≡ at.site)
@@ -66,6 +67,12 @@ module _ (at : Place) (number : ℕ) (c : Cell) (b : Book) (p : Held) (command :
   submitted (Refused ChangesExhausted) c' b' p' told is cells passes books told_is = record { pass = passes; untold = told_is }
 
 -- the board of a ledger
-pub board_shown : {E : Type 0} (r : Result Board E) (limits : Bounds) (content c : Content) → IfOk r (λ b. b ≡ board quarter_seconds (entries content)) → content ≡ c → Reached limits c.changes c → IfOk r IsBoardOfSome
-board_shown (Ok b) limits content c shown is reached = record { limits = limits; content = c; reached = reached; shown = shown ∙ ap (λ d. board quarter_seconds (entries d)) is }
+pub board_shown : {E : Type 0} (r : Result Board E) (limits : Bounds) (content c : Content) → IfOk r (λ b. b ≡ board quarter_seconds (entries content)) → content ≡ c → Reached limits c.changes c → IfOk r (IsBoardWithin limits)
+board_shown (Ok b) limits content c shown is reached = record { content = c; reached = reached; shown = shown ∙ ap (λ d. board quarter_seconds (entries d)) is }
 board_shown (Err e) limits content c shown is reached = tt
+
+-- the board of a cell that stands at the place of the station of this name
+pub board_named : (places : List Place) (name : List ℕ) (k : ℕ) (at : Place) (c : Cell) (b : Board) → IsNamed places name k → at ≡ get_or places k at → StandsAt k at c → IsBoardWithin c.limits b → IsBoardOfName places name b
+board_named places name k at c b named is stands within =
+    let place : at ≡ named.place = is ∙ get_or_from_slice_get places k named.place at named.there in
+    record { number = k; named = named; board = subst (λ l. IsBoardWithin l b) (stands.limits ∙ ap (λ (p : Place). p.limits) place) within }

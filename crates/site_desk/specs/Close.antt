@@ -12,7 +12,7 @@ use Rattle.site_desk.specs.declared.roster.Place.{Place}
 use Rattle.station_ledger.specs.Ledger.{bounds_code}
 use Rattle.site_desk.specs.Cell.{Cell, Held, cell_code}
 use Rattle.site_desk.specs.Parts.{IsTied}
-use Rattle.site_desk.specs.Roster.{Roster, StandsAt}
+use Rattle.site_desk.specs.Roster.{StandsAt}
 
 -- What is closed: the cells of all stations and the books of all sites, in the plan's order.
 pub record Ended : Type 0 where
@@ -94,10 +94,10 @@ AreSummed cells books = (site : ℕ) (b : Book) → slice_get books site ≡ Som
 abbrev pub AreViewed : ℕ → List Known → Type 0
 AreViewed sites viewers = (k : ℕ) (v : Known) → slice_get viewers k ≡ Some v → v.site < sites
 
--- What lay behind the locks of a desk fits together, with all passes and viewers.
-pub record IsClosable (desk : Roster) (cells : List Cell) (books : List Book) (passes : List Held) (viewers : List Known) : Type 0 where
+-- What lay behind the locks of a desk fits together: its stations stand at these places, so many viewers were given out, and all passes and viewers are here.
+pub record IsClosable (places : List Place) (given : ℕ) (cells : List Cell) (books : List Book) (passes : List Held) (viewers : List Known) : Type 0 where
   pub all_passes : AreAllPasses cells passes
-  pub all_viewers : length viewers ≡ desk.viewers
-  pub whole : AreWhole desk.stations books passes cells
+  pub all_viewers : length viewers ≡ given
+  pub whole : AreWhole places books passes cells
   pub summed : AreSummed cells books
   pub viewed : AreViewed (length books) viewers

@@ -1,7 +1,9 @@
-use Rattle.std.specs.Prelude.{ℕ, Bool, false, not, ◌&&◌, ◌||◌, nat_le, nat_lt, List, [], ◌∷◌, map, length, sum_by, Option, None, Some, if◌then◌else◌, codes}
+use Rattle.std.specs.Prelude.{ℕ, Bool, false, not, ◌+◌, ◌&&◌, ◌||◌, nat_le, nat_lt, List, [], ◌∷◌, ◌++◌, map, length, sum_by, Option, None, Some, if◌then◌else◌, codes}
 use Rattle.std.specs.List.{list_all, list_any}
+use Rattle.std.specs.Option.{is_some}
 use Rattle.std.specs.Str.{bytes_eq}
-use Rattle.ledger_model.specs.Ranges.{most_plan_readings}
+use Rattle.ledger_model.specs.Limits.{Bounds}
+use Rattle.ledger_model.specs.Ranges.{most_sites, most_stations, most_plan_readings}
 use Rattle.site_desk.specs.declared.plan.SitePlan.{SitePlan}
 use Rattle.site_desk.specs.declared.plan.StationPlan.{StationPlan}
 use Rattle.site_desk.specs.declared.fault.DeskFault.{DeskFault}
@@ -34,3 +36,20 @@ plan_fault sites stations =
     if not (is_within_limits sites stations) then Some PlanLimit
     else (if has_twice (map (λ s. s.name) stations) then Some StationTwice
     else None)
+
+-- The number of a site that was found at this place, or else begins.
+abbrev pub site_number : Option ℕ → List SitePlan → ℕ
+site_number (Some number) sites = number
+site_number None sites = length sites
+
+-- The sites once one of this name is mentioned: it begins at its first mention, with so many viewers.
+abbrev pub sites_with : Option ℕ → List ℕ → ℕ → List SitePlan → List SitePlan
+sites_with (Some number) name viewers sites = sites
+sites_with None name viewers sites = sites ++ record { name = name; viewers = viewers } ∷ []
+
+-- One station more with these limits, of a site that was found at this place or begins, is more than a plan may have: of stations, of readings, or of sites.
+abbrev pub is_past : Option ℕ → List SitePlan → List StationPlan → Bounds → Bool
+is_past found sites stations limits =
+    nat_le most_stations (length stations)
+    || (nat_lt most_plan_readings (sum_by (λ s. s.limits.readings) stations + limits.readings)
+    || (not (is_some found) && nat_le most_sites (length sites)))

@@ -4,9 +4,10 @@ use Rattle.site_desk.specs.declared.roster.Place.{Place}
 use Rattle.site_desk.specs.Cell.{Cell}
 use Rattle.site_desk.specs.Parts.{row_at}
 
--- A desk: where each of its stations stands, and how many viewers were given out.
+-- A desk: where each of its stations stands, how many sites it has, and how many viewers were given out.
 pub record Roster : Type 0 where
   pub stations : List Place
+  pub sites : ℕ
   pub viewers : ℕ
 
 -- The place of a station of a plan, by its number.

@@ -12,6 +12,7 @@ use Rattle.ledger_model.specs.Step.{Reached, answer, step}
 use Rattle.site_book.specs.Book.{Known, known}
 use Rattle.site_desk.specs.declared.roster.Place.{Place}
 use Rattle.site_desk.specs.Cell.{Held}
+use Rattle.site_desk.specs.Roster.{IsNamed}
 
 -- The command was accepted as change n at some content that n - 1 accepted commands leave; its station's figures after it were posted last, and the pass made one change more.
 pub record IsTaken (at : Place) (p : Held) (command : Command) (n : ℕ) (p' : Held) (told : Option Known) : Type 0 where
@@ -50,9 +51,14 @@ Submitted at p command (Refused NoSuchEvent) p' told = IsAnswered at p command (
 Submitted at p command (Refused AlreadyVoided) p' told = IsAnswered at p command (Refused AlreadyVoided) p' told
 Submitted at p command (Refused NotVoided) p' told = IsAnswered at p command (Refused NotVoided) p' told
 
--- The board is that of some content that accepted commands leave within some limits.
-pub record IsBoardOfSome (b : Board) : Type 0 where
-  pub limits : Bounds
+-- The board is that of some content that accepted commands leave within these limits.
+pub record IsBoardWithin (limits : Bounds) (b : Board) : Type 0 where
   pub content : Content
   pub reached : Reached limits content.changes content
   pub shown : b ≡ board quarter_seconds (entries content)
+
+-- The board is one of the station of this name: some content makes it that accepted commands leave within the limits of the station's place.
+pub record IsBoardOfName (places : List Place) (name : List ℕ) (b : Board) : Type 0 where
+  pub number : ℕ
+  pub named : IsNamed places name number
+  pub board : IsBoardWithin named.place.limits b

@@ -1,4 +1,4 @@
-ghost use Rattle.std.specs.Prelude.{◌≡◌, ◌↔◌, ◌<◌, ◌++◌, ◌∷◌, [], length, sum, IsTrue, IsErr, IfOk, OnOk, OnErr};
+ghost use Rattle.std.specs.Prelude.{◌≡◌, ◌↔◌, ◌<◌, ◌^◌, ◌++◌, ◌∷◌, [], length, sum, IsTrue, IsErr, IfOk, OnOk, OnErr};
 ghost use Rattle.ledger_model.specs.Step.{Reached, answer};
 ghost use Rattle.site_desk.specs.Cell.{Knows, most_passes, new_cell, new_pass};
 ghost use Rattle.site_desk.specs.Settle.{cell_after, pass_after};
@@ -52,7 +52,7 @@ impl StationCell {
     {
         let ledger = StationLedger::open(alloc, limits)?;
         let counts = Vec::with_capacity(alloc, MAX_PASSES)?;
-        let _ = ledger.changes();
+        counts_commands(&ledger);
         Ok(StationCell {
             station,
             site,
@@ -138,15 +138,22 @@ impl StationCell {
         ensures pass { pass.new ≡ pass_after pass.old result }
     {
         let answer = self.ledger.apply(command, &mut pass.work);
-        // Asked for what its contract tells of the ledger: so many accepted commands lead to its content.
-        let changes = self.ledger.changes();
+        counts_commands(&self.ledger);
         if let Answer::Accepted(_) = answer {
             self.counts[pass.slot] += 1;
             pass.changes += 1;
         }
-        let _ = changes;
         answer
     }
+}
+
+// A ledger's content is one that as many accepted commands lead to as the ledger counts. The one call of the
+// getter for what it ensures.
+fn counts_commands(ledger: &StationLedger)
+    ensures fits { ledger.now.content.changes < 2 ^ 64 }
+    ensures reached { Reached ledger.now.limits ledger.now.content.changes ledger.now.content }
+{
+    ledger.changes();
 }
 
 /// Gives out one more pass of the station, which made no change yet; `TooManyPasses` exactly after

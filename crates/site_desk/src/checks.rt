@@ -192,7 +192,7 @@ pub(crate) fn fault_of<J: Naming>(
     passes: &[Pass],
     viewers: &[Viewer<J>],
 ) -> Option<CloseFault>
-    ensures whole { IfNone result (IsClosable (record { stations = places.now; viewers = given }) cells.now books.now passes.now viewers.now) }
+    ensures whole { IfNone result (IsClosable places.now given cells.now books.now passes.now viewers.now) }
     ensures missing { result ≡ Some CloseFault.ViewerMissing → length viewers.now ≢ given }
 {
     if !are_all_passes(cells, passes) {

@@ -13,7 +13,7 @@ ghost use Rattle.site_desk.specs.Close.{IsClosable, Saw};
 ghost use Rattle.site_desk.specs.Parts.{new_viewers};
 ghost use Rattle.site_desk.specs.Plan.{plan_fault};
 ghost use Rattle.site_desk.specs.Roster.{AreNewPlaces, IsNamed};
-ghost use Rattle.site_desk.specs.Submit.{IsBoardOfSome, IsUnchanged, Submitted};
+ghost use Rattle.site_desk.specs.Submit.{IsBoardOfName, IsUnchanged, Submitted};
 
 use crate::cell::{StationCell, enlist_cell};
 use crate::checks::fault_of;
@@ -25,7 +25,7 @@ use crate::parts::Parts;
 use crate::pass::Pass;
 use crate::plan::Plan;
 use crate::roster::{Place, number_of, open_places};
-use crate::submit::{board_of, try_settle};
+use crate::submit::{board_of, stands_at, try_settle};
 use ledger_model::{Answer, Command, Listed, Name, Refusal};
 use site_book::{Naming, SiteBook, Tables, Told, Viewer};
 use station_ledger::StationBoard;
@@ -36,7 +36,8 @@ use std::thread::Threads;
 use std::time::Clock;
 
 /// The stations and sites of a plan, each station and each site's book behind a lock of its own, the
-/// station's taken first. Contracts see where each station stands, and how many viewers there are.
+/// station's taken first. Contracts see where each station stands, how many sites it has, and how many
+/// viewers were given out.
 #[derive(Drop)]
 pub struct Desk<J: Naming> {
     places: Vec<Place>,
@@ -54,7 +55,7 @@ impl<J: Naming> Model for Desk<J> {
     ghost use Rattle.std.specs.Prelude.{vec_len};
     ghost use Rattle.site_desk.specs.Roster.{IsDesk};
 
-    ghost view = { λ d. record { stations = d.places.items; viewers = d.viewers } };
+    ghost view = { λ d. record { stations = d.places.items; sites = vec_len d.books; viewers = d.viewers } };
 
     ghost invariant = { λ d. IsDesk d.places.items (vec_len d.cells) (vec_len d.books) };
 }
@@ -75,6 +76,7 @@ impl<J: Naming> Desk<J> {
         ensures limits { (result ≡ Err DeskFault.PlanLimit) ↔ (plan_fault plan.now.sites.items plan.now.stations.items ≡ Some DeskFault.PlanLimit) }
         ensures twice { (result ≡ Err DeskFault.StationTwice) ↔ (plan_fault plan.now.sites.items plan.now.stations.items ≡ Some DeskFault.StationTwice) }
         ensures stations { IfOk result (λ r. AreNewPlaces plan.now.stations.items r.0.stations) }
+        ensures sites { IfOk result (λ r. r.0.sites ≡ length plan.now.sites.items) }
         ensures viewers { IfOk result (λ r. r.1.items ≡ new_viewers 0 plan.now.sites.items) }
         ensures given { IfOk result (λ r. r.0.viewers ≡ length r.1.items) }
     {
@@ -141,7 +143,8 @@ impl<J: Naming> Desk<J> {
         try_settle(&mut cell, &mut book, number, place, pass, command)
     }
 
-    /// The board of the station of this name. It waits for the station's lock.
+    /// The board of the station of this name. It waits for the station's lock. A cell there that is not
+    /// the station's own, which no run of these calls meets, answers `Torn`.
     pub fn station_board<R: Wait>(
         &self,
         rt: &R,
@@ -149,13 +152,16 @@ impl<J: Naming> Desk<J> {
         name: &Name,
     ) -> Result<StationBoard, BoardFault>
         ensures unknown { (result ≡ Err BoardFault.UnknownStation) ↔ (list_any (λ p. bytes_eq name.now p.name) self.now.stations ≡ false) }
-        ensures board { IfOk result IsBoardOfSome }
+        ensures board { IfOk result (IsBoardOfName self.now.stations name.now) }
     {
         let Some(number) = number_of(&self.places, name) else {
             return Err(BoardFault::UnknownStation);
         };
         let lock: &Mutex<StationCell> = &self.cells[number];
         let cell = lock.lock(rt);
+        if !stands_at(&cell, number, &self.places[number]) {
+            return Err(BoardFault::Torn);
+        }
         match board_of(&cell, alloc) {
             Ok(board) => Ok(board),
             Err(_) => Err(BoardFault::OutOfMemory),
@@ -171,7 +177,8 @@ impl<J: Naming> Desk<J> {
         viewers: Vec<Viewer<J>>,
     ) -> Result<Closed<J>, CloseRefused<J>>
         ensures stations { IfOk result (λ s. length s.cells ≡ length self.stations) }
-        ensures whole { IfOk result (λ s. IsClosable self s.cells s.books passes.items viewers.items) }
+        ensures sites { IfOk result (λ s. length s.books ≡ self.sites) }
+        ensures whole { IfOk result (λ s. IsClosable self.stations self.viewers s.cells s.books passes.items viewers.items) }
         ensures seen { IfOk result (λ s. All (Saw s.books) viewers.items) }
         ensures viewer { IfErr result (λ r. r.fault ≡ CloseFault.ViewerMissing → length viewers.items ≢ self.viewers) }
         ensures desk { IfErr result (λ r. r.desk ≡ self) }
@@ -227,6 +234,7 @@ fn lock_parts<J: Naming>(
     requires cells { length parts.cells ≡ length plan.now.stations.items }
     requires books { length parts.books ≡ length plan.now.sites.items }
     ensures stations { IfOk result (λ r. AreNewPlaces plan.now.stations.items r.0.stations) }
+    ensures sites { IfOk result (λ r. r.0.sites ≡ length plan.now.sites.items) }
     ensures viewers { IfOk result (λ r. r.1.items ≡ parts.viewers) }
     ensures given { IfOk result (λ r. r.0.viewers ≡ length r.1.items) }
 {

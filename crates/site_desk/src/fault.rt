@@ -29,6 +29,8 @@ pub enum EnlistFault {
 pub enum BoardFault {
     /// No station of the desk has this name.
     UnknownStation,
+    /// What lies behind the station's lock is not its own, which no run of these calls meets.
+    Torn,
     /// There is no memory for it.
     OutOfMemory,
 }

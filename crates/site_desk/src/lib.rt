@@ -49,6 +49,3 @@ pub use parts::Parts;
 pub use pass::Pass;
 pub use plan::{MAX_VIEWERS, Plan, SitePlan, StationPlan};
 pub use steps::{settle, tied};
-
-#[cfg(test)]
-mod tests;

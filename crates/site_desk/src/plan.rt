@@ -1,7 +1,9 @@
-ghost use Rattle.std.specs.Prelude.{◌≡◌, ◌≤◌, map, sum_by, length, nat_le, nat_lt};
-ghost use Rattle.std.specs.List.{list_all, list_any};
+ghost use Rattle.std.specs.Prelude.{◌≡◌, ◌≤◌, ◌<◌, ◌*◌, IfSome, ◌++◌, ◌∷◌, [], false, None, map, sum_by, length, nat_le, nat_lt};
+ghost use Rattle.std.specs.List.{list_all, list_any, position};
+ghost use Rattle.std.specs.Option.{is_some};
 ghost use Rattle.std.specs.Str.{bytes_eq};
-ghost use Rattle.site_desk.specs.Plan.{blank_name, has_twice, is_within_limits, most_viewers, plan_fault};
+ghost use Rattle.ledger_model.specs.Ranges.{most_sites};
+ghost use Rattle.site_desk.specs.Plan.{blank_name, has_twice, is_past, is_within_limits, most_viewers, plan_fault, site_number, sites_with};
 
 use crate::fault::DeskFault;
 use arrayvec::ArrayVec;
@@ -34,6 +36,88 @@ pub struct Plan {
 }
 
 impl Plan {
+    /// A plan of no site and no station.
+    pub fn new() -> Plan
+        ensures sites { result.sites.items ≡ [] }
+        ensures stations { result.stations.items ≡ [] }
+    {
+        Plan {
+            sites: ArrayVec::new(),
+            stations: ArrayVec::new(),
+        }
+    }
+
+    /// The number of the site of this name.
+    pub fn site(&self, name: &Name) -> Option<usize>
+        ensures is { result ≡ position (λ s. bytes_eq name.now s.name) self.now.sites.items }
+        ensures there { IfSome result (λ n. n < most_sites) }
+    {
+        self.sites
+            .as_slice()
+            .iter()
+            .position(|site| *name == site.name)
+    }
+
+    /// The number of the station of this name.
+    pub fn station(&self, name: &Name) -> Option<usize>
+        ensures { result ≡ position (λ s. bytes_eq name.now s.name) self.now.stations.items }
+    {
+        self.stations
+            .as_slice()
+            .iter()
+            .position(|station| *name == station.name)
+    }
+
+    /// Tells whether one station more, of this site and with these limits, is more than a plan may have: of
+    /// stations, of readings, or of sites.
+    pub fn is_past(&self, site: &Name, limits: &Limits) -> bool
+        ensures { result ≡ is_past (position (λ s. bytes_eq site.now s.name) self.now.sites.items) self.now.sites.items self.now.stations.items limits.now }
+    {
+        let stations = self.stations.as_slice();
+        let readings = readings(stations) + u64::from(limits.readings());
+        let is_new = self.site(site).is_none();
+        stations.len() >= MAX_STATIONS
+            || readings > MAX_PLAN_READINGS
+            || (is_new && self.sites.len() >= MAX_SITES)
+    }
+
+    /// Adds a station of this name with these limits, behind those that stand. Its site begins at its first
+    /// mention, with so many viewers. A name that stands already is left to [`Plan::fault`].
+    ///
+    /// Condition: that is not more than a plan may have (test [`Plan::is_past`]).
+    pub fn declare(&mut self, site: Name, viewers: u16, name: Name, limits: Limits)
+        requires room { is_past (position (λ s. bytes_eq site s.name) self.old.sites.items) self.old.sites.items self.old.stations.items limits ≡ false }
+        ensures sites { self.new.sites.items ≡ sites_with (position (λ s. bytes_eq site s.name) self.old.sites.items) site viewers self.old.sites.items }
+        ensures stations { self.new.stations.items ≡ self.old.stations.items ++ record { site = site_number (position (λ s. bytes_eq site s.name) self.old.sites.items) self.old.sites.items; name = name; limits = limits } ∷ [] }
+    {
+        let site = self.mention(site, viewers);
+        self.stations.push(StationPlan { site, name, limits });
+    }
+
+    // The number of the site of this name, which begins at its first mention.
+    fn mention(&mut self, name: Name, viewers: u16) -> u16
+        requires room { position (λ s. bytes_eq name s.name) self.old.sites.items ≡ None → length self.old.sites.items < most_sites }
+        ensures sites { self.new.sites.items ≡ sites_with (position (λ s. bytes_eq name s.name) self.old.sites.items) name viewers self.old.sites.items }
+        ensures stations { self.new.stations.items ≡ self.old.stations.items }
+        ensures number { result ≡ site_number (position (λ s. bytes_eq name s.name) self.old.sites.items) self.old.sites.items }
+    {
+        match self.site(&name) {
+            Some(number) => number as u16,
+            None => {
+                let number = self.sites.len() as u16;
+                self.sites.push(SitePlan { name, viewers });
+                number
+            }
+        }
+    }
+
+    /// The first of the plan's stations whose name stands again behind it.
+    pub fn station_twice(&self) -> Option<&Name>
+        ensures { is_some result ≡ has_twice (map (λ s. s.name) self.now.stations.items) }
+    {
+        first_twice(self.stations.as_slice())
+    }
+
     /// What is wrong with the plan, if anything is: it leaves the limits, or two stations have one name.
     pub fn fault(&self) -> Option<DeskFault>
         ensures { result ≡ plan_fault self.now.sites.items self.now.stations.items }
@@ -42,7 +126,7 @@ impl Plan {
         let stations = self.stations.as_slice();
         if !is_within_limits(sites, stations) {
             Some(DeskFault::PlanLimit)
-        } else if are_stations_twice(stations) {
+        } else if self.station_twice().is_some() {
             Some(DeskFault::StationTwice)
         } else {
             None
@@ -119,7 +203,8 @@ fn are_sites_known(stations: &[StationPlan], sites: usize) -> bool
 // How many readings the stations may keep in all.
 fn readings(stations: &[StationPlan]) -> u64
     requires { length stations.now ≤ 64 }
-    ensures { result ≡ sum_by (λ s. s.limits.readings) stations.now }
+    ensures sum { result ≡ sum_by (λ s. s.limits.readings) stations.now }
+    ensures few { result ≤ 64 * 65_536 }
 {
     let mut sum = 0;
     for station in stations {
@@ -154,14 +239,14 @@ fn are_sites_twice(sites: &[SitePlan]) -> bool
     false
 }
 
-// Tells whether two stations have one name.
-fn are_stations_twice(stations: &[StationPlan]) -> bool
-    ensures { result ≡ has_twice (map (λ s. s.name) stations.now) }
+// The name of the first station that has the name of one behind it.
+fn first_twice(stations: &[StationPlan]) -> Option<&Name>
+    ensures { is_some result ≡ has_twice (map (λ s. s.name) stations.now) }
 {
     for k in 0..stations.len() {
         if has_station(&stations[k + 1..], &stations[k].name) {
-            return true;
+            return Some(&stations[k].name);
         }
     }
-    false
+    None
 }

@@ -1,6 +1,6 @@
 ghost use Rattle.std.specs.Prelude.{◌≡◌, IsTrue, IfOk};
 ghost use Rattle.site_desk.specs.Roster.{StandsAt};
-ghost use Rattle.site_desk.specs.Submit.{IsBoardOfSome, Submitted};
+ghost use Rattle.site_desk.specs.Submit.{IsBoardWithin, Submitted};
 
 use crate::cell::StationCell;
 use crate::pass::Pass;
@@ -53,7 +53,7 @@ pub(crate) fn try_settle<J: Naming>(
 
 // The board of a cell's station.
 pub(crate) fn board_of(cell: &StationCell, alloc: Global) -> Result<StationBoard, AllocError>
-    ensures { IfOk result IsBoardOfSome }
+    ensures { IfOk result (IsBoardWithin cell.now.limits) }
 {
     cell.ledger().board(alloc)
 }

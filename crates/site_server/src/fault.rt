@@ -12,9 +12,9 @@ pub enum ServiceFault {
     /// Two of the plan's stations have one name.
     #[error("StationTwice")]
     StationTwice,
-    /// The port can't be listened on.
+    /// The port can't be listened on; with the system's number of the error, where it has one.
     #[error("ListenFailed")]
-    ListenFailed,
+    ListenFailed(Option<i32>),
     /// A simulated station was not let in.
     #[error("HandshakeFailed")]
     HandshakeFailed,

@@ -8,7 +8,7 @@
 //!
 //! The crate's one contract: what is written of a closed desk is, for each site in the plan's order, the
 //! board from scratch from the content of its stations' ledgers, and its totals are the sums over them
-//! ([`closed_board`]). `serve_many` gives back passes of the desk alone, at most one for each connection.
+//! ([`closed_board`](desk_report::closed_board)). `serve_many` gives back passes of the desk alone, at most one for each connection.
 //! That connections are served at once, what a socket delivers, and all timing is shown by tests.
 //!
 //! ```text
@@ -26,7 +26,6 @@ mod service;
 mod simulation;
 mod watch;
 
-pub use close::closed_board;
 pub use fault::ServiceFault;
 pub use serve::{MAX_CONNECTIONS, serve_many};
 pub use service::{Service, serve_plan};

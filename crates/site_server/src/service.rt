@@ -1,5 +1,5 @@
 //! A whole server, from its desk to its boards.
-ghost use Rattle.std.specs.Prelude.{◌≤◌, ◌<◌, ℕ, IfOk, OnOk, length, sum_by};
+ghost use Rattle.std.specs.Prelude.{◌≡◌, ◌≤◌, ◌<◌, ℕ, IfOk, OnOk, length, sum_by};
 ghost use Rattle.site_book.specs.Tables.{HasTable, NamedBy};
 ghost use Rattle.ledger_model.specs.Ranges.{most_plan_readings};
 ghost use Rattle.site_desk.specs.Roster.{AreNewPlaces};
@@ -14,7 +14,7 @@ use site_desk::{Desk, NoGate, Pass, Plan};
 use std::alloc::{AllocError, Global};
 use std::io::Write;
 use std::marker::Brand;
-use std::net::{Ipv4Addr, Net, TcpListener, TcpStream};
+use std::net::{Ipv4Addr, Net, SocketAddr, TcpListener, TcpStream};
 use std::sync::Wait;
 use std::sync::atomic::{AtomicU64, Ordering};
 use std::thread;
@@ -84,9 +84,7 @@ fn serve_under<
     requires most { service.connections ≤ 64 }
 {
     let (desk, viewers) = open_desk::<J>(alloc, tables, plan)?;
-    let Ok(listener) = TcpListener::bind(rt, (Ipv4Addr::LOCALHOST, service.port)) else {
-        return Err(ServiceFault::ListenFailed);
-    };
+    let listener = listen(rt, service.port)?;
     tell_port(&listener, output)?;
     let (passes, viewers, _lines) = serve_watched(
         rt,
@@ -110,6 +108,7 @@ pub(crate) fn open_desk<J: Naming>(
 ) -> Result<(Desk<J>, Vec<Viewer<J>>), ServiceFault>
     requires named { NamedBy J.table tables }
     requires there { (site : ℕ) → site < length plan.now.sites.items → HasTable tables site }
+    ensures sites { IfOk result (λ r. r.0.sites ≡ length plan.now.sites.items) }
     ensures opened { IfOk result (λ r. AreNewPlaces plan.now.stations.items r.0.stations) }
     ensures readings { OnOk result (sum_by (λ s. s.limits.readings) plan.now.stations.items ≤ most_plan_readings) }
 {
@@ -121,11 +120,28 @@ pub(crate) fn open_desk<J: Naming>(
     Ok((desk, viewers))
 }
 
+// A listener on this port of 127.0.0.1; for 0 the system chooses one.
+pub(crate) fn listen<R: Net<Listener = TcpListener, Stream = TcpStream>>(
+    rt: &R,
+    port: u16,
+) -> Result<TcpListener, ServiceFault> {
+    match TcpListener::bind(rt, (Ipv4Addr::LOCALHOST, port)) {
+        Ok(listener) => Ok(listener),
+        Err(error) => Err(ServiceFault::ListenFailed(error.raw_os_error())),
+    }
+}
+
+// Where it listens.
+pub(crate) fn address_of(listener: &TcpListener) -> Result<SocketAddr, ServiceFault> {
+    match listener.local_addr() {
+        Ok(address) => Ok(address),
+        Err(error) => Err(ServiceFault::ListenFailed(error.raw_os_error())),
+    }
+}
+
 // Tells where the server listens.
 fn tell_port<W: Write>(listener: &TcpListener, output: &mut W) -> Result<(), ServiceFault> {
-    let Ok(address) = listener.local_addr() else {
-        return Err(ServiceFault::ListenFailed);
-    };
+    let address = address_of(listener)?;
     if writeln!(output, "listening {address}").is_err() {
         return Err(ServiceFault::WriteFault);
     }

@@ -6,7 +6,7 @@ ghost use Rattle.station_link.specs.Sim.{IsSimulated};
 use crate::close::close;
 use crate::fault::ServiceFault;
 use crate::serve::serve_many;
-use crate::service::open_desk;
+use crate::service::{address_of, listen, open_desk};
 use arrayvec::{ArrayString, ArrayVec};
 use ledger_model::{Limits, Name};
 use site_book::{Naming, Tables};
@@ -16,7 +16,7 @@ use std::alloc::{AllocError, Global};
 use std::fmt::Write as _;
 use std::io::Write;
 use std::marker::Brand;
-use std::net::{Ipv4Addr, Net, SocketAddr, TcpListener, TcpStream};
+use std::net::{Net, SocketAddr, TcpListener, TcpStream};
 use std::random::RandomSource;
 use std::sync::Wait;
 use std::thread::{JoinHandle, Scope, Threads};
@@ -106,9 +106,7 @@ fn simulate_under<
     requires simulated { IsSimulated stations events }
 {
     let (desk, viewers) = open_desk::<J>(alloc, tables, plan)?;
-    let Ok(listener) = TcpListener::bind(rt, (Ipv4Addr::LOCALHOST, 0)) else {
-        return Err(ServiceFault::ListenFailed);
-    };
+    let listener = listen(rt, 0)?;
     let streams = connect_all(rt, alloc, &listener, stations)?;
     let played = Vec::with_capacity(alloc, stations as usize)?;
     let (passes, fault) = play_all(rt, alloc, listener, &desk, streams, events, played);
@@ -127,9 +125,7 @@ fn connect_all<R: Net<Listener = TcpListener, Stream = TcpStream>>(
 ) -> Result<Vec<TcpStream>, ServiceFault>
     ensures { IfOk result (λ streams. length streams.items ≡ stations) }
 {
-    let Ok(address) = listener.local_addr() else {
-        return Err(ServiceFault::ListenFailed);
-    };
+    let address = address_of(listener)?;
     let mut streams = Vec::with_capacity(alloc, stations as usize)?;
     for _ in 0..stations {
         let Ok(stream) = connect(rt, address) else {

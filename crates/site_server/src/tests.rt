@@ -1,64 +1,144 @@
-mod client;
-mod closing;
-mod refused;
-mod sessions_in_turn;
-mod sims;
-mod watching;
+// Threads that can't start: their calls with a stack for which none does are the crate's own.
+ghost use Rattle.std.specs.Prelude.{ℕ, ◌<◌, length};
+ghost use Rattle.site_book.specs.Tables.{HasTable, NamedBy};
 
+use crate::serve::serve_on;
+use crate::service::{Service, open_desk, serve_watched};
 use arrayvec::ArrayVec;
 use ledger_model::{Limits, Name};
-use site_book::Naming;
-use site_desk::{Closed, Plan, SitePlan, StationPlan};
+use site_book::{Naming, Tables};
+use site_desk::{NoGate, Plan, SitePlan, StationPlan};
+use station_link::SimStation;
+use std::alloc::Global;
+use std::marker::Brand;
 use std::net::{Ipv4Addr, Net, SocketAddr, TcpListener, TcpStream};
+use std::process::Abort;
+use std::random::RandomSource;
+use std::sync::Wait;
 use std::test::Fail;
+use std::thread;
+use std::thread::Threads;
+use std::time::Clock;
 
-// Transaction T1's first event, and one fourteen minutes later.
-const FIRST: &str =
-    "[2,\"1\",\"TransactionEvent\",{\"eventType\":\"Started\",\"timestamp\":\"2026-03-01T10:00:00Z\",\"triggerReason\":\"MeterValuePeriodic\",\"seqNo\":0,\"transactionInfo\":{\"transactionId\":\"T1\"},\"meterValue\":[{\"timestamp\":\"2026-03-01T10:00:00Z\",\"sampledValue\":[{\"value\":1000}]}]}]";
+// A stack for which no thread starts.
+const TOO_LARGE: usize = usize::MAX / 2;
 
-const REPLY: &str = "[3,\"1\",{}]";
-
-// Site north has stations A and B, site south has C; each site has a viewer.
-fn plan() -> Result<Plan, Fail> {
+// Site north with the station CS-1 and a viewer.
+fn plan() -> Option<Plan> {
     let mut plan = Plan {
         sites: ArrayVec::new(),
         stations: ArrayVec::new(),
     };
-    for text in ["north", "south"] {
-        let site = SitePlan {
-            name: Name::new(text).ok_or("no name")?,
-            viewers: 1,
-        };
-        plan.sites.try_push(site).ok().ok_or("too many sites")?;
-    }
-    for (site, text) in [(0, "A"), (0, "B"), (1, "C")] {
-        let station = StationPlan {
-            site,
-            name: Name::new(text).ok_or("no name")?,
-            limits: Limits::default(),
-        };
-        plan.stations
-            .try_push(station)
-            .ok()
-            .ok_or("too many stations")?;
-    }
-    Ok(plan)
+    let site = SitePlan {
+        name: Name::new("north")?,
+        viewers: 1,
+    };
+    plan.sites.try_push(site).ok()?;
+    let station = StationPlan {
+        site: 0,
+        name: Name::new("CS-1")?,
+        limits: Limits::default(),
+    };
+    plan.stations.try_push(station).ok()?;
+    Some(plan)
 }
 
 // A listener on a port that the system chooses, and its address.
 fn listen<R: Net<Listener = TcpListener, Stream = TcpStream>>(
     rt: &R,
-) -> Result<(TcpListener, SocketAddr), Fail> {
-    let listener = TcpListener::bind(rt, (Ipv4Addr::LOCALHOST, 0))?;
-    let address = listener.local_addr()?;
-    Ok((listener, address))
+) -> Option<(TcpListener, SocketAddr)> {
+    let listener = TcpListener::bind(rt, (Ipv4Addr::LOCALHOST, 0)).ok()?;
+    let address = listener.local_addr().ok()?;
+    Some((listener, address))
 }
 
-// How many changes a station made; `None` where the desk had no such station.
-fn changes_of<J: Naming>(closed: &Closed<J>, station: u16) -> Option<u64> {
-    if (station as usize) < closed.stations() {
-        Some(closed.changes(station))
-    } else {
-        None
-    }
+// How many replies the simulated station gets; `None` where it is not let in.
+fn replies<R: RandomSource + Net<Listener = TcpListener, Stream = TcpStream>>(
+    rt: &R,
+    alloc: Global,
+    address: SocketAddr,
+) -> Option<usize> {
+    let stream = TcpStream::connect(rt, address).ok()?;
+    let replies = SimStation::new(1, 2).run(rt, alloc, stream).ok()?;
+    Some(replies.len())
+}
+
+fn no_session<
+    J: Naming + Send + Sync,
+    R: Abort
+        + Threads
+        + Wait
+        + Clock
+        + RandomSource
+        + Sync
+        + Net<Listener = TcpListener, Stream = TcpStream>,
+>(rt: &R, alloc: Global, tables: Tables, plan: &Plan) -> Result<(), Fail>
+    requires named { NamedBy J.table tables }
+    requires there { (site : ℕ) → site < length plan.now.sites.items → HasTable tables site }
+{
+    let (desk, viewers) = open_desk::<J>(alloc, tables, plan).ok().ok_or("no desk")?;
+    let (listener, address) = listen(rt).ok_or("no listener")?;
+    let (shared, socket) = (&desk, &listener);
+    let (passes, replies) = thread::join(
+        rt,
+        move || serve_on(rt, alloc, socket, 1, shared, &NoGate, TOO_LARGE),
+        move || replies(rt, alloc, address),
+    );
+    assert!(rt; replies.is_none(), "the connection was dropped");
+    let passes = passes?;
+    assert!(rt; passes.is_empty() && desk.close(passes, viewers).is_ok());
+    Ok(())
+}
+
+#[test]
+fn thread_that_cant_start_counts_as_ended(rt: HostRuntime) -> Result<(), Fail> {
+    let plan = plan().ok_or("no plan")?;
+    let tables = Tables::make(rt.alloc(), plan.sites.len() as u16)?;
+    no_session::<Brand, _>(&rt, rt.alloc(), tables, &plan)
+}
+
+fn no_glance<
+    J: Naming + Send + Sync,
+    R: Abort
+        + Threads
+        + Wait
+        + Clock
+        + RandomSource
+        + Sync
+        + Net<Listener = TcpListener, Stream = TcpStream>,
+>(rt: &R, alloc: Global, tables: Tables, plan: &Plan) -> Result<(), Fail>
+    requires named { NamedBy J.table tables }
+    requires there { (site : ℕ) → site < length plan.now.sites.items → HasTable tables site }
+{
+    let (desk, viewers) = open_desk::<J>(alloc, tables, plan).ok().ok_or("no desk")?;
+    let (listener, address) = listen(rt).ok_or("no listener")?;
+    let service = Service {
+        port: 0,
+        connections: 1,
+        glances: 1,
+    };
+    let lines = Vec::<u8>::new(alloc);
+    let (shared, socket) = (&desk, &listener);
+    let ((passes, viewers, lines), replies) = thread::join(
+        rt,
+        move || {
+            serve_watched(
+                rt, alloc, socket, service, shared, plan, viewers, lines, TOO_LARGE,
+            )
+        },
+        move || replies(rt, alloc, address),
+    );
+    assert!(rt; replies == Some(3) && lines.is_empty());
+    assert!(rt;
+        desk.close(passes?, viewers).is_ok(),
+        "all passes and viewers came back"
+    );
+    Ok(())
+}
+
+#[test]
+fn no_line_where_the_thread_cant_start(rt: HostRuntime) -> Result<(), Fail> {
+    let plan = plan().ok_or("no plan")?;
+    let tables = Tables::make(rt.alloc(), plan.sites.len() as u16)?;
+    no_glance::<Brand, _>(&rt, rt.alloc(), tables, &plan)
 }

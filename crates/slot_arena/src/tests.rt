@@ -57,26 +57,38 @@ fn fill(alloc: Global, arena: &mut SlotArena<u32>, round: u32) -> Result<Vec<Slo
     Ok(ids)
 }
 
+// Gives the slots back, the last first; tells whether each held its value of the first round.
+fn give_back(arena: &mut SlotArena<u32>, ids: &[SlotId]) -> bool {
+    let mut index = MAX_SLOTS;
+    for id in ids.iter().rev() {
+        index = index.wrapping_sub(1);
+        if !arena.is_held(*id) || arena.give(*id) != value_of(index, 0) {
+            return false;
+        }
+    }
+    true
+}
+
+// Whether each slot holds its value of the second round.
+fn holds_all(arena: &SlotArena<u32>, ids: &[SlotId]) -> bool {
+    let mut index = 0u32;
+    for id in ids.iter() {
+        if !arena.is_held(*id) || *arena.get(*id) != value_of(index, 1) {
+            return false;
+        }
+        index = index.wrapping_add(1);
+    }
+    true
+}
+
 #[test]
 fn every_slot_is_filled_emptied_and_filled_again(rt: HostRuntime) -> Result<(), Fail> {
     let mut arena = SlotArena::with_capacity(rt.alloc(), MAX_SLOTS)?;
     let ids = fill(rt.alloc(), &mut arena, 0)?;
-    assert_eq!(rt; arena.free(), 0);
-    assert_eq!(rt; arena.take(0).err(), Some(0));
-    let mut index = MAX_SLOTS;
-    for id in ids.iter().rev() {
-        index = index.wrapping_sub(1);
-        assert!(rt; arena.is_held(*id), "slot {index}");
-        assert_eq!(rt; arena.give(*id), value_of(index, 0), "slot {index}");
-    }
-    assert_eq!(rt; arena.free(), MAX_SLOTS);
+    assert!(rt; arena.free() == 0 && arena.take(0).err() == Some(0));
+    assert!(rt; give_back(&mut arena, &ids) && arena.free() == MAX_SLOTS);
     let ids = fill(rt.alloc(), &mut arena, 1)?;
-    let mut index = 0u32;
-    for id in ids.iter() {
-        assert!(rt; arena.is_held(*id), "slot {index}");
-        assert_eq!(rt; *arena.get(*id), value_of(index, 1), "slot {index}");
-        index = index.wrapping_add(1);
-    }
+    assert!(rt; holds_all(&arena, &ids));
     Ok(())
 }
 

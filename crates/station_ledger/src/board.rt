@@ -180,6 +180,13 @@ impl TxLine {
     {
         self.gaps.as_slice()
     }
+
+    /// The vector of those ranges.
+    pub fn into_gaps(self) -> Vec<(u32, u32)>
+        ensures { result.items ≡ self.gaps }
+    {
+        self.gaps.into_vec()
+    }
 }
 
 /// The board of a station: its figures; its EVSEs and its quarters with their energy, rising; and its
@@ -234,5 +241,18 @@ impl StationBoard {
         ensures { result.now ≡ self.now.transactions }
     {
         self.transactions.as_slice()
+    }
+
+    /// The vectors of the EVSEs, the quarters and the transactions.
+    pub fn into_lists(self) -> (Vec<EvseLine>, Vec<QuarterLine>, Vec<TxLine>)
+        ensures evses { result.0.items ≡ self.evses }
+        ensures quarters { result.1.items ≡ self.quarters }
+        ensures transactions { result.2.items ≡ self.transactions }
+    {
+        (
+            self.evses.into_vec(),
+            self.quarters.into_vec(),
+            self.transactions.into_vec(),
+        )
     }
 }

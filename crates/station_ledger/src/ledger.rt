@@ -51,12 +51,7 @@ impl StationLedger {
         ensures limits { IfOk result (λ l. l.limits ≡ limits) }
         ensures empty { IfOk result (λ l. l.content ≡ empty_content) }
     {
-        // The limits are in range.
-        let (_transactions, _events, _readings) = (
-            limits.transactions(),
-            limits.events(),
-            limits.readings(),
-        );
+        limits.keep_ranges();
         Ok(StationLedger {
             limits,
             chains: Chains::open(alloc, &limits)?,
@@ -147,8 +142,7 @@ impl StationLedger {
         ensures work { IsSpent result work.old work.new }
         ensures bound { work.new ≤ work.old + most_spent self.old.content.events command }
     {
-        // Its parts are in range, as their types keep them.
-        let _ = command.key();
+        command.keeps_ranges();
         let answer = self.judge(&command);
         if let Answer::Accepted(changes) = answer {
             carry_out(&mut self.chains, &mut self.sums, command, work);

@@ -45,6 +45,3 @@ pub use ledger::StationLedger;
 pub use standing::Standing;
 #[doc(hidden)]
 pub use totals::EvseSum;
-
-#[cfg(test)]
-mod tests;

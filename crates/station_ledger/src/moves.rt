@@ -13,7 +13,7 @@ ghost use Rattle.station_ledger.specs.Spent.{most_spent};
 ghost use Rattle.station_ledger.specs.Quarters.{readings_at};
 ghost use Rattle.station_ledger.specs.Sums.{AreAllowed, AreSummed};
 
-use crate::pairs::Place;
+use crate::pairs::Sides;
 use crate::sums::{Sums, add_event, take_event};
 use energy_flow::Work;
 use event_chain::Chains;
@@ -42,7 +42,7 @@ pub(crate) fn deliver(
     let at = key.copied();
     let (before, behind) = chains.neighbours(&at);
     chains.insert(key, event);
-    add_event(chains, sums, &at, &Place { before, behind }, work);
+    add_event(chains, sums, &at, &Sides { before, behind }, work);
 }
 
 // Makes a voided event live again.
@@ -61,7 +61,7 @@ pub(crate) fn restore(chains: &mut Chains, sums: &mut Sums, key: &Key, work: &mu
 {
     let (before, behind) = chains.neighbours(key);
     chains.relink(key);
-    add_event(chains, sums, key, &Place { before, behind }, work);
+    add_event(chains, sums, key, &Sides { before, behind }, work);
     sums.figures.voided -= 1;
 }
 
@@ -81,7 +81,7 @@ pub(crate) fn void(chains: &mut Chains, sums: &mut Sums, key: &Key, work: &mut W
 {
     let (before, behind) = chains.neighbours(key);
     chains.unlink(key);
-    take_event(chains, sums, key, &Place { before, behind }, work);
+    take_event(chains, sums, key, &Sides { before, behind }, work);
     sums.figures.voided += 1;
 }
 

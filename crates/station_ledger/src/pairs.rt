@@ -16,7 +16,7 @@ use reading_decimal::quarter;
 
 // The readings just before and just behind an event's place in its transaction.
 #[derive(Clone, Copy)]
-pub(crate) struct Place {
+pub(crate) struct Sides {
     pub(crate) before: Option<Reading>,
     pub(crate) behind: Option<Reading>,
 }

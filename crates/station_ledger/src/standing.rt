@@ -24,7 +24,7 @@ pub struct Standing {
 
 // Tells whether a transaction's lowest live event is Started, its highest is Ended, and no other is
 // either.
-fn starts_and_ends(events: &event_chain::Standing) -> bool
+fn starts_and_ends(events: &event_chain::TxStanding) -> bool
     ensures { result ≡ starts_and_ends_by events.now.first_kind events.now.last_kind events.now.ends }
 {
     events.ends == 2

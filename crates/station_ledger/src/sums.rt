@@ -11,7 +11,7 @@ ghost use Rattle.station_ledger.specs.Moved.{sum_at, with_one, without_one, with
 ghost use Rattle.station_ledger.specs.Quarters.{readings_at};
 ghost use Rattle.station_ledger.specs.Sums.{keep, AreSummed, AreAllowed, IsToCome, IsToGo};
 
-use crate::pairs::{Place, add_across, add_pairs, take_across, take_pairs};
+use crate::pairs::{Sides, add_across, add_pairs, take_across, take_pairs};
 use crate::standing::{Standing, standing_of};
 use crate::totals::{Change, EvseSum, move_at_evses, move_in_figures};
 use energy_flow::{Flow, Work};
@@ -110,7 +110,7 @@ fn replace_standing(sums: &mut Sums, tx: &TxId, change: &Change)
 }
 
 // Takes into all sums a live event that the chains have more.
-pub(crate) fn add_event(chains: &Chains, sums: &mut Sums, key: &Key, place: &Place, work: &mut Work)
+pub(crate) fn add_event(chains: &Chains, sums: &mut Sums, key: &Key, place: &Sides, work: &mut Work)
     requires within { AreAllowed chains.now.limits (stored chains.now) }
     requires to_come { (es : List Entry) × (AreAllowed chains.now.limits es × (IsToCome es chains.now key.now place.now.before place.now.behind × AreSummed chains.now.limits es sums.old.kept sums.old.evses.items sums.old.quarters sums.old.energy sums.old.figures)) }
     ensures summed { (es : List Entry) → AreAllowed chains.now.limits es → IsToCome es chains.now key.now place.now.before place.now.behind → AreSummed chains.now.limits es sums.old.kept sums.old.evses.items sums.old.quarters sums.old.energy sums.old.figures → AreSummed chains.now.limits (stored chains.now) sums.new.kept sums.new.evses.items sums.new.quarters sums.new.energy sums.new.figures }
@@ -140,7 +140,7 @@ pub(crate) fn take_event(
     chains: &Chains,
     sums: &mut Sums,
     key: &Key,
-    place: &Place,
+    place: &Sides,
     work: &mut Work,
 )
     requires within { AreAllowed chains.now.limits (stored chains.now) }

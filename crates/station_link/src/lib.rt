@@ -1,7 +1,8 @@
 //! Sessions of charging stations over WebSocket, and simulated stations to try them with.
 //!
 //! [`serve_connection`] takes one connection of a station: it answers the opening handshake (RFC 6455),
-//! enlists the station that the path names, and answers each text message in turn until the session ends.
+//! lets in the station that the path names ([`admit`]), and answers each text message in turn until the
+//! session ends ([`serve_session`]).
 //! The stream is anything that reads and writes. [`answer_text`] answers one text of a station. A
 //! [`SimStation`] is the other side: a station that sends one transaction and keeps the replies.
 //!
@@ -9,7 +10,7 @@
 //! a ready reply or silence; where it means an event, the reply to an answer that the desk can give to that
 //! event's delivery. All memory is taken before the desk is asked, so that a message that found none changed
 //! nothing. A session gives back the pass that it was given, whatever ends it, with at most a million
-//! changes. What a socket delivered, the paths and the close codes are shown by tests.
+//! changes; whom it lets in is fixed by what the handshake saw. What a socket delivered, the paths and the close codes are shown by tests.
 //!
 //! ```text
 //! answer_text(&desk, rt, alloc, &mut pass, text, now, &NoGate);      // Answered { text, told, memory }
@@ -28,8 +29,6 @@ mod sim;
 pub use answer::{Answered, answer_text};
 pub use ending::Why;
 pub use moment::MomentSource;
-pub use session::{MAX_MESSAGES, SessionEnd, serve_connection};
+pub use request::{Seen, admit};
+pub use session::{MAX_MESSAGES, SessionEnd, serve_connection, serve_session};
 pub use sim::{SimFault, SimStation};
-
-#[cfg(test)]
-mod tests;

@@ -108,8 +108,10 @@ fn enlist<J: Naming, R: Wait + Threads>(rt: &R, desk: &Desk<J>, name: &Name) -> 
     }
 }
 
-// A pass of the station that the request names, which made no change yet, with that name.
-pub(crate) fn admit<J: Naming, R: Wait + Threads>(
+/// Lets a request in: a pass of the station that it names, which made no change yet, with that name. Else it
+/// tells why not: no request was seen, there was no memory to take up the subprotocol, the subprotocol is
+/// not offered, the path names no station of the desk, or the station gave out all its passes, in this order.
+pub fn admit<J: Naming, R: Wait + Threads>(
     rt: &R,
     desk: &Desk<J>,
     seen: Seen,

@@ -68,18 +68,37 @@ pub fn serve_connection<
         Err(why) => return SessionEnd { why, pass: None },
     };
     match admit(rt, desk, seen.into_inner()) {
-        Ok((name, mut pass)) => {
-            let end = answer_all(rt, alloc, &mut socket, desk, &name, &mut pass, gate, clock);
-            say_goodbye(&mut socket, end.code);
-            SessionEnd {
-                why: end.why,
-                pass: Some(pass),
-            }
-        }
+        Ok((name, pass)) => serve_session(rt, alloc, socket, desk, &name, pass, gate, clock),
         Err(why) => {
             say_goodbye(&mut socket, end_of_refusal(why).code);
             SessionEnd { why, pass: None }
         }
+    }
+}
+
+/// Serves a session that was let in with a pass, as [`serve_connection`] does behind its handshake, until it
+/// ends: up to a million messages, and the close frame. It gives the pass back whatever ends the session,
+/// want of memory included.
+pub fn serve_session<J: Naming, R: Wait + Clock, S: Read + Write + Drop, G: Gate, C: MomentSource>(
+    rt: &R,
+    alloc: Global,
+    mut socket: WebSocket<S, NoMask>,
+    desk: &Desk<J>,
+    name: &Name,
+    mut pass: Pass,
+    gate: &G,
+    clock: &mut C,
+) -> SessionEnd
+    ensures given_back { IsSome result.pass }
+    ensures has { MayHavePass result.why }
+    ensures station { IfSome result.pass (λ p. p.station ≡ pass.station) }
+    ensures few { IfSome result.pass (λ p. p.changes ≤ pass.changes + most_messages) }
+{
+    let end = answer_all(rt, alloc, &mut socket, desk, name, &mut pass, gate, clock);
+    say_goodbye(&mut socket, end.code);
+    SessionEnd {
+        why: end.why,
+        pass: Some(pass),
     }
 }
 

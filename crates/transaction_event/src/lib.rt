@@ -31,8 +31,6 @@ mod reply;
 mod request;
 mod sampled;
 mod scale;
-#[cfg(test)]
-mod tests;
 mod timestamp;
 
 pub use fault::PayloadFault;

@@ -9,7 +9,7 @@ ghost use Rattle.transaction_event.specs.declared.fault.PayloadFault.TheVariants
 
 use crate::PayloadFault;
 use crate::member::{optional_items, required_items};
-use crate::readings::Readings;
+use crate::readings::CountedReadings;
 use crate::sampled::sample;
 use crate::timestamp::timestamp;
 use ledger_model::Moment;
@@ -17,7 +17,11 @@ use marked_json::{Items, Node};
 use std::alloc::Global;
 
 #[tactic(auto, unfolding(crate::specs::Steps::for_each), using(crate::proofs::Growing::grows_here, crate::proofs::Growing::grows_later))]
-fn samples(moment: Moment, values: Items, readings: &mut Readings) -> Result<(), PayloadFault>
+fn samples(
+    moment: Moment,
+    values: Items,
+    readings: &mut CountedReadings,
+) -> Result<(), PayloadFault>
     ensures ok { OnOk result
         (for_each (sample moment) readings.old (left_of values.entry) ≡ Ok readings.new) }
     ensures err { IfErr result
@@ -32,7 +36,7 @@ fn samples(moment: Moment, values: Items, readings: &mut Readings) -> Result<(),
 }
 
 #[tactic(auto, unfolding(crate::specs::MeterValues::meter_value))]
-fn meter_value(element: Node, readings: &mut Readings) -> Result<(), PayloadFault>
+fn meter_value(element: Node, readings: &mut CountedReadings) -> Result<(), PayloadFault>
     ensures ok { OnOk result (spec.meter_value readings.old (node element.entry) ≡ Ok readings.new) }
     ensures err { IfErr result
         (λ f. f ≢ OutOfMemory → spec.meter_value readings.old (node element.entry) ≡ Err f) }
@@ -46,7 +50,7 @@ fn meter_value(element: Node, readings: &mut Readings) -> Result<(), PayloadFaul
 }
 
 #[tactic(auto, unfolding(crate::specs::Steps::for_each), using(crate::proofs::Growing::grows_here, crate::proofs::Growing::grows_later))]
-fn elements_in_turn(elements: Items, readings: &mut Readings) -> Result<(), PayloadFault>
+fn elements_in_turn(elements: Items, readings: &mut CountedReadings) -> Result<(), PayloadFault>
     ensures ok { OnOk result
         (for_each spec.meter_value readings.old (left_of elements.entry) ≡ Ok readings.new) }
     ensures err { IfErr result
@@ -62,13 +66,13 @@ fn elements_in_turn(elements: Items, readings: &mut Readings) -> Result<(), Payl
 
 /// The counted readings of a request, in the order in which they were sent.
 #[tactic(auto, unfolding(crate::specs::MeterValues::meter_values, crate::specs::Steps::for_each))]
-pub fn meter_values(alloc: Global, request: Node) -> Result<Readings, PayloadFault>
+pub fn meter_values(alloc: Global, request: Node) -> Result<CountedReadings, PayloadFault>
     ensures ok { IfOk result (λ readings. spec.meter_values (node request.entry) ≡ Ok readings) }
     ensures err { IfErr result
         (λ f. f ≢ OutOfMemory → spec.meter_values (node request.entry) ≡ Err f) }
     ensures memory { IfErr result (λ f. f ≡ OutOfMemory → MeterValuesGrow (node request.entry)) }
 {
-    let mut readings = Readings::new(alloc);
+    let mut readings = CountedReadings::new(alloc);
     if let Some(elements) = optional_items(request, "meterValue")? {
         elements_in_turn(elements, &mut readings)?;
     }

@@ -11,11 +11,11 @@ use std::marker::Model;
 
 /// The counted readings so far, at most 1,024.
 #[derive(Drop)]
-pub struct Readings {
+pub struct CountedReadings {
     items: Vec<Reading>,
 }
 
-impl Model for Readings {
+impl Model for CountedReadings {
     ghost use Rattle.std.specs.Prelude.{List, ◌≤◌, length};
     ghost use Rattle.ledger_model.specs.Event.{MeterReading};
     ghost use Rattle.ledger_model.specs.Ranges.{most_event_readings};
@@ -27,12 +27,12 @@ impl Model for Readings {
     ghost invariant = { λ r. length r.items.items ≤ most_event_readings };
 }
 
-impl Readings {
+impl CountedReadings {
     /// No reading.
-    pub fn new(alloc: Global) -> Readings
+    pub fn new(alloc: Global) -> CountedReadings
         ensures { result ≡ [] }
     {
-        Readings {
+        CountedReadings {
             items: Vec::new(alloc),
         }
     }

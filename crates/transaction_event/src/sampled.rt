@@ -9,7 +9,7 @@ ghost use Rattle.transaction_event.specs.declared.fault.PayloadFault.TheVariants
 
 use crate::PayloadFault;
 use crate::member::{optional_object, optional_text, required_number};
-use crate::readings::Readings;
+use crate::readings::CountedReadings;
 use crate::scale::Scale;
 use ledger_model::{Moment, Reading};
 use marked_json::Node;
@@ -56,7 +56,7 @@ fn add_counted(
     moment: Moment,
     sampled: Node,
     counted: bool,
-    readings: &mut Readings,
+    readings: &mut CountedReadings,
 ) -> Result<(), PayloadFault>
     ensures ok { OnOk result
         (spec.if_counted moment readings.old (node sampled.entry) counted ≡ Ok readings.new) }
@@ -75,7 +75,11 @@ fn add_counted(
 
 /// Adds the reading of a sampled value, where it counts.
 #[tactic(auto, unfolding(crate::specs::Sampled::sample))]
-pub fn sample(moment: Moment, value: Node, readings: &mut Readings) -> Result<(), PayloadFault>
+pub fn sample(
+    moment: Moment,
+    value: Node,
+    readings: &mut CountedReadings,
+) -> Result<(), PayloadFault>
     ensures ok { OnOk result (spec.sample moment readings.old (node value.entry) ≡ Ok readings.new) }
     ensures err { IfErr result
         (λ f. f ≢ OutOfMemory → spec.sample moment readings.old (node value.entry) ≡ Err f) }

@@ -51,6 +51,18 @@ impl TransactionTable {
         self.rows.len()
     }
 
+    /// The transactions rise, each with a slot of its own below the capacity. It does nothing: a caller
+    /// names the fact by it.
+    pub fn rows_rise(&self)
+        ensures rising { AreRising self.now.rows }
+        ensures apart { AreApart self.now.rows }
+        ensures below { AreBelow self.now.capacity self.now.rows }
+        ensures within { length self.now.rows ≤ self.now.capacity }
+        ensures few { self.now.capacity ≤ 4294967295 }
+    {
+        let _ = (self.len(), self.capacity());
+    }
+
     /// How many transactions it may hold.
     pub fn capacity(&self) -> u32
         ensures { result ≡ self.now.capacity }

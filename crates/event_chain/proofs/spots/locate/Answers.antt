@@ -10,8 +10,8 @@ unreachable-requires-in-None-get c =
     let es = c.args.stored.now.entries in let rows = c.args.table.now.rows in let row = c.in-Some.row in let key = c.args.key.now in
     let lt : key.seq < 2 ^ 31 = omega (arith, c.seq.ensures.value, c.seq.ensures.range) in
     let none = place_at_row rows es key row (sym (c.in-Some.ensures ∙ ap (λ t. row_of t rows) c.tx.ensures)) lt ∙ ap (λ r. place_of r es) (ap (rank row.slot) (sym c.seq.ensures.value) ∙ sym c.new-at.ensures)
-    ∙ sym (found_at c.new-at.result es c.len-count.ensures.rising) ∙ sym c.get-2.ensures ∙ c.in-None-get.is in
+    ∙ sym (found_at c.new-at.result es c.keys_rise.ensures.rising) ∙ sym c.get-2.ensures ∙ c.in-None-get.is in
     let f : false ≡ true = ap is_some (sym none) ∙ c.requires in cc
 
 pub returns-clause-slot : goal.returns-clause-slot
-returns-clause-slot c = sym (found_at c.new-at.result c.args.stored.now.entries c.len-count.ensures.rising) ∙ sym c.in-Some-get.ensures
+returns-clause-slot c = sym (found_at c.new-at.result c.args.stored.now.entries c.keys_rise.ensures.rising) ∙ sym c.in-Some-get.ensures

@@ -9,5 +9,5 @@ pub returns-in-Some : goal.returns-in-Some
 returns-in-Some c =
     let es = c.args.stored.now.entries in let rows = c.args.table.now.rows in let row = c.in-Some.row in let key = c.args.key.now in
     let lt : key.seq < 2 ^ 31 = omega (arith, c.seq.ensures.value, c.seq.ensures.range) in
-    c.get-in-Some.ensures ∙ found_at c.new.result es c.len-count.ensures.rising ∙ ap (λ r. place_of r es) (c.new.ensures ∙ ap (rank row.slot) c.seq.ensures.value)
+    c.get-in-Some.ensures ∙ found_at c.new.result es c.keys_rise.ensures.rising ∙ ap (λ r. place_of r es) (c.new.ensures ∙ ap (rank row.slot) c.seq.ensures.value)
     ∙ sym (place_at_row rows es key row (sym (c.in-Some.ensures ∙ ap (λ t. row_of t rows) c.tx.ensures)) lt)

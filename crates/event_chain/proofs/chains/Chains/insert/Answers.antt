@@ -131,8 +131,8 @@ invariant_of-self c =
     inserted m.limits m.table m.store m.stored m.live m.carriers m.naming c.self.invariant c.args.key mid row c.new-at.result entered number is absent c.set.new.self c.put-slot.new.self c.put_place.new.index c.insert.new.self c.put_place-2.new.index c.put_place-3.new.index after c.put-slot.result ev carries names (record {
       rows = c.set.ensures.rows ∙ ap (λ t. with_row t after mid) c.tx-2.ensures;
       transactions = c.set.ensures.capacity ∙ c.enter-row.ensures.capacity;
-      rising = c.len-transactions.ensures.rising;
-      apart = c.len-transactions.ensures.apart;
+      rising = c.rows_rise.ensures.rising;
+      apart = c.rows_rise.ensures.apart;
       free = c.put-slot.ensures.was_free;
       within = c.put-slot.ensures.within;
       slots = c.put-slot.ensures.slots;
@@ -164,8 +164,8 @@ returns-clause-events c =
     inserted_events m.limits m.table m.store m.stored m.live m.carriers m.naming c.self.invariant c.args.key mid row c.new-at.result entered number is absent c.set.new.self c.put-slot.new.self c.put_place.new.index c.insert.new.self c.put_place-2.new.index c.put_place-3.new.index after c.put-slot.result ev carries names (record {
       rows = c.set.ensures.rows ∙ ap (λ t. with_row t after mid) c.tx-2.ensures;
       transactions = c.set.ensures.capacity ∙ c.enter-row.ensures.capacity;
-      rising = c.len-transactions.ensures.rising;
-      apart = c.len-transactions.ensures.apart;
+      rising = c.rows_rise.ensures.rising;
+      apart = c.rows_rise.ensures.apart;
       free = c.put-slot.ensures.was_free;
       within = c.put-slot.ensures.within;
       slots = c.put-slot.ensures.slots;

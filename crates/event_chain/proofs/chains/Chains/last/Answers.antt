@@ -10,7 +10,7 @@ use Rattle.event_chain.proofs.Rows.{row_below}
 use Rattle.event_chain.proofs.chains.Chains.last.Goals as goal
 
 pub last_in-requires : goal.last_in-requires
-last_in-requires c = row_below c.self.inside.table.rows c.self.inside.table.capacity c.args.tx.now c.get.result c.len-count.ensures.below (omega (arith, c.capacity-capacity.ensures, c.capacity-capacity.type_inv)) c.get.ensures
+last_in-requires c = row_below c.self.inside.table.rows c.self.inside.table.capacity c.args.tx.now c.get.result c.rows_rise.ensures.below (omega (arith, c.rows_rise.ensures.few)) c.get.ensures
 
 pub returns : goal.returns
 returns c =

@@ -31,7 +31,7 @@ invariant_of-self c =
     let r = k.roomy in
     seal m.limits c.leave.new.table c.take_out.new.self c.out_place.new.index m.live m.carriers m.naming c.leave.new.table.rows m.table.capacity (set m.store.slots at.slot None) c.take_out.new.self.readings m.store.capacity (out at.key m.stored.entries) m.live.entries m.carriers.entries m.naming.entries m.limits.events
     refl c.leave.ensures.capacity c.take_out.ensures.slots refl c.take_out.ensures.capacity c.out_place.ensures.entries refl refl refl (c.out_place.ensures.capacity ∙ r.for_stored) r.for_live r.for_carriers r.for_naming
-    (out_chains m.limits m.table.rows c.leave.new.table.rows m.stored.entries m.live.entries m.carriers.entries m.naming.entries m.store.slots c.args.key.now at.row at.key at.slot m.table.capacity m.store.readings c.take_out.new.self.readings m.store.capacity (spot_event m.limits m.table m.store m.stored m.live m.carriers m.naming c.self.invariant c.args.key.now at.row at.key at.slot c.locate-at.ensures.row c.locate-at.ensures.number c.locate-at.ensures.key c.locate-at.ensures.slot) k.keyed k.indexed k.figured k.counted gone c.locate-at.ensures.number c.locate-at.ensures.key c.len-transactions.ensures.rising c.len-transactions.ensures.apart (spot_here m.limits m.table m.store m.stored m.live m.carriers m.naming c.self.invariant c.args.key.now at.row at.key at.slot c.locate-at.ensures.row c.locate-at.ensures.number c.locate-at.ensures.key c.locate-at.ensures.slot) (spot_within m.limits m.table m.store m.stored m.live m.carriers m.naming c.self.invariant c.args.key.now at.row at.key at.slot c.locate-at.ensures.row c.locate-at.ensures.number c.locate-at.ensures.key c.locate-at.ensures.slot) c.locate-at.ensures.slot void (ap (λ n. c.take_out.new.self.readings + n) (sym (ap readings_in (spot_here m.limits m.table m.store m.stored m.live m.carriers m.naming c.self.invariant c.args.key.now at.row at.key at.slot c.locate-at.ensures.row c.locate-at.ensures.number c.locate-at.ensures.key c.locate-at.ensures.slot))) ∙ c.take_out.ensures.readings) (record { for_stored = refl; for_live = refl; for_carriers = refl; for_naming = refl }))
+    (out_chains m.limits m.table.rows c.leave.new.table.rows m.stored.entries m.live.entries m.carriers.entries m.naming.entries m.store.slots c.args.key.now at.row at.key at.slot m.table.capacity m.store.readings c.take_out.new.self.readings m.store.capacity (spot_event m.limits m.table m.store m.stored m.live m.carriers m.naming c.self.invariant c.args.key.now at.row at.key at.slot c.locate-at.ensures.row c.locate-at.ensures.number c.locate-at.ensures.key c.locate-at.ensures.slot) k.keyed k.indexed k.figured k.counted gone c.locate-at.ensures.number c.locate-at.ensures.key c.rows_rise.ensures.rising c.rows_rise.ensures.apart (spot_here m.limits m.table m.store m.stored m.live m.carriers m.naming c.self.invariant c.args.key.now at.row at.key at.slot c.locate-at.ensures.row c.locate-at.ensures.number c.locate-at.ensures.key c.locate-at.ensures.slot) (spot_within m.limits m.table m.store m.stored m.live m.carriers m.naming c.self.invariant c.args.key.now at.row at.key at.slot c.locate-at.ensures.row c.locate-at.ensures.number c.locate-at.ensures.key c.locate-at.ensures.slot) c.locate-at.ensures.slot void (ap (λ n. c.take_out.new.self.readings + n) (sym (ap readings_in (spot_here m.limits m.table m.store m.stored m.live m.carriers m.naming c.self.invariant c.args.key.now at.row at.key at.slot c.locate-at.ensures.row c.locate-at.ensures.number c.locate-at.ensures.key c.locate-at.ensures.slot))) ∙ c.take_out.ensures.readings) (record { for_stored = refl; for_live = refl; for_carriers = refl; for_naming = refl }))
 
 pub returns-clause-events : goal.returns-clause-events
 returns-clause-events c =
@@ -40,5 +40,5 @@ returns-clause-events c =
     let gone = subst (λ t. IsLeft m.table.rows c.leave.new.table.rows (out at.key m.stored.entries) t at.row) c.tx.ensures (subst (λ (es : List Place). IsLeft m.table.rows c.leave.new.table.rows es c.tx.result.now at.row) c.out_place.ensures.entries c.leave.ensures.left) in
     let k = c.self.invariant in
     (λ i. finite.from_sorted {R = key_cmp} (flat c.leave.new.table.rows (c.out_place.ensures.entries i) (c.take_out.ensures.slots i)))
-    ∙ map_out (flat m.table.rows m.stored.entries m.store.slots) (flat c.leave.new.table.rows (out at.key m.stored.entries) (set m.store.slots at.slot None)) c.args.key.now (all_rising m.limits m.table m.store m.stored m.live m.carriers m.naming c.self.invariant) (out_all m.limits m.table.rows c.leave.new.table.rows m.stored.entries m.live.entries m.carriers.entries m.naming.entries m.store.slots c.args.key.now at.row at.key at.slot m.table.capacity m.store.readings c.take_out.new.self.readings m.store.capacity (spot_event m.limits m.table m.store m.stored m.live m.carriers m.naming c.self.invariant c.args.key.now at.row at.key at.slot c.locate-at.ensures.row c.locate-at.ensures.number c.locate-at.ensures.key c.locate-at.ensures.slot) k.keyed k.indexed k.figured k.counted gone c.locate-at.ensures.number c.locate-at.ensures.key c.len-transactions.ensures.rising c.len-transactions.ensures.apart (spot_here m.limits m.table m.store m.stored m.live m.carriers m.naming c.self.invariant c.args.key.now at.row at.key at.slot c.locate-at.ensures.row c.locate-at.ensures.number c.locate-at.ensures.key c.locate-at.ensures.slot) (spot_within m.limits m.table m.store m.stored m.live m.carriers m.naming c.self.invariant c.args.key.now at.row at.key at.slot c.locate-at.ensures.row c.locate-at.ensures.number c.locate-at.ensures.key c.locate-at.ensures.slot) c.locate-at.ensures.slot void)
+    ∙ map_out (flat m.table.rows m.stored.entries m.store.slots) (flat c.leave.new.table.rows (out at.key m.stored.entries) (set m.store.slots at.slot None)) c.args.key.now (all_rising m.limits m.table m.store m.stored m.live m.carriers m.naming c.self.invariant) (out_all m.limits m.table.rows c.leave.new.table.rows m.stored.entries m.live.entries m.carriers.entries m.naming.entries m.store.slots c.args.key.now at.row at.key at.slot m.table.capacity m.store.readings c.take_out.new.self.readings m.store.capacity (spot_event m.limits m.table m.store m.stored m.live m.carriers m.naming c.self.invariant c.args.key.now at.row at.key at.slot c.locate-at.ensures.row c.locate-at.ensures.number c.locate-at.ensures.key c.locate-at.ensures.slot) k.keyed k.indexed k.figured k.counted gone c.locate-at.ensures.number c.locate-at.ensures.key c.rows_rise.ensures.rising c.rows_rise.ensures.apart (spot_here m.limits m.table m.store m.stored m.live m.carriers m.naming c.self.invariant c.args.key.now at.row at.key at.slot c.locate-at.ensures.row c.locate-at.ensures.number c.locate-at.ensures.key c.locate-at.ensures.slot) (spot_within m.limits m.table m.store m.stored m.live m.carriers m.naming c.self.invariant c.args.key.now at.row at.key at.slot c.locate-at.ensures.row c.locate-at.ensures.number c.locate-at.ensures.key c.locate-at.ensures.slot) c.locate-at.ensures.slot void)
     ∙ ap (λ (x : Chained). finite.remove x.events c.args.key.now) c.self.view_is

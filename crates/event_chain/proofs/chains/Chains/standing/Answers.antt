@@ -17,7 +17,7 @@ use Rattle.event_chain.proofs.Rows.{row_below}
 use Rattle.event_chain.proofs.chains.Chains.standing.Goals as goal
 
 pub last_in-last-requires : goal.last_in-last-requires
-last_in-last-requires c = row_below c.self.inside.table.rows c.self.inside.table.capacity c.args.tx.now c.get-row.result c.len-count.ensures.below (omega (arith, c.capacity-capacity.ensures, c.capacity-capacity.type_inv)) c.get-row.ensures
+last_in-last-requires c = row_below c.self.inside.table.rows c.self.inside.table.capacity c.args.tx.now c.get-row.result c.rows_rise.ensures.below (omega (arith, c.rows_rise.ensures.few)) c.get-row.ensures
 
 pub kind_at-first_kind-requires : goal.kind_at-first_kind-requires
 kind_at-first_kind-requires c =

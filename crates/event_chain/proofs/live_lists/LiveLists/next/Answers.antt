@@ -9,10 +9,10 @@ use Rattle.event_chain.proofs.live_lists.LiveLists.next.Goals as goal
 pub next-requires : goal.next-requires
 next-requires c =
     let m = c.self.inside in let has = c.requires in
-    slot_present m.index m.links c.self.invariant c.len-count.ensures.rising has.rank c.args.slot (ap (λ (x : Index). place_of has.rank x.entries) c.self.view_is ∙ has.found)
+    slot_present m.index m.links c.self.invariant c.keys_rise.ensures.rising has.rank c.args.slot (ap (λ (x : Index). place_of has.rank x.entries) c.self.view_is ∙ has.found)
 
 pub returns : goal.returns
 returns c rank found =
     let m = c.self.inside in
-    c.next.ensures ∙ next_present m.index m.links c.self.invariant c.len-count.ensures.rising rank c.args.slot (ap (λ (x : Index). place_of rank x.entries) c.self.view_is ∙ found)
+    c.next.ensures ∙ next_present m.index m.links c.self.invariant c.keys_rise.ensures.rising rank c.args.slot (ap (λ (x : Index). place_of rank x.entries) c.self.view_is ∙ found)
     ∙ ap (λ (x : Index). option_map slot_in (slice_get (places_behind rank x.entries) 0)) c.self.view_is

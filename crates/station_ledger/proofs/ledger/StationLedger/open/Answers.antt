@@ -16,7 +16,7 @@ invariant_of-result c =
       reached = λ i. record { events = c.in_ok-open.ensures.empty i; changes = 0 };
       summed = subst (λ (es : List Entry). AreSummed c.args.limits es sums.kept sums.evses.items sums.quarters sums.energy sums.figures) (sym empty) c.in_ok-open-2.ensures.summed;
       voided_are = c.in_ok-open-2.ensures.voided ∙ sym (ap (count_by (λ (e : Entry). e.1.voided)) empty);
-      few_transactions = omega (arith, c.transactions-transactions.ensures.value, c.transactions-transactions.ensures.most);
-      few_events = omega (arith, c.events-events.ensures.value, c.events-events.ensures.most);
-      few_readings = omega (arith, c.readings-readings.ensures.value, c.readings-readings.ensures.most);
+      few_transactions = c.keep_ranges.ensures.transactions;
+      few_events = c.keep_ranges.ensures.events;
+      few_readings = c.keep_ranges.ensures.readings;
     }

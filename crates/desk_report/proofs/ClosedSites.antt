@@ -1,0 +1,64 @@
+-- The figures of a closed desk's site, over its cells and over its stations' boards.
+use Rattle.std.proofs.Common.{◌≡◌, ℕ, zero, suc, Bool, true, false, cond, eqb, List, [], ◌∷◌, Some, ◌<◌, length, map, get_or, refl, subst, ap, sym, ◌∙◌, arith}
+use Rattle.std.specs.Prelude.{filter, slice_get, IfOk, Result, Err, Ok}
+use Rattle.ledger_model.specs.declared.figures.Figures.{Figures}
+use Rattle.ledger_model.specs.Board.{Board, board, figures, site_board}
+use Rattle.ledger_model.specs.Content.{entries}
+use Rattle.ledger_model.specs.Quarter.{quarter_seconds}
+use Rattle.site_desk.specs.declared.plan.SitePlan.{SitePlan}
+use Rattle.site_desk.specs.declared.plan.StationPlan.{StationPlan}
+use Rattle.site_book.specs.Book.{Known}
+use Rattle.site_desk.specs.Cell.{Cell, Held}
+use Rattle.site_desk.specs.Close.{Ended, IsClosable}
+use Rattle.site_desk.specs.Roster.{AreNewPlaces, Roster, StandsAt, new_place}
+use Rattle.desk_report.specs.Boards.{boards_at, site_named}
+use Rattle.desk_report.proofs.SiteBoards.{some_same}
+use Rattle.desk_report.specs.Closed.{IsClosedOf}
+
+pub figures_alike : (xs : List StationPlan) (cells : List Cell) (site : ℕ) → length cells ≡ length xs
+    → ((k : ℕ) (s : StationPlan) (c : Cell) → slice_get xs k ≡ Some s → slice_get cells k ≡ Some c → c.site ≡ s.site)
+    → map (λ (c : Cell). figures (entries c.content)) (filter (λ (c : Cell). eqb c.site site) cells) ≡ map (λ (s : List ℕ × Board). s.1.figures) (boards_at xs cells site)
+figures_alike [] [] site count sites = refl
+figures_alike [] (c ∷ cells) site count sites = absurd (omega (arith, count))
+figures_alike (x ∷ xs) [] site count sites = absurd (omega (arith, count))
+figures_alike (x ∷ xs) (c ∷ cells) site count sites =
+    let same : c.site ≡ x.site = sites zero x c refl refl in
+    (λ i. map (λ (d : Cell). figures (entries d.content)) (cond (eqb (same i) site) (c ∷ filter (λ (d : Cell). eqb d.site site) cells) (filter (λ (d : Cell). eqb d.site site) cells)))
+    ∙ one (eqb x.site site) (figures_alike xs cells site (omega (arith, count)) (λ k s d at is. sites (suc k) s d at is))
+  where
+    one : (t : Bool) → map (λ (d : Cell). figures (entries d.content)) (filter (λ (d : Cell). eqb d.site site) cells) ≡ map (λ (s : List ℕ × Board). s.1.figures) (boards_at xs cells site)
+        → map (λ (d : Cell). figures (entries d.content)) (cond t (c ∷ filter (λ (d : Cell). eqb d.site site) cells) (filter (λ (d : Cell). eqb d.site site) cells))
+        ≡ map (λ (s : List ℕ × Board). s.1.figures) (cond t ((x.name, board quarter_seconds (entries c.content)) ∷ boards_at xs cells site) (boards_at xs cells site))
+    one true e = ap (λ l. figures (entries c.content) ∷ l) e
+    one false e = e
+
+-- the name of a site of the plan
+pub name_at : (sites : List SitePlan) (site : ℕ) (other : SitePlan) → site < length sites → (get_or sites site other).name ≡ get_or (map (λ (p : SitePlan). p.name) sites) site []
+name_at [] site other less = absurd (omega (arith, less))
+name_at (p ∷ sites) zero other less = refl
+name_at (p ∷ sites) (suc site) other less = name_at sites site other (omega (arith, less))
+
+-- a board under the same name and totals is the same board
+pub named_alike : (name other : List ℕ) (totals all : Figures) (boards : List (List ℕ × Board)) → name ≡ other → totals ≡ all → all ≡ (site_board boards).figures
+    → site_named name totals boards ≡ record { name = other; figures = (site_board boards).figures; quarters = (site_board boards).quarters; stations = (site_board boards).stations }
+named_alike name other totals all boards n t e = λ i. record { name = n i; figures = (t ∙ e) i; quarters = (site_board boards).quarters; stations = boards }
+
+-- what is told of a value
+pub value_told : {T E : Type 0} (r : Result T E) (P Q : T → Type 0) → ((x : T) → P x → Q x) → IfOk r P → IfOk r Q
+value_told (Ok x) P Q f p = f x p
+value_told (Err e) P Q f p = p
+
+-- a desk that was closed is one of the stations that it was opened for
+pub closed_of : (sites : ℕ) (xs : List StationPlan) (desk : Roster) (closed : Ended) (passes : List Held) (viewers : List Known) → desk.sites ≡ sites → AreNewPlaces xs desk.stations → length closed.cells ≡ length desk.stations
+    → length closed.books ≡ desk.sites → IsClosable desk.stations desk.viewers closed.cells closed.books passes viewers → IsClosedOf sites xs closed
+closed_of sites xs desk closed passes viewers planned new count books whole =
+    let stands : (k : ℕ) (s : StationPlan) (c : Cell) → slice_get xs k ≡ Some s → slice_get closed.cells k ≡ Some c → StandsAt k (new_place xs k s) c
+    = λ k s c at is.
+    let placed = (whole.whole k c is).placed in
+    subst (λ p. StandsAt k p c) (some_same placed.place (new_place xs k s) (sym placed.there ∙ new.each k s at)) placed.stands in
+    record {
+      books = books ∙ planned;
+      cells = record { count = count ∙ new.count; limits = λ k s c at is. (stands k s c at is).limits };
+      at_sites = λ k s c at is. (stands k s c at is).site;
+      summed = whole.summed;
+    }

@@ -1,0 +1,29 @@
+use Rattle.std.proofs.Common.{[], ap, ◌∙◌, map, get_or, arith}
+use Rattle.ledger_model.specs.Board.{sum_of_figures}
+use Rattle.board_report.specs.Texts.{board_text}
+use Rattle.site_desk.specs.declared.plan.SitePlan.{SitePlan}
+use Rattle.site_desk.specs.Close.{figures_at}
+use Rattle.desk_report.specs.Boards.{boards_at, site_named}
+use Rattle.desk_report.proofs.SiteBoards.{stands}
+use Rattle.desk_report.proofs.ClosedSites.{figures_alike, name_at, named_alike, value_told}
+use Rattle.desk_report.proofs.closed.closed_board.Goals as goal
+
+pub returns : goal.returns
+returns g c =
+    let sites = c.args.plan.now.sites.items in
+    let xs = c.args.plan.now.stations.items in
+    let closed = c.args.closed.now in
+    let site = c.args.site in
+    let book = stands closed.books site (omega (arith, c.requires.planned, c.requires.closed.books)) in
+    let summed = c.requires.closed.summed site book.0 book.1 in
+    let boards = boards_at xs closed.cells site in
+    let totals = c.totals-totals.ensures book.0 book.1 ∙ summed.totals in
+    let sums = ap sum_of_figures (figures_alike xs closed.cells site c.requires.closed.cells.count c.requires.closed.at_sites) in
+    let x = c.index-as_slice-number.result in
+    let name = c.copied-name.ensures ∙ ap (λ l. (get_or l site x).name) c.as_slice.ensures.value ∙ name_at sites site x c.requires.planned in
+    let stations = c.as_slice-2.ensures.value in
+    let cells = c.cells.ensures in
+    let there = ap (λ l. site_named c.copied-name.result c.totals-totals.result (boards_at l c.cells.result.now site)) stations
+    ∙ ap (λ l. site_named c.copied-name.result c.totals-totals.result (boards_at xs l site)) cells in
+    let same = named_alike c.copied-name.result (get_or (map (λ (p : SitePlan). p.name) sites) site []) c.totals-totals.result (figures_at closed.cells site) boards name totals sums in
+    value_told c.site_text.result _ _ (λ text h. h ∙ ap board_text there ∙ ap board_text same) c.site_text.ensures

@@ -1,0 +1,28 @@
+-- The boards of a desk that was closed.
+use Rattle.std.specs.Prelude.{◌≡◌, ℕ, zero, suc, List, [], ◌++◌, length, map, slice_get, get_or, Some}
+use Rattle.ledger_model.specs.Board.{site_board}
+use Rattle.board_report.specs.Named.{NamedBoard}
+use Rattle.board_report.specs.Texts.{board_text}
+use Rattle.site_desk.specs.declared.plan.SitePlan.{SitePlan}
+use Rattle.site_desk.specs.declared.plan.StationPlan.{StationPlan}
+use Rattle.site_desk.specs.Cell.{Cell}
+use Rattle.site_desk.specs.Close.{AreSummed, Ended}
+use Rattle.desk_report.specs.Boards.{AreCellsOf, boards_at}
+
+-- A closed desk of so many sites and of these stations: each site has its book, each station its cell at its site, and each book's totals are the sums over its site's cells.
+pub record IsClosedOf (sites : ℕ) (stations : List StationPlan) (closed : Ended) : Type 0 where
+  pub books : length closed.books ≡ sites
+  pub cells : AreCellsOf stations closed.cells
+  pub at_sites : (k : ℕ) (s : StationPlan) (c : Cell) → slice_get stations k ≡ Some s → slice_get closed.cells k ≡ Some c → c.site ≡ s.site
+  pub summed : AreSummed closed.cells closed.books
+
+-- The board of the site of this number, from scratch: its stations' boards, the sums of their figures, and the sums of their quarters.
+abbrev pub closed_site : List SitePlan → List StationPlan → List Cell → ℕ → NamedBoard
+closed_site sites stations cells site =
+    let b = site_board (boards_at stations cells site) in
+    record { name = get_or (map (λ s. s.name) sites) site []; figures = b.figures; quarters = b.quarters; stations = b.stations }
+
+-- The texts of the boards of the first so many sites, in the plan's order.
+abbrev pub boards_text : List SitePlan → List StationPlan → List Cell → ℕ → List ℕ
+boards_text sites stations cells zero = []
+boards_text sites stations cells (suc site) = boards_text sites stations cells site ++ board_text (closed_site sites stations cells site)

@@ -1,0 +1,251 @@
+//! The events of a station in a plain list by transaction and number, with which chains are compared.
+use event_chain::{Chains, Found, Room, TxStanding};
+use ledger_model::{Event, EvseId, Key, Kind, Reading};
+use std::alloc::{AllocError, Global};
+
+// An event of the list. Its transaction is told by a number.
+#[derive(Clone, Copy)]
+struct PlainRow {
+    tx: u32,
+    seq: u32,
+    voided: bool,
+    kind: Kind,
+    evse: EvseId,
+    first: Option<Reading>,
+    last: Option<Reading>,
+    readings: usize,
+}
+
+// What is answered of a key, of the room for one event more, and of the key's transaction: by one call, and
+// by a call for each.
+#[derive(Clone, Copy, Debug, PartialEq, Eq)]
+pub(crate) struct Answers {
+    found: Option<Found>,
+    room: Room,
+    before: Option<Reading>,
+    behind: Option<Reading>,
+    standing: TxStanding,
+    alone: TxStanding,
+}
+
+impl Answers {
+    // The answers of chains.
+    pub(crate) fn of(chains: &Chains, key: &Key, readings: usize) -> Answers {
+        let sides = chains.neighbours(key);
+        let standing = chains.standing(key.tx());
+        Answers {
+            found: chains.find(key),
+            room: chains.room_for(key.tx(), readings),
+            before: sides.0,
+            behind: sides.1,
+            standing,
+            alone: TxStanding {
+                first: chains.first(key.tx()),
+                last: chains.last(key.tx()),
+                first_kind: standing.first_kind,
+                last_kind: standing.last_kind,
+                live: chains.live_count(key.tx()),
+                ends: chains.end_count(key.tx()),
+                evse: chains.evse(key.tx()),
+            },
+        }
+    }
+}
+
+// What is seen of the live events of a transaction.
+#[derive(Clone, Copy)]
+struct Seen {
+    standing: TxStanding,
+    before: Option<Reading>,
+    behind: Option<Reading>,
+}
+
+impl Seen {
+    // No event.
+    fn none() -> Seen {
+        Seen {
+            standing: TxStanding {
+                first: None,
+                last: None,
+                first_kind: None,
+                last_kind: None,
+                live: 0,
+                ends: 0,
+                evse: EvseId::unnamed(),
+            },
+            before: None,
+            behind: None,
+        }
+    }
+
+    // Takes an event into account; its number is above those before it.
+    fn see(&mut self, row: &PlainRow, seq: u32) {
+        self.stand(row);
+        if row.seq < seq && row.last.is_some() {
+            self.before = row.last;
+        }
+        if row.seq > seq && self.behind.is_none() {
+            self.behind = row.first;
+        }
+    }
+
+    // Takes it into account for the transaction.
+    fn stand(&mut self, row: &PlainRow) {
+        let standing = &mut self.standing;
+        if standing.first.is_none() {
+            standing.first = Some(row.seq);
+            standing.first_kind = Some(row.kind);
+        }
+        standing.last = Some(row.seq);
+        standing.last_kind = Some(row.kind);
+        standing.live = standing.live.wrapping_add(1);
+        if row.kind != Kind::Updated {
+            standing.ends = standing.ends.wrapping_add(1);
+        }
+        if standing.evse == EvseId::unnamed() {
+            standing.evse = row.evse;
+        }
+    }
+}
+
+// A list of events, how many readings they have, and how many transactions, events and readings it may
+// have.
+#[derive(Drop)]
+pub(crate) struct PlainList {
+    rows: Vec<PlainRow>,
+    held: usize,
+    transactions: usize,
+    events: usize,
+    readings: usize,
+}
+
+impl PlainList {
+    // A list without events.
+    pub(crate) fn open(
+        alloc: Global,
+        transactions: usize,
+        events: usize,
+        readings: usize,
+    ) -> PlainList {
+        PlainList {
+            rows: Vec::new(alloc),
+            held: 0,
+            transactions,
+            events,
+            readings,
+        }
+    }
+
+    // How many events stand in front of a number's place.
+    fn place(&self, tx: u32, seq: u32) -> usize {
+        let mut place: usize = 0;
+        for row in &self.rows {
+            if row.tx > tx || (row.tx == tx && row.seq >= seq) {
+                return place;
+            }
+            place = place.wrapping_add(1);
+        }
+        place
+    }
+
+    // How the event of a number is stored.
+    fn found(&self, tx: u32, seq: u32) -> Option<Found> {
+        match self.rows.get(self.place(tx, seq)) {
+            Some(row) if row.tx == tx && row.seq == seq => {
+                Some(if row.voided {
+                    Found::Voided
+                } else {
+                    Found::Live
+                })
+            }
+            _ => None,
+        }
+    }
+
+    // The room for an event with so many readings, where its transaction is there or not, and so many
+    // transactions are.
+    fn room(&self, there: bool, transactions: usize, readings: usize) -> Room {
+        if !there && transactions >= self.transactions {
+            Room::NoTransaction
+        } else if self.rows.len() >= self.events {
+            Room::NoEvent
+        } else if self.held.wrapping_add(readings) > self.readings {
+            Room::NoReading
+        } else {
+            Room::Fits
+        }
+    }
+
+    // The answers of the list.
+    pub(crate) fn answers(&self, tx: u32, seq: u32, readings: usize) -> Answers {
+        let mut seen = Seen::none();
+        let mut there = false;
+        let mut transactions: usize = 0;
+        let mut above: u32 = 0;
+        for row in &self.rows {
+            // A transaction is counted where it begins; their numbers begin at 1.
+            transactions = transactions.wrapping_add(usize::from(row.tx > above));
+            above = row.tx;
+            there = there || row.tx == tx;
+            if row.tx == tx && !row.voided {
+                seen.see(row, seq);
+            }
+        }
+        Answers {
+            found: self.found(tx, seq),
+            room: self.room(there, transactions, readings),
+            before: seen.before,
+            behind: seen.behind,
+            standing: seen.standing,
+            alone: seen.standing,
+        }
+    }
+
+    // The live numbers of a transaction, rising.
+    pub(crate) fn numbers(&self, alloc: Global, tx: u32) -> Result<Vec<u32>, AllocError> {
+        let mut numbers = Vec::new(alloc);
+        for row in &self.rows {
+            if row.tx == tx && !row.voided {
+                numbers.push(row.seq)?;
+            }
+        }
+        Ok(numbers)
+    }
+
+    // Puts a live event in under a number that is new.
+    pub(crate) fn put(&mut self, tx: u32, seq: u32, event: &Event) -> Result<(), AllocError> {
+        let place = self.place(tx, seq);
+        let row = PlainRow {
+            tx,
+            seq,
+            voided: false,
+            kind: event.kind(),
+            evse: event.evse().unwrap_or(EvseId::unnamed()),
+            first: event.readings().first().copied(),
+            last: event.readings().last().copied(),
+            readings: event.readings().len(),
+        };
+        self.held = self.held.wrapping_add(row.readings);
+        if place <= self.rows.len() {
+            self.rows.insert(place, row)?;
+        }
+        Ok(())
+    }
+
+    // Voids the event of a number, or makes it live again.
+    pub(crate) fn mark(&mut self, tx: u32, seq: u32, voided: bool) {
+        let place = self.place(tx, seq);
+        if let Some(row) = self.rows.get_mut(place) {
+            row.voided = voided;
+        }
+    }
+
+    // Takes the event of a number out.
+    pub(crate) fn take(&mut self, tx: u32, seq: u32) {
+        let place = self.place(tx, seq);
+        if place < self.rows.len() {
+            let row = self.rows.remove(place);
+            self.held = self.held.wrapping_sub(row.readings);
+        }
+    }
+}

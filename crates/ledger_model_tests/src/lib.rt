@@ -1,0 +1,5 @@
+//! The tests of `ledger_model`.
+#![tactic(auto)]
+
+#[cfg(test)]
+mod tests;

@@ -1,5 +1,0 @@
-use Rattle.ocpp_board.proofs.ReachedStations.{energy_is_from_scratch}
-use Rattle.ocpp_board.proofs.laws.energies.Goals as goal
-
-pub returns : goal.returns
-returns c = energy_is_from_scratch

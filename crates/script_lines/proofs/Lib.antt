@@ -1,0 +1,5 @@
+pub mod Pieces
+pub mod PartOfLine
+pub mod Cuts
+pub mod LineWords
+pub mod Numbers

@@ -1,0 +1,22 @@
+-- The lines that answer a script's lines (this product's profile).
+use Rattle.std.specs.Prelude.{ℕ, List, [], ◌∷◌, ◌++◌, codes}
+use Rattle.std.specs.Fmt.{decimal}
+use Rattle.ledger_model.specs.declared.answer.Answer.{Answer}
+use Rattle.ledger_model.specs.declared.answer.Answer.TheVariants.{Accepted, Repeat, Refused}
+use Rattle.ledger_model.specs.Refusal.{refusal_name}
+use Rattle.script_lines.specs.declared.script_line.LineFault.{LineFault}
+use Rattle.script_lines.specs.LineMeaning.{fault_name}
+
+-- a line with this text
+abbrev pub ended_line : List ℕ → List ℕ
+ended_line text = text ++ 10 ∷ []
+
+-- `fault <name>`
+abbrev pub fault_line : LineFault → List ℕ
+fault_line fault = codes "fault " ++ (fault_name fault ++ 10 ∷ [])
+
+-- `accepted <n>` or `refused <name>`; no command of an operator is a repeat
+abbrev pub answer_text : Answer → List ℕ
+answer_text (Accepted n) = codes "accepted " ++ decimal n
+answer_text Repeat = codes "repeat"
+answer_text (Refused why) = codes "refused " ++ refusal_name why

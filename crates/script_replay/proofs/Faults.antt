@@ -1,0 +1,91 @@
+-- A line with a fault changes no plan, content or moment.
+use Rattle.std.proofs.Common.{◌≡◌, ℕ, Bool, true, false, cond, List, [], ◌∷◌, Option, None, Some, refl, ap, arith}
+use Rattle.ledger_model.specs.declared.answer.Answer.{Answer}
+use Rattle.ledger_model.specs.declared.answer.Answer.TheVariants.{Accepted, Repeat, Refused}
+use Rattle.ledger_model.specs.declared.command.Command.{Command}
+use Rattle.ledger_model.specs.World.{Station}
+use Rattle.transaction_event.specs.Message.{Meaning, Event, Ready, Silence, message}
+use Rattle.transaction_event.specs.Reply.{event_reply_bytes}
+use Rattle.script_lines.specs.declared.script_line.LineFault.{LineFault}
+use Rattle.script_lines.specs.declared.script_line.LineFault.TheVariants.{DeclaredLate, PlanLimit}
+use Rattle.script_replay.specs.Laws.{FaultsChangeNothing}
+use Rattle.script_lines.specs.Texts.{answer_text, ended_line, fault_line}
+use Rattle.script_replay.specs.Script.{Script, are_limits, by_meaning, commanded_to, declared_to, is_past_plan, joined_by, limited_to, sent_to, station_named, step_by}
+use Rattle.script_lines.specs.LineMeaning.{LineMeaning, nothing, fails, sets_limits, declares, tells, sends, commands, asks_energy, asks_total, asks_board, line_meaning}
+
+-- nothing has changed but whether the ledgers are opened
+abbrev Same : Script → Script × List ℕ → Type 0
+Same s after = after.0 ≡ record s { opened = after.0.opened }
+
+-- where the text of a step is a fault, nothing has changed
+abbrev Holds : Script → Script × List ℕ → Type 0
+Holds s after = (fault : LineFault) → after.1 ≡ fault_line fault → Same s after
+
+-- no fault has an empty text
+some_text : (fault : LineFault) → [] ≡ fault_line fault → ⊥
+some_text fault e = cc e
+
+-- the first byte of a text
+abbrev first : List ℕ → ℕ
+first [] = 0
+first (b ∷ bs) = b
+
+-- texts that begin with other letters than `f` are no faults
+not_one_head : (b : ℕ) (xs ys : List ℕ) → b ∷ xs ≡ 102 ∷ ys → b ≡ 102
+not_one_head b xs ys e = ap first e
+
+late : (is : Bool) (s : Script) (after : Script × List ℕ) → Holds s after → Holds s (cond is (s, fault_line DeclaredLate) after)
+late true s after holds fault e = refl
+late false s after holds fault e = holds fault e
+
+limited : (is : Bool) (s : Script) (t e r c : ℕ) → Holds s (cond is (record s { limits = record { transactions = t; events = e; readings = r; changes = c } }, []) (s, fault_line PlanLimit))
+limited true s t e r c fault is = absurd (some_text fault is)
+limited false s t e r c fault is = refl
+
+joined : (o : Option Station) (s : Script) (site name : List ℕ) → Holds s (joined_by o s site name)
+joined None s site name fault e = absurd (some_text fault e)
+joined (Some _) s site name fault e = refl
+
+declared : (past : Bool) (s : Script) (site name : List ℕ) → Holds s (cond past (s, fault_line PlanLimit) (joined_by (station_named name s.world) s site name))
+declared true s site name fault e = refl
+declared false s site name fault e = joined (station_named name s.world) s site name fault e
+
+-- no answer to a command is a fault's text
+some_answer : (answer : Answer) (fault : LineFault) → ended_line (answer_text answer) ≡ fault_line fault → ⊥
+some_answer (Accepted n) fault e = let same : 97 ≡ 102 = not_one_head 97 _ _ e in omega (arith, same)
+some_answer Repeat fault e = let same : 114 ≡ 102 = not_one_head 114 _ _ e in omega (arith, same)
+some_answer (Refused why) fault e = let same : 114 ≡ 102 = not_one_head 114 _ _ e in omega (arith, same)
+
+commanded : (station : Option Station) (s : Script) (command : Command) → Holds s (commanded_to station s command)
+commanded None s command fault e = refl
+commanded (Some station) s command fault e = absurd (some_answer _ fault e)
+
+-- no reply to an event is a fault's text
+some_reply : (id : List ℕ) (token : Bool) (answer : Answer) (fault : LineFault) → ended_line (event_reply_bytes id token answer) ≡ fault_line fault → ⊥
+some_reply id token (Accepted n) fault e = let same : 91 ≡ 102 = not_one_head 91 _ _ e in omega (arith, same)
+some_reply id token Repeat fault e = let same : 91 ≡ 102 = not_one_head 91 _ _ e in omega (arith, same)
+some_reply id token (Refused why) fault e = let same : 91 ≡ 102 = not_one_head 91 _ _ e in omega (arith, same)
+
+meant : (meaning : Meaning) (station : Station) (s : Script) → Holds s (by_meaning meaning station s)
+meant (Event id request) station s fault e = absurd (some_reply id request.token _ fault e)
+meant (Ready reply) station s fault e = refl
+meant Silence station s fault e = refl
+
+sent_by : (station : Option Station) (s : Script) (text : List ℕ) → Holds s (sent_to station s text)
+sent_by None s text fault e = refl
+sent_by (Some station) s text fault e = meant (message text s.moment) station s fault e
+
+steps : (s : Script) (meaning : LineMeaning) → Holds s (step_by s meaning)
+steps s nothing fault e = refl
+steps s (fails _) fault e = refl
+steps s (sets_limits t n r c) fault e = late s.opened s (limited_to s t n r c) (limited (are_limits t n r c) s t n r c) fault e
+steps s (declares site name) fault e = late s.opened s (declared_to s site name) (declared (is_past_plan s site) s site name) fault e
+steps s (tells nanos) fault e = absurd (some_text fault e)
+steps s (sends name text) fault e = sent_by (station_named name s.world) s text fault e
+steps s (commands name command) fault e = commanded (station_named name s.world) s command fault e
+steps s (asks_energy name) fault e = refl
+steps s (asks_total name) fault e = refl
+steps s (asks_board site) fault e = refl
+
+pub faults_change_nothing : FaultsChangeNothing
+faults_change_nothing s line fault e = steps s (line_meaning line) fault e

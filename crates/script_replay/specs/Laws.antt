@@ -1,0 +1,133 @@
+-- What the text of a script means, in words of its own.
+use Rattle.std.specs.Prelude.{◌≡◌, ℕ, true, List, [], ◌∷◌, ◌++◌, ⊤, All, map, Option, None, Some, IsPermutation}
+use Rattle.ledger_model.specs.declared.command.Command.{Command}
+use Rattle.ledger_model.specs.declared.command.Command.TheVariants.{Deliver}
+use Rattle.ledger_model.specs.Board.{figures}
+use Rattle.ledger_model.specs.BoardLaws.{AreSums, sum_of_energies}
+use Rattle.ledger_model.specs.Content.{empty_content, entries}
+use Rattle.ledger_model.specs.Energy.{energy, energy_in}
+use Rattle.ledger_model.specs.Laws.{IsAccepted}
+use Rattle.ledger_model.specs.Quarter.{quarter_seconds}
+use Rattle.ledger_model.specs.Step.{Reached, answer}
+use Rattle.ledger_model.specs.World.{Station, World, Happens, run}
+use Rattle.ledger_model.specs.WorldLaws.{accepted_deliveries, commands_on}
+use Rattle.board_report.specs.Texts.{board_text, total_text}
+use Rattle.transaction_event.specs.Message.{Meaning, Event, Ready, Silence, message}
+use Rattle.script_lines.specs.declared.script_line.LineFault.{LineFault}
+use Rattle.script_lines.specs.Lines.{Line, lines_of}
+use Rattle.script_lines.specs.Texts.{ended_line, fault_line}
+use Rattle.script_replay.specs.Script.{Script, start, line_step, script_text, station_named, stations_of, is_among, energy_line, shown_site}
+use Rattle.script_lines.specs.LineMeaning.{LineMeaning, nothing, fails, sets_limits, declares, tells, sends, commands, asks_energy, asks_total, asks_board, line_meaning}
+
+-- where a script stands after these lines
+abbrev pub script_after : Script → List Line → Script
+script_after s [] = s
+script_after s (line ∷ lines) = script_after (line_step s line).0 lines
+
+-- the text of no bytes is empty
+abbrev pub AnEmptyScriptWritesNothing : Type 0
+AnEmptyScriptWritesNothing = (max_line_bytes : ℕ) → script_text start (lines_of max_line_bytes []) ≡ []
+
+-- after a line whose text is a fault, the plan, all contents and the moment are what they were; it may have opened the ledgers
+abbrev pub FaultsChangeNothing : Type 0
+FaultsChangeNothing = (s : Script) (line : Line) (fault : LineFault) → (line_step s line).1 ≡ fault_line fault
+    → (line_step s line).0 ≡ record s { opened = (line_step s line).0.opened }
+
+-- after any lines, the content of a station is one that so many admissible commands as it counts, each accepted, leave of the empty one
+abbrev pub StationsAreReached : Type 0
+StationsAreReached = (lines : List Line) (name : List ℕ) (station : Station) → station_named name (script_after start lines).world ≡ Some station
+    → Reached station.limits station.content.changes station.content
+
+-- after any lines, the answer to a question for a station's energy is the energy of its events that are accepted and not voided, computed from all of them
+abbrev pub EnergyIsFromScratch : Type 0
+EnergyIsFromScratch = (lines : List Line) (line : Line) (name : List ℕ) (station : Station) → line_meaning line ≡ asks_energy name
+    → station_named name (script_after start lines).world ≡ Some station
+    → (line_step (script_after start lines) line).1 ≡ energy_line (energy (entries station.content))
+
+-- after any lines, the answer to a question for a station's total is its figures, computed from all its events
+abbrev pub TotalsAreFromScratch : Type 0
+TotalsAreFromScratch = (lines : List Line) (line : Line) (name : List ℕ) (station : Station) → line_meaning line ≡ asks_total name
+    → station_named name (script_after start lines).world ≡ Some station
+    → (line_step (script_after start lines) line).1 ≡ ended_line (total_text (figures (entries station.content)))
+
+-- after any lines, the answer to a question for a site's board is the board of its stations, each computed from all its events
+abbrev pub BoardsAreFromScratch : Type 0
+BoardsAreFromScratch = (lines : List Line) (line : Line) (site : List ℕ) → line_meaning line ≡ asks_board site
+    → is_among site (script_after start lines).sites ≡ true
+    → (line_step (script_after start lines) line).1 ≡ board_text (shown_site site (stations_of site (script_after start lines).world))
+
+-- the figures of a site are the sums over these stations, and so is the energy of each quarter that it shows
+pub record AreSitesSums (site : List ℕ) (stations : World) : Type 0 where
+  pub figures_are : AreSums (shown_site site stations).figures (map (λ s. figures (entries s.content)) stations)
+  pub quarters_are : All (λ line. line.1 ≡ sum_of_energies (map (λ s. energy_in quarter_seconds line.0 (entries s.content)) stations)) (shown_site site stations).quarters
+
+-- the board of each site shows the sums over its stations
+abbrev pub SitesAreSums : Type 0
+SitesAreSums = (site : List ℕ) (stations : World) → AreSitesSums site stations
+
+-- the command that a message of this meaning asks of the station
+abbrev pub asked_by : Meaning → Station → List Happens
+asked_by (Event id request) station = (station.name, Deliver request.key request.event) ∷ []
+asked_by (Ready reply) station = []
+asked_by Silence station = []
+
+-- the same of a message to the station of a name, where there is one
+abbrev pub sent_by : Option Station → List ℕ → ℕ → List Happens
+sent_by None text moment = []
+sent_by (Some station) text moment = asked_by (message text moment) station
+
+-- the command on the station of a name, where there is one
+abbrev pub commanded_by : Option Station → Command → List Happens
+commanded_by None command = []
+commanded_by (Some station) command = (station.name, command) ∷ []
+
+-- the command that a line asks, if it asks one
+abbrev pub asked_of : Script → LineMeaning → List Happens
+asked_of s nothing = []
+asked_of s (fails _) = []
+asked_of s (sets_limits _ _ _ _) = []
+asked_of s (declares _ _) = []
+asked_of s (tells _) = []
+asked_of s (sends name text) = sent_by (station_named name s.world) text s.moment
+asked_of s (commands name command) = commanded_by (station_named name s.world) command
+asked_of s (asks_energy _) = []
+asked_of s (asks_total _) = []
+asked_of s (asks_board _) = []
+
+-- all commands that these lines ask, in their order
+abbrev pub happened : Script → List Line → List Happens
+happened s [] = []
+happened s (line ∷ lines) = asked_of s (line_meaning line) ++ happened (line_step s line).0 lines
+
+-- the stations without any event
+abbrev pub emptied : World → World
+emptied w = map (λ (s : Station). record s { content = empty_content }) w
+
+-- the world after any lines is the run of just the commands that they ask, from the plan's stations without events
+abbrev pub WorldsAreRuns : Type 0
+WorldsAreRuns = (lines : List Line) → (script_after start lines).world ≡ run (emptied (script_after start lines).world) (happened start lines)
+
+-- whatever lines came before, a line that asks a command which is a repeat or is refused changes no station, and so no board, total or energy
+abbrev pub UnacceptedChangesNothing : Type 0
+UnacceptedChangesNothing = (lines : List Line) (line : Line) (name : List ℕ) (station : Station) (command : Command)
+    → asked_of (script_after start lines) (line_meaning line) ≡ (name, command) ∷ []
+    → station_named name (script_after start lines).world ≡ Some station → ¬ (IsAccepted (answer station.limits station.content command))
+    → ((line_step (script_after start lines) line).0.world ≡ (script_after start lines).world) × ((line_step (script_after start lines) line).0.sites ≡ (script_after start lines).sites)
+
+-- no line voids, restores or erases
+abbrev pub IsNoOperation : LineMeaning → Type 0
+IsNoOperation (commands _ _) = ⊥
+IsNoOperation _ = ⊤
+
+-- two scripts of the same declarations and no void, restoration or erasure, whose accepted deliveries are, station by station, the same in another order
+pub record AreSameDeliveries (one other : List Line) : Type 0 where
+  pub sites : (script_after start one).sites ≡ (script_after start other).sites
+  pub stations : emptied (script_after start one).world ≡ emptied (script_after start other).world
+  pub one_delivers : All (λ line. IsNoOperation (line_meaning line)) one
+  pub other_delivers : All (λ line. IsNoOperation (line_meaning line)) other
+  pub orders : All (λ s. IsPermutation (accepted_deliveries s.limits s.content (commands_on s.name (happened start one))) (accepted_deliveries s.limits s.content (commands_on s.name (happened start other)))) (emptied (script_after start one).world)
+
+-- such scripts have the same boards
+abbrev pub OrderChangesNoBoard : Type 0
+OrderChangesNoBoard = (one other : List Line) → AreSameDeliveries one other
+    → (line : Line) (site : List ℕ) → line_meaning line ≡ asks_board site → (line_step (script_after start one) line).1 ≡ (line_step (script_after start other) line).1

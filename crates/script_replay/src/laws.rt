@@ -1,0 +1,55 @@
+//! Laws of a script's text. Each function's contract is the law; the functions do nothing.
+ghost use Rattle.script_replay.specs.Laws.{AnEmptyScriptWritesNothing, FaultsChangeNothing, StationsAreReached, EnergyIsFromScratch, TotalsAreFromScratch, BoardsAreFromScratch, SitesAreSums, WorldsAreRuns, UnacceptedChangesNothing, OrderChangesNoBoard};
+
+/// The text of an empty script is empty.
+pub fn empty_script()
+    ensures { AnEmptyScriptWritesNothing }
+{}
+
+/// A line whose text is a fault changes no plan, content or moment.
+pub fn faults()
+    ensures { FaultsChangeNothing }
+{}
+
+/// After any lines, the content of each station is what as many accepted commands as it counts leave of the
+/// empty content.
+pub fn stations()
+    ensures { StationsAreReached }
+{}
+
+/// After any lines, the answer to `energy` is computed from all accepted events that are not voided.
+pub fn energies()
+    ensures { EnergyIsFromScratch }
+{}
+
+/// After any lines, the answer to `total` is the figures of the station, computed from all its events.
+pub fn totals()
+    ensures { TotalsAreFromScratch }
+{}
+
+/// After any lines, the answer to `board` is the board of the site's stations, computed from all their events.
+pub fn boards()
+    ensures { BoardsAreFromScratch }
+{}
+
+/// The figures of a site, and the energy of each quarter that it shows, are the sums over its stations.
+pub fn sites()
+    ensures { SitesAreSums }
+{}
+
+/// After any lines, the world is the run of just the commands that they ask, from the plan's stations without
+/// events.
+pub fn runs()
+    ensures { WorldsAreRuns }
+{}
+
+/// A repeated or refused command changes no station, whatever lines came before, and so no board.
+pub fn unaccepted()
+    ensures { UnacceptedChangesNothing }
+{}
+
+/// Two scripts of the same declarations and no void, restoration or erasure, whose accepted deliveries are,
+/// station by station, the same in another order, have the same boards.
+pub fn orders()
+    ensures { OrderChangesNoBoard }
+{}

@@ -1,0 +1,102 @@
+// A long script, whose events threads read ahead where its reader shows them.
+use script_replay::{ReplayFault, replay_stream};
+use std::alloc::Global;
+use std::io::{BufRead, BufReader};
+use std::test::Fail;
+use std::thread::Threads;
+
+// Lines of all kinds, some of which a thread reads as the line before them leaves it, and some not.
+fn long_script(alloc: Global) -> Result<Vec<u8>, Fail> {
+    let mut script = Vec::new(alloc);
+    script.extend_from_slice(b"station north A\nstation north B\n")?;
+    for at in 0..2_400u32 {
+        put_event(alloc, &mut script, at)?;
+        put_other(alloc, &mut script, at)?;
+    }
+    script.extend_from_slice(b"board north\n")?;
+    Ok(script)
+}
+
+// The station of the step of this number.
+fn station_of(at: u32) -> &'static str {
+    if at % 3 == 0 { "B" } else { "A" }
+}
+
+// The sequence number of a step: some events come again, and some before the one in front of them.
+fn number_of(at: u32) -> u32 {
+    if at % 7 == 6 { at / 2 } else { at ^ 1 }
+}
+
+// An event; some come again with another value.
+fn put_event(alloc: Global, script: &mut Vec<u8>, at: u32) -> Result<(), Fail> {
+    let station = station_of(at);
+    let number = number_of(at);
+    let value = if at % 23 == 0 { 7 } else { number };
+    let minute = number % 60;
+    let end = if at % 5 == 0 { "\r\n" } else { "\n" };
+    let event = format!(in alloc;
+        "msg {station} [2,\"{at}\",\"TransactionEvent\",{{\"eventType\":\"Updated\",\"timestamp\":\"2026-03-01T10:{minute:02}:00Z\",\"triggerReason\":\"MeterValuePeriodic\",\"seqNo\":{number},\"transactionInfo\":{{\"transactionId\":\"T1\"}},\"meterValue\":[{{\"timestamp\":\"2026-03-01T10:{minute:02}:00Z\",\"sampledValue\":[{{\"value\":{value}}}]}}]}}]{end}"
+    )?;
+    script.extend_from_slice(event.as_bytes())?;
+    Ok(())
+}
+
+// Lines of other kinds, by turns: moments, an operator's commands, questions, and lines with a fault.
+const OTHERS: [(&str, &str); 8] = [
+    ("now 2026-03-01T11:00:00Z\n", ""),
+    ("msg A [2,\"h\",\"Heartbeat\",{}]\n", ""),
+    ("void ", " T1 "),
+    ("restore ", " T1 "),
+    ("msg C [2,\"c\",\"Heartbeat\",{}]\n", ""),
+    ("msg A [2,\"f\",\"TransactionEvent\",{}]\n", ""),
+    ("energy A\n", ""),
+    ("# a comment\n\nno line\n", ""),
+];
+
+fn put_other(alloc: Global, script: &mut Vec<u8>, at: u32) -> Result<(), Fail> {
+    let Some((start, middle)) = OTHERS.get((at % 19) as usize) else {
+        return Ok(());
+    };
+    script.extend_from_slice(start.as_bytes())?;
+    if !middle.is_empty() {
+        let key = format!(in alloc; "{}{middle}{}\n", station_of(at), number_of(at))?;
+        script.extend_from_slice(key.as_bytes())?;
+    }
+    Ok(())
+}
+
+// What a script writes, from this reader.
+fn text_of<X: AllocGlobal + Threads, R: BufRead>(
+    rt: &X,
+    reader: &mut R,
+) -> Result<Vec<u8>, ReplayFault> {
+    let mut written = Vec::new(rt.alloc());
+    replay_stream(rt, reader, &mut written)?;
+    Ok(written)
+}
+
+// Whether a script that is shown so many bytes at a time, so that threads read ahead, writes this text.
+fn writes<X: AllocGlobal + Threads>(
+    rt: &X,
+    script: &[u8],
+    capacity: usize,
+    text: &[u8],
+) -> Result<bool, Fail> {
+    let mut wide = BufReader::with_capacity(rt.alloc(), capacity, script)?;
+    let again = text_of(rt, &mut wide);
+    Ok(again.is_ok_and(|written| written.as_slice() == text))
+}
+
+#[test]
+fn threads_that_read_ahead_change_nothing(rt: HostRuntime) -> Result<(), Fail> {
+    let script = long_script(rt.alloc())?;
+    // So little is shown at once that no thread is started.
+    let mut narrow = BufReader::with_capacity(rt.alloc(), 4_096, script.as_slice())?;
+    let text = text_of(&rt, &mut narrow).map_err(|_| "the replay ended early")?;
+    assert!(rt; text.len() > 20_000);
+    for _ in 0..10 {
+        assert!(rt; writes(&rt, &script, 100_000, &text)?);
+        assert!(rt; writes(&rt, &script, 1_048_576, &text)?);
+    }
+    Ok(())
+}

@@ -1,7 +1,0 @@
-use Rattle.std.proofs.Common.{◌≡◌, drop, map}
-use Rattle.site_desk.specs.Plan.{has_twice}
-use Rattle.site_desk.proofs.plan.are_stations_twice.Given as goal
-
--- names that stand twice do so among those that are left
-abbrev pub invariant-loop-k : goal.invariant-loop-k
-invariant-loop-k l = has_twice (map (λ s. s.name) (drop l.k l.stations)) ≡ has_twice (map (λ s. s.name) l.stations)

@@ -1,0 +1,5 @@
+//! The tests of `site_desk`.
+#![tactic(auto)]
+
+#[cfg(test)]
+mod tests;

@@ -1,0 +1,265 @@
+use super::{
+    Asked, FIRST, Scene, deliver, delivery_of, figures, has, has_figures, has_totals, is_tied,
+    key_of, pass_of, play, tells,
+};
+use ledger_model::{Answer, Command, Figures, Kind, Name, Refusal};
+use site_book::{Naming, Viewer};
+use site_desk::{Closed, Desk, NoGate, Pass};
+use std::alloc::Global;
+use std::process::Abort;
+use std::sync::Wait;
+use std::test::Fail;
+use std::thread;
+use std::thread::Threads;
+use std::time::Clock;
+
+const MIDDLE: Asked = Asked {
+    kind: Kind::Updated,
+    seq: 1,
+    minute: 14,
+    evse: None,
+    read: 14,
+    watt_hours: 1_200,
+};
+
+const LATER: Asked = Asked {
+    kind: Kind::Updated,
+    seq: 2,
+    minute: 31,
+    evse: None,
+    read: 31,
+    watt_hours: 1_600,
+};
+
+// A's side: two events.
+fn on_a<J: Naming, R: Wait + Clock>(
+    rt: &R,
+    alloc: Global,
+    desk: &Desk<J>,
+    mut pass: Pass,
+) -> Option<Pass> {
+    for told in [LATER, MIDDLE] {
+        let answer = deliver(rt, alloc, desk, &mut pass, told)?;
+        if !matches!(answer, Answer::Accepted(_)) {
+            return None;
+        }
+    }
+    Some(pass)
+}
+
+// The operator's side: event 0 is voided and restored.
+fn by_operator<J: Naming, R: Wait + Clock>(rt: &R, desk: &Desk<J>, mut pass: Pass) -> Option<Pass> {
+    let void = Command::Void(key_of(0)?);
+    let restore = Command::Restore(key_of(0)?);
+    for command in [void, restore] {
+        let (answer, _) = desk.submit(rt, &mut pass, command, &NoGate);
+        if !matches!(answer, Answer::Accepted(_)) {
+            return None;
+        }
+    }
+    Some(pass)
+}
+
+// B's side: three events of a falling register, of which the viewer learns the last. It gives what
+// the viewer sees then.
+fn on_b<J: Naming, R: Wait + Clock>(
+    rt: &R,
+    alloc: Global,
+    desk: &Desk<J>,
+    mut pass: Pass,
+    mut viewer: Viewer<J>,
+) -> Option<(Pass, Viewer<J>, Figures)> {
+    deliver(
+        rt,
+        alloc,
+        desk,
+        &mut pass,
+        tells(Kind::Started, 0, 0, 1_600),
+    )?;
+    deliver(rt, alloc, desk, &mut pass, tells(Kind::Updated, 1, 5, 100))?;
+    let last = delivery_of(alloc, tells(Kind::Updated, 2, 10, 150))?;
+    let told = desk.submit(rt, &mut pass, last, &NoGate).1?;
+    if told.site() != viewer.site() {
+        return None;
+    }
+    viewer.learn(told);
+    let seen = viewer.glance();
+    Some((pass, viewer, seen))
+}
+
+// The three sides after them: the passes of A, B and the operator, the viewer, and what it saw.
+#[derive(Drop)]
+struct Sides<J: Naming> {
+    a: Pass,
+    b: Pass,
+    operator: Pass,
+    viewer: Viewer<J>,
+    seen: Figures,
+}
+
+// The three sides at once.
+fn at_once<J: Naming + Send + Sync, R: Threads + Wait + Clock + Sync>(
+    rt: &R,
+    alloc: Global,
+    desk: &Desk<J>,
+    passes: (Pass, Pass, Pass),
+    viewer: Viewer<J>,
+) -> Option<Sides<J>> {
+    let (a, b, operator) = passes;
+    let (a, (operator, b)) = thread::join(
+        rt,
+        move || on_a(rt, alloc, desk, a),
+        move || {
+            thread::join(
+                rt,
+                move || by_operator(rt, desk, operator),
+                move || on_b(rt, alloc, desk, b, viewer),
+            )
+        },
+    );
+    let (b, viewer, seen) = b?;
+    Some(Sides {
+        a: a?,
+        b,
+        operator: operator?,
+        viewer,
+        seen,
+    })
+}
+
+// Passes of A, B and A again, once the first event is there.
+fn enlisted<J: Naming, R: Threads + Wait + Clock>(
+    rt: &R,
+    alloc: Global,
+    desk: &Desk<J>,
+) -> Option<(Pass, Pass, Pass)> {
+    let mut a = pass_of(rt, desk, "A")?;
+    let b = pass_of(rt, desk, "B")?;
+    let operator = pass_of(rt, desk, "A")?;
+    match deliver(rt, alloc, desk, &mut a, FIRST)? {
+        Answer::Accepted(1) => Some((a, b, operator)),
+        _ => None,
+    }
+}
+
+// What is asked of A afterwards: a conflict for each part of the content.
+fn conflicts<J: Naming, R: Abort + Wait + Clock>(
+    rt: &R,
+    alloc: Global,
+    desk: &Desk<J>,
+    pass: &mut Pass,
+) {
+    let others = [
+        Asked {
+            kind: Kind::Ended,
+            ..LATER
+        },
+        Asked {
+            minute: 32,
+            ..LATER
+        },
+        Asked {
+            evse: Some(1),
+            ..LATER
+        },
+        Asked { read: 30, ..LATER },
+        Asked {
+            watt_hours: 1_601,
+            ..LATER
+        },
+    ];
+    for told in others {
+        let answer = deliver(rt, alloc, desk, pass, told);
+        assert!(rt; answer == Some(Answer::Refused(Refusal::ConflictingEvent)));
+    }
+}
+
+// Tells whether a repeat is one, and the erasure of what is not voided is refused.
+fn repeats<J: Naming, R: Wait + Clock>(
+    rt: &R,
+    alloc: Global,
+    desk: &Desk<J>,
+    pass: &mut Pass,
+) -> Option<bool> {
+    let again = deliver(rt, alloc, desk, pass, LATER)?;
+    let erase = Command::Erase(key_of(0)?);
+    let (answer, told) = desk.submit(rt, pass, erase, &NoGate);
+    let is_refused = answer == Answer::Refused(Refusal::NotVoided) && told.is_none();
+    Some(again == Answer::Repeat && is_refused)
+}
+
+// A's figures, and B's.
+fn first() -> Figures {
+    figures([3, 0, 1, 0, 0, 600_000, 0])
+}
+
+fn second() -> Figures {
+    figures([3, 0, 1, 0, 0, 50_000, 1_500_000])
+}
+
+// Tells whether the station's board has these figures, so many quarters, and one transaction.
+fn has_board<J: Naming, R: Wait>(
+    rt: &R,
+    alloc: Global,
+    desk: &Desk<J>,
+    text: &str,
+    expected: (Figures, usize),
+) -> Option<bool> {
+    let board = desk.station_board(rt, alloc, &Name::new(text)?).ok()?;
+    let shown = (board.figures(), board.quarters().len());
+    Some(shown == expected && board.transactions().len() == 1)
+}
+
+// The desk closed with all passes and the viewer.
+fn closed_with<J: Naming>(alloc: Global, desk: Desk<J>, sides: Sides<J>) -> Option<Closed<J>> {
+    let mut passes = Vec::new(alloc);
+    for pass in [sides.a, sides.b, sides.operator] {
+        passes.push(pass).ok()?;
+    }
+    let mut viewers = Vec::new(alloc);
+    viewers.push(sides.viewer).ok()?;
+    desk.close(passes, viewers).ok()
+}
+
+// Two stations and an operator at once.
+struct ThreeSides;
+
+impl Scene for ThreeSides {
+    fn play<J: Naming + Send + Sync, R: Abort + Threads + Wait + Clock + Sync>(
+        rt: &R,
+        alloc: Global,
+        desk: Desk<J>,
+        mut viewers: Vec<Viewer<J>>,
+    ) -> Result<(), Fail> {
+        let viewer = viewers.pop().ok_or("no viewer")?;
+        let passes = enlisted(rt, alloc, &desk).ok_or("the first event was refused")?;
+        let sides = at_once(rt, alloc, &desk, passes, viewer).ok_or("a side was refused")?;
+        after_all(rt, alloc, desk, sides)
+    }
+}
+
+// What is seen afterwards.
+fn after_all<J: Naming, R: Abort + Wait + Clock>(
+    rt: &R,
+    alloc: Global,
+    desk: Desk<J>,
+    mut sides: Sides<J>,
+) -> Result<(), Fail> {
+    assert!(rt; sides.seen.down == 1_500_000, "what B told is seen");
+    conflicts(rt, alloc, &desk, &mut sides.a);
+    assert!(rt; repeats(rt, alloc, &desk, &mut sides.a) == Some(true));
+    assert!(rt; has_board(rt, alloc, &desk, "A", (first(), 2)) == Some(true));
+    assert!(rt; has_board(rt, alloc, &desk, "B", (second(), 1)) == Some(true));
+    let closed = closed_with(alloc, desk, sides).ok_or("not closed")?;
+    assert!(rt; has(&closed, 2, 1));
+    assert!(rt; is_tied(&closed, 0, 5) && is_tied(&closed, 1, 3));
+    assert!(rt; has_figures(&closed, 0, first()) && has_figures(&closed, 1, second()));
+    let both = figures([6, 0, 2, 0, 0, 650_000, 1_500_000]);
+    assert!(rt; has_totals(&closed, 0, both));
+    Ok(())
+}
+
+#[test]
+fn three_threads(rt: HostRuntime) -> Result<(), Fail> {
+    play::<ThreeSides, _>(&rt, rt.alloc(), &["north"], &[(0, "A"), (0, "B")])
+}

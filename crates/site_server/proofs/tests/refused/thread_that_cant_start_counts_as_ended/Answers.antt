@@ -1,5 +1,0 @@
-use Rattle.site_book.proofs.Named.{named-made}
-use Rattle.site_server.proofs.tests.refused.thread_that_cant_start_counts_as_ended.Goals as goal
-
-pub no_thread-requires-clause-named : goal.no_thread-requires-clause-named
-no_thread-requires-clause-named g c κs = named-made _

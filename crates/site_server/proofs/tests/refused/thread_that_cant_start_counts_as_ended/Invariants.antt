@@ -1,6 +1,0 @@
-use Rattle.site_book.specs.Tables.{names_of}
-use Rattle.site_server.proofs.tests.refused.thread_that_cant_start_counts_as_ended.Given as goal
-
--- the tables that were just made
-abbrev pub ghosts-no_thread : goal.ghosts-no_thread
-ghosts-no_thread g a = record { table = names_of a.tables }

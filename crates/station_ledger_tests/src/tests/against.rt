@@ -1,0 +1,216 @@
+//! A ledger against sums made from scratch, over drawn commands.
+use super::drawn::{Asked, Draws, id};
+use super::scratch::{Line, Scratch, Sums};
+use energy_flow::{Flow, Work};
+use ledger_model::{Answer, EvseId, Figures, Limits};
+use station_ledger::{StationBoard, StationLedger, TxLine};
+use std::alloc::Global;
+use std::test::Fail;
+
+// The quarter that begins at 10:00 on the day of the events.
+const TEN: u32 = 1_969_288;
+
+// Tells whether an energy rises and falls by these.
+fn is_energy(flow: Flow, energy: (u64, u64)) -> bool {
+    (flow.up(), flow.down()) == energy
+}
+
+fn are_figures(shown: Figures, want: [u64; 7]) -> bool {
+    let counts = [
+        shown.events,
+        shown.voided,
+        shown.transactions,
+        shown.complete,
+    ];
+    let [events, voided, transactions, complete, missing, up, down] = want;
+    counts == [events, voided, transactions, complete]
+        && [shown.missing, shown.up, shown.down] == [missing, up, down]
+}
+
+// Tells whether the line shows this transaction.
+fn is_line(shown: &TxLine, want: &Line) -> bool {
+    Some(shown.tx().copied()) == id(want.tx)
+        && shown.evse().number() == want.evse
+        && shown.events() == want.events
+        && (shown.first(), shown.last()) == (want.first, want.last)
+        && shown.is_complete() == want.complete
+        && shown.missing() == want.missing
+        && is_energy(shown.flow(), want.energy)
+        && shown.gaps() == want.gaps.as_slice()
+}
+
+// Tells whether the board shows these transactions.
+fn are_lines(board: &StationBoard, want: &[Line]) -> bool {
+    let shown = board.transactions();
+    shown.len() == want.len()
+        && shown
+            .iter()
+            .zip(want)
+            .all(|(shown, want)| is_line(shown, want))
+}
+
+// Tells whether the board shows these quarters, and no others.
+fn are_quarters(board: &StationBoard, want: &Sums) -> bool {
+    let mut shown = board.quarters().iter();
+    let mut number = TEN;
+    for quarter in &want.quarters {
+        if let Some(energy) = *quarter {
+            match shown.next() {
+                Some(line) if line.quarter().number() == number && is_energy(line.flow(), energy) =>
+                    {}
+                _ => return false,
+            }
+        }
+        number = number.wrapping_add(1);
+    }
+    shown.next().is_none()
+}
+
+// Tells whether the board shows the EVSEs of these transactions, and no others.
+fn are_evses(board: &StationBoard, want: &Sums) -> bool {
+    let mut shown = board.evses().iter();
+    for number in 0..=64 {
+        if let Some(energy) = want.evse(number) {
+            match shown.next() {
+                Some(line) if line.evse().number() == number && is_energy(line.flow(), energy) => {}
+                _ => return false,
+            }
+        }
+    }
+    shown.next().is_none()
+}
+
+// Tells whether the ledger answers these energies of its EVSEs; no event names the last.
+fn answers_evses(ledger: &StationLedger, want: &Sums) -> bool {
+    for number in 0..5 {
+        let energy = want.evse(number).unwrap_or((0, 0));
+        if let Some(evse) = EvseId::new(number)
+            && !is_energy(ledger.evse(evse), energy)
+        {
+            return false;
+        }
+    }
+    true
+}
+
+// The first of the calls that answers something else.
+fn apart(ledger: &StationLedger, scratch: &Scratch, want: &Sums) -> Option<&'static str> {
+    let figures = want.figures();
+    if ledger.changes() != scratch.changes {
+        Some("changes")
+    } else if !is_energy(ledger.energy(), (figures[5], figures[6])) {
+        Some("energy")
+    } else if !are_figures(ledger.figures(), figures) {
+        Some("figures")
+    } else if !answers_evses(ledger, want) {
+        Some("evse")
+    } else {
+        None
+    }
+}
+
+// Tells whether the board shows these sums.
+fn is_board(board: &StationBoard, want: &Sums) -> bool {
+    are_figures(board.figures(), want.figures())
+        && are_evses(board, want)
+        && are_quarters(board, want)
+        && are_lines(board, want.lines.as_slice())
+}
+
+// A ledger and a list, opened with the same limits.
+#[derive(Drop)]
+struct Pair {
+    ledger: StationLedger,
+    scratch: Scratch,
+}
+
+impl Pair {
+    fn open(alloc: Global, limits: (u64, u64, u64, u64)) -> Result<Self, Fail> {
+        let (transactions, events, readings, changes) = limits;
+        let bounds = Limits::new(transactions, events, readings, changes).ok_or("no limits")?;
+        Ok(Pair {
+            ledger: StationLedger::open(alloc, bounds)?,
+            scratch: Scratch::open(alloc, limits),
+        })
+    }
+
+    // Gives both the command, compares what they answer, and tells the answer.
+    fn apply(&mut self, alloc: Global, asked: Asked, work: &mut Work) -> Result<Answer, Fail> {
+        let command = asked.command(alloc)?;
+        let judged = self.ledger.judge(&command);
+        let answer = self.ledger.apply(command, work);
+        if (judged, self.scratch.apply(asked)?) == (answer, answer) {
+            Ok(answer)
+        } else {
+            Err(Fail::from("answer"))
+        }
+    }
+
+    // Compares what they show.
+    fn compare(&self, alloc: Global) -> Result<(), Fail> {
+        let sums = self.scratch.sums(alloc)?;
+        match apart(&self.ledger, &self.scratch, &sums) {
+            Some(call) => Err(Fail::from(call)),
+            None => Ok(()),
+        }
+    }
+
+    // Compares their boards.
+    fn compare_boards(&self, alloc: Global) -> Result<(), Fail> {
+        let board = self.ledger.board(alloc)?;
+        if is_board(&board, &self.scratch.sums(alloc)?) {
+            Ok(())
+        } else {
+            Err(Fail::from("board"))
+        }
+    }
+}
+
+// An answer's place in a row of seen answers: a refusal's number, 0 for Accepted and 9 for Repeat.
+fn place(answer: Answer) -> usize {
+    match answer {
+        Answer::Accepted(_) => 0,
+        Answer::Repeat => 9,
+        Answer::Refused(refusal) => refusal.number() as usize,
+    }
+}
+
+// Runs a thousand drawn commands, and marks the answers that came.
+fn run(
+    alloc: Global,
+    draws: &mut Draws,
+    limits: (u64, u64, u64, u64),
+    seen: &mut [bool; 10],
+    work: &mut Work,
+) -> Result<(), Fail> {
+    let mut pair = Pair::open(alloc, limits)?;
+    for turn in 0..1_000 {
+        let answer = pair.apply(alloc, Asked::draw(draws), work)?;
+        if let Some(mark) = seen.get_mut(place(answer)) {
+            *mark = true;
+        }
+        pair.compare(alloc)?;
+        if turn % 20 == 19 {
+            pair.compare_boards(alloc)?;
+        }
+    }
+    Ok(())
+}
+
+#[test]
+fn drawn_commands_against_sums_from_scratch(rt: HostRuntime) -> Result<(), Fail> {
+    let mut work = Work::open(&rt);
+    let mut draws = Draws::from_seed(2_026);
+    let mut seen = [false; 10];
+    // Transactions, events, readings and changes; five transactions with thirty keys are drawn.
+    for limits in [
+        (5, 30, 100, 1 << 63),
+        (3, 30, 60, 150),
+        (5, 12, 120, 1 << 63),
+        (4, 40, 20, 1 << 63),
+    ] {
+        run(rt.alloc(), &mut draws, limits, &mut seen, &mut work)?;
+    }
+    assert_eq!(rt; seen, [true; 10]);
+    Ok(())
+}

@@ -1,0 +1,155 @@
+//! Commands drawn from a seed, in plain numbers.
+use ledger_model::{Command, Event, EvseId, Key, Kind, Moment, Reading, TxId};
+use std::alloc::Global;
+use std::test::Fail;
+
+// Numbers drawn from a seed (SplitMix64).
+#[derive(Drop)]
+pub(crate) struct Draws {
+    state: u64,
+}
+
+impl Draws {
+    pub(crate) fn from_seed(seed: u64) -> Self {
+        Draws { state: seed }
+    }
+
+    // A number of 8 bits.
+    fn next(&mut self) -> u8 {
+        self.state = self.state.wrapping_add(0x9E37_79B9_7F4A_7C15);
+        let first = (self.state ^ (self.state >> 30)).wrapping_mul(0xBF58_476D_1CE4_E5B9);
+        let second = (first ^ (first >> 27)).wrapping_mul(0x94D0_49BB_1331_11EB);
+        (second >> 56) as u8
+    }
+}
+
+// A reading: its minute after ten o'clock and its watt-hours.
+#[derive(Clone, Copy, PartialEq, Eq)]
+pub(crate) struct Told {
+    pub(crate) minute: u8,
+    pub(crate) watt_hours: u8,
+}
+
+// An event: its kind, its minute after ten o'clock, its EVSE, 0 where it names none, and its readings,
+// of which so many count.
+#[derive(Clone, Copy, PartialEq, Eq)]
+pub(crate) struct Sent {
+    pub(crate) kind: Kind,
+    pub(crate) minute: u8,
+    pub(crate) evse: u8,
+    pub(crate) count: u8,
+    pub(crate) readings: [Told; 3],
+}
+
+// What is asked of the event of a transaction and a sequence number.
+#[derive(Clone, Copy)]
+pub(crate) enum Wish {
+    Deliver(Sent),
+    Void,
+    Restore,
+    Erase,
+}
+
+// A command in short. Its transactions are told by numbers that stand in the order of their ids.
+#[derive(Clone, Copy)]
+pub(crate) struct Asked {
+    pub(crate) tx: u8,
+    pub(crate) seq: u32,
+    pub(crate) wish: Wish,
+}
+
+// The id of a transaction's number.
+pub(crate) fn id(tx: u8) -> Option<TxId> {
+    TxId::new(["a", "B", "b2", "c", "d-1"][tx as usize % 5])
+}
+
+// Mostly 0 is Started, 2 and the highest number are Ended, and the others are Updated.
+fn kind(place: u8, drawn: u8) -> Kind {
+    match (drawn % 8, place) {
+        (0, _) => Kind::Started,
+        (1, _) => Kind::Ended,
+        (_, 0) => Kind::Started,
+        (_, 2 | 7) => Kind::Ended,
+        _ => Kind::Updated,
+    }
+}
+
+// A reading of 0 to 7 watt-hours at some minute of four hours.
+fn draw_reading(draws: &mut Draws) -> Told {
+    Told {
+        minute: draws.next(),
+        watt_hours: draws.next() % 8,
+    }
+}
+
+// An event of no reading to three, that names no EVSE or one of 1 to 3. It is drawn from its key and a
+// version, so that the same one comes again, and another one under the same key.
+fn draw_event(tx: u8, place: u8, version: u8) -> Sent {
+    let mut draws = Draws::from_seed(tx as u64 * 65_536 + place as u64 * 256 + version as u64);
+    Sent {
+        kind: kind(place, draws.next()),
+        minute: draws.next(),
+        evse: draws.next() % 4,
+        count: draws.next() % 4,
+        readings: [
+            draw_reading(&mut draws),
+            draw_reading(&mut draws),
+            draw_reading(&mut draws),
+        ],
+    }
+}
+
+// A minute of the day of the events; the first is ten o'clock.
+fn moment(minute: u8) -> Option<Moment> {
+    Moment::new((1_772_359_200 + 60 * minute as u64) * 1_000_000_000)
+}
+
+// The reading.
+fn reading(told: Told) -> Option<Reading> {
+    Reading::new(moment(told.minute)?, 1_000 * told.watt_hours as u64)
+}
+
+// The event.
+fn event(alloc: Global, sent: Sent) -> Result<Event, Fail> {
+    let mut readings = Vec::new(alloc);
+    for told in sent.readings.iter().take(sent.count as usize) {
+        readings.push(reading(*told).ok_or("no reading")?)?;
+    }
+    let evse = EvseId::new(sent.evse).filter(|evse| evse.number() > 0);
+    let moment = moment(sent.minute).ok_or("no moment")?;
+    let event = Event::new(sent.kind, moment, evse, readings);
+    Ok(event.ok().ok_or("no event")?)
+}
+
+impl Asked {
+    // Half are events, of which one in four is some other one under its key. Two transactions have three
+    // numbers without a gap, and are often complete; three have eight.
+    pub(crate) fn draw(draws: &mut Draws) -> Self {
+        let tx = draws.next() % 5;
+        let place = draws.next() % if tx < 2 { 3 } else { 8 };
+        let wish = match draws.next() % 16 {
+            0..=2 => Wish::Void,
+            3..=5 => Wish::Restore,
+            6..=7 => Wish::Erase,
+            8..=9 => Wish::Deliver(draw_event(tx, place, draws.next())),
+            _ => Wish::Deliver(draw_event(tx, place, 0)),
+        };
+        let seq = [0, 1, 2, 3, 5, 6, 9, 2_147_483_647][place as usize % 8];
+        Asked { tx, seq, wish }
+    }
+
+    // The key that is meant.
+    fn key(self) -> Option<Key> {
+        Key::new(id(self.tx)?, self.seq)
+    }
+
+    pub(crate) fn command(self, alloc: Global) -> Result<Command, Fail> {
+        let key = self.key().ok_or("no key")?;
+        Ok(match self.wish {
+            Wish::Deliver(sent) => Command::Deliver(key, event(alloc, sent)?),
+            Wish::Void => Command::Void(key),
+            Wish::Restore => Command::Restore(key),
+            Wish::Erase => Command::Erase(key),
+        })
+    }
+}

@@ -1,0 +1,313 @@
+//! A station's events in a plain list, of which all that a ledger shows is summed up from scratch.
+use super::drawn::{Asked, Sent, Told, Wish};
+use ledger_model::{Answer, Kind, Refusal};
+use std::alloc::{AllocError, Global};
+
+// A stored event.
+#[derive(Clone, Copy)]
+struct Stored {
+    tx: u8,
+    seq: u32,
+    sent: Sent,
+    voided: bool,
+}
+
+// The stored events by transaction and number, the limits of transactions, events, readings and changes,
+// and how many commands were accepted.
+#[derive(Drop)]
+pub(crate) struct Scratch {
+    rows: Vec<Stored>,
+    limits: (u64, u64, u64, u64),
+    pub(crate) changes: u64,
+}
+
+impl Scratch {
+    pub(crate) fn open(alloc: Global, limits: (u64, u64, u64, u64)) -> Self {
+        Scratch {
+            rows: Vec::new(alloc),
+            limits,
+            changes: 0,
+        }
+    }
+
+    // How many events stand in front of a number's place.
+    fn place(&self, tx: u8, seq: u32) -> usize {
+        let mut place: usize = 0;
+        for row in &self.rows {
+            if row.tx > tx || (row.tx == tx && row.seq >= seq) {
+                return place;
+            }
+            place = place.wrapping_add(1);
+        }
+        place
+    }
+
+    // The event of a number.
+    fn stored(&self, tx: u8, seq: u32) -> Option<Stored> {
+        match self.rows.get(self.place(tx, seq)) {
+            Some(row) if row.tx == tx && row.seq == seq => Some(*row),
+            _ => None,
+        }
+    }
+
+    // How many transactions and readings are stored, and whether this transaction is.
+    fn held(&self, tx: u8) -> (u64, u64, bool) {
+        let (mut transactions, mut readings, mut there) = (0u64, 0u64, false);
+        let mut before: Option<u8> = None;
+        for row in &self.rows {
+            transactions = transactions.wrapping_add(u64::from(before != Some(row.tx)));
+            readings = readings.wrapping_add(u64::from(row.sent.count));
+            there = there || row.tx == tx;
+            before = Some(row.tx);
+        }
+        (transactions, readings, there)
+    }
+
+    fn accepted(&self) -> Answer {
+        if self.changes >= self.limits.3 {
+            Answer::Refused(Refusal::ChangesExhausted)
+        } else {
+            Answer::Accepted(self.changes.wrapping_add(1))
+        }
+    }
+
+    // The answer to an event under a new key.
+    fn judge_new(&self, tx: u8, sent: Sent) -> Answer {
+        let (transactions, readings, there) = self.held(tx);
+        if !there && transactions >= self.limits.0 {
+            Answer::Refused(Refusal::TooManyTransactions)
+        } else if self.rows.len() as u64 >= self.limits.1 {
+            Answer::Refused(Refusal::EventsFull)
+        } else if readings.wrapping_add(u64::from(sent.count)) > self.limits.2 {
+            Answer::Refused(Refusal::ReadingsFull)
+        } else {
+            self.accepted()
+        }
+    }
+
+    // The answer to a command.
+    pub(crate) fn judge(&self, asked: Asked) -> Answer {
+        match (asked.wish, self.stored(asked.tx, asked.seq)) {
+            (Wish::Deliver(sent), None) => self.judge_new(asked.tx, sent),
+            (Wish::Deliver(sent), Some(row)) if is_same(sent, row.sent) => Answer::Repeat,
+            (Wish::Deliver(_), Some(_)) => Answer::Refused(Refusal::ConflictingEvent),
+            (_, None) => Answer::Refused(Refusal::NoSuchEvent),
+            (Wish::Void, Some(row)) if row.voided => Answer::Refused(Refusal::AlreadyVoided),
+            (Wish::Restore | Wish::Erase, Some(row)) if !row.voided => {
+                Answer::Refused(Refusal::NotVoided)
+            }
+            _ => self.accepted(),
+        }
+    }
+
+    // Carries out an accepted command.
+    fn carry_out(&mut self, asked: Asked) -> Result<(), AllocError> {
+        let place = self.place(asked.tx, asked.seq);
+        let (tx, seq) = (asked.tx, asked.seq);
+        match asked.wish {
+            Wish::Deliver(sent) if place <= self.rows.len() => {
+                let voided = false;
+                self.rows.insert(
+                    place,
+                    Stored {
+                        tx,
+                        seq,
+                        sent,
+                        voided,
+                    },
+                )?;
+            }
+            Wish::Erase if place < self.rows.len() => {
+                self.rows.remove(place);
+            }
+            wish => {
+                if let Some(row) = self.rows.get_mut(place) {
+                    row.voided = matches!(wish, Wish::Void);
+                }
+            }
+        }
+        Ok(())
+    }
+
+    // Takes a command and answers it.
+    pub(crate) fn apply(&mut self, asked: Asked) -> Result<Answer, AllocError> {
+        let answer = self.judge(asked);
+        if let Answer::Accepted(changes) = answer {
+            self.carry_out(asked)?;
+            self.changes = changes;
+        }
+        Ok(answer)
+    }
+
+    // What is shown of these events.
+    pub(crate) fn sums(&self, alloc: Global) -> Result<Sums, AllocError> {
+        let mut sums = Sums::none(alloc);
+        for row in &self.rows {
+            if row.voided {
+                sums.voided = sums.voided.wrapping_add(1);
+            } else {
+                sums.see(alloc, row)?;
+            }
+        }
+        Ok(sums)
+    }
+}
+
+// Tells whether both events are the same; readings that do not count are not compared.
+fn is_same(one: Sent, other: Sent) -> bool {
+    let readings = one.readings.iter().zip(&other.readings);
+    (one.kind, one.minute, one.evse, one.count)
+        == (other.kind, other.minute, other.evse, other.count)
+        && readings
+            .take(one.count as usize)
+            .all(|(one, other)| one == other)
+}
+
+// What is shown of a transaction, its last reading so far, and how many of its events are no Updated.
+#[derive(Drop)]
+pub(crate) struct Line {
+    pub(crate) tx: u8,
+    pub(crate) evse: u8,
+    pub(crate) events: u64,
+    pub(crate) first: u32,
+    pub(crate) last: u32,
+    pub(crate) complete: bool,
+    pub(crate) missing: u64,
+    pub(crate) energy: (u64, u64),
+    pub(crate) gaps: Vec<(u32, u32)>,
+    started: bool,
+    ends: u64,
+    reading: Option<Told>,
+}
+
+impl Line {
+    // A transaction without an event, whose lowest is to be this one.
+    fn of(alloc: Global, row: &Stored) -> Line {
+        Line {
+            tx: row.tx,
+            evse: 0,
+            events: 0,
+            first: row.seq,
+            last: row.seq,
+            complete: false,
+            missing: 0,
+            energy: (0, 0),
+            gaps: Vec::new(alloc),
+            started: row.sent.kind == Kind::Started,
+            ends: 0,
+            reading: None,
+        }
+    }
+
+    // Takes the next event into account, but for its readings.
+    fn see(&mut self, row: &Stored) -> Result<(), AllocError> {
+        let next = self.last.wrapping_add(1);
+        if row.seq > next {
+            self.missing = self
+                .missing
+                .wrapping_add(u64::from(row.seq.wrapping_sub(next)));
+            self.gaps.push((next, row.seq.wrapping_sub(1)))?;
+        }
+        if self.evse == 0 {
+            self.evse = row.sent.evse;
+        }
+        self.last = row.seq;
+        self.events = self.events.wrapping_add(1);
+        self.ends = self
+            .ends
+            .wrapping_add(u64::from(row.sent.kind != Kind::Updated));
+        self.complete = self.started
+            && row.sent.kind == Kind::Ended
+            && self.ends == 2
+            && self.missing == 0;
+        Ok(())
+    }
+}
+
+// Both sums.
+fn plus(one: (u64, u64), other: (u64, u64)) -> (u64, u64) {
+    (one.0.wrapping_add(other.0), one.1.wrapping_add(other.1))
+}
+
+// What the register rose and fell by between two readings, in milliwatt-hours.
+fn between(earlier: Told, later: Told) -> (u64, u64) {
+    (
+        1_000 * u64::from(later.watt_hours.saturating_sub(earlier.watt_hours)),
+        1_000 * u64::from(earlier.watt_hours.saturating_sub(later.watt_hours)),
+    )
+}
+
+// What is shown of a list of events. A quarter is counted from ten o'clock.
+#[derive(Drop)]
+pub(crate) struct Sums {
+    pub(crate) voided: u64,
+    pub(crate) quarters: [Option<(u64, u64)>; 18],
+    pub(crate) lines: Vec<Line>,
+}
+
+impl Sums {
+    fn none(alloc: Global) -> Sums {
+        Sums {
+            voided: 0,
+            quarters: [None; 18],
+            lines: Vec::new(alloc),
+        }
+    }
+
+    // Takes the next live event into account.
+    fn see(&mut self, alloc: Global, row: &Stored) -> Result<(), AllocError> {
+        if self.lines.last().map(|line| line.tx) != Some(row.tx) {
+            self.lines.push(Line::of(alloc, row))?;
+        }
+        if let Some(line) = self.lines.last_mut() {
+            line.see(row)?;
+            see_readings(&mut self.quarters, line, &row.sent);
+        }
+        Ok(())
+    }
+
+    // The energy of the transactions of an EVSE; none where there is no such transaction.
+    pub(crate) fn evse(&self, evse: u8) -> Option<(u64, u64)> {
+        let mut energy = None;
+        for line in &self.lines {
+            if line.evse == evse {
+                energy = Some(plus(energy.unwrap_or((0, 0)), line.energy));
+            }
+        }
+        energy
+    }
+
+    // Events, voided events, transactions, complete ones, missing numbers, rises and falls.
+    pub(crate) fn figures(&self) -> [u64; 7] {
+        let (mut events, mut complete, mut missing, mut energy) = (0u64, 0u64, 0u64, (0, 0));
+        for line in &self.lines {
+            events = events.wrapping_add(line.events);
+            complete = complete.wrapping_add(u64::from(line.complete));
+            missing = missing.wrapping_add(line.missing);
+            energy = plus(energy, line.energy);
+        }
+        let transactions = self.lines.len() as u64;
+        [
+            events,
+            self.voided,
+            transactions,
+            complete,
+            missing,
+            energy.0,
+            energy.1,
+        ]
+    }
+}
+
+// Takes the readings of a transaction's next event into account.
+fn see_readings(quarters: &mut [Option<(u64, u64)>; 18], line: &mut Line, sent: &Sent) {
+    for told in sent.readings.iter().take(sent.count as usize) {
+        if let Some(last) = line.reading {
+            let energy = between(last, *told);
+            line.energy = plus(line.energy, energy);
+            let quarter = &mut quarters[told.minute as usize / 15];
+            *quarter = Some(plus(quarter.unwrap_or((0, 0)), energy));
+        }
+        line.reading = Some(*told);
+    }
+}

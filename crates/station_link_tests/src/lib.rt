@@ -1,0 +1,5 @@
+//! The tests of `station_link`.
+#![tactic(auto)]
+
+#[cfg(test)]
+mod tests;

@@ -1,0 +1,5 @@
+//! The tests of `transaction_event`.
+#![tactic(auto)]
+
+#[cfg(test)]
+mod tests;
