@@ -4,20 +4,13 @@ mod parts;
 mod plans;
 mod three;
 
-ghost use Rattle.std.specs.Prelude.{ℕ, ◌<◌, length};
-ghost use Rattle.site_book.specs.Tables.{HasTable, NamedBy};
-
-use desk_fixtures::{opened, plan_of};
 use ledger_model::{
     Answer, Command, Event, EvseId, Figures, Key, Kind, Moment, Name, Reading, TxId,
 };
-use site_book::{Naming, Tables, Viewer};
-use site_desk::{Closed, Desk, NoGate, Pass, Plan};
+use site_book::Naming;
+use site_desk::{Closed, Desk, NoGate, Pass};
 use std::alloc::Global;
-use std::marker::Brand;
-use std::process::Abort;
 use std::sync::Wait;
-use std::test::Fail;
 use std::thread::Threads;
 use std::time::Clock;
 
@@ -137,39 +130,4 @@ fn has_figures<J: Naming>(closed: &Closed<J>, station: u16, figures: Figures) ->
 // Tells whether these are the totals of the site.
 fn has_totals<J: Naming>(closed: &Closed<J>, site: u16, totals: Figures) -> bool {
     (site as usize) < closed.sites() && closed.totals(site) == totals
-}
-
-// What is played on the desk of a plan, under the naming that its types carry.
-trait Scene {
-    fn play<J: Naming + Send + Sync, R: Abort + Threads + Wait + Clock + Sync>(
-        rt: &R,
-        alloc: Global,
-        desk: Desk<J>,
-        viewers: Vec<Viewer<J>>,
-    ) -> Result<(), Fail>;
-}
-
-// Plays it on the desk of these sites, with one viewer each, and of these stations.
-fn play<P: Scene, R: Abort + Threads + Wait + Clock + Sync>(
-    rt: &R,
-    alloc: Global,
-    sites: &[&str],
-    stations: &[(u16, &str)],
-) -> Result<(), Fail> {
-    let plan = plan_of(sites, stations, 1).ok_or("no plan")?;
-    let tables = Tables::make(alloc, plan.sites.len() as u16)?;
-    play_on::<P, Brand, R>(rt, alloc, tables, &plan)
-}
-
-fn play_on<P: Scene, J: Naming + Send + Sync, R: Abort + Threads + Wait + Clock + Sync>(
-    rt: &R,
-    alloc: Global,
-    tables: Tables,
-    plan: &Plan,
-) -> Result<(), Fail>
-    requires named { NamedBy J.table tables }
-    requires there { (site : ℕ) → site < length plan.now.sites.items → HasTable tables site }
-{
-    let (desk, viewers) = opened::<J>(alloc, tables, plan).ok_or("no desk")?;
-    P::play(rt, alloc, desk, viewers)
 }

@@ -5,21 +5,13 @@ mod sessions_in_turn;
 mod sims;
 mod watching;
 
-ghost use Rattle.std.specs.Prelude.{ℕ, ◌<◌, length};
-ghost use Rattle.site_book.specs.Tables.{HasTable, NamedBy};
-
-use desk_fixtures::{opened, plan_of};
-use site_book::{Naming, Tables, Viewer};
-use site_desk::{Closed, Desk, Plan};
-use std::alloc::Global;
+use desk_fixtures::plan_of;
+use site_book::Naming;
+use site_desk::{Closed, Plan};
 use std::io::Write;
-use std::marker::Brand;
 use std::net::{Ipv4Addr, Net, SocketAddr, SocketAddrV4, TcpListener, TcpStream};
-use std::process::Abort;
-use std::random::RandomSource;
 use std::sync::{Mutex, Wait};
 use std::test::Fail;
-use std::thread::Threads;
 use std::time::{Clock, Duration};
 use std::{io, thread};
 
@@ -83,51 +75,4 @@ fn address_in<R: Wait + Clock>(rt: &R, bytes: &Mutex<Vec<u8>>) -> Option<SocketA
         thread::sleep(rt, Duration::from_millis(1));
     }
     None
-}
-
-// What is played on the desk of the plan, under the naming that its types carry.
-trait Scene {
-    fn play<
-        J: Naming + Send + Sync,
-        R: Abort
-            + Threads
-            + Wait
-            + Clock
-            + RandomSource
-            + Sync
-            + Net<Listener = TcpListener, Stream = TcpStream>,
-    >(rt: &R, alloc: Global, desk: Desk<J>, viewers: Vec<Viewer<J>>) -> Result<(), Fail>;
-}
-
-fn play<
-    P: Scene,
-    R: Abort
-        + Threads
-        + Wait
-        + Clock
-        + RandomSource
-        + Sync
-        + Net<Listener = TcpListener, Stream = TcpStream>,
->(rt: &R, alloc: Global) -> Result<(), Fail> {
-    let plan = plan().ok_or("no plan")?;
-    let tables = Tables::make(alloc, plan.sites.len() as u16)?;
-    play_on::<P, Brand, R>(rt, alloc, tables, &plan)
-}
-
-fn play_on<
-    P: Scene,
-    J: Naming + Send + Sync,
-    R: Abort
-        + Threads
-        + Wait
-        + Clock
-        + RandomSource
-        + Sync
-        + Net<Listener = TcpListener, Stream = TcpStream>,
->(rt: &R, alloc: Global, tables: Tables, plan: &Plan) -> Result<(), Fail>
-    requires named { NamedBy J.table tables }
-    requires there { (site : ℕ) → site < length plan.now.sites.items → HasTable tables site }
-{
-    let (desk, viewers) = opened::<J>(alloc, tables, plan).ok_or("no desk")?;
-    P::play(rt, alloc, desk, viewers)
 }

@@ -1,9 +1,13 @@
-use super::{FIRST, Scene, both_of, delivery_of, pass_of, play, tells};
-use desk_fixtures::HoldsA;
+ghost use Rattle.std.specs.Prelude.{ℕ, ◌<◌, length};
+ghost use Rattle.site_book.specs.Tables.{HasTable, NamedBy};
+
+use super::{FIRST, both_of, delivery_of, pass_of, tells};
+use desk_fixtures::{HoldsA, opened, plan_of};
 use ledger_model::{Answer, Kind};
-use site_book::{Naming, Viewer};
-use site_desk::{Desk, NoGate, Pass};
+use site_book::{Naming, Tables};
+use site_desk::{Desk, NoGate, Pass, Plan};
 use std::alloc::Global;
+use std::marker::Brand;
 use std::process::Abort;
 use std::sync::Wait;
 use std::test::Fail;
@@ -58,26 +62,28 @@ fn send_both<J: Naming + Send + Sync, R: Threads + Wait + Clock + Sync>(
 }
 
 // B is answered while the gate keeps A under its lock.
-struct HeldStation;
-
-impl Scene for HeldStation {
-    fn play<J: Naming + Send + Sync, R: Abort + Threads + Wait + Clock + Sync>(
-        rt: &R,
-        alloc: Global,
-        desk: Desk<J>,
-        viewers: Vec<Viewer<J>>,
-    ) -> Result<(), Fail> {
-        let gate = HoldsA::new();
-        let passes = send_both(rt, alloc, &desk, &gate).ok_or("refused")?;
-        assert!(rt; gate.is_kept(rt), "B was answered while A was held");
-        assert!(rt; desk.close(passes, viewers).is_ok());
-        Ok(())
-    }
+fn held_station<J: Naming + Send + Sync, R: Abort + Threads + Wait + Clock + Sync>(
+    rt: &R,
+    alloc: Global,
+    tables: Tables,
+    plan: &Plan,
+) -> Result<(), Fail>
+    requires named { NamedBy J.table tables }
+    requires there { (site : ℕ) → site < length plan.now.sites.items → HasTable tables site }
+{
+    let (desk, viewers) = opened::<J>(alloc, tables, plan).ok_or("no desk")?;
+    let gate = HoldsA::new();
+    let passes = send_both(rt, alloc, &desk, &gate).ok_or("refused")?;
+    assert!(rt; gate.is_kept(rt), "B was answered while A was held");
+    assert!(rt; desk.close(passes, viewers).is_ok());
+    Ok(())
 }
 
 #[test]
 fn gate_holds_one_station(rt: HostRuntime) -> Result<(), Fail> {
-    play::<HeldStation, _>(&rt, rt.alloc(), &["north"], &[(0, "A"), (0, "B")])
+    let plan = plan_of(&["north"], &[(0, "A"), (0, "B")], 1).ok_or("no plan")?;
+    let tables = Tables::make(rt.alloc(), plan.sites.len() as u16)?;
+    held_station::<Brand, _>(&rt, rt.alloc(), tables, &plan)
 }
 
 // Delivers so many events, with each second number from this one on; tells whether all were accepted.
@@ -115,22 +121,24 @@ fn deliver_both<J: Naming + Send + Sync, R: Threads + Wait + Clock + Sync>(
 }
 
 // A post that is made after the station's lock was given up would tear the row.
-struct TwoPasses;
-
-impl Scene for TwoPasses {
-    fn play<J: Naming + Send + Sync, R: Abort + Threads + Wait + Clock + Sync>(
-        rt: &R,
-        alloc: Global,
-        desk: Desk<J>,
-        viewers: Vec<Viewer<J>>,
-    ) -> Result<(), Fail> {
-        let passes = deliver_both(rt, alloc, &desk).ok_or("refused")?;
-        assert!(rt; desk.close(passes, viewers).is_ok(), "the row is not torn");
-        Ok(())
-    }
+fn two_passes<J: Naming + Send + Sync, R: Abort + Threads + Wait + Clock + Sync>(
+    rt: &R,
+    alloc: Global,
+    tables: Tables,
+    plan: &Plan,
+) -> Result<(), Fail>
+    requires named { NamedBy J.table tables }
+    requires there { (site : ℕ) → site < length plan.now.sites.items → HasTable tables site }
+{
+    let (desk, viewers) = opened::<J>(alloc, tables, plan).ok_or("no desk")?;
+    let passes = deliver_both(rt, alloc, &desk).ok_or("refused")?;
+    assert!(rt; desk.close(passes, viewers).is_ok(), "the row is not torn");
+    Ok(())
 }
 
 #[test]
 fn posts_after_unlock(rt: HostRuntime) -> Result<(), Fail> {
-    play::<TwoPasses, _>(&rt, rt.alloc(), &["north"], &[(0, "A")])
+    let plan = plan_of(&["north"], &[(0, "A")], 1).ok_or("no plan")?;
+    let tables = Tables::make(rt.alloc(), plan.sites.len() as u16)?;
+    two_passes::<Brand, _>(&rt, rt.alloc(), tables, &plan)
 }

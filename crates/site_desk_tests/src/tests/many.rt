@@ -1,10 +1,15 @@
-use super::{Asked, Scene, delivery_of, has, has_totals, is_tied, key_of, pass_of, play};
+ghost use Rattle.std.specs.Prelude.{ℕ, ◌<◌, length};
+ghost use Rattle.site_book.specs.Tables.{HasTable, NamedBy};
+
+use super::{Asked, delivery_of, has, has_totals, is_tied, key_of, pass_of};
+use desk_fixtures::{opened, plan_of};
 use energy_flow::Work;
 use ledger_model::{Answer, Command, Figures, Kind, Limits, Name};
-use site_book::{Naming, Viewer};
-use site_desk::{Closed, Desk, NoGate, Pass};
+use site_book::{Naming, Tables, Viewer};
+use site_desk::{Closed, Desk, NoGate, Pass, Plan};
 use station_ledger::{StationBoard, StationLedger, TxLine};
 use std::alloc::Global;
+use std::marker::Brand;
 use std::process::Abort;
 use std::sync::Wait;
 use std::test::Fail;
@@ -239,30 +244,32 @@ fn enlist_all<J: Naming, R: Wait + Threads>(
 }
 
 // Eight stations of two sites at once.
-struct EightThreads;
-
-impl Scene for EightThreads {
-    fn play<J: Naming + Send + Sync, R: Abort + Threads + Wait + Clock + Sync>(
-        rt: &R,
-        alloc: Global,
-        desk: Desk<J>,
-        viewers: Vec<Viewer<J>>,
-    ) -> Result<(), Fail> {
-        let passes = enlist_all(rt, alloc, &desk).ok_or("no passes")?;
-        let (sent, viewers) = all_at_once(rt, alloc, &desk, passes, viewers).ok_or(
-            "a viewer went back",
-        )?;
-        let north = totals_of(rt, alloc, &desk, 0).ok_or("another board in the north")?;
-        let south = totals_of(rt, alloc, &desk, 1).ok_or("another board in the south")?;
-        let (passes, changes) = came_back(alloc, sent).ok_or("a thread failed")?;
-        let closed = desk.close(passes, viewers).ok().ok_or("not closed")?;
-        assert!(rt; has(&closed, 8, 2) && are_tied(&closed, &changes));
-        assert!(rt; has_totals(&closed, 0, north) && has_totals(&closed, 1, south));
-        Ok(())
-    }
+fn eight_threads<J: Naming + Send + Sync, R: Abort + Threads + Wait + Clock + Sync>(
+    rt: &R,
+    alloc: Global,
+    tables: Tables,
+    plan: &Plan,
+) -> Result<(), Fail>
+    requires named { NamedBy J.table tables }
+    requires there { (site : ℕ) → site < length plan.now.sites.items → HasTable tables site }
+{
+    let (desk, viewers) = opened::<J>(alloc, tables, plan).ok_or("no desk")?;
+    let passes = enlist_all(rt, alloc, &desk).ok_or("no passes")?;
+    let (sent, viewers) = all_at_once(rt, alloc, &desk, passes, viewers).ok_or(
+        "a viewer went back",
+    )?;
+    let north = totals_of(rt, alloc, &desk, 0).ok_or("another board in the north")?;
+    let south = totals_of(rt, alloc, &desk, 1).ok_or("another board in the south")?;
+    let (passes, changes) = came_back(alloc, sent).ok_or("a thread failed")?;
+    let closed = desk.close(passes, viewers).ok().ok_or("not closed")?;
+    assert!(rt; has(&closed, 8, 2) && are_tied(&closed, &changes));
+    assert!(rt; has_totals(&closed, 0, north) && has_totals(&closed, 1, south));
+    Ok(())
 }
 
 #[test]
 fn eight_threads_on_two_sites(rt: HostRuntime) -> Result<(), Fail> {
-    play::<EightThreads, _>(&rt, rt.alloc(), &["north", "south"], &STATIONS)
+    let plan = plan_of(&["north", "south"], &STATIONS, 1).ok_or("no plan")?;
+    let tables = Tables::make(rt.alloc(), plan.sites.len() as u16)?;
+    eight_threads::<Brand, _>(&rt, rt.alloc(), tables, &plan)
 }

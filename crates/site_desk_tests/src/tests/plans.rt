@@ -2,10 +2,9 @@ ghost use Rattle.std.specs.Prelude.{ℕ, ◌<◌, length};
 ghost use Rattle.site_book.specs.Tables.{HasTable, NamedBy};
 
 use super::{
-    FIRST, Scene, deliver, figures, has, has_figures, has_totals, is_tied, key_of, pass_of, play,
-    tells,
+    FIRST, deliver, figures, has, has_figures, has_totals, is_tied, key_of, pass_of, tells,
 };
-use desk_fixtures::plan_of;
+use desk_fixtures::{opened, plan_of};
 use ledger_model::{Answer, Command, Kind, Limits, Name};
 use site_book::{Naming, Tables, Viewer};
 use site_desk::{
@@ -176,29 +175,31 @@ fn knows_no_z<J: Naming, R: Wait + Threads>(rt: &R, alloc: Global, desk: &Desk<J
 }
 
 // Posts, boards and all passes of a station.
-struct AllPasses;
-
-impl Scene for AllPasses {
-    fn play<J: Naming + Send + Sync, R: Abort + Threads + Wait + Clock + Sync>(
-        rt: &R,
-        alloc: Global,
-        desk: Desk<J>,
-        viewers: Vec<Viewer<J>>,
-    ) -> Result<(), Fail> {
-        let pass = three_events(rt, alloc, &desk).ok_or("an event was refused")?;
-        assert!(rt; shows_board(rt, alloc, &desk) == Some(true));
-        assert!(rt; knows_no_z(rt, alloc, &desk) == Some(true));
-        let passes = all_passes(rt, alloc, &desk).ok_or("not all passes")?;
-        assert!(rt; viewers.len() == 1);
-        let closed = closes_with_all(alloc, desk, passes, pass, viewers);
-        assert!(rt; has(&closed.ok_or("not closed")?, 1, 1));
-        Ok(())
-    }
+fn posts_and_passes<J: Naming, R: Abort + Threads + Wait + Clock>(
+    rt: &R,
+    alloc: Global,
+    tables: Tables,
+    plan: &Plan,
+) -> Result<(), Fail>
+    requires named { NamedBy J.table tables }
+    requires there { (site : ℕ) → site < length plan.now.sites.items → HasTable tables site }
+{
+    let (desk, viewers) = opened::<J>(alloc, tables, plan).ok_or("no desk")?;
+    let pass = three_events(rt, alloc, &desk).ok_or("an event was refused")?;
+    assert!(rt; shows_board(rt, alloc, &desk) == Some(true));
+    assert!(rt; knows_no_z(rt, alloc, &desk) == Some(true));
+    let passes = all_passes(rt, alloc, &desk).ok_or("not all passes")?;
+    assert!(rt; viewers.len() == 1);
+    let closed = closes_with_all(alloc, desk, passes, pass, viewers);
+    assert!(rt; has(&closed.ok_or("not closed")?, 1, 1));
+    Ok(())
 }
 
 #[test]
 fn posts_and_plans(rt: HostRuntime) -> Result<(), Fail> {
-    play::<AllPasses, _>(&rt, rt.alloc(), &["north"], &[(0, "A")])
+    let plan = plan_of(&["north"], &[(0, "A")], 1).ok_or("no plan")?;
+    let tables = Tables::make(rt.alloc(), plan.sites.len() as u16)?;
+    posts_and_passes::<Brand, _>(&rt, rt.alloc(), tables, &plan)
 }
 
 // A pass that delivers the first event and voids it, both of which are told.
@@ -220,53 +221,57 @@ fn two_changes<J: Naming, R: Wait + Threads + Clock>(
 }
 
 // Changes, and the close of a desk that made them.
-struct TwoChanges;
-
-impl Scene for TwoChanges {
-    fn play<J: Naming + Send + Sync, R: Abort + Threads + Wait + Clock + Sync>(
-        rt: &R,
-        alloc: Global,
-        desk: Desk<J>,
-        viewers: Vec<Viewer<J>>,
-    ) -> Result<(), Fail> {
-        let mut passes = Vec::new(alloc);
-        passes.push(two_changes(rt, alloc, &desk).ok_or("refused")?)?;
-        let closed = desk.close(passes, viewers).ok().ok_or("not closed")?;
-        let voided = figures([0, 1, 0, 0, 0, 0, 0]);
-        assert!(rt; has(&closed, 1, 1) && is_tied(&closed, 0, 2));
-        assert!(rt; has_figures(&closed, 0, voided) && has_totals(&closed, 0, voided));
-        Ok(())
-    }
+fn changes_and_close<J: Naming, R: Abort + Threads + Wait + Clock>(
+    rt: &R,
+    alloc: Global,
+    tables: Tables,
+    plan: &Plan,
+) -> Result<(), Fail>
+    requires named { NamedBy J.table tables }
+    requires there { (site : ℕ) → site < length plan.now.sites.items → HasTable tables site }
+{
+    let (desk, viewers) = opened::<J>(alloc, tables, plan).ok_or("no desk")?;
+    let mut passes = Vec::new(alloc);
+    passes.push(two_changes(rt, alloc, &desk).ok_or("refused")?)?;
+    let closed = desk.close(passes, viewers).ok().ok_or("not closed")?;
+    let voided = figures([0, 1, 0, 0, 0, 0, 0]);
+    assert!(rt; has(&closed, 1, 1) && is_tied(&closed, 0, 2));
+    assert!(rt; has_figures(&closed, 0, voided) && has_totals(&closed, 0, voided));
+    Ok(())
 }
 
 #[test]
 fn desk_refuses_all(rt: HostRuntime) -> Result<(), Fail> {
-    play::<TwoChanges, _>(&rt, rt.alloc(), &["north"], &[(0, "A")])
+    let plan = plan_of(&["north"], &[(0, "A")], 1).ok_or("no plan")?;
+    let tables = Tables::make(rt.alloc(), plan.sites.len() as u16)?;
+    changes_and_close::<Brand, _>(&rt, rt.alloc(), tables, &plan)
 }
 
 // A desk that refuses a pass although the station has one more would be refused here: no clause knows how
 // many passes the cell behind the lock gave out.
-struct EachPass;
-
-impl Scene for EachPass {
-    fn play<J: Naming + Send + Sync, R: Abort + Threads + Wait + Clock + Sync>(
-        rt: &R,
-        _alloc: Global,
-        desk: Desk<J>,
-        _viewers: Vec<Viewer<J>>,
-    ) -> Result<(), Fail> {
-        let station = Name::new("A").ok_or("no name")?;
-        for number in 0..MAX_PASSES {
-            assert!(rt; desk.enlist(rt, &station).is_ok(), "pass {number}");
-        }
-        assert!(rt; desk.enlist(rt, &station).err() == Some(EnlistFault::TooManyPasses));
-        Ok(())
+fn each_pass<J: Naming, R: Abort + Threads + Wait>(
+    rt: &R,
+    alloc: Global,
+    tables: Tables,
+    plan: &Plan,
+) -> Result<(), Fail>
+    requires named { NamedBy J.table tables }
+    requires there { (site : ℕ) → site < length plan.now.sites.items → HasTable tables site }
+{
+    let (desk, _viewers) = opened::<J>(alloc, tables, plan).ok_or("no desk")?;
+    let station = Name::new("A").ok_or("no name")?;
+    for number in 0..MAX_PASSES {
+        assert!(rt; desk.enlist(rt, &station).is_ok(), "pass {number}");
     }
+    assert!(rt; desk.enlist(rt, &station).err() == Some(EnlistFault::TooManyPasses));
+    Ok(())
 }
 
 #[test]
 fn enlist_refuses_all(rt: HostRuntime) -> Result<(), Fail> {
-    play::<EachPass, _>(&rt, rt.alloc(), &["north"], &[(0, "A")])
+    let plan = plan_of(&["north"], &[(0, "A")], 1).ok_or("no plan")?;
+    let tables = Tables::make(rt.alloc(), plan.sites.len() as u16)?;
+    each_pass::<Brand, _>(&rt, rt.alloc(), tables, &plan)
 }
 
 // How many events the board of a station shows.
@@ -277,25 +282,27 @@ fn events_of<J: Naming, R: Wait>(rt: &R, alloc: Global, desk: &Desk<J>, text: &s
 
 // The board of another station under equal limits would be refused here: no clause knows what lies behind
 // which lock.
-struct SecondBoard;
-
-impl Scene for SecondBoard {
-    fn play<J: Naming + Send + Sync, R: Abort + Threads + Wait + Clock + Sync>(
-        rt: &R,
-        alloc: Global,
-        desk: Desk<J>,
-        _viewers: Vec<Viewer<J>>,
-    ) -> Result<(), Fail> {
-        let mut pass = pass_of(rt, &desk, "B").ok_or("no pass")?;
-        let answer = deliver(rt, alloc, &desk, &mut pass, FIRST);
-        assert!(rt; answer == Some(Answer::Accepted(1)));
-        assert!(rt; events_of(rt, alloc, &desk, "A") == Some(0));
-        assert!(rt; events_of(rt, alloc, &desk, "B") == Some(1));
-        Ok(())
-    }
+fn second_board<J: Naming, R: Abort + Threads + Wait + Clock>(
+    rt: &R,
+    alloc: Global,
+    tables: Tables,
+    plan: &Plan,
+) -> Result<(), Fail>
+    requires named { NamedBy J.table tables }
+    requires there { (site : ℕ) → site < length plan.now.sites.items → HasTable tables site }
+{
+    let (desk, _viewers) = opened::<J>(alloc, tables, plan).ok_or("no desk")?;
+    let mut pass = pass_of(rt, &desk, "B").ok_or("no pass")?;
+    let answer = deliver(rt, alloc, &desk, &mut pass, FIRST);
+    assert!(rt; answer == Some(Answer::Accepted(1)));
+    assert!(rt; events_of(rt, alloc, &desk, "A") == Some(0));
+    assert!(rt; events_of(rt, alloc, &desk, "B") == Some(1));
+    Ok(())
 }
 
 #[test]
 fn board_of_first_station(rt: HostRuntime) -> Result<(), Fail> {
-    play::<SecondBoard, _>(&rt, rt.alloc(), &["north"], &[(0, "A"), (0, "B")])
+    let plan = plan_of(&["north"], &[(0, "A"), (0, "B")], 1).ok_or("no plan")?;
+    let tables = Tables::make(rt.alloc(), plan.sites.len() as u16)?;
+    second_board::<Brand, _>(&rt, rt.alloc(), tables, &plan)
 }

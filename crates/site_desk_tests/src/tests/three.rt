@@ -1,11 +1,16 @@
+ghost use Rattle.std.specs.Prelude.{ℕ, ◌<◌, length};
+ghost use Rattle.site_book.specs.Tables.{HasTable, NamedBy};
+
 use super::{
-    Asked, FIRST, Scene, deliver, delivery_of, figures, has, has_figures, has_totals, is_tied,
-    key_of, pass_of, play, tells,
+    Asked, FIRST, deliver, delivery_of, figures, has, has_figures, has_totals, is_tied, key_of,
+    pass_of, tells,
 };
+use desk_fixtures::{opened, plan_of};
 use ledger_model::{Answer, Command, Figures, Kind, Name, Refusal};
-use site_book::{Naming, Viewer};
-use site_desk::{Closed, Desk, NoGate, Pass};
+use site_book::{Naming, Tables, Viewer};
+use site_desk::{Closed, Desk, NoGate, Pass, Plan};
 use std::alloc::Global;
+use std::marker::Brand;
 use std::process::Abort;
 use std::sync::Wait;
 use std::test::Fail;
@@ -222,20 +227,20 @@ fn closed_with<J: Naming>(alloc: Global, desk: Desk<J>, sides: Sides<J>) -> Opti
 }
 
 // Two stations and an operator at once.
-struct ThreeSides;
-
-impl Scene for ThreeSides {
-    fn play<J: Naming + Send + Sync, R: Abort + Threads + Wait + Clock + Sync>(
-        rt: &R,
-        alloc: Global,
-        desk: Desk<J>,
-        mut viewers: Vec<Viewer<J>>,
-    ) -> Result<(), Fail> {
-        let viewer = viewers.pop().ok_or("no viewer")?;
-        let passes = enlisted(rt, alloc, &desk).ok_or("the first event was refused")?;
-        let sides = at_once(rt, alloc, &desk, passes, viewer).ok_or("a side was refused")?;
-        after_all(rt, alloc, desk, sides)
-    }
+fn three_sides<J: Naming + Send + Sync, R: Abort + Threads + Wait + Clock + Sync>(
+    rt: &R,
+    alloc: Global,
+    tables: Tables,
+    plan: &Plan,
+) -> Result<(), Fail>
+    requires named { NamedBy J.table tables }
+    requires there { (site : ℕ) → site < length plan.now.sites.items → HasTable tables site }
+{
+    let (desk, mut viewers) = opened::<J>(alloc, tables, plan).ok_or("no desk")?;
+    let viewer = viewers.pop().ok_or("no viewer")?;
+    let passes = enlisted(rt, alloc, &desk).ok_or("the first event was refused")?;
+    let sides = at_once(rt, alloc, &desk, passes, viewer).ok_or("a side was refused")?;
+    after_all(rt, alloc, desk, sides)
 }
 
 // What is seen afterwards.
@@ -261,5 +266,7 @@ fn after_all<J: Naming, R: Abort + Wait + Clock>(
 
 #[test]
 fn three_threads(rt: HostRuntime) -> Result<(), Fail> {
-    play::<ThreeSides, _>(&rt, rt.alloc(), &["north"], &[(0, "A"), (0, "B")])
+    let plan = plan_of(&["north"], &[(0, "A"), (0, "B")], 1).ok_or("no plan")?;
+    let tables = Tables::make(rt.alloc(), plan.sites.len() as u16)?;
+    three_sides::<Brand, _>(&rt, rt.alloc(), tables, &plan)
 }

@@ -1,11 +1,15 @@
 // A server that serves its connections one after the other, or under one lock, never answers B here.
+ghost use Rattle.std.specs.Prelude.{ℕ, ◌<◌, length};
+ghost use Rattle.site_book.specs.Tables.{HasTable, NamedBy};
+
 use super::client::sends_one;
-use super::{Scene, changes_of, listen, play};
-use desk_fixtures::HoldsA;
-use site_book::{Naming, Viewer};
-use site_desk::{Desk, Pass};
+use super::{changes_of, listen, plan};
+use desk_fixtures::{HoldsA, opened};
+use site_book::{Naming, Tables};
+use site_desk::{Desk, Pass, Plan};
 use site_server::serve_many;
 use std::alloc::Global;
+use std::marker::Brand;
 use std::net::{Net, SocketAddr, TcpListener, TcpStream};
 use std::process::Abort;
 use std::random::RandomSource;
@@ -61,32 +65,34 @@ fn served_both<
 }
 
 // Keeps A's first call under A's lock until B's was answered.
-struct HeldStation;
-
-impl Scene for HeldStation {
-    fn play<
-        J: Naming + Send + Sync,
-        R: Abort
-            + Threads
-            + Wait
-            + Clock
-            + RandomSource
-            + Sync
-            + Net<Listener = TcpListener, Stream = TcpStream>,
-    >(rt: &R, alloc: Global, desk: Desk<J>, viewers: Vec<Viewer<J>>) -> Result<(), Fail> {
-        let (listener, address) = listen(rt)?;
-        let gate = HoldsA::new();
-        let passes = served_both(rt, alloc, &desk, &gate, &listener, address);
-        let passes = passes.ok_or("not answered")?;
-        assert!(rt; gate.is_kept(rt), "B was answered while A was held");
-        let closed = desk.close(passes, viewers).ok().ok_or("not closed")?;
-        assert!(rt; changes_of(&closed, 0) == Some(1) && changes_of(&closed, 1) == Some(1));
-        assert!(rt; changes_of(&closed, 2) == Some(0));
-        Ok(())
-    }
+fn held_station<
+    J: Naming + Send + Sync,
+    R: Abort
+        + Threads
+        + Wait
+        + Clock
+        + RandomSource
+        + Sync
+        + Net<Listener = TcpListener, Stream = TcpStream>,
+>(rt: &R, alloc: Global, tables: Tables, plan: &Plan) -> Result<(), Fail>
+    requires named { NamedBy J.table tables }
+    requires there { (site : ℕ) → site < length plan.now.sites.items → HasTable tables site }
+{
+    let (desk, viewers) = opened::<J>(alloc, tables, plan).ok_or("no desk")?;
+    let (listener, address) = listen(rt)?;
+    let gate = HoldsA::new();
+    let passes = served_both(rt, alloc, &desk, &gate, &listener, address);
+    let passes = passes.ok_or("not answered")?;
+    assert!(rt; gate.is_kept(rt), "B was answered while A was held");
+    let closed = desk.close(passes, viewers).ok().ok_or("not closed")?;
+    assert!(rt; changes_of(&closed, 0) == Some(1) && changes_of(&closed, 1) == Some(1));
+    assert!(rt; changes_of(&closed, 2) == Some(0));
+    Ok(())
 }
 
 #[test]
 fn gate_holds_one_station(rt: HostRuntime) -> Result<(), Fail> {
-    play::<HeldStation, _>(&rt, rt.alloc())
+    let plan = plan().ok_or("no plan")?;
+    let tables = Tables::make(rt.alloc(), plan.sites.len() as u16)?;
+    held_station::<Brand, _>(&rt, rt.alloc(), tables, &plan)
 }
