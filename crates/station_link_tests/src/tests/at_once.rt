@@ -1,13 +1,18 @@
+ghost use Rattle.std.specs.Prelude.{ℕ, ◌<◌, length};
+ghost use Rattle.site_book.specs.Tables.{HasTable, NamedBy};
+
 use super::memory::Peer;
 use super::{
-    FIRST, OFFER, SECOND, Scene, Served, changes_at_close, head, passes_of, play, serve,
-    serve_frames, text_frames,
+    FIRST, OFFER, SECOND, Served, changes_at_close, head, passes_of, plan, serve, serve_frames,
+    text_frames,
 };
+use desk_fixtures::opened;
 use ledger_model::{Answer, Command, Key, TxId};
-use site_book::Naming;
-use site_desk::{Desk, NoGate, Pass};
+use site_book::{Naming, Tables};
+use site_desk::{Desk, NoGate, Pass, Plan};
 use station_link::Why;
 use std::alloc::{AllocError, Global};
+use std::marker::Brand;
 use std::process::Abort;
 use std::sync::Wait;
 use std::test::Fail;
@@ -104,26 +109,29 @@ fn answered(alloc: Global, served: [Served; 3]) -> Result<Option<Vec<Served>>, A
 }
 
 // Station A has two connections that send the same events, station B has one, and an operator works on A.
-struct AllAtOnce;
-
-impl Scene for AllAtOnce {
-    fn play<J: Naming + Send + Sync, R: Abort + Threads + Wait + Clock + Sync>(
-        rt: &R,
-        alloc: Global,
-        desk: Desk<J>,
-    ) -> Result<(), Fail> {
-        let (first, operator) = before(rt, alloc, &desk).ok_or("no pass")?;
-        let (served, operator) = at_once(rt, alloc, &desk, operator)?;
-        let served = answered(alloc, served)?.ok_or("a session was not answered")?;
-        let mut passes = passes_of(alloc, served).ok_or("no pass")?;
-        passes.push(first)?;
-        passes.push(operator.ok_or("the operator was refused")?)?;
-        assert!(rt; changes_at_close(alloc, desk, passes) == Some((4, 2)));
-        Ok(())
-    }
+fn all_at_once<J: Naming + Send + Sync, R: Abort + Threads + Wait + Clock + Sync>(
+    rt: &R,
+    alloc: Global,
+    tables: Tables,
+    plan: &Plan,
+) -> Result<(), Fail>
+    requires named { NamedBy J.table tables }
+    requires there { (site : ℕ) → site < length plan.now.sites.items → HasTable tables site }
+{
+    let (desk, _viewers) = opened::<J>(alloc, tables, plan).ok_or("no desk")?;
+    let (first, operator) = before(rt, alloc, &desk).ok_or("no pass")?;
+    let (served, operator) = at_once(rt, alloc, &desk, operator)?;
+    let served = answered(alloc, served)?.ok_or("a session was not answered")?;
+    let mut passes = passes_of(alloc, served).ok_or("no pass")?;
+    passes.push(first)?;
+    passes.push(operator.ok_or("the operator was refused")?)?;
+    assert!(rt; changes_at_close(alloc, desk, passes) == Some((4, 2)));
+    Ok(())
 }
 
 #[test]
 fn sessions_and_an_operator_at_once(rt: HostRuntime) -> Result<(), Fail> {
-    play::<AllAtOnce, _>(&rt, rt.alloc())
+    let plan = plan().ok_or("no plan")?;
+    let tables = Tables::make(rt.alloc(), plan.sites.len() as u16)?;
+    all_at_once::<Brand, _>(&rt, rt.alloc(), tables, &plan)
 }

@@ -34,7 +34,7 @@ fn closes<J: Naming, R: Threads + Wait + Clock>(
 struct NotOcpp;
 
 impl Scene for NotOcpp {
-    fn play<J: Naming + Send + Sync, R: Abort + Threads + Wait + Clock + Sync>(
+    fn play<J: Naming, R: Abort + Threads + Wait + Clock>(
         rt: &R,
         alloc: Global,
         desk: Desk<J>,
@@ -51,7 +51,7 @@ impl Scene for NotOcpp {
 struct Strangers;
 
 impl Scene for Strangers {
-    fn play<J: Naming + Send + Sync, R: Abort + Threads + Wait + Clock + Sync>(
+    fn play<J: Naming, R: Abort + Threads + Wait + Clock>(
         rt: &R,
         alloc: Global,
         desk: Desk<J>,
@@ -71,7 +71,7 @@ impl Scene for Strangers {
 struct NoPassLeft;
 
 impl Scene for NoPassLeft {
-    fn play<J: Naming + Send + Sync, R: Abort + Threads + Wait + Clock + Sync>(
+    fn play<J: Naming, R: Abort + Threads + Wait + Clock>(
         rt: &R,
         alloc: Global,
         desk: Desk<J>,
@@ -97,7 +97,7 @@ fn refused_requests(rt: HostRuntime) -> Result<(), Fail> {
 struct LastMessages;
 
 impl Scene for LastMessages {
-    fn play<J: Naming + Send + Sync, R: Abort + Threads + Wait + Clock + Sync>(
+    fn play<J: Naming, R: Abort + Threads + Wait + Clock>(
         rt: &R,
         alloc: Global,
         desk: Desk<J>,

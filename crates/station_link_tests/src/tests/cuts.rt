@@ -43,7 +43,7 @@ fn changed_once(alloc: Global, served: &[Served]) -> Result<bool, AllocError> {
 struct LostReply;
 
 impl Scene for LostReply {
-    fn play<J: Naming + Send + Sync, R: Abort + Threads + Wait + Clock + Sync>(
+    fn play<J: Naming, R: Abort + Threads + Wait + Clock>(
         rt: &R,
         alloc: Global,
         desk: Desk<J>,
@@ -161,7 +161,7 @@ fn cut_at_each<J: Naming, R: Abort + Threads + Wait + Clock>(
 struct EachByte;
 
 impl Scene for EachByte {
-    fn play<J: Naming + Send + Sync, R: Abort + Threads + Wait + Clock + Sync>(
+    fn play<J: Naming, R: Abort + Threads + Wait + Clock>(
         rt: &R,
         alloc: Global,
         desk: Desk<J>,
@@ -213,7 +213,7 @@ fn cut_request<J: Naming, R: Abort + Threads + Wait + Clock>(
 struct EachByteOfRequest;
 
 impl Scene for EachByteOfRequest {
-    fn play<J: Naming + Send + Sync, R: Abort + Threads + Wait + Clock + Sync>(
+    fn play<J: Naming, R: Abort + Threads + Wait + Clock>(
         rt: &R,
         alloc: Global,
         desk: Desk<J>,
