@@ -3,7 +3,7 @@ use ledger_model::{Command, Event, EvseId, Key, Kind, Moment, Reading, TxId};
 use std::alloc::Global;
 use std::test::Fail;
 
-// Numbers drawn from a seed (SplitMix64).
+// Numbers drawn from a seed.
 #[derive(Drop)]
 pub(crate) struct Draws {
     state: u64,
@@ -14,12 +14,13 @@ impl Draws {
         Draws { state: seed }
     }
 
-    // A number of 8 bits.
+    // A number of 8 bits: the highest of the next state (Knuth's MMIX constants).
     fn next(&mut self) -> u8 {
-        self.state = self.state.wrapping_add(0x9E37_79B9_7F4A_7C15);
-        let first = (self.state ^ (self.state >> 30)).wrapping_mul(0xBF58_476D_1CE4_E5B9);
-        let second = (first ^ (first >> 27)).wrapping_mul(0x94D0_49BB_1331_11EB);
-        (second >> 56) as u8
+        self.state = self
+            .state
+            .wrapping_mul(6_364_136_223_846_793_005)
+            .wrapping_add(1_442_695_040_888_963_407);
+        (self.state >> 56) as u8
     }
 }
 
