@@ -112,16 +112,16 @@ fn no_glance<
 {
     let (desk, viewers) = open_desk::<J>(alloc, tables, plan).ok().ok_or("no desk")?;
     let (listener, address) = listen(rt).ok_or("no listener")?;
-    let service = Service {
-        port: 0,
-        connections: 1,
-        glances: 1,
-    };
     let lines = Vec::<u8>::new(alloc);
     let (shared, socket) = (&desk, &listener);
     let ((passes, viewers, lines), replies) = thread::join(
         rt,
         move || {
+            let service = Service {
+                port: 0,
+                connections: 1,
+                glances: 1,
+            };
             serve_watched(
                 rt, alloc, socket, service, shared, plan, viewers, lines, TOO_LARGE,
             )
