@@ -1,4 +1,6 @@
 // The loops over lines, with machines that echo.
+ghost use Rattle.std.specs.Prelude.{◌<◌, ◌^◌};
+
 use crate::tests::echo::Before;
 use crate::tests::streams::{FailingReader, FailingWriter};
 use script_replay::{ReplayFault, replay_lines};

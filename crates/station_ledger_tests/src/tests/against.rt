@@ -175,6 +175,39 @@ fn place(answer: Answer) -> usize {
     }
 }
 
+// Marks the answer as seen.
+fn mark(seen: &mut [bool; 10], answer: Answer) {
+    if let Some(mark) = seen.get_mut(place(answer)) {
+        *mark = true;
+    }
+}
+
+// Gives both a drawn command, compares, and tells the answer.
+fn step(
+    pair: &mut Pair,
+    alloc: Global,
+    draws: &mut Draws,
+    work: &mut Work,
+) -> Result<Answer, Fail> {
+    let answer = pair.apply(alloc, Asked::draw(draws), work)?;
+    pair.compare(alloc)?;
+    Ok(answer)
+}
+
+// Twenty drawn commands, and then the boards.
+fn steps(
+    pair: &mut Pair,
+    alloc: Global,
+    draws: &mut Draws,
+    seen: &mut [bool; 10],
+    work: &mut Work,
+) -> Result<(), Fail> {
+    for _ in 0..20 {
+        mark(seen, step(pair, alloc, draws, work)?);
+    }
+    pair.compare_boards(alloc)
+}
+
 // Runs a thousand drawn commands, and marks the answers that came.
 fn run(
     alloc: Global,
@@ -184,15 +217,8 @@ fn run(
     work: &mut Work,
 ) -> Result<(), Fail> {
     let mut pair = Pair::open(alloc, limits)?;
-    for turn in 0..1_000 {
-        let answer = pair.apply(alloc, Asked::draw(draws), work)?;
-        if let Some(mark) = seen.get_mut(place(answer)) {
-            *mark = true;
-        }
-        pair.compare(alloc)?;
-        if turn % 20 == 19 {
-            pair.compare_boards(alloc)?;
-        }
+    for _ in 0..50 {
+        steps(&mut pair, alloc, draws, seen, work)?;
     }
     Ok(())
 }
