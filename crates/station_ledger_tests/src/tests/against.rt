@@ -69,7 +69,7 @@ fn are_quarters(board: &StationBoard, want: &Sums) -> bool {
 // Tells whether the board shows the EVSEs of these transactions, and no others.
 fn are_evses(board: &StationBoard, want: &Sums) -> bool {
     let mut shown = board.evses().iter();
-    for number in 0..=64 {
+    for number in 0..65 {
         if let Some(energy) = want.evse(number) {
             match shown.next() {
                 Some(line) if line.evse().number() == number && is_energy(line.flow(), energy) => {}
