@@ -1,12 +1,13 @@
 mod against;
-mod board;
 mod drawn;
 mod scratch;
 
 use energy_flow::Work;
-use ledger_model::{Answer, Command, Event, Key, Kind, Limits, Moment, Reading, Refusal, TxId};
+use ledger_model::{
+    Answer, Command, Event, Figures, Key, Kind, Limits, Moment, Reading, Refusal, TxId,
+};
 use station_ledger::StationLedger;
-use std::alloc::Global;
+use std::alloc::{AllocError, Global};
 use std::test::Fail;
 
 // A command in short. An event has its transaction, its sequence number, its minute after ten o'clock
@@ -233,5 +234,27 @@ fn differences_of_a_late_event(rt: HostRuntime) -> Result<(), Fail> {
     for (asked, differences) in DIFFERENCES {
         assert!(rt; spent(&mut ledger, rt.alloc(), asked, &mut work)? == differences);
     }
+    Ok(())
+}
+
+// The figures of the ledger's board, which is asked for once more where it found no memory.
+fn board_figures(ledger: &StationLedger, alloc: Global) -> Result<Figures, AllocError> {
+    let board = match ledger.board(alloc) {
+        Ok(board) => board,
+        Err(_) => ledger.board(alloc)?,
+    };
+    Ok(board.figures())
+}
+
+// Run with each allocation refused in turn: a board that finds no memory leaves the ledger as it was.
+#[test]
+fn a_board_without_memory_changes_nothing(rt: HostRuntime) -> Result<(), Fail> {
+    let mut work = Work::open(&rt);
+    let mut ledger = ledger(rt.alloc(), (4, 8, 8, 9))?;
+    for (asked, _differences) in DIFFERENCES {
+        ledger.apply(command(rt.alloc(), asked)?, &mut work);
+    }
+    assert!(rt; board_figures(&ledger, rt.alloc())? == ledger.figures());
+    assert!(rt; ledger.figures().up == 600_000);
     Ok(())
 }
