@@ -134,7 +134,12 @@ fn is_cut<J: Naming, R: Threads + Wait + Clock>(
         Why::PeerClosed
     };
     let is_so = served.why == why && served.frames() == whole.answers_to(given);
-    match served.pass {
+    let Served {
+        why: _,
+        pass,
+        written: _,
+    } = served;
+    match pass {
         Some(pass) => is_so && passes.push(pass).is_ok(),
         None => false,
     }
