@@ -3,7 +3,7 @@ use super::drawn::{Asked, Draws, id};
 use super::scratch::{Line, Scratch, Sums};
 use energy_flow::{Flow, Work};
 use ledger_model::{Answer, EvseId, Figures, Limits};
-use station_ledger::{StationBoard, StationLedger, TxLine};
+use station_ledger::{EvseLine, StationBoard, StationLedger, TxLine};
 use std::alloc::Global;
 use std::test::Fail;
 
@@ -66,18 +66,27 @@ fn are_quarters(board: &StationBoard, want: &Sums) -> bool {
     shown.next().is_none()
 }
 
+// How many EVSEs these transactions name.
+fn count_evses(want: &Sums) -> u64 {
+    let mut count = 0u64;
+    for number in 0..65 {
+        count = count.wrapping_add(u64::from(want.evse(number).is_some()));
+    }
+    count
+}
+
+// Tells whether the line shows an EVSE of these transactions.
+fn is_evse(shown: &EvseLine, want: &Sums) -> bool {
+    match want.evse(shown.evse().number()) {
+        Some(energy) => is_energy(shown.flow(), energy),
+        None => false,
+    }
+}
+
 // Tells whether the board shows the EVSEs of these transactions, and no others.
 fn are_evses(board: &StationBoard, want: &Sums) -> bool {
-    let mut shown = board.evses().iter();
-    for number in 0..65 {
-        if let Some(energy) = want.evse(number) {
-            match shown.next() {
-                Some(line) if line.evse().number() == number && is_energy(line.flow(), energy) => {}
-                _ => return false,
-            }
-        }
-    }
-    shown.next().is_none()
+    let shown = board.evses();
+    shown.len() as u64 == count_evses(want) && shown.iter().all(|shown| is_evse(shown, want))
 }
 
 // Tells whether the ledger answers these energies of its EVSEs; no event names the last.
