@@ -172,7 +172,24 @@ fn sum(figures: Figures, others: Figures) -> Option<Figures> {
     })
 }
 
-// The figures of a station whose board is that of its replay, which made more than 1,000 changes.
+// Tells whether the board is the ledger's own, which made more than 1,000 changes.
+fn is_of(board: &StationBoard, ledger: &StationLedger, alloc: Global) -> Option<bool> {
+    let own = ledger.board(alloc).ok()?;
+    Some(ledger.changes() > 1_000 && are_boards_equal(board, &own))
+}
+
+// Tells whether the board is that of the station's replay.
+fn is_replayed<R: Threads>(
+    rt: &R,
+    alloc: Global,
+    board: &StationBoard,
+    station: u16,
+) -> Option<bool> {
+    let ledger = replay(rt, alloc, station)?;
+    is_of(board, &ledger, alloc)
+}
+
+// The figures of a station whose board is that of its replay, and has events.
 fn figures_of<J: Naming, R: Threads + Wait>(
     rt: &R,
     alloc: Global,
@@ -180,12 +197,9 @@ fn figures_of<J: Naming, R: Threads + Wait>(
     number: u16,
     text: &str,
 ) -> Option<Figures> {
-    let ledger = replay(rt, alloc, number)?;
     let board = desk.station_board(rt, alloc, &Name::new(text)?).ok()?;
-    let is_replayed = are_boards_equal(&board, &ledger.board(alloc).ok()?);
-    let figures = ledger.figures();
-    if is_replayed && figures.events > 0 && ledger.changes() > 1_000 {
-        Some(figures)
+    if board.figures().events > 0 && is_replayed(rt, alloc, &board, number)? {
+        Some(board.figures())
     } else {
         None
     }
