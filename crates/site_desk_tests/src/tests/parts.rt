@@ -112,6 +112,25 @@ fn has_no_event<J: Naming>(one: &mut Side, other: &mut Side, book: &mut SiteBook
         && (other.pass.changes(), other.cell.ledger().changes()) == (0, 0)
 }
 
+// Tells whether the first of two stations settles its own commands, and the other has nothing of them.
+fn is_alone<J: Naming>(
+    alloc: Global,
+    one: &mut Side,
+    other: &mut Side,
+    book: &mut SiteBook<J>,
+) -> bool {
+    (other.cell.station(), other.cell.site(), other.cell.row()) == (1, 0, 1)
+        && know_their_own(one, other)
+        && settles_its_own(alloc, one, book)
+        && changed_once(one, book)
+        && has_no_event(one, other, book)
+}
+
+fn settles_alone<J: Naming, R: Threads>(rt: &R, alloc: Global, parts: Parts<J>) -> Option<bool> {
+    let (mut one, mut other, mut book) = sides(rt, parts)?;
+    Some(is_alone(alloc, &mut one, &mut other, &mut book))
+}
+
 #[test]
 fn settles_one_station_alone(rt: HostRuntime) -> Result<(), Fail> {
     let plan = plan_of(&["north"], &[(0, "A"), (0, "B")], 1).ok_or("no plan")?;
@@ -129,11 +148,6 @@ fn two_cells<J: Naming, R: Abort + Threads>(
     requires there { (site : ℕ) → site < length plan.now.sites.items → HasTable tables site }
 {
     let parts = Parts::<J>::open(alloc, tables, plan).ok();
-    let (mut one, mut other, mut book) = sides(rt, parts.ok_or("no parts")?).ok_or("not two")?;
-    assert!(rt; (other.cell.station(), other.cell.site(), other.cell.row()) == (1, 0, 1));
-    assert!(rt; know_their_own(&one, &other), "another station's pass");
-    assert!(rt; settles_its_own(alloc, &mut one, &mut book));
-    assert!(rt; changed_once(&one, &book));
-    assert!(rt; has_no_event(&mut one, &mut other, &mut book));
+    assert!(rt; settles_alone(rt, alloc, parts.ok_or("no parts")?) == Some(true));
     Ok(())
 }
