@@ -1,6 +1,5 @@
 mod gates;
 mod many;
-mod parts;
 mod plans;
 mod three;
 
