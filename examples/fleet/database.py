@@ -130,7 +130,10 @@ class Replay:
 
     def write(self, data: bytes) -> None:
         assert self.process.stdin
-        self.process.stdin.write(data)
+        try:
+            self.process.stdin.write(data)
+        except RuntimeError:  # What uvloop says of a pipe that is closed.
+            raise ReplayEnded(f"the replay {self.process.pid} ended") from None
 
     async def more(self) -> bytes:
         assert self.process.stdout

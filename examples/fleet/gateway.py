@@ -11,6 +11,7 @@ again what has no answer.
 
 import argparse
 import asyncio
+import http
 import json
 import re
 import secrets
@@ -243,15 +244,15 @@ class Gateway:
             cell.queue.append(self.token)
             cell.filled.set()
 
-    async def admit(self, path: str, _headers: Any) -> tuple[int, list[Any], bytes] | None:
+    async def admit(self, path: str, _headers: Any) -> tuple[http.HTTPStatus, list[Any], bytes] | None:
         station = path.rpartition("/")[2]
         if not self.cell_of(station):
             await self.reload()
         if self.cell_of(station):
             return None
         if all(cell.is_up for cell in self.cells):
-            return 404, [], f"no station {station} in the plan\n".encode()
-        return 503, [("Retry-After", "5")], b"a cell does not answer, and the station may be one of its\n"
+            return http.HTTPStatus.NOT_FOUND, [], f"no station {station} in the plan\n".encode()
+        return http.HTTPStatus.SERVICE_UNAVAILABLE, [("Retry-After", "5")], b"a cell does not answer, and the station may be one of its\n"
 
     async def run(self) -> None:
         jobs = [asyncio.create_task(job) for job in

@@ -59,6 +59,10 @@ with hung as (delete from worker where beat < clock_timestamp() - make_interval(
 select worker, pg_terminate_backend(a.pid) from hung left join pg_stat_activity a
 on a.pid = hung.pid and a.backend_start = hung.began
 """
+# A worker that was killed has a row until that is too old, and no session.
+LIVING = """
+select count(*) from worker w join pg_stat_activity a on a.pid = w.pid and a.backend_start = w.began
+"""
 BOARD = """
 insert into own_board (shard, site, xid, id, at, text) values ($1, $2, $3::text::xid8, $4, now(), $5)
 on conflict (shard, site) do update set xid = excluded.xid, id = excluded.id, at = now(), text = excluded.text
@@ -76,6 +80,7 @@ class Shard:
         self.read = ("0", 0)
         self.replay, self.sites = replay, sites
         self.changed, self.due = True, 0.0
+        self.is_loaded = False
         self.busy = asyncio.Lock()
 
 
@@ -88,11 +93,9 @@ class Session:
         self.shards: dict[int, Shard] = {}
         self.woken: set[int] = set()
         self.waking = asyncio.Event()
-        self.replanned: set[int] = set()
 
     async def run(self) -> None:
         await self.database.add_listener("wake", self.wake)
-        await self.database.add_listener("plan", self.replan)
         jobs = [asyncio.create_task(job()) for job in (self.beat, self.read, self.show)]
         try:
             done, _ = await asyncio.wait(jobs, return_when=asyncio.FIRST_EXCEPTION)
@@ -120,9 +123,6 @@ class Session:
         if self.woken:
             self.waking.set()
 
-    def replan(self, _session: Any, _pid: int, _channel: str, payload: str) -> None:
-        self.replanned.add(int(payload))
-
     async def beat(self) -> None:
         """Beats, ends sessions that hang, and evens the shares out."""
         while True:
@@ -132,7 +132,7 @@ class Session:
             rows = await self.ask("select shard, plan, moving_to from own_shard order by shard")
             await self.leave({row["shard"]: row["plan"] for row in rows if row["moving_to"] is None})
             free = [row["shard"] for row in rows if row["moving_to"] is None and row["shard"] not in self.shards]
-            workers = (await self.ask("select count(*) from worker"))[0][0]
+            workers = (await self.ask(LIVING))[0][0]
             share = -(-(len(free) + len(self.shards)) // max(1, workers))
             for number in list(self.shards)[share:]:
                 await self.give_back(number)
@@ -191,7 +191,10 @@ class Session:
                                       [shard.told[0] for shard in shards], [shard.told[1] for shard in shards])
                 answered = await asyncio.gather(*(self.answer(row) for row in rows))
                 await self.tell([one for one in answered if one])
-                self.woken.update(row["shard"] for row in rows if row["more"])
+                more = {row["shard"] for row in rows if row["more"]}
+                self.woken.update(more)
+                for shard in shards:
+                    shard.is_loaded = shard.is_loaded or shard.number not in more
                 if not any(row["rows"] for row in rows):
                     await asyncio.sleep(0.002)
             self.woken.clear()
@@ -210,10 +213,21 @@ class Session:
             if self.shards.pop(shard.number, None):
                 await self.ask("select release_shard($1)", shard.number)
             return None
+        if any(answer == b"fault UnknownStation" for answer in answers) and await self.is_replanned(shard):
+            return None
         shard.read, shard.changed = (row["xid"], row["id"]), True
         front = row["silent"]
         return shard, [(gateway, f"{token} {answer.decode()}") for gateway, token, answer
                        in zip(row["gateways"][front:], row["tokens"][front:], answers[front:]) if gateway]
+
+    async def is_replanned(self, shard: Shard) -> bool:
+        """Whether the plan changed under a shard, which is given back then, with nothing told: a station may be new."""
+        rows = await self.ask("select plan from own_shard where shard = $1", shard.number)
+        if rows and rows[0]["plan"] == shard.plan:
+            return False
+        if self.shards.get(shard.number) is shard:
+            await self.give_back(shard.number)
+        return True
 
     async def tell(self, answered: list[tuple[Shard, list[tuple[str, str]]]]) -> None:
         new = [shard for shard, _ in answered if (int(shard.read[0]), shard.read[1]) > (int(shard.told[0]), shard.told[1])]
@@ -245,8 +259,8 @@ class Session:
         while True:
             await asyncio.sleep(0.1)
             for shard in [shard for shard in self.shards.values() if shard.changed and clock() >= shard.due]:
-                # A shard that has not read its log up to what was told would show less than is known.
-                if (int(shard.read[0]), shard.read[1]) < (int(shard.told[0]), shard.told[1]):
+                # A shard that has not read its log to the end once would show less than is known.
+                if not shard.is_loaded:
                     continue
                 try:
                     async with shard.busy:
