@@ -33,7 +33,7 @@ async def repeats(program: str, declared: bytes, rows: list[Any]) -> list[Any]:
     try:
         replay.write(declared)
         for front in range(0, len(rows), 500):
-            part = rows[front:front + 500]
+            part = rows[front : front + 500]
             stations = [row["line"].split(" ", 2)[1] for row in part]
             replay.write("".join(f"{row['line']}\ntotal {station}\n" for row, station in zip(part, stations)).encode())
             answers = await replay.answers(2 * len(part))
@@ -54,17 +54,27 @@ async def compact(words: argparse.Namespace) -> None:
         if mark is None:
             raise Fault(f"no shard {words.shard} in this cell")
         sites, declared = await plan_of(session, words.shard, with_period)
-        rows = await session.fetch("select xid::text, id, line from own_log where shard = $1 and (xid, id) <= "
-                                   "($2::text::xid8, $3) order by xid, id", words.shard, mark["xid"], mark["id"])
+        rows = await session.fetch(
+            "select xid::text, id, line from own_log where shard = $1 and (xid, id) <= "
+            "($2::text::xid8, $3) order by xid, id",
+            words.shard,
+            mark["xid"],
+            mark["id"],
+        )
         gone = await repeats(words.program, declared, rows)
         places = {(row["xid"], row["id"]) for row in gone}
         left = [row["line"] for row in rows if (row["xid"], row["id"]) not in places]
-        if await boards(words.program, declared, [row["line"] for row in rows], sites) != \
-                await boards(words.program, declared, left, sites):
+        if await boards(words.program, declared, [row["line"] for row in rows], sites) != await boards(
+            words.program, declared, left, sites
+        ):
             raise Fault(f"shard {words.shard}: the boards would change, so nothing was removed")
-        await session.execute("delete from own_log l using unnest($2::text[], $3::bigint[]) as g (xid, id) "
-                              "where l.shard = $1 and l.xid = g.xid::xid8 and l.id = g.id",
-                              words.shard, [row["xid"] for row in gone], [row["id"] for row in gone])
+        await session.execute(
+            "delete from own_log l using unnest($2::text[], $3::bigint[]) as g (xid, id) "
+            "where l.shard = $1 and l.xid = g.xid::xid8 and l.id = g.id",
+            words.shard,
+            [row["xid"] for row in gone],
+            [row["id"] for row in gone],
+        )
     await session.close()
     print(f"shard {words.shard}: {len(rows)} lines, {len(gone)} repeats removed, boards as before")
 

@@ -11,7 +11,9 @@ from urllib.parse import unquote, urlsplit
 try:
     import asyncpg
 except ImportError:
-    sys.exit("there is no package `asyncpg` for this python3 (Debian: apt-get install python3-asyncpg, and /usr/bin/python3)")
+    sys.exit(
+        "there is no package `asyncpg` for this python3 (Debian: apt-get install python3-asyncpg, and /usr/bin/python3)"
+    )
 
 # Each session: no compiling of small queries, no open transaction that stalls readers, and an end of what is cut off.
 SETTINGS = {
@@ -22,8 +24,14 @@ SETTINGS = {
     "tcp_keepalives_count": "3",
     "tcp_user_timeout": "10000",
 }
-LOST = (OSError, asyncio.TimeoutError, asyncpg.PostgresConnectionError, asyncpg.InterfaceError,
-        asyncpg.OperatorInterventionError, asyncpg.InternalClientError)
+LOST = (
+    OSError,
+    asyncio.TimeoutError,
+    asyncpg.PostgresConnectionError,
+    asyncpg.InterfaceError,
+    asyncpg.OperatorInterventionError,
+    asyncpg.InternalClientError,
+)
 
 
 class Fault(Exception):
@@ -57,8 +65,15 @@ async def connect(dsn: str, **settings: str) -> Any:
     reasons = []
     for host, port in pairs:
         try:
-            session = await asyncpg.connect(host=host, port=port, user=user, database=database, timeout=5, ssl=False,
-                                            server_settings=SETTINGS | settings)
+            session = await asyncpg.connect(
+                host=host,
+                port=port,
+                user=user,
+                database=database,
+                timeout=5,
+                ssl=False,
+                server_settings=SETTINGS | settings,
+            )
         except (asyncpg.InvalidPasswordError, asyncpg.InvalidAuthorizationSpecificationError) as fault:
             raise Fault(f"{host}:{port} does not let {user} in: {fault} (the password comes from PGPASSWORD)") from None
         except asyncpg.InvalidCatalogNameError as fault:
@@ -126,7 +141,9 @@ class Replay:
     @classmethod
     async def start(cls, program: str) -> "Replay":
         pipe = asyncio.subprocess.PIPE
-        return cls(await asyncio.create_subprocess_exec(program, "replay", stdin=pipe, stdout=pipe, start_new_session=True))
+        return cls(
+            await asyncio.create_subprocess_exec(program, "replay", stdin=pipe, stdout=pipe, start_new_session=True)
+        )
 
     def write(self, data: bytes) -> None:
         assert self.process.stdin

@@ -67,28 +67,71 @@ class Fleet:
         secret, data = self.folder / "password", self.folder / "data"
         secret.write_text(self.password)
         secret.chmod(0o644)
-        subprocess.run([BIN / "initdb", "-D", data, "-U", "owner", "-A", "scram-sha-256", "--pwfile", secret], check=True,
-                       stdout=subprocess.DEVNULL, cwd="/", **self.as_user)
+        subprocess.run(
+            [BIN / "initdb", "-D", data, "-U", "owner", "-A", "scram-sha-256", "--pwfile", secret],
+            check=True,
+            stdout=subprocess.DEVNULL,
+            cwd="/",
+            **self.as_user,
+        )
         secret.unlink()
         with open(self.folder / "database.log", "wb") as log:
-            self.start(BIN / "postgres", "-D", data, "-p", self.port, "-k", self.folder, "-c", "listen_addresses=127.0.0.1",
-                       stdout=log, stderr=log, cwd="/", **self.as_user)
+            self.start(
+                BIN / "postgres",
+                "-D",
+                data,
+                "-p",
+                self.port,
+                "-k",
+                self.folder,
+                "-c",
+                "listen_addresses=127.0.0.1",
+                stdout=log,
+                stderr=log,
+                cwd="/",
+                **self.as_user,
+            )
         roles = {f"{role}_PASSWORD": self.password for role in ("GATEWAY", "WORKER", "READER")}
         server = ["-h", "127.0.0.1", "-p", str(self.port), "-U", "owner", "-qX"]
         for _ in range(100):
-            if subprocess.run(["psql", *server, "-d", "postgres", "-c", "create database ledger"],
-                              stderr=subprocess.DEVNULL, check=False).returncode == 0:
+            if (
+                subprocess.run(
+                    ["psql", *server, "-d", "postgres", "-c", "create database ledger"],
+                    stderr=subprocess.DEVNULL,
+                    check=False,
+                ).returncode
+                == 0
+            ):
                 break
             time.sleep(0.1)
         subprocess.run(["psql", *server, "-d", "ledger", "-f", HERE / "schema.sql"], check=True, env=os.environ | roles)
 
     def worker(self, *more: str) -> subprocess.Popen[bytes]:
-        return self.start(HERE / "worker.py", "--db", self.dsn("ledger_worker"), "--program", self.words.program,
-                          "--hang", "3", "--boards", "1", *more, stdout=subprocess.DEVNULL)
+        return self.start(
+            HERE / "worker.py",
+            "--db",
+            self.dsn("ledger_worker"),
+            "--program",
+            self.words.program,
+            "--hang",
+            "3",
+            "--boards",
+            "1",
+            *more,
+            stdout=subprocess.DEVNULL,
+        )
 
     def gateway(self) -> tuple[subprocess.Popen[bytes], str]:
-        process = self.start(HERE / "gateway.py", "--db", self.dsn("ledger_gateway"), "--program", self.words.program,
-                             "--port", "0", stdout=subprocess.PIPE)
+        process = self.start(
+            HERE / "gateway.py",
+            "--db",
+            self.dsn("ledger_gateway"),
+            "--program",
+            self.words.program,
+            "--port",
+            "0",
+            stdout=subprocess.PIPE,
+        )
         assert process.stdout
         return process, f"ws://{process.stdout.readline().decode().split()[1]}/ocpp"
 
@@ -105,10 +148,18 @@ class Fleet:
             texts.setdefault(shards[line.split(" ", 2)[1]], []).append(line)
         for number in sorted(set(shards.values())):
             sites, declared = await plan_of(owner, number, knows_period(self.words.program))
-            script = declared + "".join(line + "\n" for line in [*texts.get(number, ()), *(f"board {s}" for s in sites)]).encode()
-            made = subprocess.run([self.words.program, "replay"], input=script, stdout=subprocess.PIPE, check=True).stdout
-            rows = {row["site"]: row["text"] for row in await owner.fetch("select * from own_board where shard = $1", number)}
-            wanted = made[made.index(b"board "):].decode() if b"board " in made else ""
+            script = (
+                declared
+                + "".join(line + "\n" for line in [*texts.get(number, ()), *(f"board {s}" for s in sites)]).encode()
+            )
+            made = subprocess.run(
+                [self.words.program, "replay"], input=script, stdout=subprocess.PIPE, check=True
+            ).stdout
+            rows = {
+                row["site"]: row["text"]
+                for row in await owner.fetch("select * from own_board where shard = $1", number)
+            }
+            wanted = made[made.index(b"board ") :].decode() if b"board " in made else ""
             if "".join(rows.get(site, "") for site in sites) != wanted:
                 differ.append(f"shard {number}: the boards differ")
         await owner.close()
@@ -125,11 +176,23 @@ class Fleet:
         self.open_database()
         owner = await connect(self.dsn("owner"))
         for number in range(self.words.stations):
-            await owner.execute("select add_station($1, $2, $3)", number // 32, f"site-{number // 32}", f"CS-{number:05}")
+            await owner.execute(
+                "select add_station($1, $2, $3)", number // 32, f"site-{number // 32}", f"CS-{number:05}"
+            )
         workers, gateways = [self.worker() for _ in range(3)], [self.gateway() for _ in range(3)]
         record = self.folder / "sent.script"
-        load = self.start(HERE / "load.py", "--stations", self.words.stations, "--events", 24, "--rate", self.words.rate,
-                          "--record", record, *(url for _, url in gateways))
+        load = self.start(
+            HERE / "load.py",
+            "--stations",
+            self.words.stations,
+            "--events",
+            24,
+            "--rate",
+            self.words.rate,
+            "--record",
+            record,
+            *(url for _, url in gateways),
+        )
         await asyncio.sleep(2)
         workers[0].kill()
         await asyncio.sleep(1)
@@ -141,19 +204,39 @@ class Fleet:
         workers[1].send_signal(signal.SIGSTOP)
         await asyncio.sleep(6)
         workers[1].send_signal(signal.SIGCONT)
-        self.check(load.wait() == 0, "each event answered, while a worker, a gateway and a replay were killed and a worker fenced")
+        self.check(
+            load.wait() == 0,
+            "each event answered, while a worker, a gateway and a replay were killed and a worker fenced",
+        )
         sent = record.read_text().splitlines()
-        self.check(not (differ := await self.compared(sent)), f"every board equals a replay from scratch {differ or ''}")
+        self.check(
+            not (differ := await self.compared(sent)), f"every board equals a replay from scratch {differ or ''}"
+        )
         for number in range(-(-self.words.stations // 32)):
-            subprocess.run([HERE / "compact.py", "--db", self.dsn("owner"), "--program", self.words.program, "--shard",
-                            str(number)], check=True, stdout=subprocess.DEVNULL)
+            subprocess.run(
+                [
+                    HERE / "compact.py",
+                    "--db",
+                    self.dsn("owner"),
+                    "--program",
+                    self.words.program,
+                    "--shard",
+                    str(number),
+                ],
+                check=True,
+                stdout=subprocess.DEVNULL,
+            )
         workers[2].kill()
         workers.append(self.worker())
         await asyncio.sleep(3)
-        self.check(not (differ := await self.compared(sent)), f"the same after compaction and a worker's end {differ or ''}")
+        self.check(
+            not (differ := await self.compared(sent)), f"the same after compaction and a worker's end {differ or ''}"
+        )
         await self.bad_input(gateways[1][1], owner)
         self.check(not (differ := await self.compared(sent)), f"the same after bad input {differ or ''}")
-        await owner.execute("delete from own_log where (shard, xid, id) in (select shard, xid, id from own_log limit 1)")
+        await owner.execute(
+            "delete from own_log where (shard, xid, id) in (select shard, xid, id from own_log limit 1)"
+        )
         for process in workers:
             process.kill()
         workers.append(self.worker())
@@ -165,6 +248,7 @@ class Fleet:
     async def bad_input(self, url: str, owner: Any) -> None:
         from websockets.exceptions import InvalidStatusCode
         from websockets.legacy.client import connect as station
+
         try:
             async with station(f"{url}/NOBODY", subprotocols=["ocpp2.0.1"]):
                 self.check(False, "an unknown station is let in")
@@ -173,25 +257,44 @@ class Fleet:
         await owner.execute("select add_station(0, 'site-0', 'CS-NEW')")
         async with station(f"{url}/CS-NEW", subprotocols=["ocpp2.0.1"], max_size=None) as link:
             for text, wanted in (
-                ('[2,"1","Heartbeat",\n{}]', '[3,"1",{"currentTime":'), ("TransactionEvent {", '[4,"-1","RpcFrameworkError","NotJson"'),
-                ("no JSON", '[4,"-1","RpcFrameworkError","NotJson"'), ('[2,"TransactionEvent\n","x",{}]', '[4,"-1","RpcFrameworkError"'),
-                ('[2,"2","TransactionEvent",{"x":"' + 300_000 * "x" + '"}]', '[4,"-1","RpcFrameworkError","TextTooLong"'),
-                ('[2,"3","NotifyReport",{}]', '[3,"3",{}]'), ('[2,"4","Authorize",{}]', '[4,"4","NotImplemented"'),
+                ('[2,"1","Heartbeat",\n{}]', '[3,"1",{"currentTime":'),
+                ("TransactionEvent {", '[4,"-1","RpcFrameworkError","NotJson"'),
+                ("no JSON", '[4,"-1","RpcFrameworkError","NotJson"'),
+                ('[2,"TransactionEvent\n","x",{}]', '[4,"-1","RpcFrameworkError"'),
+                (
+                    '[2,"2","TransactionEvent",{"x":"' + 300_000 * "x" + '"}]',
+                    '[4,"-1","RpcFrameworkError","TextTooLong"',
+                ),
+                ('[2,"3","NotifyReport",{}]', '[3,"3",{}]'),
+                ('[2,"4","Authorize",{}]', '[4,"4","NotImplemented"'),
             ):
                 await link.send(text)
                 answer = str(await asyncio.wait_for(link.recv(), 30))
                 self.check(answer.startswith(wanted), f"{text[:30]!r}: {answer[:60]}")
-        made = subprocess.run([HERE / "worker.py", "--db", self.dsn("ledger_worker"), "--program", self.words.program],
-                              env=os.environ | {"PGPASSWORD": "wrong"}, stderr=subprocess.PIPE, check=False, timeout=20)
-        self.check(made.returncode == 2 and b"does not let ledger_worker in" in made.stderr, "a wrong password: one line, status 2")
+        made = subprocess.run(
+            [HERE / "worker.py", "--db", self.dsn("ledger_worker"), "--program", self.words.program],
+            env=os.environ | {"PGPASSWORD": "wrong"},
+            stderr=subprocess.PIPE,
+            check=False,
+            timeout=20,
+        )
+        self.check(
+            made.returncode == 2 and b"does not let ledger_worker in" in made.stderr,
+            "a wrong password: one line, status 2",
+        )
         gateway = await connect(self.dsn("ledger_gateway"))
-        for query in ("insert into own_log (shard, line) values (0, 'void CS-00000 TX-0 1')", "select line from own_log",
-                      "delete from own_log"):
+        for query in (
+            "insert into own_log (shard, line) values (0, 'void CS-00000 TX-0 1')",
+            "select line from own_log",
+            "delete from own_log",
+        ):
             try:
                 await gateway.execute(query)
                 self.check(False, f"a gateway may: {query}")
             except Exception as fault:
-                self.check("denied" in str(fault) or "row-level security" in str(fault), f"a gateway may not: {query[:40]}")
+                self.check(
+                    "denied" in str(fault) or "row-level security" in str(fault), f"a gateway may not: {query[:40]}"
+                )
         await gateway.close()
 
     def close(self) -> None:

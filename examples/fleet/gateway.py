@@ -20,8 +20,18 @@ import time
 from collections import deque
 from typing import Any
 
-from database import (LOST, Fault, Replay, ReplayEnded, Unreachable, asyncpg, connect, password_or_fault, told,
-                      use_uvloop)
+from database import (
+    LOST,
+    Fault,
+    Replay,
+    ReplayEnded,
+    Unreachable,
+    asyncpg,
+    connect,
+    password_or_fault,
+    told,
+    use_uvloop,
+)
 
 try:
     from websockets.exceptions import ConnectionClosed
@@ -31,12 +41,23 @@ except ImportError:
 
 # Messages of OCPP 2.0.1 Part 2 that a station sends unasked and whose response has no required member, by block.
 NOTIFICATIONS = {
-    "SecurityEventNotification": "A", "NotifyReport": "B", "ReservationStatusUpdate": "H", "ClearedChargingLimit": "K",
-    "NotifyChargingLimit": "K", "ReportChargingProfiles": "K", "FirmwareStatusNotification": "L",
-    "PublishFirmwareStatusNotification": "L", "LogStatusNotification": "N", "NotifyCustomerInformation": "N",
-    "NotifyEvent": "N", "NotifyMonitoringReport": "N", "NotifyDisplayMessages": "O",
+    "SecurityEventNotification": "A",
+    "NotifyReport": "B",
+    "ReservationStatusUpdate": "H",
+    "ClearedChargingLimit": "K",
+    "NotifyChargingLimit": "K",
+    "ReportChargingProfiles": "K",
+    "FirmwareStatusNotification": "L",
+    "PublishFirmwareStatusNotification": "L",
+    "LogStatusNotification": "N",
+    "NotifyCustomerInformation": "N",
+    "NotifyEvent": "N",
+    "NotifyMonitoringReport": "N",
+    "NotifyDisplayMessages": "O",
 }
-ACTION = re.compile(r'\s*\[\s*2\s*,\s*"[^"\\]*"\s*,\s*"(BootNotification|Heartbeat|StatusNotification|MeterValues)"\s*,')
+ACTION = re.compile(
+    r'\s*\[\s*2\s*,\s*"[^"\\]*"\s*,\s*"(BootNotification|Heartbeat|StatusNotification|MeterValues)"\s*,'
+)
 LONGEST = 262_144
 APPEND = """
 insert into own_log (shard, gateway, token, line)
@@ -103,8 +124,11 @@ class Cell:
             await asyncio.sleep(0.5)
 
     async def load(self, session: Any) -> None:
-        rows = await self.within(session, "fetch", "select station, t.shard from own_station t join own_shard s using (shard) "
-                                                   "where s.moving_to is null")
+        rows = await self.within(
+            session,
+            "fetch",
+            "select station, t.shard from own_station t join own_shard s using (shard) " "where s.moving_to is null",
+        )
         self.stations = {row["station"]: row["shard"] for row in rows}
 
     async def within(self, session: Any, call: str, *values: Any) -> Any:
@@ -130,12 +154,23 @@ class Cell:
                 tokens = [token for token in tokens if token in self.gateway.waiting]
                 waits = [self.gateway.waiting[token] for token in tokens]
                 shards = [self.stations.get(wait[1], -1) for wait in waits]
-                done = await self.within(session, "execute", APPEND, self.gateway.name, shards, tokens,
-                                         [f"msg {wait[1]} {wait[2]}" for wait in waits])
+                done = await self.within(
+                    session,
+                    "execute",
+                    APPEND,
+                    self.gateway.name,
+                    shards,
+                    tokens,
+                    [f"msg {wait[1]} {wait[2]}" for wait in waits],
+                )
                 wake = " ".join(map(str, set(shards)))
                 for front in range(0, len(wake), 7_000):
-                    await self.within(second, "execute", "select set_config('synchronous_commit', 'off', true), "
-                                      "pg_notify('wake', $1)", wake[front:front + 7_000])
+                    await self.within(
+                        second,
+                        "execute",
+                        "select set_config('synchronous_commit', 'off', true), " "pg_notify('wake', $1)",
+                        wake[front : front + 7_000],
+                    )
                 if done != f"INSERT 0 {len(tokens)}":
                     await self.gateway.reload()
 
@@ -227,7 +262,7 @@ class Gateway:
                     return await socket.close(1003, "a binary message")
                 if len(text) > LONGEST or len(text.encode()) > LONGEST:
                     # Of a text that is too long the front is too long as well, and gets the same answer.
-                    front = text.encode()[:LONGEST + 4].decode("utf-8", "ignore").replace("\n", " ")
+                    front = text.encode()[: LONGEST + 4].decode("utf-8", "ignore").replace("\n", " ")
                     self.give(socket, await self.ask_own(front))
                 elif ACTION.match(text) or "TransactionEvent" not in text and "\\" not in text:
                     self.give(socket, empty_answer(text) or await self.ask_own(one_line(text)))
@@ -252,14 +287,28 @@ class Gateway:
             return None
         if all(cell.is_up for cell in self.cells):
             return http.HTTPStatus.NOT_FOUND, [], f"no station {station} in the plan\n".encode()
-        return http.HTTPStatus.SERVICE_UNAVAILABLE, [("Retry-After", "5")], b"a cell does not answer, and the station may be one of its\n"
+        return (
+            http.HTTPStatus.SERVICE_UNAVAILABLE,
+            [("Retry-After", "5")],
+            b"a cell does not answer, and the station may be one of its\n",
+        )
 
     async def run(self) -> None:
-        jobs = [asyncio.create_task(job) for job in
-                (*(cell.run() for cell in self.cells), self.follow_plan(), self.give_up())]
-        async with serve(self.serve_station, self.words.host, self.words.port, subprotocols=["ocpp2.0.1"],
-                         process_request=self.admit, max_size=524_288, compression=None, ping_interval=None,
-                         create_protocol=WebSocketServerProtocol) as server:
+        jobs = [
+            asyncio.create_task(job)
+            for job in (*(cell.run() for cell in self.cells), self.follow_plan(), self.give_up())
+        ]
+        async with serve(
+            self.serve_station,
+            self.words.host,
+            self.words.port,
+            subprotocols=["ocpp2.0.1"],
+            process_request=self.admit,
+            max_size=524_288,
+            compression=None,
+            ping_interval=None,
+            create_protocol=WebSocketServerProtocol,
+        ) as server:
             print(f"listening {self.words.host}:{server.sockets[0].getsockname()[1]}", flush=True)
             done, _ = await asyncio.wait(jobs, return_when=asyncio.FIRST_EXCEPTION)
             for job in done:
@@ -268,11 +317,14 @@ class Gateway:
 
 def main() -> int:
     parser = argparse.ArgumentParser(description=__doc__, formatter_class=argparse.RawDescriptionHelpFormatter)
-    parser.add_argument("--db", required=True, action="append",
-                        help="a cell's database: postgresql://USER@HOST:PORT,HOST:PORT/DATABASE")
+    parser.add_argument(
+        "--db", required=True, action="append", help="a cell's database: postgresql://USER@HOST:PORT,HOST:PORT/DATABASE"
+    )
     parser.add_argument("--program", default="ocpp_board", help="the built program (default: ocpp_board)")
     parser.add_argument("--host", default="127.0.0.1", help="where to listen (default: 127.0.0.1)")
-    parser.add_argument("--port", type=int, default=9100, help="where to listen; 0 lets the system choose (default: 9100)")
+    parser.add_argument(
+        "--port", type=int, default=9100, help="where to listen; 0 lets the system choose (default: 9100)"
+    )
     parser.add_argument("--wait", type=float, default=25, help="seconds until a station is sent away (default: 25)")
     words = parser.parse_args()
 

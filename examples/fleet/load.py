@@ -37,9 +37,14 @@ def messages(station: int, events: int) -> list[str]:
         last = seq == 7 or number == events - 1
         kind = "Started" if seq == 0 else "Ended" if last else "Updated"
         moment = time.strftime("%Y-%m-%dT%H:%M:%SZ", time.gmtime(1_772_323_200 + 300 * number))
-        payload = {"eventType": kind, "timestamp": moment, "triggerReason": "MeterValuePeriodic", "seqNo": seq,
-                   "transactionInfo": {"transactionId": f"TX-{session}"},
-                   "meterValue": [{"timestamp": moment, "sampledValue": [{"value": 1000 + 250 * number}]}]}
+        payload = {
+            "eventType": kind,
+            "timestamp": moment,
+            "triggerReason": "MeterValuePeriodic",
+            "seqNo": seq,
+            "transactionInfo": {"transactionId": f"TX-{session}"},
+            "meterValue": [{"timestamp": moment, "sampledValue": [{"value": 1000 + 250 * number}]}],
+        }
         made.append(json.dumps([2, f"{number}", "TransactionEvent", payload], separators=(",", ":")))
     chance.shuffle(made)
     return [text for one in made for text in [one] * (2 if chance.random() < 0.2 else 1)]
@@ -52,8 +57,13 @@ async def play(number: int, words: argparse.Namespace, record: TextIO) -> None:
     first: float | None = None
     while rest:
         try:
-            async with connect(f"{words.urls[turn % len(words.urls)]}/{station}", subprotocols=["ocpp2.0.1"],
-                               compression=None, ping_interval=None, open_timeout=10) as socket:
+            async with connect(
+                f"{words.urls[turn % len(words.urls)]}/{station}",
+                subprotocols=["ocpp2.0.1"],
+                compression=None,
+                ping_interval=None,
+                open_timeout=10,
+            ) as socket:
                 while rest:
                     counts["again"] += first is not None
                     first = first or time.monotonic()
@@ -76,9 +86,14 @@ async def run(words: argparse.Namespace) -> int:
         _, late = await asyncio.wait(jobs, timeout=words.seconds)
         took = time.monotonic() - began
     waits.sort()
-    told_waits = [f"{1000 * waits[min(len(waits) - 1, int(part * len(waits)))]:.0f}" for part in (0.5, 0.99, 1)] if waits else []
-    print(f"{len(waits)} answered, {len(waits) / took:.0f} a second, median / 99th / longest {' / '.join(told_waits)} ms, "
-          f"{counts['again']} sent again, {counts['odd']} other answers, {len(late)} stations not done", flush=True)
+    told_waits = (
+        [f"{1000 * waits[min(len(waits) - 1, int(part * len(waits)))]:.0f}" for part in (0.5, 0.99, 1)] if waits else []
+    )
+    print(
+        f"{len(waits)} answered, {len(waits) / took:.0f} a second, median / 99th / longest {' / '.join(told_waits)} ms, "
+        f"{counts['again']} sent again, {counts['odd']} other answers, {len(late)} stations not done",
+        flush=True,
+    )
     return 1 if late or counts["odd"] or not waits else 0
 
 

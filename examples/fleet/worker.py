@@ -19,8 +19,20 @@ import secrets
 import sys
 from typing import Any
 
-from database import (LOST, Fault, Replay, ReplayEnded, Unreachable, asyncpg, connect, knows_period, password_or_fault,
-                      plan_of, told, use_uvloop)
+from database import (
+    LOST,
+    Fault,
+    Replay,
+    ReplayEnded,
+    Unreachable,
+    asyncpg,
+    connect,
+    knows_period,
+    password_or_fault,
+    plan_of,
+    told,
+    use_uvloop,
+)
 
 READ = """
 select w.shard, r.*
@@ -169,7 +181,9 @@ class Session:
                 await self.database.execute("set local synchronous_commit = on")
                 rows = await self.database.fetch(
                     "update own_shard set taken = taken + 1 where shard = any($1) "
-                    "returning shard, plan, xid::text as xid, id", held)
+                    "returning shard, plan, xid::text as xid, id",
+                    held,
+                )
         for row in rows:
             async with self.using:
                 sites, lines = await plan_of(self.database, row["shard"], self.words.with_period)
@@ -187,8 +201,14 @@ class Session:
             while numbers := [number for number in self.woken if number in self.shards][:64]:
                 self.woken.difference_update(numbers)
                 shards = [self.shards[number] for number in numbers]
-                rows = await self.ask(READ, numbers, [shard.read[0] for shard in shards], [shard.read[1] for shard in shards],
-                                      [shard.told[0] for shard in shards], [shard.told[1] for shard in shards])
+                rows = await self.ask(
+                    READ,
+                    numbers,
+                    [shard.read[0] for shard in shards],
+                    [shard.read[1] for shard in shards],
+                    [shard.told[0] for shard in shards],
+                    [shard.told[1] for shard in shards],
+                )
                 answered = await asyncio.gather(*(self.answer(row) for row in rows))
                 await self.tell([one for one in answered if one])
                 more = {row["shard"] for row in rows if row["more"]}
@@ -217,8 +237,11 @@ class Session:
             return None
         shard.read, shard.changed = (row["xid"], row["id"]), True
         front = row["silent"]
-        return shard, [(gateway, f"{token} {answer.decode()}") for gateway, token, answer
-                       in zip(row["gateways"][front:], row["tokens"][front:], answers[front:]) if gateway]
+        return shard, [
+            (gateway, f"{token} {answer.decode()}")
+            for gateway, token, answer in zip(row["gateways"][front:], row["tokens"][front:], answers[front:])
+            if gateway
+        ]
 
     async def is_replanned(self, shard: Shard) -> bool:
         """Whether the plan changed under a shard, which is given back then, with nothing told: a station may be new."""
@@ -230,7 +253,9 @@ class Session:
         return True
 
     async def tell(self, answered: list[tuple[Shard, list[tuple[str, str]]]]) -> None:
-        new = [shard for shard, _ in answered if (int(shard.read[0]), shard.read[1]) > (int(shard.told[0]), shard.told[1])]
+        new = [
+            shard for shard, _ in answered if (int(shard.read[0]), shard.read[1]) > (int(shard.told[0]), shard.told[1])
+        ]
         if not new:
             return
         channels: list[str] = []
@@ -248,8 +273,14 @@ class Session:
                 sizes[gateway] += size
         channels += texts
         payloads += ["\n".join(lines) for lines in texts.values()]
-        await self.ask(TELL, [shard.number for shard in new], [shard.read[0] for shard in new],
-                       [shard.read[1] for shard in new], channels, payloads)
+        await self.ask(
+            TELL,
+            [shard.number for shard in new],
+            [shard.read[0] for shard in new],
+            [shard.read[1] for shard in new],
+            channels,
+            payloads,
+        )
         for shard in new:
             shard.told = shard.read
 
@@ -292,7 +323,9 @@ async def work(words: argparse.Namespace) -> None:
 
 def main() -> int:
     parser = argparse.ArgumentParser(description=__doc__, formatter_class=argparse.RawDescriptionHelpFormatter)
-    parser.add_argument("--db", required=True, help="the cell's database: postgresql://USER@HOST:PORT,HOST:PORT/DATABASE")
+    parser.add_argument(
+        "--db", required=True, help="the cell's database: postgresql://USER@HOST:PORT,HOST:PORT/DATABASE"
+    )
     parser.add_argument("--program", default="ocpp_board", help="the built program (default: ocpp_board)")
     parser.add_argument("--beat", type=float, default=1, help="seconds between beats (default: 1)")
     parser.add_argument("--hang", type=float, default=10, help="seconds without a beat that end a worker (default: 10)")
