@@ -54,6 +54,14 @@ impl SiteBoard {
     {
         self.stations.as_slice()
     }
+
+    /// The vectors of the quarters and of the stations' boards.
+    pub fn into_lists(self) -> (Vec<QuarterLine>, Vec<(Name, StationBoard)>)
+        ensures quarters { result.0.items ≡ self.quarters }
+        ensures stations { result.1.items ≡ self.stations }
+    {
+        (self.quarters.into_vec(), self.stations.into_vec())
+    }
 }
 
 /// The board of a site of this name, with these figures and these stations' boards: it adds up the

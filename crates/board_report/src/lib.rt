@@ -34,6 +34,3 @@ pub use board::{SiteBoard, site_board};
 pub use fixed::{energy_text, total_text};
 pub use laws::plans_fit;
 pub use write::write_board;
-
-#[cfg(test)]
-mod tests;

@@ -10,10 +10,12 @@ use Rattle.site_desk.specs.declared.plan.StationPlan.{StationPlan}
 use Rattle.site_book.specs.Book.{Known}
 use Rattle.site_desk.specs.Cell.{Cell, Held}
 use Rattle.site_desk.specs.Close.{Ended, IsClosable}
+use Rattle.site_desk.specs.declared.roster.Place.{Place}
 use Rattle.site_desk.specs.Roster.{AreNewPlaces, Roster, StandsAt, new_place}
+use Rattle.ledger_model.specs.Step.{Reached}
 use Rattle.desk_report.specs.Boards.{boards_at, site_named}
 use Rattle.desk_report.proofs.SiteBoards.{some_same}
-use Rattle.desk_report.specs.Closed.{IsClosedOf}
+use Rattle.desk_report.specs.Closed.{AreBoards, IsClosedOf, boards_text}
 
 pub figures_alike : (xs : List StationPlan) (cells : List Cell) (site : ℕ) → length cells ≡ length xs
     → ((k : ℕ) (s : StationPlan) (c : Cell) → slice_get xs k ≡ Some s → slice_get cells k ≡ Some c → c.site ≡ s.site)
@@ -62,3 +64,16 @@ closed_of sites xs desk closed passes viewers planned new count books whole =
       at_sites = λ k s c at is. (stands k s c at is).site;
       summed = whole.summed;
     }
+
+-- its boards are those of contents that its passes' commands lead to
+pub boards_are : (sites : List SitePlan) (xs : List StationPlan) (places : List Place) (given : ℕ) (closed : Ended) (passes : List Held) (viewers : List Known) → IsClosedOf (length sites) xs closed
+    → IsClosable places given closed.cells closed.books passes viewers → AreBoards sites xs (boards_text sites xs closed.cells (length sites))
+boards_are sites xs places given closed passes viewers of_plan whole = record {
+  cells = closed.cells;
+  of_plan = of_plan.cells;
+  at_sites = of_plan.at_sites;
+  reached = λ k c is.
+      let counted = (whole.whole k c is).counted in
+      subst (λ n. Reached c.limits n c.content) (sym counted.changes) counted.reached;
+  is = refl;
+}

@@ -1,6 +1,7 @@
 -- The boards of a desk that was closed.
 use Rattle.std.specs.Prelude.{◌≡◌, ℕ, zero, suc, List, [], ◌++◌, length, map, slice_get, get_or, Some}
 use Rattle.ledger_model.specs.Board.{site_board}
+use Rattle.ledger_model.specs.Step.{Reached}
 use Rattle.board_report.specs.Named.{NamedBoard}
 use Rattle.board_report.specs.Texts.{board_text}
 use Rattle.site_desk.specs.declared.plan.SitePlan.{SitePlan}
@@ -26,3 +27,11 @@ closed_site sites stations cells site =
 abbrev pub boards_text : List SitePlan → List StationPlan → List Cell → ℕ → List ℕ
 boards_text sites stations cells zero = []
 boards_text sites stations cells (suc site) = boards_text sites stations cells site ++ board_text (closed_site sites stations cells site)
+
+-- These are the texts of the boards of all sites, in the plan's order: over cells of which each was opened for its station, with its limits at its site, and holds what accepted commands lead to from the empty content.
+pub record AreBoards (sites : List SitePlan) (stations : List StationPlan) (text : List ℕ) : Type 0 where
+  pub cells : List Cell
+  pub of_plan : AreCellsOf stations cells
+  pub at_sites : (k : ℕ) (s : StationPlan) (c : Cell) → slice_get stations k ≡ Some s → slice_get cells k ≡ Some c → c.site ≡ s.site
+  pub reached : (k : ℕ) (c : Cell) → slice_get cells k ≡ Some c → Reached c.limits c.content.changes c.content
+  pub is : text ≡ boards_text sites stations cells (length sites)

@@ -21,9 +21,6 @@ mod event_slot;
 mod links;
 mod readings;
 mod store;
-#[cfg(test)]
-mod tests;
-
 pub use event_ref::EventRef;
 #[doc(hidden)]
 pub use event_slot::EventSlot;

@@ -23,6 +23,3 @@ mod walk;
 pub use gaps::Gaps;
 pub use missing::missing_count;
 pub use walk::NumberWalk;
-
-#[cfg(test)]
-mod tests;

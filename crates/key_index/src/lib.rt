@@ -22,9 +22,6 @@ mod index;
 mod key;
 mod leaf;
 mod leaves;
-#[cfg(test)]
-mod tests;
-
 pub use index::KeyIndex;
 pub use key::IndexKey;
 // A crate can name an index in a contract only if the types of its fields are exported.

@@ -1,7 +1,12 @@
--- What the program can be asked to do.
-use Rattle.std.specs.Prelude.{◌≤◌, ⊤}
+-- What the program can be asked to do, and what its words ask for.
+use Rattle.std.specs.Prelude.{◌≡◌, ℕ, ◌<◌, ◌≤◌, ◌^◌, ⊤, List, [], None, Some, codes, nat_lt, if◌then◌else◌, option_map, unwrap_or}
+use Rattle.core.specs.Str.Parse.{IsNumeral, digits_value, without_leading_plus}
+use Rattle.clap.specs.Matches.{matched_of, one_text, raw_values}
+use Rattle.clap.specs.declared.parser.matches.Found.{Found}
 use Rattle.ocpp_board.specs.declared.arguments.Asked.{Asked}
 use Rattle.ocpp_board.specs.declared.arguments.Asked.TheVariants.{Replay, Serve, Simulate}
+use Rattle.ocpp_board.specs.StationWords.{AnswersWords}
+use Rattle.site_server.specs.declared.service.Service.{Service}
 use Rattle.station_link.specs.Sim.{IsSimulated}
 
 -- A server is asked for 1 to 64 connections, a simulation for 1 to 64 stations and 2 to 64 events.
@@ -9,3 +14,37 @@ abbrev pub IsAskable : Asked → Type 0
 IsAskable Replay = ⊤
 IsAskable (Serve plan service) = (1 ≤ service.connections) × (service.connections ≤ 64)
 IsAskable (Simulate stations events) = IsSimulated stations events
+
+-- An option gives this number: what its text says, where that is a decimal below this power of 2, and the other where it has no text.
+pub record Gives (found : Found) (option : List ℕ) (bits other number : ℕ) : Type 0 where
+  pub read : (text : List ℕ) → one_text found option ≡ Some text → IsNumeral 10 (without_leading_plus text) → digits_value 10 (without_leading_plus text) < 2 ^ bits
+      → number ≡ digits_value 10 (without_leading_plus text)
+  pub none : one_text found option ≡ None → number ≡ other
+
+-- An option gives this number where the number is in this range.
+pub record GivesWithin (found : Found) (option : List ℕ) (bits other least most number : ℕ) : Type 0 where
+  pub given : ℕ
+  pub gives : Gives found option bits other given
+  pub within : least ≤ given → given ≤ most → number ≡ given
+
+-- What the options of `serve` ask for.
+pub record AsksService (found : Found) (service : Service) : Type 0 where
+  pub port : Gives found (codes "port") 16 0 service.port
+  pub connections : GivesWithin found (codes "connections") 8 1 1 64 service.connections
+  pub watch : Gives found (codes "watch") 16 0 service.glances
+
+-- The words that name stations.
+abbrev pub words_of : Found → List (List ℕ)
+words_of found = unwrap_or (option_map raw_values (matched_of found (codes "stations"))) []
+
+-- A server is asked for with the plan of its words, in which each site has a viewer where its totals are watched.
+abbrev pub AsksServe : Found → Asked → Type 0
+AsksServe found Replay = ⊥
+AsksServe found (Serve plan service) = AsksService found service × AnswersWords plan (if nat_lt 0 service.glances then 1 else 0) (words_of found)
+AsksServe found (Simulate stations events) = ⊥
+
+-- A simulation is asked for.
+abbrev pub AsksSimulate : Found → Asked → Type 0
+AsksSimulate found Replay = ⊥
+AsksSimulate found (Serve plan service) = ⊥
+AsksSimulate found (Simulate stations events) = GivesWithin found (codes "stations") 16 2 1 64 stations × GivesWithin found (codes "events") 32 3 2 64 events

@@ -1,6 +1,7 @@
 //! What the program's words ask for.
-ghost use Rattle.std.specs.Prelude.{IfOk};
-ghost use Rattle.ocpp_board.specs.Arguments.{IsAskable};
+ghost use Rattle.std.specs.Prelude.{◌≤◌, IfOk};
+ghost use Rattle.clap.specs.Matches.{found_of};
+ghost use Rattle.ocpp_board.specs.Arguments.{AsksServe, AsksService, AsksSimulate, IsAskable};
 
 use crate::station_words::{WordFault, plan_of};
 use clap::{Arg, ArgAction, ArgMatches, Command, Error, value_parser};
@@ -92,26 +93,37 @@ pub fn read_arguments<'a, S: AsStr>(alloc: Global, words: &'a [S]) -> Result<Ask
     })
 }
 
-// What `serve` is asked for. Its numbers are in range already, which the checker sees by the clamp.
+// What `serve` is asked for.
 fn serve_asked<'a>(matches: &ArgMatches<'a>) -> Asked<'a>
-    ensures { IsAskable result }
+    ensures range { IsAskable result }
+    ensures asked { AsksServe (found_of matches.now) result }
 {
-    let service = Service {
-        port: matches.get_one::<u16>("port").unwrap_or(0),
-        connections: matches
-            .get_one::<u8>("connections")
-            .unwrap_or(1)
-            .clamp(1, MAX_CONNECTIONS),
-        glances: matches.get_one::<u16>("watch").unwrap_or(0),
-    };
+    let service = service_of(matches);
     let words = matches.get_strs("stations").unwrap_or(&[]);
     let viewers = if service.glances > 0 { 1 } else { 0 };
     Asked::Serve(plan_of(words, viewers), service)
 }
 
+// What the options of `serve` ask for. The number of connections is in range already, which the checker sees by
+// the clamp.
+fn service_of(matches: &ArgMatches<'_>) -> Service
+    ensures range { (1 ≤ result.connections) × (result.connections ≤ 64) }
+    ensures asked { AsksService (found_of matches.now) result }
+{
+    let port = matches.get_one::<u16>("port");
+    let connections = matches.get_one::<u8>("connections");
+    let watch = matches.get_one::<u16>("watch");
+    Service {
+        port: port.unwrap_or(0),
+        connections: connections.unwrap_or(1).clamp(1, MAX_CONNECTIONS),
+        glances: watch.unwrap_or(0),
+    }
+}
+
 // What `sim` is asked for. Its numbers are in range already, which the checker sees by the clamps.
 fn sim_asked<'a>(matches: &ArgMatches<'a>) -> Asked<'a>
-    ensures { IsAskable result }
+    ensures range { IsAskable result }
+    ensures asked { AsksSimulate (found_of matches.now) result }
 {
     let stations = matches.get_one::<u16>("stations").unwrap_or(2);
     let events = matches.get_one::<u32>("events").unwrap_or(3);

@@ -26,10 +26,7 @@ mod incoming;
 mod json_string;
 pub mod laws;
 mod message_id;
-mod reply;
-#[cfg(test)]
-mod tests;
-mod verdict;
+mod reply;mod verdict;
 
 pub use action::Action;
 pub use body::Body;

@@ -26,8 +26,5 @@ pub mod laws;
 mod place;
 mod row;
 mod table;
-#[cfg(test)]
-mod tests;
-
 pub use row::QuarterRow;
 pub use table::QuarterTable;

@@ -26,10 +26,7 @@ mod laws;
 mod moment;
 mod numeral;
 mod period;
-mod scale;
-#[cfg(test)]
-mod tests;
-mod text;
+mod scale;mod text;
 
 pub use decimal::{DecimalFault, Unit, multiplier_ok, mwh_of};
 pub use laws::{reads_back, reads_numbers, rounds_down, starts_quarters};

@@ -183,6 +183,13 @@ abbrev pub Tells : (T : Type 0) → (List Line → List ℕ) → ℕ → ℕ →
 Tells T old max_line_bytes room r0 r1 w0 w1 result =
     (read written : List ℕ) × Consumes r0 r1 read × Appends w0 w1 written × Began result read × Replays (OnSome r0 (IsAtEnd r1)) old max_line_bytes room result read written
 
+-- a look at what comes next failed, and consumed nothing
+pub look_failed : (T : Type 0) (old now now' : List Line → List ℕ) (max_line_bytes room left : ℕ) (r0 r1 r1' w0 w1 : Option (List ℕ)) → AnsweredLines old now max_line_bytes room left r0 r1 w0 w1
+    → Keeps r1 r1' → now' ≡ now → now' [] ≡ [] → Tells T old max_line_bytes room r0 r1' w0 w1 (Err ReadFault)
+look_failed T old now now' max_line_bytes room left r0 r1 r1' w0 w1 answered kept same empty =
+    closes old now' max_line_bytes room left r0 r1' r1' w0 w1 w1 (looked old now now' max_line_bytes room left r0 r1 r1' w0 w1 answered kept same) T (OnSome r0 (IsAtEnd r1')) (Err ReadFault) [] [] (Consumes-nil r1') (Appends-nil w1)
+    (tt, (omega arith, sym empty))
+
 -- the same of a fault that a `?` passes on
 Tells-passed : (T : Type 0) (old : List Line → List ℕ) (max_line_bytes room : ℕ) (r0 r1 w0 w1 : Option (List ℕ)) (fault : ReplayFault) (passed : Result T ReplayFault)
     → IsErrAnd passed (λ x. x ≡ fault) → Tells T old max_line_bytes room r0 r1 w0 w1 (Err fault) → Tells T old max_line_bytes room r0 r1 w0 w1 passed

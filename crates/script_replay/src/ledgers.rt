@@ -24,6 +24,7 @@ use script_lines::{LineFault, LineReader, ScriptLine, put_answer, put_fault, put
 use site_book::{Naming, SiteBook, Tables};
 use site_desk::{Parts, Pass, StationCell, enlist_cell, settle};
 use std::alloc::{AllocError, Global};
+use std::io;
 use std::io::BufRead;
 use std::thread::Threads;
 use transaction_event::{Message, event_reply, message_of};
@@ -302,14 +303,19 @@ impl<J: Naming> Machine for Ledgers<J> {
         Ok(())
     }
 
-    fn look_ahead<X: Threads, R: BufRead>(&mut self, rt: &X, lines: &LineReader, reader: &mut R) {
+    fn look_ahead<X: Threads, R: BufRead>(
+        &mut self,
+        rt: &X,
+        lines: &LineReader,
+        reader: &mut R,
+    ) -> io::Result<()> {
         let is_due = self.ahead.is_due(lines.room);
         if lines.is_drained || !is_due {
-            return;
+            return Ok(());
         }
-        if let Ok(shown) = reader.fill_buf() {
-            self.ahead.look::<ScriptMessages, X>(rt, shown);
-        }
+        let shown = reader.fill_buf()?;
+        self.ahead.look::<ScriptMessages, X>(rt, shown);
+        Ok(())
     }
 }
 

@@ -7,6 +7,7 @@ ghost use Rattle.script_replay.specs.Answering.{Replies, AnswersOrOpens};
 
 use script_lines::{LineEnd, LineReader, ReplayFault};
 use std::alloc::AllocError;
+use std::io;
 use std::io::{BufRead, Write};
 use std::thread::Threads;
 
@@ -26,8 +27,13 @@ pub trait Machine {
         ensures replies { OnOk result (Replies (text self.old) (text self.new) (line_bytes line.entry) reply.new.items) };
 
     /// Looks at the bytes that the reader shows of lines to come, if that serves it. It consumes none and waits
-    /// for none.
-    fn look_ahead<X: Threads, R: BufRead>(&mut self, rt: &X, lines: &LineReader, reader: &mut R)
+    /// for none. Where the reader fails to show them, its error is the answer.
+    fn look_ahead<X: Threads, R: BufRead>(
+        &mut self,
+        rt: &X,
+        lines: &LineReader,
+        reader: &mut R,
+    ) -> io::Result<()>
         ensures reader { Keeps (R.remaining reader.old) (R.remaining reader.new) }
         ensures text { text self.new ≡ text self.old }
         ensures count { answered self.new ≡ answered self.old };

@@ -156,7 +156,9 @@ fn drive<X: Threads, M: Machine, R: BufRead, W: Write>(
     ensures end { OnOk result (OnSome (R.remaining reader.old) (IsAtEnd (R.remaining reader.new))) }
 {
     'lines: loop {
-        machine.look_ahead(rt, lines, reader);
+        if machine.look_ahead(rt, lines, reader).is_err() {
+            return Err(ReplayFault::ReadFault);
+        }
         match lines.next_line(reader, writer)? {
             LineEnd::Feed => {
                 let line = lines.line(LineEnd::Feed);

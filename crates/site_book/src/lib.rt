@@ -40,6 +40,3 @@ pub use naming::Naming;
 pub use tables::Tables;
 pub use told::Told;
 pub use viewer::Viewer;
-
-#[cfg(test)]
-mod tests;

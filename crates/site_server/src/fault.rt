@@ -1,3 +1,4 @@
+use desk_report::BoardsFault;
 use site_desk::{CloseFault, DeskFault};
 use station_link::SimFault;
 use std::alloc::{AllocError, AllocFailed};
@@ -67,6 +68,15 @@ impl From<SimFault> for ServiceFault {
             SimFault::ReadFault => ServiceFault::ReadFault,
             SimFault::WriteFault => ServiceFault::WriteFault,
             SimFault::OutOfMemory => ServiceFault::OutOfMemory,
+        }
+    }
+}
+
+impl From<BoardsFault> for ServiceFault {
+    fn from(fault: BoardsFault) -> ServiceFault {
+        match fault {
+            BoardsFault::OutOfMemory => ServiceFault::OutOfMemory,
+            BoardsFault::WriteFault => ServiceFault::WriteFault,
         }
     }
 }

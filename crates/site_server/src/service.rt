@@ -1,14 +1,20 @@
 //! A whole server, from its desk to its boards.
-ghost use Rattle.std.specs.Prelude.{◌≡◌, ◌≤◌, ◌<◌, ℕ, IfOk, OnOk, length, sum_by};
+ghost use Rattle.std.specs.Prelude.{◌≡◌, ◌≤◌, ◌<◌, ℕ, List, ◌++◌, IfOk, OnOk, length, sum_by};
+ghost use Rattle.std.specs.Io.KnownBytes.{Appends};
 ghost use Rattle.site_book.specs.Tables.{HasTable, NamedBy};
 ghost use Rattle.ledger_model.specs.Ranges.{most_plan_readings};
 ghost use Rattle.site_desk.specs.Roster.{AreNewPlaces};
+ghost use Rattle.desk_report.specs.Closed.{AreBoards};
+ghost use Rattle.site_server.specs.Written.{listening};
 
-use crate::close::{close, write_text};
+use crate::close::close;
 use crate::fault::ServiceFault;
 use crate::serve::serve_many;
 use crate::watch::watch;
+use arrayvec::ArrayString;
 use core::thread::{Anything, Stack};
+use desk_report::write_out;
+use itoa::Buffer;
 use site_book::{Naming, Tables, Viewer};
 use site_desk::{Desk, NoGate, Pass, Plan};
 use std::alloc::{AllocError, Global};
@@ -58,6 +64,8 @@ pub fn serve_plan<
 ) -> Result<(), ServiceFault>
     requires some { 1 ≤ service.connections }
     requires most { service.connections ≤ 64 }
+    ensures { OnOk result ((port : ℕ) × (boards : List ℕ) × Appends (W.contents output.old) (W.contents output.new) (listening port ++ boards)
+        × AreBoards plan.now.sites.items plan.now.stations.items boards) }
 {
     let tables = Tables::make(alloc, plan.sites.len() as u16)?;
     serve_under::<Brand, R, W, L>(rt, alloc, tables, plan, service, output, lines)
@@ -82,6 +90,8 @@ fn serve_under<
     requires there { (site : ℕ) → site < length plan.now.sites.items → HasTable tables site }
     requires some { 1 ≤ service.connections }
     requires most { service.connections ≤ 64 }
+    ensures { OnOk result ((port : ℕ) × (boards : List ℕ) × Appends (W.contents output.old) (W.contents output.new) (listening port ++ boards)
+        × AreBoards plan.now.sites.items plan.now.stations.items boards) }
 {
     let (desk, viewers) = open_desk::<J>(alloc, tables, plan)?;
     let listener = listen(rt, service.port)?;
@@ -139,13 +149,25 @@ pub(crate) fn address_of(listener: &TcpListener) -> Result<SocketAddr, ServiceFa
     }
 }
 
-// Tells where the server listens.
-fn tell_port<W: Write>(listener: &TcpListener, output: &mut W) -> Result<(), ServiceFault> {
+// Tells the port of 127.0.0.1 that a server listens on.
+fn tell_port<W: Write>(listener: &TcpListener, output: &mut W) -> Result<(), ServiceFault>
+    ensures { OnOk result ((port : ℕ) × Appends (W.contents output.old) (W.contents output.new) (listening port)) }
+{
     let address = address_of(listener)?;
-    if writeln!(output, "listening {address}").is_err() {
-        return Err(ServiceFault::WriteFault);
-    }
-    write_text(output, b"")
+    let line = port_line(address.port());
+    write_out(output, line.as_str().as_bytes())?;
+    Ok(())
+}
+
+// The line that tells a port.
+fn port_line(port: u16) -> ArrayString<32>
+    ensures { result.bytes ≡ listening port }
+{
+    let mut line = ArrayString::new();
+    line.push_str("listening 127.0.0.1:");
+    line.push_str(Buffer::new().format(port));
+    line.push_str("\n");
+    line
 }
 
 // What serving gives back when all connections have ended: their passes, the viewers, and the lines.

@@ -1,19 +1,22 @@
 //! Simulated stations that play against a server of their own.
-ghost use Rattle.std.specs.Prelude.{◌≡◌, ◌≤◌, ◌<◌, ℕ, IfOk, length, vec_len, vec_capacity};
+ghost use Rattle.std.specs.Prelude.{◌≡◌, ◌≤◌, ◌<◌, ℕ, List, IfOk, OnOk, codes, length, vec_len, vec_capacity};
+ghost use Rattle.std.specs.Io.KnownBytes.{Appends};
 ghost use Rattle.site_book.specs.Tables.{HasTable, NamedBy};
+ghost use Rattle.desk_report.specs.Closed.{AreBoards};
 ghost use Rattle.station_link.specs.Sim.{IsSimulated};
+ghost use Rattle.site_server.specs.Simulated.{simulated_name, simulated_sites, simulated_stations};
 
 use crate::close::close;
 use crate::fault::ServiceFault;
 use crate::serve::serve_many;
 use crate::service::{address_of, listen, open_desk};
-use arrayvec::{ArrayString, ArrayVec};
+use arrayvec::ArrayString;
+use itoa::Buffer;
 use ledger_model::{Limits, Name};
 use site_book::{Naming, Tables};
-use site_desk::{Desk, NoGate, Pass, Plan, SitePlan, StationPlan};
+use site_desk::{Desk, NoGate, Pass, Plan};
 use station_link::{SimFault, SimStation};
 use std::alloc::{AllocError, Global};
-use std::fmt::Write as _;
 use std::io::Write;
 use std::marker::Brand;
 use std::net::{Net, SocketAddr, TcpListener, TcpStream};
@@ -46,6 +49,8 @@ pub fn simulate<
     W: Write,
 >(rt: &R, alloc: Global, stations: u16, events: u32, output: &mut W) -> Result<(), ServiceFault>
     requires { IsSimulated stations events }
+    ensures { OnOk result ((boards : List ℕ) × Appends (W.contents output.old) (W.contents output.new) boards
+        × AreBoards (simulated_sites stations) (simulated_stations stations) boards) }
 {
     let plan = simulated_plan(stations);
     let tables = Tables::make(alloc, plan.sites.len() as u16)?;
@@ -53,33 +58,36 @@ pub fn simulate<
 }
 
 // The plan of a site `sim` with so many stations `CS-1`, `CS-2` and so on, under the default limits.
-fn simulated_plan(stations: u16) -> Plan {
-    let mut plan = Plan {
-        sites: ArrayVec::new(),
-        stations: ArrayVec::new(),
-    };
-    let _ = plan.sites.try_push(SitePlan {
-        name: name_of("sim"),
-        viewers: 0,
-    });
-    for number in 1..=stations {
-        let mut text = ArrayString::<8>::new();
-        let _ = write!(text, "CS-{number}");
-        let _ = plan.stations.try_push(StationPlan {
-            site: 0,
-            name: name_of(text.as_str()),
-            limits: Limits::default(),
-        });
+fn simulated_plan(stations: u16) -> Plan
+    requires { stations ≤ 64 }
+    ensures sites { result.sites.items ≡ simulated_sites stations }
+    ensures stations { result.stations.items ≡ simulated_stations stations }
+{
+    let mut plan = Plan::new();
+    let site = site_name();
+    for before in 0..stations {
+        let station = station_name(before + 1);
+        plan.declare(site.copied(), 0, station, Limits::default());
     }
     plan
 }
 
-// The name of this text; `-` where it is none.
-fn name_of(text: &str) -> Name {
-    match Name::new(text) {
-        Some(name) => name,
-        None => SitePlan::default().name,
-    }
+// The name `sim`.
+fn site_name() -> Name
+    ensures { result ≡ codes "sim" }
+{
+    Name::new("sim").unwrap()
+}
+
+// The name `CS-<number>`.
+fn station_name(number: u16) -> Name
+    requires { number ≤ 64 }
+    ensures { result ≡ simulated_name number }
+{
+    let mut text = ArrayString::<8>::new();
+    text.push_str("CS-");
+    text.push_str(Buffer::new().format(number));
+    Name::new(text.as_str()).unwrap()
 }
 
 // The same, under the naming of the desk's tables.
@@ -104,6 +112,8 @@ fn simulate_under<
     requires named { NamedBy J.table tables }
     requires there { (site : ℕ) → site < length plan.now.sites.items → HasTable tables site }
     requires simulated { IsSimulated stations events }
+    ensures { OnOk result ((boards : List ℕ) × Appends (W.contents output.old) (W.contents output.new) boards
+        × AreBoards plan.now.sites.items plan.now.stations.items boards) }
 {
     let (desk, viewers) = open_desk::<J>(alloc, tables, plan)?;
     let listener = listen(rt, 0)?;

@@ -20,7 +20,4 @@
 
 pub mod laws;
 mod links;
-#[cfg(test)]
-mod tests;
-
 pub use links::SlotLinks;

@@ -18,9 +18,6 @@
 
 mod map;
 mod named;
-#[cfg(test)]
-mod tests;
-
 pub use map::TransactionMap;
 // A crate can name a map in a contract only if the types of its fields are exported.
 #[doc(hidden)]

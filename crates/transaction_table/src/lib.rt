@@ -17,8 +17,5 @@
 
 mod row;
 mod table;
-#[cfg(test)]
-mod tests;
-
 pub use row::TableRow;
 pub use table::TransactionTable;

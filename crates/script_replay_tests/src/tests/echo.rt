@@ -6,6 +6,7 @@ ghost use Rattle.script_replay_tests.specs.Echoes.{opens, shown, echoes};
 use script_lines::{LineEnd, LineReader};
 use script_replay::{Declarations, LineOutcome, Machine, ReplayFault, replay_from};
 use std::alloc::{AllocError, Global};
+use std::io;
 use std::io::{BufRead, Write};
 use std::thread::Threads;
 
@@ -49,7 +50,9 @@ impl Machine for After {
         _rt: &X,
         _lines: &LineReader,
         _reader: &mut R,
-    ) {}
+    ) -> io::Result<()> {
+        Ok(())
+    }
 }
 
 impl<X: AllocGlobal + Threads> Declarations for Before<'_, X> {

@@ -1,5 +1,5 @@
 // A whole script, its board included, with a reader and a writer that fail at each byte.
-use crate::tests::streams::{FailingReader, FailingWriter};
+use crate::tests::streams::{FailingReader, FailingWriter, FlakyReader};
 use script_replay::{ReplayFault, replay_buffered, replay_stream};
 use std::alloc::Global;
 use std::io::BufWriter;
@@ -116,6 +116,40 @@ fn text_stops_at_each_byte(rt: HostRuntime) -> Result<(), Fail> {
             stops_writing(&rt, &script, &text, room, true),
             "after {room}"
         );
+    }
+    Ok(())
+}
+
+// A reader that fails once, when it was asked so many times, and would go on: the text of the complete lines
+// stands. All of the script is shown at once, so that what comes is looked at after each line.
+fn fails_once<X: AllocGlobal + Threads>(
+    rt: &X,
+    script: &[u8],
+    text: &[u8],
+    asked: usize,
+) -> bool {
+    let mut reader = FlakyReader {
+        rest: script,
+        step: script.len(),
+        asked,
+        has_failed: false,
+    };
+    let mut written = Vec::new(rt.alloc());
+    let result = replay_stream(rt, &mut reader, &mut written);
+    let stands = if reader.has_failed {
+        let read = script.len().saturating_sub(reader.rest.len());
+        front(text, written_by_complete(read))
+    } else {
+        text
+    };
+    result.is_err() == reader.has_failed && written.as_slice() == stands
+}
+
+#[test]
+fn failed_look_is_told(rt: HostRuntime) -> Result<(), Fail> {
+    let (script, text) = script_and_text(rt.alloc())?;
+    for asked in 0..24 {
+        assert!(rt; fails_once(&rt, &script, &text, asked), "asked {asked}");
     }
     Ok(())
 }

@@ -32,6 +32,39 @@ impl BufRead for FailingReader<'_> {
     }
 }
 
+// Shows `step` bytes at a time, and fails once, when it was asked so many times.
+#[derive(Drop)]
+pub struct FlakyReader<'a> {
+    pub rest: &'a [u8],
+    pub step: usize,
+    pub asked: usize,
+    pub has_failed: bool,
+}
+
+impl Read for FlakyReader<'_> {
+    fn read(&mut self, buf: &mut [u8]) -> io::Result<usize> {
+        let _ = buf;
+        Err(io::Error::from(ErrorKind::Other))
+    }
+}
+
+impl BufRead for FlakyReader<'_> {
+    fn fill_buf(&mut self) -> io::Result<&[u8]> {
+        if self.asked == 0 && !self.has_failed {
+            self.has_failed = true;
+            return Err(io::Error::from(ErrorKind::Other));
+        }
+        self.asked = self.asked.saturating_sub(1);
+        let count = self.step.min(self.rest.len());
+        Ok(&self.rest[..count])
+    }
+
+    fn consume(&mut self, amount: usize) {
+        let count = amount.min(self.rest.len());
+        self.rest = &self.rest[count..];
+    }
+}
+
 // Takes `room` bytes, and then fails or takes none.
 #[derive(Drop)]
 pub struct FailingWriter {

@@ -1,15 +1,20 @@
-ghost use Rattle.std.specs.Prelude.{ℕ, ◌<◌, length};
+ghost use Rattle.std.specs.Prelude.{◌≡◌, ℕ, ◌<◌, ◌≤◌, IfOk, IfSome, length};
+ghost use Rattle.board_report.specs.Plans.{IsBoardWithin};
+ghost use Rattle.board_report.specs.Sums.{station_quarters, QuartersFit};
+ghost use Rattle.ledger_model.specs.Ranges.{most_readings};
 ghost use Rattle.site_book.specs.Tables.{HasTable, NamedBy};
 
 use super::{
     Asked, FIRST, deliver, delivery_of, figures, has, has_figures, has_totals, is_tied, key_of,
     pass_of, tells,
 };
+use board_report::{site_board, write_board};
 use desk_fixtures::{opened, plan_of};
 use ledger_model::{Answer, Command, Figures, Kind, Name, Refusal};
 use site_book::{Naming, Tables, Viewer};
 use site_desk::{Closed, Desk, NoGate, Pass, Plan};
-use std::alloc::Global;
+use station_ledger::{StationBoard, StationLedger};
+use std::alloc::{AllocError, Global};
 use std::marker::Brand;
 use std::process::Abort;
 use std::sync::Wait;
@@ -35,6 +40,25 @@ const LATER: Asked = Asked {
     read: 31,
     watt_hours: 1_600,
 };
+
+// What a replay of the same commands writes for `board north` (`examples/rows/three_threads.rows`).
+const BOARD: &str = "board north
+total events=6 voided=0 transactions=2 complete=0 missing=0 up=650000 down=1500000
+quarter 2026-03-01T10:00:00Z up=250000 down=1500000
+quarter 2026-03-01T10:30:00Z up=400000 down=0
+station A
+total events=3 voided=0 transactions=1 complete=0 missing=0 up=600000 down=0
+evse 0 up=600000 down=0
+quarter 2026-03-01T10:00:00Z up=200000 down=0
+quarter 2026-03-01T10:30:00Z up=400000 down=0
+tx t1 evse=0 events=3 first=0 last=2 complete=no missing=0 up=600000 down=0
+station B
+total events=3 voided=0 transactions=1 complete=0 missing=0 up=50000 down=1500000
+evse 0 up=50000 down=1500000
+quarter 2026-03-01T10:00:00Z up=50000 down=1500000
+tx t1 evse=0 events=3 first=0 last=2 complete=no missing=0 up=50000 down=1500000
+end
+";
 
 // A's side: two events.
 fn on_a<J: Naming, R: Wait + Clock>(
@@ -226,6 +250,37 @@ fn closed_with<J: Naming>(alloc: Global, desk: Desk<J>, sides: Sides<J>) -> Opti
     desk.close(passes, viewers).ok()
 }
 
+// The board of a station, which is within the limits of its ledger.
+fn board_within(alloc: Global, ledger: &StationLedger) -> Result<StationBoard, AllocError>
+    ensures few { ledger.now.limits.readings ≤ most_readings }
+    ensures within { IfOk result (λ b. IsBoardWithin ledger.now.limits b) }
+{
+    let _readings = ledger.limits().readings();
+    ledger.board(alloc)
+}
+
+// The boards of both stations by name, whose sums fit.
+fn boards_of<J: Naming>(alloc: Global, closed: &Closed<J>) -> Option<Vec<(Name, StationBoard)>>
+    requires { length closed.now.cells ≡ 2 }
+    ensures { IfSome result (λ boards. QuartersFit (station_quarters boards.items)) }
+{
+    let (first, second) = (Name::new("A")?, Name::new("B")?);
+    let a = board_within(alloc, closed.ledger(0)).ok()?;
+    let b = board_within(alloc, closed.ledger(1)).ok()?;
+    vec![in alloc; (first, a), (second, b)].ok()
+}
+
+// Tells whether the threads leave the board of their script.
+fn is_board_of_script<J: Naming>(alloc: Global, closed: &Closed<J>) -> Option<bool> {
+    if closed.stations() != 2 || closed.sites() != 1 {
+        return None;
+    }
+    let stations = boards_of(alloc, closed)?;
+    let board = site_board(alloc, &Name::new("north")?, closed.totals(0), stations).ok()?;
+    let text = write_board(alloc, &board).ok()?;
+    Some(text.as_slice() == BOARD.as_bytes())
+}
+
 // Two stations and an operator at once.
 fn three_sides<J: Naming + Send + Sync, R: Abort + Threads + Wait + Clock + Sync>(
     rt: &R,
@@ -261,6 +316,7 @@ fn after_all<J: Naming, R: Abort + Wait + Clock>(
     assert!(rt; has_figures(&closed, 0, first()) && has_figures(&closed, 1, second()));
     let both = figures([6, 0, 2, 0, 0, 650_000, 1_500_000]);
     assert!(rt; has_totals(&closed, 0, both));
+    assert!(rt; is_board_of_script(alloc, &closed) == Some(true));
     Ok(())
 }
 

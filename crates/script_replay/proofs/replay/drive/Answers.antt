@@ -1,8 +1,12 @@
 use Rattle.std.proofs.Common.{◌≡◌, ◌<◌, ap, ◌∙◌, Ok, arith, length, eqb-true, sym}
 use Rattle.script_lines.specs.declared.line_reader.LineEnd.TheVariants.{Feed, Input}
 use Rattle.script_lines.proofs.Pieces.{nonempty}
-use Rattle.script_replay.proofs.AnsweredLines.{looked, asked, line_stopped, line_absent, answer_stopped, answer_ended, answer_goes_on, less_room, some_feed, no_input, reached_now}
+use Rattle.script_replay.proofs.AnsweredLines.{looked, look_failed, asked, line_stopped, line_absent, answer_stopped, answer_ended, answer_goes_on, less_room, some_feed, no_input, reached_now}
 use Rattle.script_replay.proofs.replay.drive.Goals as goal
+
+pub returns-then-is_err-clause-run : goal.returns-then-is_err-clause-run
+returns-then-is_err-clause-run g c =
+    look_failed (Unit {0}) _ _ _ _ _ _ _ _ _ _ _ c.lines.invariant.0 c.look_ahead.ensures.reader c.look_ahead.ensures.text (g.met.M.Machine.no_lines c.look_ahead.new.self)
 
 pub returns-in_err-next_line-clause-run : goal.returns-in_err-next_line-clause-run
 returns-in_err-next_line-clause-run g c =

@@ -1,7 +1,0 @@
-use Rattle.std.proofs.Common.{◌≡◌}
-use Rattle.ledger_model.specs.Limits.{default_limits}
-use Rattle.board_report.proofs.tests.station.Given as goal
-
--- the limits stay
-abbrev pub invariant-loop-one : goal.invariant-loop-one
-invariant-loop-one g l = l.ledger.limits ≡ default_limits

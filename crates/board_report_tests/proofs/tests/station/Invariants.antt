@@ -1,0 +1,7 @@
+use Rattle.std.proofs.Common.{◌≡◌}
+use Rattle.ledger_model.specs.Limits.{default_limits}
+use Rattle.board_report_tests.proofs.tests.station.Given as goal
+
+-- the limits stay
+abbrev pub invariant-loop-one : goal.invariant-loop-one
+invariant-loop-one g l = l.ledger.limits ≡ default_limits

@@ -1,0 +1,24 @@
+use Rattle.std.proofs.Common.{◌∷◌, [], ◌++◌, sym, subst, arith}
+use Rattle.std.proofs.lemmas.List.Sums.{sum_by-append}
+use Rattle.ledger_model.specs.Limits.{Bounds, default_limits}
+use Rattle.board_report.specs.Plans.{AreBoardsWithin}
+use Rattle.board_report.proofs.PlanLemmas.{plans_fit, AreBoardsWithin-more}
+use Rattle.board_report_tests.proofs.tests.stations.Goals as goal
+
+-- one station more
+pub loop-name-preserved : goal.loop-name-preserved
+loop-name-preserved g c =
+    let k = c.loop-name.invariant in
+    let plan = k.0 ++ default_limits ∷ [] in (
+      plan,
+      (
+        omega (arith, k.1.0, sum_by-append (λ (limits : Bounds). limits.readings) k.0 (default_limits ∷ [])),
+        subst (AreBoardsWithin plan) (sym c.in_ok-push.ensures.items) (AreBoardsWithin-more k.0 c.loop-name.boards.items default_limits _ k.1.1 c.in_ok-station.ensures),
+      ),
+    )
+
+-- at most 64 stations
+pub returns : goal.returns
+returns g c =
+    let k = c.loop-name.invariant in
+    plans_fit k.0 c.loop-name.boards.items (omega (arith, k.1.0, c.loop-name-test.false, c.loop-name.auto.name-index-end, c.if-told-gt64.false)) k.1.1

@@ -1,0 +1,5 @@
+//! The tests of `board_report`.
+#![tactic(auto)]
+
+#[cfg(test)]
+mod tests;

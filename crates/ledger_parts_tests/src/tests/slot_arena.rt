@@ -1,0 +1,122 @@
+use slot_arena::{MAX_SLOTS, SlotArena, SlotId};
+use std::alloc::Global;
+use std::rc::Rc;
+use std::test::Fail;
+
+#[test]
+fn small_arena(rt: HostRuntime) -> Result<(), Fail> {
+    let mut arena = SlotArena::with_capacity(rt.alloc(), 2)?;
+    assert_eq!(rt; (arena.capacity(), arena.free()), (2, 2));
+    let seven = arena.take(7).ok().ok_or("full too soon")?;
+    assert!(rt; arena.take(8).is_ok());
+    assert_eq!(rt; arena.take(9).err(), Some(9));
+    assert!(rt; arena.is_held(seven));
+    assert_eq!(rt; arena.give(seven), 7);
+    assert!(rt; !arena.is_held(seven));
+    assert!(rt; arena.take(9).is_ok());
+    assert_eq!(rt; arena.free(), 0);
+    Ok(())
+}
+
+#[test]
+fn an_arena_of_no_slots_takes_nothing(rt: HostRuntime) -> Result<(), Fail> {
+    let mut arena = SlotArena::with_capacity(rt.alloc(), 0)?;
+    assert_eq!(rt; arena.take(7).err(), Some(7));
+    assert!(rt; !arena.is_held(SlotId::new(0)));
+    assert_eq!(rt; (arena.capacity(), arena.free()), (0, 0));
+    Ok(())
+}
+
+#[test]
+fn a_changed_value_stays_in_its_slot(rt: HostRuntime) -> Result<(), Fail> {
+    let mut arena = SlotArena::with_capacity(rt.alloc(), 3)?;
+    let first = arena.take(10).ok().ok_or("full too soon")?;
+    let second = arena.take(20).ok().ok_or("full too soon")?;
+    assert!(rt; first != second && first.number() < 3 && second.number() < 3);
+    assert!(rt; arena.is_held(first) && arena.is_held(second));
+    *arena.get_mut(first) += 5;
+    assert_eq!(rt; (*arena.get(first), *arena.get(second)), (15, 20));
+    Ok(())
+}
+
+// The value that stands in the slot `index` in the round `round`.
+fn value_of(index: u32, round: u32) -> u32 {
+    index.wrapping_mul(2_654_435_761).wrapping_add(round)
+}
+
+// Fills an arena that is empty, and gives the ids in the order in which they came.
+fn fill(alloc: Global, arena: &mut SlotArena<u32>, round: u32) -> Result<Vec<SlotId>, Fail> {
+    let mut ids = Vec::with_capacity(alloc, MAX_SLOTS as usize)?;
+    for index in 0..MAX_SLOTS {
+        let id = arena
+            .take(value_of(index, round))
+            .ok()
+            .ok_or("full too soon")?;
+        ids.push(id)?;
+    }
+    Ok(ids)
+}
+
+// Gives the slots back, the last first; tells whether each held its value of the first round.
+fn give_back(arena: &mut SlotArena<u32>, ids: &[SlotId]) -> bool {
+    let mut index = MAX_SLOTS;
+    for id in ids.iter().rev() {
+        index = index.wrapping_sub(1);
+        if !arena.is_held(*id) || arena.give(*id) != value_of(index, 0) {
+            return false;
+        }
+    }
+    true
+}
+
+// Whether each slot holds its value of the second round.
+fn holds_all(arena: &SlotArena<u32>, ids: &[SlotId]) -> bool {
+    let mut index = 0u32;
+    for id in ids.iter() {
+        if !arena.is_held(*id) || *arena.get(*id) != value_of(index, 1) {
+            return false;
+        }
+        index = index.wrapping_add(1);
+    }
+    true
+}
+
+#[test]
+fn every_slot_is_filled_emptied_and_filled_again(rt: HostRuntime) -> Result<(), Fail> {
+    let mut arena = SlotArena::with_capacity(rt.alloc(), MAX_SLOTS)?;
+    let ids = fill(rt.alloc(), &mut arena, 0)?;
+    assert!(rt; arena.free() == 0 && arena.take(0).err() == Some(0));
+    assert!(rt; give_back(&mut arena, &ids) && arena.free() == MAX_SLOTS);
+    let ids = fill(rt.alloc(), &mut arena, 1)?;
+    assert!(rt; holds_all(&arena, &ids));
+    Ok(())
+}
+
+#[test]
+fn values_are_dropped_once(rt: HostRuntime) -> Result<(), Fail> {
+    let counted = Rc::new(rt.alloc(), 0)?;
+    let mut arena = SlotArena::with_capacity(rt.alloc(), 4)?;
+    let given = arena.take(counted.clone()?).ok().ok_or("full too soon")?;
+    for _ in 0..3 {
+        assert!(rt; arena.take(counted.clone()?).is_ok());
+    }
+    assert_eq!(rt; Rc::strong_count(&counted), 5);
+    drop(arena.take(counted.clone()?));
+    assert_eq!(rt; Rc::strong_count(&counted), 5);
+    assert!(rt; arena.is_held(given));
+    drop(arena.give(given));
+    assert_eq!(rt; Rc::strong_count(&counted), 4);
+    drop(arena);
+    assert_eq!(rt; Rc::strong_count(&counted), 1);
+    Ok(())
+}
+
+// Compiles only where an arena may be handed to another thread.
+fn crosses<T: Send + Drop>(_value: T) {}
+
+#[test]
+fn an_arena_crosses_threads_as_its_values_do(rt: HostRuntime) -> Result<(), Fail> {
+    let arena: SlotArena<u64> = SlotArena::with_capacity(rt.alloc(), 1)?;
+    crosses(arena);
+    Ok(())
+}

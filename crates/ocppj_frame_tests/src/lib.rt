@@ -1,0 +1,5 @@
+//! The tests of `ocppj_frame`.
+#![tactic(auto)]
+
+#[cfg(test)]
+mod tests;

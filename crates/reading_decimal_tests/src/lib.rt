@@ -1,0 +1,5 @@
+//! The tests of `reading_decimal`.
+#![tactic(auto)]
+
+#[cfg(test)]
+mod tests;

@@ -1,0 +1,5 @@
+//! The tests of `site_book`.
+#![tactic(auto)]
+
+#[cfg(test)]
+mod tests;

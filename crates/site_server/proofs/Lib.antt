@@ -1,0 +1,2 @@
+pub mod SimulatedPlan
+pub mod WrittenBoards
