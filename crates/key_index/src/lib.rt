@@ -18,15 +18,22 @@
 //! ```
 #![tactic(auto)]
 
+mod counts;
+mod filed;
 mod index;
 mod key;
 mod leaf;
 mod leaves;
+mod place;
 #[cfg(test)]
 mod tests;
 
+pub use filed::{Filed, Mark, Marks};
 pub use index::KeyIndex;
 pub use key::IndexKey;
+pub use place::Place;
 // A crate can name an index in a contract only if the types of its fields are exported.
+#[doc(hidden)]
+pub use counts::Counts;
 #[doc(hidden)]
 pub use leaf::Leaf;
