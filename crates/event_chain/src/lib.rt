@@ -24,7 +24,8 @@
 
 mod answers;
 mod chains;
-mod live_lists;
+mod lane;
+mod place_index;
 mod spots;
 mod tx_ids;
 mod tx_walk;
