@@ -9,7 +9,7 @@ use Rattle.std.proofs.lemmas.Bool.Decides.{Decides-ltb, Decides-eqb}
 use Rattle.std.proofs.lemmas.List.Sums.{sum_by-cons}
 use Rattle.slot_arena.specs.Arena.{held_count}
 use Rattle.key_index.specs.Key.{rank}
-use Rattle.key_index.specs.Index.{Index, index}
+use Rattle.event_chain.specs.Placed.{Index, index}
 use Rattle.ledger_model.specs.Key.{KeyName, key_cmp}
 use Rattle.ledger_model.specs.Limits.{Bounds}
 use Rattle.ledger_model.specs.Content.{Entry, Stored, has_transaction, transactions_of}

@@ -5,7 +5,7 @@ use Rattle.std.specs.FinMap as finite
 use Rattle.std.specs.FinMap.{put}
 use Rattle.slot_arena.specs.Arena.{value_at}
 use Rattle.key_index.specs.Key.{rank}
-use Rattle.key_index.specs.Index.{Index}
+use Rattle.event_chain.specs.Placed.{Index}
 use Rattle.ledger_model.specs.Event.{EventContent}
 use Rattle.ledger_model.specs.Key.{KeyName, key_cmp}
 use Rattle.ledger_model.specs.Limits.{Bounds}

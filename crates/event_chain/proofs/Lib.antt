@@ -24,3 +24,4 @@ mod Walks
 mod Used
 mod Counts
 mod Rows
+mod Lanes

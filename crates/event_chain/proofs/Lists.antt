@@ -8,8 +8,8 @@ use Rattle.std.specs.Ordering.{nat_cmp}
 use Rattle.std.specs.Cmp.{nat_cmp_total}
 use Rattle.std.specs.FinMap.{put}
 use Rattle.std.specs.FinMap.Entries.{is_sorted-put}
-use Rattle.key_index.specs.Entries.{last_of, AreRising}
-use Rattle.key_index.specs.Index.{Index, index}
+use Rattle.event_chain.specs.Ranked.{last_of, AreRising}
+use Rattle.event_chain.specs.Placed.{Index, index}
 use Rattle.slot_links.specs.Links.{Links, links, linked_in, linked_out, prev_of, next_of, IsSlot}
 use Rattle.slot_links.specs.Chain.{head_or, last_or, IsChain, IsAbsent, AreElsewhere, AreSlots, IsLinked}
 use Rattle.slot_links.proofs.Chains.{chain_parts, slots_parts, length-linked_in, length-linked_out}
@@ -17,7 +17,7 @@ use Rattle.slot_links.proofs.Lists.{linked_with_slot, linked_without_slot, linke
 use Rattle.event_chain.specs.Flat.{Place, place_of}
 use Rattle.event_chain.specs.Kept.{AreRanks}
 use Rattle.event_chain.specs.Edits.{out, places_before, places_behind}
-use Rattle.event_chain.specs.Lists.{slot_in, slots_of, AreOwn, AreListed}
+use Rattle.event_chain.specs.Lists.{slot_in, slots_of, slot_before, slot_after, AreOwn, AreListed}
 use Rattle.event_chain.proofs.Members.{AllPlaces, all_found}
 use Rattle.event_chain.proofs.Moves.{put_here, put_other, out_here, out_other}
 use Rattle.event_chain.proofs.Places.{ranks_of, last_cons}
@@ -115,13 +115,6 @@ IsSide l o = (x : ℕ) → o ≡ Some x → IsSlot l x
 pub listed_same : (a b : Index) (l m : Links) → a.entries ≡ b.entries → a.capacity ≡ b.capacity → l ≡ m → AreListed b m → AreListed a l
 listed_same a b l m entries capacity same h = subst (λ (x : Index). AreListed x l) (sym (λ i. index (entries i) (capacity i))) (subst (AreListed b) (sym same) h)
 
--- The slots on either side of a rank.
-abbrev pub slot_before : ℕ → List Place → Option ℕ
-slot_before r es = option_map slot_in (last_of (places_before r es))
-
-abbrev pub slot_behind : ℕ → List Place → Option ℕ
-slot_behind r es = option_map slot_in (slice_get (places_behind r es) 0)
-
 module _ (live : Index) (l : Links) (listed : AreListed live l) (rising : AreRising live.entries) (r : ℕ) where
   abbrev es : List Place
   es = live.entries
@@ -143,12 +136,12 @@ module _ (live : Index) (l : Links) (listed : AreListed live l) (rising : AreRis
     list = subst (IsLinked l) list_is (listed.lists t)
 
     -- The slots on either side are slots.
-    pub sides_absent : IsSide l (slot_before r es) × IsSide l (slot_behind r es)
+    pub sides_absent : IsSide l (slot_before r es) × IsSide l (slot_after r es)
     sides_absent = let parts = slots_parts l front back list.slots in
         ((λ x is. last_is_slot l front parts.0 x (last_slot (places_before r es) ∙ is)), (λ x is. first_is_slot l back parts.1 x (first_slot (places_behind r es) ∙ is)))
 
     -- The slot behind the one in front of a new rank comes behind the rank.
-    pub next_absent : (s : ℕ) → slot_before r es ≡ Some s → next_of l s ≡ slot_behind r es
+    pub next_absent : (s : ℕ) → slot_before r es ≡ Some s → next_of l s ≡ slot_after r es
     next_absent s is = after_last l None front (head_or None back) s (chain_parts l None front back None list.chain).0 (last_slot (places_before r es) ∙ is) ∙ first_slot (places_behind r es)
 
     module _ (s : ℕ) (within : s < live.capacity) (unused : (k : ℕ) → place_of k es ≡ Some s → ⊥) where
@@ -160,7 +153,7 @@ module _ (live : Index) (l : Links) (listed : AreListed live l) (rising : AreRis
       more = put nat_cmp r s es
 
       abbrev m : Links
-      m = linked_in l (slot_before r es) s s (slot_behind r es)
+      m = linked_in l (slot_before r es) s s (slot_after r es)
 
       linked : linked_in l (last_or None front) s s (head_or None back) ≡ m
       linked = (λ i. linked_in l (last_slot (places_before r es) i) s s (first_slot (places_behind r es) i))
@@ -172,7 +165,7 @@ module _ (live : Index) (l : Links) (listed : AreListed live l) (rising : AreRis
       pub listed_put : AreListed (index more live.capacity) m
       listed_put =
           let up : AreRanks more = is_sorted-put nat_cmp nat_cmp_total r s es (ranks_of es rising) in
-          let lens = length-linked_in l (slot_before r es) s s (slot_behind r es) in let own = own_put r s es listed.own unused in
+          let lens = length-linked_in l (slot_before r es) s s (slot_after r es) in let own = own_put r s es listed.own unused in
           record {
             prevs = lens.0 ∙ listed.prevs;
             nexts = lens.1 ∙ listed.nexts;
@@ -195,7 +188,7 @@ module _ (live : Index) (l : Links) (listed : AreListed live l) (rising : AreRis
     whole = subst (IsLinked l) place_is (listed.lists t)
 
     -- The slots on either side are slots.
-    pub sides_present : IsSide l (slot_before r es) × IsSide l (slot_behind r es)
+    pub sides_present : IsSide l (slot_before r es) × IsSide l (slot_after r es)
     sides_present = let parts = slots_parts l front (s ∷ back) whole.slots in
         ((λ x is. last_is_slot l front parts.0 x (last_slot (places_before r es) ∙ is)), (λ x is. first_is_slot l back parts.1.1 x (first_slot (places_behind r es) ∙ is)))
 
@@ -204,7 +197,7 @@ module _ (live : Index) (l : Links) (listed : AreListed live l) (rising : AreRis
     slot_present = (slots_parts l front (s ∷ back) whole.slots).1.0
 
     -- The next slot is that of the next place.
-    pub next_present : next_of l s ≡ slot_behind r es
+    pub next_present : next_of l s ≡ slot_after r es
     next_present = (chain_parts l None front (s ∷ back) None whole.chain).1.1 ∙ first_slot (places_behind r es)
 
     -- The one before is that of the place in front.
@@ -215,7 +208,7 @@ module _ (live : Index) (l : Links) (listed : AreListed live l) (rising : AreRis
     fewer = out r es
 
     abbrev left : Links
-    left = linked_out l (slot_before r es) (slot_behind r es)
+    left = linked_out l (slot_before r es) (slot_after r es)
 
     unlinked : linked_out l (last_or None front) (head_or None back) ≡ left
     unlinked = (λ i. linked_out l (last_slot (places_before r es) i) (first_slot (places_behind r es) i))
@@ -227,7 +220,7 @@ module _ (live : Index) (l : Links) (listed : AreListed live l) (rising : AreRis
     pub listed_out : AreListed (index fewer live.capacity) left
     listed_out =
         let up : AreRanks fewer = out_if_ranks true r es (ranks_of es rising) in
-        let lens = length-linked_out l (slot_before r es) (slot_behind r es) in let own = own_out r es listed.own in
+        let lens = length-linked_out l (slot_before r es) (slot_after r es) in let own = own_out r es listed.own in
         record {
           prevs = lens.0 ∙ listed.prevs;
           nexts = lens.1 ∙ listed.nexts;

@@ -5,7 +5,7 @@ use Rattle.std.specs.FinMap as finite
 use Rattle.std.specs.FinMap.{find}
 use Rattle.slot_arena.specs.Arena.{value_at}
 use Rattle.key_index.specs.Key.{rank}
-use Rattle.key_index.specs.Index.{Index}
+use Rattle.event_chain.specs.Placed.{Index}
 use Rattle.ledger_model.specs.Key.{KeyName, key_cmp}
 use Rattle.ledger_model.specs.Limits.{Bounds}
 use Rattle.ledger_model.specs.Content.{Entry, Stored}
@@ -14,7 +14,7 @@ use Rattle.event_store.specs.Slots.{Held, Slots, voided_as, voided_at}
 use Rattle.transaction_table.specs.declared.row.TableRow.{TableRow}
 use Rattle.transaction_table.specs.Table.{Table, Row, AreRising, AreApart, row_of, with_row}
 use Rattle.event_chain.specs.Flat.{Place, place_of, stored_in, event_at, flat}
-use Rattle.event_chain.specs.Edits.{put_if, out_if, place_in, place_at}
+use Rattle.event_chain.specs.Edits.{put_if, out, place_in, place_at}
 use Rattle.event_chain.specs.Kept.{IsSub, chosen, is_live, is_carrier, is_naming, is_end, live_one, end_one, AreIndexed, IsChains, IsNamed, events_of}
 use Rattle.event_chain.proofs.Facts.{seal, all_rising, get_place, counts_few}
 use Rattle.event_chain.proofs.Named.{named_after}
@@ -132,10 +132,10 @@ module _ (limits : Bounds) (table : Table) (store : Slots) (stored live carriers
           spot_event now spot_here spot_within at test sub b b_is never was)
 
       -- An index that gives the place up.
-      spot_out : (test : Stored → Bool) (sub is' : List Place) (b : Bool) → is' ≡ out_if b r0 sub → b ≡ test spot_event → test now ≡ false → IsSub test stored.entries store.slots sub → IsSub test stored.entries held is'
-      spot_out test sub is' b is b_is never was = subst (IsSub test stored.entries held) (sym is)
+      spot_out : (test : Stored → Bool) (sub is' : List Place) → is' ≡ out r0 sub → test now ≡ false → IsSub test stored.entries store.slots sub → IsSub test stored.entries held is'
+      spot_out test sub is' is never was = subst (IsSub test stored.entries held) (sym is)
           (mark_out limits table.rows new stored.entries live.entries carriers.entries naming.entries store.slots key row after r0 s0 table.capacity store.readings store.capacity chains.keyed chains.indexed chains.figured chains.counted named_now number rank_is rising apart
-          spot_event now spot_here spot_within at test sub b b_is never was)
+          spot_event now spot_here spot_within at test sub never was)
 
       -- The indexes of an event that is live again.
       pub in_indexes : (l c n : List Place) (carries names : Bool) → voided ≡ false → spot_event.voided ≡ true → l ≡ put_if true r0 s0 live.entries → c ≡ put_if carries r0 s0 carriers.entries → n ≡ put_if names r0 s0 naming.entries
@@ -147,12 +147,11 @@ module _ (limits : Bounds) (table : Table) (store : Slots) (stored live carriers
       }
 
       -- The indexes of an event that was voided.
-      pub out_indexes : (l c n : List Place) (carries names : Bool) → voided ≡ true → spot_event.voided ≡ false → l ≡ out_if true r0 live.entries → c ≡ out_if carries r0 carriers.entries → n ≡ out_if names r0 naming.entries
-          → carries ≡ nat_lt 0 (length spot_event.event.readings) → names ≡ is_some spot_event.event.evse → AreIndexed stored.entries held l c n
-      out_indexes l c n carries names now_void was l_is c_is n_is carries_is names_is = record {
-        lives = spot_out is_live live.entries l true l_is (sym (ap not was)) (ap not now_void) chains.indexed.lives;
-        carry = spot_out is_carrier carriers.entries c carries c_is (carries_is ∙ sym (ap (λ v. not v && nat_lt 0 (length spot_event.event.readings)) was)) (ap (λ v. not v && nat_lt 0 (length spot_event.event.readings)) now_void) chains.indexed.carry;
-        names = spot_out is_naming naming.entries n names n_is (names_is ∙ sym (ap (λ v. not v && is_some spot_event.event.evse) was)) (ap (λ v. not v && is_some spot_event.event.evse) now_void) chains.indexed.names;
+      pub out_indexes : (l c n : List Place) → voided ≡ true → l ≡ out r0 live.entries → c ≡ out r0 carriers.entries → n ≡ out r0 naming.entries → AreIndexed stored.entries held l c n
+      out_indexes l c n now_void l_is c_is n_is = record {
+        lives = spot_out is_live live.entries l l_is (ap not now_void) chains.indexed.lives;
+        carry = spot_out is_carrier carriers.entries c c_is (ap (λ v. not v && nat_lt 0 (length spot_event.event.readings)) now_void) chains.indexed.carry;
+        names = spot_out is_naming naming.entries n n_is (ap (λ v. not v && is_some spot_event.event.evse) now_void) chains.indexed.names;
       }
 
     -- What a mark did to each part.

@@ -2,7 +2,7 @@
 use Rattle.std.proofs.Common.{◌≡◌, ℕ, ◌/◌, ◌^◌, ◌==◌, Bool, true, false, cond, List, [], ◌∷◌, Option, Some, None, is_some, slice_get, refl, sym, ap, ◌∙◌, subst}
 use Rattle.std.specs.List.{filter}
 use Rattle.slot_arena.specs.Arena.{IsHeld}
-use Rattle.key_index.specs.Entries.{last_of}
+use Rattle.event_chain.specs.Ranked.{last_of}
 use Rattle.ledger_model.specs.Content.{Stored}
 use Rattle.ledger_model.proofs.Callers.{first, second}
 use Rattle.event_store.specs.Slots.{Held}

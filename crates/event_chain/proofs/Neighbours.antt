@@ -4,7 +4,7 @@ use Rattle.std.specs.List.{filter, flat_map}
 use Rattle.std.specs.Str.{bytes_eq}
 use Rattle.std.proofs.lemmas.Bool.Decides.{Decides-ltb}
 use Rattle.slot_arena.specs.Arena.{IsHeld}
-use Rattle.key_index.specs.Entries.{last_of}
+use Rattle.event_chain.specs.Ranked.{last_of}
 use Rattle.key_index.specs.Key.{rank, slot_back}
 use Rattle.ledger_model.specs.Key.{KeyName}
 use Rattle.ledger_model.specs.Event.{MeterReading}

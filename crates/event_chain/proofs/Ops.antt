@@ -9,7 +9,7 @@ use Rattle.std.proofs.lemmas.List.Sums.{sum_by-set}
 use Rattle.event_chain.proofs.Decided.{id_test, denied}
 use Rattle.slot_arena.specs.Arena.{value_at, held_count}
 use Rattle.key_index.specs.Key.{rank}
-use Rattle.key_index.specs.Index.{Index, index}
+use Rattle.event_chain.specs.Placed.{Index, index}
 use Rattle.ledger_model.specs.Event.{EventContent}
 use Rattle.ledger_model.specs.Key.{KeyName, key_cmp}
 use Rattle.ledger_model.specs.Limits.{Bounds}
@@ -189,11 +189,11 @@ module _ (limits : Bounds) (rows new : List Row) (es live carriers naming : List
         (put_if_here b r0 s0 sub (was_chosen test sub was ∙ ap (λ c. cond c (Some s0) None) not_old) ∙ ap (λ c. cond c (Some s0) None) is ∙ sym (mark_chosen test))
 
     -- An index that gives the place up.
-    pub mark_out : (test : Stored → Bool) (sub : List Place) (b : Bool) → b ≡ test old → test st ≡ false → IsSub test es slots sub → IsSub test es marked_slots (out_if b r0 sub)
-    mark_out test sub b is not_new was =
+    pub mark_out : (test : Stored → Bool) (sub : List Place) → test st ≡ false → IsSub test es slots sub → IsSub test es marked_slots (out r0 sub)
+    mark_out test sub not_new was =
         let move = mark_moved in
-        sub_move test es es sub (out_if b r0 sub) slots marked_slots r0 s0 was move.ranks (out_if_others b r0 sub) move.own move.stays (out_if_ranks b r0 sub was.rising)
-        (out_if_here b r0 s0 sub (was_chosen test sub was ∙ ap (λ c. cond c (Some s0) None) (sym is)) ∙ sym (mark_chosen test ∙ ap (λ c. cond c (Some s0) None) not_new))
+        sub_move test es es sub (out r0 sub) slots marked_slots r0 s0 was move.ranks (out_if_others true r0 sub) move.own move.stays (out_if_ranks true r0 sub was.rising)
+        (out_here r0 sub ∙ sym (mark_chosen test ∙ ap (λ c. cond c (Some s0) None) not_new))
 
     -- Chains with an event marked.
     pub mark_chains : (l c n : List Place) → AreIndexed es marked_slots l c n → st.event ≡ old.event → after.live + cond (not old.voided) 1 0 ≡ row.live + cond (not st.voided) 1 0

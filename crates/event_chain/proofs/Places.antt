@@ -7,7 +7,7 @@ use Rattle.std.specs.Ordering.{is_eq, is_lt, eq_by_cmp, nat_cmp}
 use Rattle.std.specs.declared.cmp.Ordering.TheVariants.{Less, Equal, Greater}
 use Rattle.std.specs.FinMap.{put}
 use Rattle.std.specs.FinMap.Entries.{by_order, below_all}
-use Rattle.key_index.specs.Entries.{below, from, slot_at, first_of, last_of, AreAbove, AreRising}
+use Rattle.event_chain.specs.Ranked.{below, from, slot_at, first_of, last_of, AreAbove, AreRising}
 use Rattle.key_index.specs.Key.{rank}
 use Rattle.ledger_model.proofs.Rising.{both}
 use Rattle.event_chain.specs.Flat.{Place, place_of, segment}

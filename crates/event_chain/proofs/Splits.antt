@@ -5,7 +5,7 @@ use Rattle.std.proofs.lemmas.Bool.Decides.{Decides-eqb, Decides-ltb}
 use Rattle.std.proofs.lemmas.List.Elements.{filter-append}
 use Rattle.std.specs.Ordering.{nat_cmp}
 use Rattle.std.specs.FinMap.{put}
-use Rattle.key_index.specs.Entries.{below, from, slot_at, AreAbove, AreRising}
+use Rattle.event_chain.specs.Ranked.{below, from, slot_at, AreAbove, AreRising}
 use Rattle.event_chain.specs.Flat.{Place, place_of, segment}
 use Rattle.event_chain.specs.Edits.{out, places_before, places_behind}
 use Rattle.event_chain.proofs.Decided.{not_so}

@@ -1,9 +1,11 @@
 -- The live events in linked lists over their slots, one for each transaction.
-use Rattle.std.specs.Prelude.{◌≡◌, ℕ, List, Some, length, map}
-use Rattle.key_index.specs.Index.{Index}
+use Rattle.std.specs.Prelude.{◌≡◌, ℕ, List, Option, Some, length, map, slice_get, option_map}
+use Rattle.event_chain.specs.Placed.{Index}
 use Rattle.slot_links.specs.Links.{Links}
 use Rattle.slot_links.specs.Chain.{IsLinked}
 use Rattle.event_chain.specs.Flat.{Place, place_of, segment}
+use Rattle.event_chain.specs.Ranked.{last_of}
+use Rattle.event_chain.specs.Edits.{places_before, places_behind}
 
 -- The slot of a place.
 abbrev pub slot_in : Place → ℕ
@@ -12,6 +14,14 @@ slot_in e = e.1
 -- The slots of a transaction's places, in order.
 abbrev pub slots_of : ℕ → List Place → List ℕ
 slots_of t es = map slot_in (segment t es)
+
+-- The slot in front of a rank, of its transaction.
+abbrev pub slot_before : ℕ → List Place → Option ℕ
+slot_before r es = option_map slot_in (last_of (places_before r es))
+
+-- The slot behind it.
+abbrev pub slot_after : ℕ → List Place → Option ℕ
+slot_after r es = option_map slot_in (slice_get (places_behind r es) 0)
 
 -- A rank under which the slot stands.
 pub record HasRank (es : List Place) (slot : ℕ) : Type 0 where

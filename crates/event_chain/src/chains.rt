@@ -16,15 +16,15 @@ ghost use Rattle.event_chain.specs.Kept.{end_count, is_end};
 ghost use Rattle.event_chain.specs.Edits.{counts_under};
 
 use crate::answers::{Found, Room, TxStanding};
-use crate::live_lists::LiveLists;
+use crate::place_index::PlaceIndex;
 use crate::spots::{
-    enter, evse_at, first_at, first_in, kind_at, last_at, last_in, leave, locate, number_of,
-    out_place, place_before, place_behind, put_place, slot_of,
+    carrier_before, carrier_behind, enter, evse_at, first_at, first_live, first_naming, kind_at,
+    last_at, last_live, leave, locate, number_of, slot_of,
 };
 use crate::tx_ids::TxIds;
 use crate::tx_walk::TxWalk;
 use event_store::{EventRef, EventStore, Readings};
-use key_index::{IndexKey, KeyIndex};
+use key_index::IndexKey;
 use ledger_model::{Event, EvseId, Key, Kind, Limits, Reading, TxId};
 use std::alloc::{AllocError, Global};
 use std::marker::Model;
@@ -36,10 +36,7 @@ pub struct Chains {
     limits: Limits,
     table: TransactionTable,
     store: EventStore,
-    stored: KeyIndex,
-    live: LiveLists,
-    carriers: KeyIndex,
-    naming: KeyIndex,
+    places: PlaceIndex,
 }
 
 impl Model for Chains {
@@ -51,9 +48,9 @@ impl Model for Chains {
 
     ghost use Rattle.event_chain.specs.Kept.{IsChains, events_of};
 
-    ghost view = { λ c. record { limits = c.limits; events = events_of c.table c.store c.stored } };
+    ghost view = { λ c. record { limits = c.limits; events = events_of c.table c.store c.places.stored } };
 
-    ghost invariant = { λ c. IsChains c.limits c.table c.store c.stored c.live c.carriers c.naming };
+    ghost invariant = { λ c. IsChains c.limits c.table c.store c.places.stored c.places.live c.places.carriers c.places.naming };
 }
 
 // Counts an event that is Started or Ended.
@@ -95,10 +92,7 @@ impl Chains {
             limits: *limits,
             table: TransactionTable::open(alloc, transactions)?,
             store: EventStore::open(alloc, events, limits.readings())?,
-            stored: KeyIndex::open(alloc, events)?,
-            live: LiveLists::open(alloc, events)?,
-            carriers: KeyIndex::open(alloc, events)?,
-            naming: KeyIndex::open(alloc, events)?,
+            places: PlaceIndex::open(alloc, events)?,
         })
     }
 
@@ -108,7 +102,7 @@ impl Chains {
     {
         if lacks_place(&self.table, self.limits.transactions(), tx) {
             Room::NoTransaction
-        } else if self.limits.events() <= self.stored.len() {
+        } else if self.limits.events() <= self.places.len() {
             Room::NoEvent
         } else if (self.store.free_readings() as usize) < readings {
             Room::NoReading
@@ -132,7 +126,7 @@ impl Chains {
     pub fn event(&self, key: &Key) -> Option<EventRef<'_>>
         ensures { option_map (λ e. e.1) result ≡ finite.get self.now.events key.now }
     {
-        match slot_of(&self.table, &self.stored, key) {
+        match slot_of(&self.table, &self.places, key) {
             Some(slot) => Some(self.store.get(slot)),
             None => None,
         }
@@ -148,11 +142,9 @@ impl Chains {
         let row = enter(&mut self.table, key.tx());
         let at = IndexKey::new(row.slot, key.seq());
         let slot = self.store.put(at, event);
-        put_place(&mut self.stored, at, slot, true);
         let (carries, names) = (!event.readings().is_empty(), event.evse().is_some());
-        self.live.insert(at, slot);
-        put_place(&mut self.carriers, at, slot, carries);
-        put_place(&mut self.naming, at, slot, names);
+        let place = self.places.place(at);
+        self.places.insert(place, at, slot, carries, names);
         let after = TableRow {
             slot: row.slot,
             live: row.live + 1,
@@ -168,14 +160,11 @@ impl Chains {
         ensures limits { self.new.limits ≡ self.old.limits }
         ensures events { self.new.events ≡ marked self.old.events key.now true }
     {
-        let at = locate(&self.table, &self.stored, key);
+        let at = locate(&self.table, &self.places, key);
         let event = self.store.get(at.slot);
-        let (carries, names) = (event.reading_count() > 0, event.evse().is_some());
         let ends = ends_of(event.kind());
         self.store.set_voided(at.slot, true);
-        self.live.remove(at.key, at.slot);
-        out_place(&mut self.carriers, at.key, carries);
-        out_place(&mut self.naming, at.key, names);
+        self.places.void(at.key, at.slot);
         let after = TableRow {
             slot: at.row.slot,
             live: at.row.live - 1,
@@ -191,14 +180,12 @@ impl Chains {
         ensures limits { self.new.limits ≡ self.old.limits }
         ensures events { self.new.events ≡ marked self.old.events key.now false }
     {
-        let at = locate(&self.table, &self.stored, key);
+        let at = locate(&self.table, &self.places, key);
         let event = self.store.get(at.slot);
         let (carries, names) = (event.reading_count() > 0, event.evse().is_some());
         let ends = ends_of(event.kind());
         self.store.set_voided(at.slot, false);
-        self.live.insert(at.key, at.slot);
-        put_place(&mut self.carriers, at.key, at.slot, carries);
-        put_place(&mut self.naming, at.key, at.slot, names);
+        self.places.restore(at.key, at.slot, carries, names);
         let after = TableRow {
             slot: at.row.slot,
             live: at.row.live + 1,
@@ -214,10 +201,10 @@ impl Chains {
         ensures limits { self.new.limits ≡ self.old.limits }
         ensures events { self.new.events ≡ finite.remove self.old.events key.now }
     {
-        let at = locate(&self.table, &self.stored, key);
-        out_place(&mut self.stored, at.key, true);
+        let at = locate(&self.table, &self.places, key);
+        self.places.remove(at.key);
         self.store.take_out(at.slot);
-        leave(&mut self.table, &self.stored, key.tx(), at.row);
+        leave(&mut self.table, &self.places, key.tx(), at.row);
         self.table.rows_rise();
     }
 
@@ -241,8 +228,9 @@ impl Chains {
         match self.table.get(key.tx()) {
             Some(row) => {
                 let at = IndexKey::new(row.slot, key.seq());
-                let before = last_at(&self.store, place_before(&self.carriers, at));
-                let behind = first_at(&self.store, place_behind(&self.carriers, at));
+                let place = self.places.place(at);
+                let before = last_at(&self.store, carrier_before(&self.places, place, at));
+                let behind = first_at(&self.store, carrier_behind(&self.places, place, at));
                 (before, behind)
             }
             None => (None, None),
@@ -253,7 +241,7 @@ impl Chains {
     pub fn stored_events(&self) -> u32
         ensures { result ≡ length (stored self.now) }
     {
-        self.stored.len()
+        self.places.len()
     }
 
     /// How many readings are stored, those of voided events among them.
@@ -281,8 +269,7 @@ impl Chains {
     pub fn first(&self, tx: &TxId) -> Option<u32>
         ensures { result ≡ slice_get (numbers_of tx.now (stored self.now)) 0 }
     {
-        let live = self.live.index();
-        number_of(first_in(live, self.table.get(tx)))
+        number_of(first_live(&self.places, self.table.get(tx)))
     }
 
     /// The highest live number of a transaction.
@@ -290,8 +277,7 @@ impl Chains {
         ensures { let numbers = numbers_of tx.now (stored self.now) in result ≡ slice_get numbers (length numbers - 1) }
     {
         self.table.rows_rise();
-        let live = self.live.index();
-        number_of(last_in(live, self.table.get(tx)))
+        number_of(last_live(&self.places, self.table.get(tx)))
     }
 
     /// A walk over the live numbers of a transaction, rising.
@@ -299,8 +285,8 @@ impl Chains {
         ensures { result ≡ numbers_of tx.now (stored self.now) }
     {
         match self.table.get(tx) {
-            Some(row) => TxWalk::over(&self.live, &self.store, Some(row.slot)),
-            None => TxWalk::over(&self.live, &self.store, None),
+            Some(row) => TxWalk::over(&self.places, &self.store, Some(row.slot)),
+            None => TxWalk::over(&self.places, &self.store, None),
         }
     }
 
@@ -308,7 +294,7 @@ impl Chains {
     pub fn evse(&self, tx: &TxId) -> EvseId
         ensures { result ≡ evse_of tx.now (stored self.now) }
     {
-        evse_at(&self.store, first_in(&self.naming, self.table.get(tx)))
+        evse_at(&self.store, first_naming(&self.places, self.table.get(tx)))
     }
 
     /// What the live events of a transaction come to, with one look-up of the transaction: the two ends
@@ -324,9 +310,8 @@ impl Chains {
     {
         self.table.rows_rise();
         let row = self.table.get(tx);
-        let live = self.live.index();
-        let first = first_in(live, row);
-        let last = last_in(live, row);
+        let first = first_live(&self.places, row);
+        let last = last_live(&self.places, row);
         let first_kind = kind_at(&self.store, &first);
         let last_kind = kind_at(&self.store, &last);
         let counts = counts_in(row);
@@ -337,7 +322,7 @@ impl Chains {
             last_kind,
             live: counts.0,
             ends: counts.1,
-            evse: evse_at(&self.store, first_in(&self.naming, row)),
+            evse: evse_at(&self.store, first_naming(&self.places, row)),
         }
     }
 

@@ -1,10 +1,11 @@
 //! The events of a station by transaction and number, live and voided, found by look-ups.
 //!
-//! Events and their readings lie in two arenas; a sorted table has the transactions; four ordered
-//! indexes have the places of all events, of the live ones, of the live ones with a reading, and of the
-//! live ones that name an EVSE. The live events of each transaction are also a doubly linked list over
-//! their slots, in order. [`Chains::open`] asks the allocator, and nothing else here asks it again.
-//! Each call is a number of look-ups in an index and in the table, and goes over no events.
+//! Events and their readings lie in two arenas; a sorted table has the transactions; one ordered index
+//! has the places of all events, each marked as live, as live with a reading, and as live and naming an
+//! EVSE. The live events of each transaction are also a doubly linked list over their slots, in order.
+//! [`Chains::open`] asks the allocator, and nothing else here asks it again. Each call is a number of
+//! look-ups in the index and in the table, and goes over no events; where the nearest event with a mark
+//! lies far, it goes over the counts of leaves.
 //!
 //! The crate's one contract: chains are a map from keys to stored events, each live or voided, within
 //! the station's limits. [`Chains::insert`] puts in a live event, [`Chains::unlink`] voids one,
@@ -24,7 +25,8 @@
 
 mod answers;
 mod chains;
-mod live_lists;
+mod lane;
+mod place_index;
 mod spots;
 mod tx_ids;
 mod tx_walk;

@@ -1,17 +1,19 @@
 //! The places of events: their transactions, their ranks, and the slots that hold them.
 ghost use Rattle.std.specs.Prelude.{◌≡◌, ◌<◌, true, false, length, None, Some, IsSome, slice_get, option_map};
 ghost use Rattle.std.specs.Option.{ForSome};
-ghost use Rattle.key_index.specs.Entries.{last_of};
+ghost use Rattle.event_chain.specs.Ranked.{last_of};
 ghost use Rattle.key_index.specs.Key.{rank};
 ghost use Rattle.ledger_model.specs.Ranges.{sequence_end};
 ghost use Rattle.transaction_table.specs.Table.{row_of};
 ghost use Rattle.event_chain.specs.Flat.{place_of, segment};
 ghost use Rattle.event_chain.specs.Kept.{HasPlace, IsBare, IsEntered, IsLeft};
-ghost use Rattle.event_chain.specs.Edits.{put_if, out_if, place_at, first_under, last_under, at_home, places_before, places_behind, first_at, last_at, kind_in, evse_at, IsStored};
+ghost use Rattle.event_chain.specs.Edits.{place_at, first_under, last_under, at_home, places_before, places_behind, first_at, last_at, kind_in, evse_at, IsStored};
 ghost use Rattle.event_chain.specs.Walk.{number_in};
 
+use crate::lane::Lane;
+use crate::place_index::PlaceIndex;
 use event_store::EventStore;
-use key_index::{IndexKey, KeyIndex};
+use key_index::{IndexKey, Place};
 use ledger_model::{EvseId, Key, Kind, Reading, TxId};
 use transaction_table::{TableRow, TransactionTable};
 
@@ -27,9 +29,10 @@ pub(crate) struct Spot {
 }
 
 // Finds a key; none where it is absent.
-pub(crate) fn slot_of(table: &TransactionTable, stored: &KeyIndex, key: &Key) -> Option<u32>
-    ensures { result ≡ place_at table.now.rows stored.now.entries key.now }
+pub(crate) fn slot_of(table: &TransactionTable, places: &PlaceIndex, key: &Key) -> Option<u32>
+    ensures { result ≡ place_at table.now.rows places.now.stored.entries key.now }
 {
+    let stored = places.stored(Place::UNKNOWN);
     stored.keys_rise();
     match table.get(key.tx()) {
         Some(row) => stored.get(IndexKey::new(row.slot, key.seq())),
@@ -38,13 +41,14 @@ pub(crate) fn slot_of(table: &TransactionTable, stored: &KeyIndex, key: &Key) ->
 }
 
 // Finds a key that is there.
-pub(crate) fn locate(table: &TransactionTable, stored: &KeyIndex, key: &Key) -> Spot
-    requires { IsSome (place_at table.now.rows stored.now.entries key.now) }
+pub(crate) fn locate(table: &TransactionTable, places: &PlaceIndex, key: &Key) -> Spot
+    requires { IsSome (place_at table.now.rows places.now.stored.entries key.now) }
     ensures row { row_of key.now.tx table.now.rows ≡ Some result.row }
     ensures key { result.key ≡ rank result.row.slot key.now.seq }
-    ensures slot { place_of result.key stored.now.entries ≡ Some result.slot }
+    ensures slot { place_of result.key places.now.stored.entries ≡ Some result.slot }
     ensures number { key.now.seq < sequence_end }
 {
+    let stored = places.stored(Place::UNKNOWN);
     stored.keys_rise();
     let row = match table.get(key.tx()) {
         Some(row) => row,
@@ -81,16 +85,17 @@ fn own(place: Option<(IndexKey, u32)>, slot: u32) -> Option<(IndexKey, u32)>
 }
 
 // Tells whether the transaction of a slot has a place.
-fn has_place(stored: &KeyIndex, slot: u32) -> bool
-    ensures some { result ≡ true → HasPlace stored.now.entries slot }
-    ensures bare { result ≡ false → IsBare stored.now.entries slot }
+fn has_place(places: &PlaceIndex, slot: u32) -> bool
+    ensures some { result ≡ true → HasPlace places.now.stored.entries slot }
+    ensures bare { result ≡ false → IsBare places.now.stored.entries slot }
 {
+    let stored = places.stored(Place::UNKNOWN);
     stored.keys_rise();
-    first_place(stored, slot).is_some()
+    first_place(&stored, slot).is_some()
 }
 
 // The first place of the transaction of a slot.
-pub(crate) fn first_place(index: &KeyIndex, slot: u32) -> Option<(IndexKey, u32)>
+pub(crate) fn first_place(index: &Lane<'_>, slot: u32) -> Option<(IndexKey, u32)>
     ensures { result ≡ slice_get (segment slot index.now.entries) 0 }
 {
     index.keys_rise();
@@ -98,7 +103,7 @@ pub(crate) fn first_place(index: &KeyIndex, slot: u32) -> Option<(IndexKey, u32)
 }
 
 // The first place of a transaction in an index; none where it has none there.
-pub(crate) fn first_in(index: &KeyIndex, row: Option<TableRow>) -> Option<(IndexKey, u32)>
+fn first_in(index: &Lane<'_>, row: Option<TableRow>) -> Option<(IndexKey, u32)>
     ensures { result ≡ first_under index.now.entries row }
 {
     match row {
@@ -108,7 +113,7 @@ pub(crate) fn first_in(index: &KeyIndex, row: Option<TableRow>) -> Option<(Index
 }
 
 // The last place of the transaction of a slot.
-fn last_place(index: &KeyIndex, slot: u32) -> Option<(IndexKey, u32)>
+fn last_place(index: &Lane<'_>, slot: u32) -> Option<(IndexKey, u32)>
     requires { slot < 4294967295 }
     ensures { result ≡ last_of (segment slot index.now.entries) }
 {
@@ -117,7 +122,7 @@ fn last_place(index: &KeyIndex, slot: u32) -> Option<(IndexKey, u32)>
 }
 
 // The last place of a transaction in an index; none where it has none there.
-pub(crate) fn last_in(index: &KeyIndex, row: Option<TableRow>) -> Option<(IndexKey, u32)>
+fn last_in(index: &Lane<'_>, row: Option<TableRow>) -> Option<(IndexKey, u32)>
     requires { ForSome row (λ r. r.slot < 4294967295) }
     ensures { result ≡ last_under index.now.entries row }
 {
@@ -128,7 +133,7 @@ pub(crate) fn last_in(index: &KeyIndex, row: Option<TableRow>) -> Option<(IndexK
 }
 
 // The last place in front of a key, of the key's transaction.
-pub(crate) fn place_before(index: &KeyIndex, key: IndexKey) -> Option<(IndexKey, u32)>
+pub(crate) fn place_before(index: &Lane<'_>, key: IndexKey) -> Option<(IndexKey, u32)>
     ensures { result ≡ last_of (places_before key index.now.entries) }
 {
     index.keys_rise();
@@ -136,7 +141,7 @@ pub(crate) fn place_before(index: &KeyIndex, key: IndexKey) -> Option<(IndexKey,
 }
 
 // The first place behind a key, of the key's transaction.
-pub(crate) fn place_behind(index: &KeyIndex, key: IndexKey) -> Option<(IndexKey, u32)>
+pub(crate) fn place_behind(index: &Lane<'_>, key: IndexKey) -> Option<(IndexKey, u32)>
     ensures { result ≡ slice_get (places_behind key index.now.entries) 0 }
 {
     index.keys_rise();
@@ -145,6 +150,55 @@ pub(crate) fn place_behind(index: &KeyIndex, key: IndexKey) -> Option<(IndexKey,
         return None;
     }
     own(index.at_or_after(IndexKey::new(slot, number + 1)), slot)
+}
+
+// The first live place of a transaction; none where it has none.
+pub(crate) fn first_live(places: &PlaceIndex, row: Option<TableRow>) -> Option<(IndexKey, u32)>
+    ensures { result ≡ first_under places.now.live.entries row }
+{
+    let live = places.live(Place::UNKNOWN);
+    first_in(&live, row)
+}
+
+// The last live place of a transaction; none where it has none.
+pub(crate) fn last_live(places: &PlaceIndex, row: Option<TableRow>) -> Option<(IndexKey, u32)>
+    requires { ForSome row (λ r. r.slot < 4294967295) }
+    ensures { result ≡ last_under places.now.live.entries row }
+{
+    let live = places.live(Place::UNKNOWN);
+    last_in(&live, row)
+}
+
+// The first place of a transaction's events that name an EVSE; none where none does.
+pub(crate) fn first_naming(places: &PlaceIndex, row: Option<TableRow>) -> Option<(IndexKey, u32)>
+    ensures { result ≡ first_under places.now.naming.entries row }
+{
+    let naming = places.naming(Place::UNKNOWN);
+    first_in(&naming, row)
+}
+
+// The last place in front of a key of an event with a reading, of the key's transaction.
+pub(crate) fn carrier_before(
+    places: &PlaceIndex,
+    place: Place,
+    key: IndexKey,
+) -> Option<(IndexKey, u32)>
+    ensures { result ≡ last_of (places_before key places.now.carriers.entries) }
+{
+    let carriers = places.carriers(place);
+    place_before(&carriers, key)
+}
+
+// The first place behind a key of an event with a reading, of the key's transaction.
+pub(crate) fn carrier_behind(
+    places: &PlaceIndex,
+    place: Place,
+    key: IndexKey,
+) -> Option<(IndexKey, u32)>
+    ensures { result ≡ slice_get (places_behind key places.now.carriers.entries) 0 }
+{
+    let carriers = places.carriers(place);
+    place_behind(&carriers, key)
 }
 
 // The last reading of the event of a place, where there is one.
@@ -202,37 +256,12 @@ pub(crate) fn evse_at(store: &EventStore, place: Option<(IndexKey, u32)>) -> Evs
 }
 
 // Takes out a transaction whose last place went.
-pub(crate) fn leave(table: &mut TransactionTable, stored: &KeyIndex, tx: &TxId, row: TableRow)
+pub(crate) fn leave(table: &mut TransactionTable, places: &PlaceIndex, tx: &TxId, row: TableRow)
     requires { row_of tx.now table.old.rows ≡ Some row }
-    ensures left { IsLeft table.old.rows table.new.rows stored.now.entries tx.now row }
+    ensures left { IsLeft table.old.rows table.new.rows places.now.stored.entries tx.now row }
     ensures capacity { table.new.capacity ≡ table.old.capacity }
 {
-    if !has_place(stored, row.slot) {
+    if !has_place(places, row.slot) {
         table.remove(tx);
-    }
-}
-
-// Puts a place into an index, where it is wanted there.
-pub(crate) fn put_place(index: &mut KeyIndex, key: IndexKey, slot: u32, wanted: bool)
-    requires absent { place_of key index.old.entries ≡ None }
-    requires room { length index.old.entries < index.old.capacity }
-    ensures entries { index.new.entries ≡ put_if wanted key slot index.old.entries }
-    ensures capacity { index.new.capacity ≡ index.old.capacity }
-{
-    index.keys_rise();
-    if wanted {
-        index.insert(key, slot);
-    }
-}
-
-// Takes a place out of an index, where it stands there.
-pub(crate) fn out_place(index: &mut KeyIndex, key: IndexKey, wanted: bool)
-    requires { wanted ≡ true → IsSome (place_of key index.old.entries) }
-    ensures entries { index.new.entries ≡ out_if wanted key index.old.entries }
-    ensures capacity { index.new.capacity ≡ index.old.capacity }
-{
-    index.keys_rise();
-    if wanted {
-        index.remove(key);
     }
 }

@@ -1,17 +1,18 @@
 ghost use Rattle.std.specs.Prelude.{◌≡◌, true};
 ghost use Rattle.event_chain.specs.Walk.{numbers_at, are_under};
 
-use crate::live_lists::LiveLists;
+use crate::place_index::PlaceIndex;
 use crate::spots::first_place;
 use event_store::EventStore;
 use gap_list::NumberWalk;
+use key_index::Place;
 use std::marker::Model;
 
 /// A walk over the live numbers of a transaction, rising. Its start is found by a look-up, and each
 /// step follows a link. Contracts see the numbers.
 #[derive(Drop)]
 pub struct TxWalk<'a> {
-    live: &'a LiveLists,
+    live: &'a PlaceIndex,
     store: &'a EventStore,
     // The transaction's slot, where it has one.
     slot: Option<u32>,
@@ -23,24 +24,24 @@ impl<'a> Model for TxWalk<'a> {
 
     ghost Value = { List ℕ };
 
-    ghost view = { λ w. numbers_at w.live.now.entries w.slot };
+    ghost view = { λ w. numbers_at w.live.now.live.entries w.slot };
 
-    ghost invariant = { λ w. are_under w.store.now.slots w.live.now.entries ≡ true };
+    ghost invariant = { λ w. are_under w.store.now.slots w.live.now.live.entries ≡ true };
 }
 
 /// A place of a walk: the slot of a live event, with the links that lead on and the events.
 #[derive(Clone, Copy)]
 pub struct TxPlace<'a> {
-    live: &'a LiveLists,
+    live: &'a PlaceIndex,
     store: &'a EventStore,
     slot: u32,
 }
 
 impl<'a> TxWalk<'a> {
     // The walk over the live numbers of the transaction of a slot.
-    pub(crate) fn over(live: &'a LiveLists, store: &'a EventStore, slot: Option<u32>) -> Self
-        requires { are_under store.now.slots live.now.entries ≡ true }
-        ensures { result ≡ numbers_at live.now.entries slot }
+    pub(crate) fn over(live: &'a PlaceIndex, store: &'a EventStore, slot: Option<u32>) -> Self
+        requires { are_under store.now.slots live.now.live.entries ≡ true }
+        ensures { result ≡ numbers_at live.now.live.entries slot }
     {
         TxWalk { live, store, slot }
     }
@@ -53,12 +54,12 @@ impl<'a> NumberWalk for TxWalk<'a> {
 
     ghost numbers = { λ w. w };
 
-    ghost ahead = { λ w place. numbers_from place.live.now.entries place.store.now.slots place.slot };
+    ghost ahead = { λ w place. numbers_from place.live.now.live.entries place.store.now.slots place.slot };
 
     fn start(&self) -> Option<TxPlace<'a>> {
-        let index = self.live.index();
+        let index = self.live.live(Place::UNKNOWN);
         match self.slot {
-            Some(slot) => match first_place(index, slot) {
+            Some(slot) => match first_place(&index, slot) {
                 Some(first) => Some(TxPlace {
                     live: self.live,
                     store: self.store,
@@ -72,13 +73,13 @@ impl<'a> NumberWalk for TxWalk<'a> {
 
     fn number(&self, place: TxPlace<'a>) -> u32 {
         // The indexed keys rise, each with a slot of its own.
-        let _index = place.live.index();
+        let _index = place.live.live(Place::UNKNOWN);
         place.store.get(place.slot).key().number()
     }
 
     fn next(&self, place: TxPlace<'a>) -> Option<TxPlace<'a>> {
         // The indexed keys rise, each with a slot of its own.
-        let _index = place.live.index();
+        let _index = place.live.live(Place::UNKNOWN);
         match place.live.next(place.slot) {
             Some(slot) => Some(TxPlace { slot, ..place }),
             None => None,

@@ -3,7 +3,8 @@ use Rattle.std.proofs.Common.{◌≡◌, ℕ, zero, suc, ◌+◌, ◌<◌, ◌�
 use Rattle.std.specs.List.{insert, remove}
 use Rattle.std.proofs.lemmas.Bool.{cases_lt}
 use Rattle.std.proofs.lemmas.Bool.Decides.{nat_tests}
-use Rattle.key_index.specs.Entries.{Entry, below, from, slot_at, AreAbove, AreRising}
+use Rattle.key_index.specs.declared.filed.Filed.{Filed}
+use Rattle.key_index.specs.Entries.{Entry, below, from, filed_at, AreAbove, AreRising}
 use Rattle.key_index.specs.Leaves.{all_of, Belongs}
 use Rattle.key_index.proofs.Orders.{below_on, below_end, from_on, from_end, take_below, drop_below, cut_whole}
 use Rattle.key_index.proofs.Belonging.{all_at, rising_parts, leaf_above, cut_front, cut_back}
@@ -25,10 +26,10 @@ from_at key leaves at b = let front = all_of (take at leaves) in let leaf = get_
     ap (from key) (all_at leaves at b.within) ∙ (cut_front key front (leaf ++ back) b.front).1 ∙ (cut_back key leaf back b.back).1
 
 -- An entry put into the leaf of its key stands between what is in front of the key and what is left.
-pub put_all : (key slot : ℕ) (leaves : List (List Entry)) (at : ℕ) → Belongs key leaves at
-    → all_of (set leaves at (insert (get_or leaves at []) (length (below key (get_or leaves at []))) (key, slot))) ≡ below key (all_of leaves) ++ (key, slot) ∷ from key (all_of leaves)
-put_all key slot leaves at b =
-    let front = all_of (take at leaves) in let leaf = get_or leaves at [] in let back = all_of (drop (suc at) leaves) in let e : Entry = (key, slot) in
+pub put_all : (key : ℕ) (filed : Filed) (leaves : List (List Entry)) (at : ℕ) → Belongs key leaves at
+    → all_of (set leaves at (insert (get_or leaves at []) (length (below key (get_or leaves at []))) (key, filed))) ≡ below key (all_of leaves) ++ (key, filed) ∷ from key (all_of leaves)
+put_all key filed leaves at b =
+    let front = all_of (take at leaves) in let leaf = get_or leaves at [] in let back = all_of (drop (suc at) leaves) in let e : Entry = (key, filed) in
     let cut : insert leaf (length (below key leaf)) e ≡ below key leaf ++ e ∷ from key leaf = (λ i. take_below key leaf i ++ e ∷ drop_below key leaf i) in
     all_set leaves at (insert leaf (length (below key leaf)) e) b.within ∙ ap (λ l. front ++ (l ++ back)) cut
     ∙ ap (λ l. front ++ l) (append_assoc (below key leaf) (e ∷ from key leaf) back) ∙ sym (append_assoc front (below key leaf) (e ∷ from key leaf ++ back))
@@ -57,9 +58,9 @@ out_all key leaves at b some =
     ∙ (λ i. sym (below_at key leaves at b) i ++ drop 1 (sym (from_at key leaves at b) i))
 
 -- A key above which all later entries lie is in the first part, if anywhere.
-pub present_in : (key : ℕ) (xs back : List Entry) → AreAbove key back → is_some (slot_at key (xs ++ back)) ≡ true → 0 < length xs
+pub present_in : (key : ℕ) (xs back : List Entry) → AreAbove key back → is_some (filed_at key (xs ++ back)) ≡ true → 0 < length xs
 present_in key [] [] above present = cc
-present_in key [] (y ∷ back) above present = let no : slot_at key (y ∷ back) ≡ None = grind (arith, nat_tests, above.0) in absurd (cc)
+present_in key [] (y ∷ back) above present = let no : filed_at key (y ∷ back) ≡ None = grind (arith, nat_tests, above.0) in absurd (cc)
 present_in key (x ∷ xs) back above present = omega arith
 
 -- A key that is there lies in front of the end of its leaf.
@@ -73,27 +74,27 @@ set_round (l ∷ leaves) zero leaf = (refl, refl)
 set_round (l ∷ leaves) (suc at) leaf = let rest = set_round leaves at leaf in (ap (λ ls. l ∷ ls) rest.0, rest.1)
 
 -- Entries above a number stay so with a key above it put in.
-above_put : (n key slot : ℕ) (es : List Entry) → n < key → AreAbove n es → AreAbove n (below key es ++ (key, slot) ∷ from key es)
-above_put n key slot [] lt above = (lt, tt)
-above_put n key slot (e ∷ es) lt above = elim (cases_lt e.0 key) [
-  | inl on ↦ rw (below_on key e es on, from_on key e es on) (above.0, above_put n key slot es lt above.1)
+above_put : (n key : ℕ) (filed : Filed) (es : List Entry) → n < key → AreAbove n es → AreAbove n (below key es ++ (key, filed) ∷ from key es)
+above_put n key filed [] lt above = (lt, tt)
+above_put n key filed (e ∷ es) lt above = elim (cases_lt e.0 key) [
+  | inl on ↦ rw (below_on key e es on, from_on key e es on) (above.0, above_put n key filed es lt above.1)
   | inr le ↦ rw (below_end key e es le, from_end key e es le) (lt, above)
 ]
 
 -- A first key that is not before the one sought, and is another, is after it.
-strictly : (key : ℕ) (e : Entry) (es : List Entry) → key ≤ e.0 → slot_at key (e ∷ es) ≡ None → key < e.0
+strictly : (key : ℕ) (e : Entry) (es : List Entry) → key ≤ e.0 → filed_at key (e ∷ es) ≡ None → key < e.0
 strictly key e es le absent = elim (cases_lt key e.0) [
   | inl lt ↦ lt
-  | inr same ↦ let is : slot_at key (e ∷ es) ≡ Some e.1 = grind (arith, nat_tests, le, same) in absurd (cc)
+  | inr same ↦ let is : filed_at key (e ∷ es) ≡ Some e.1 = grind (arith, nat_tests, le, same) in absurd (cc)
 ]
 
 -- Rising entries rise with an absent key put in.
-pub rising_put : (key slot : ℕ) (es : List Entry) → AreRising es → slot_at key (from key es) ≡ None → AreRising (below key es ++ (key, slot) ∷ from key es)
-rising_put key slot [] rising absent = (tt, tt)
-rising_put key slot (e ∷ es) rising absent = elim (cases_lt e.0 key) [
-  | inl on ↦ let rest : slot_at key (from key es) ≡ None = ap (slot_at key) (sym (from_on key e es on)) ∙ absent in
-      rw (below_on key e es on, from_on key e es on) (above_put e.0 key slot es on rising.0, rising_put key slot es rising.1 rest)
-  | inr le ↦ let here : slot_at key (e ∷ es) ≡ None = ap (slot_at key) (sym (from_end key e es le)) ∙ absent in
+pub rising_put : (key : ℕ) (filed : Filed) (es : List Entry) → AreRising es → filed_at key (from key es) ≡ None → AreRising (below key es ++ (key, filed) ∷ from key es)
+rising_put key filed [] rising absent = (tt, tt)
+rising_put key filed (e ∷ es) rising absent = elim (cases_lt e.0 key) [
+  | inl on ↦ let rest : filed_at key (from key es) ≡ None = ap (filed_at key) (sym (from_on key e es on)) ∙ absent in
+      rw (below_on key e es on, from_on key e es on) (above_put e.0 key filed es on rising.0, rising_put key filed es rising.1 rest)
+  | inr le ↦ let here : filed_at key (e ∷ es) ≡ None = ap (filed_at key) (sym (from_end key e es le)) ∙ absent in
       rw (below_end key e es le, from_end key e es le) (leaf_above key (e ∷ es) rising (strictly key e es le here), rising)
 ]
 
@@ -114,8 +115,8 @@ rising_out key (e ∷ es) rising = elim (cases_lt e.0 key) [
 ]
 
 -- A cut list with one entry more is one longer.
-pub length_put : (key slot : ℕ) (es : List Entry) → length (below key es ++ (key, slot) ∷ from key es) ≡ length es + 1
-length_put key slot es = omega (arith, length-append (below key es) ((key, slot) ∷ from key es), length-append (below key es) (from key es), ap length (cut_whole key es))
+pub length_put : (key : ℕ) (filed : Filed) (es : List Entry) → length (below key es ++ (key, filed) ∷ from key es) ≡ length es + 1
+length_put key filed es = omega (arith, length-append (below key es) ((key, filed) ∷ from key es), length-append (below key es) (from key es), ap length (cut_whole key es))
 
 -- Without its first entry from the key on it is one shorter.
 pub length_out : (key : ℕ) (es : List Entry) → 0 < length (from key es) → length (below key es ++ drop 1 (from key es)) + 1 ≡ length es

@@ -2,3 +2,6 @@ mod Belonging
 mod Cuts
 mod Edits
 mod Orders
+mod Counting
+mod Nearest
+mod Placing

@@ -1,9 +1,10 @@
--- Entries of an index: keys, each with a slot number, in rising order.
+-- Entries of an index: keys, each with a slot number and marks, in rising order.
 use Rattle.std.specs.Prelude.{ℕ, ◌<◌, List, [], ◌∷◌, Option, Some, None, length, nat_lt, nat_eq, if◌then◌else◌, slice_get, ◌-◌}
+use Rattle.key_index.specs.declared.filed.Filed.{Filed}
 
--- A key and its slot number.
+-- A key and what stands under it.
 abbrev pub Entry : Type 0
-Entry = ℕ × ℕ
+Entry = ℕ × Filed
 
 -- The entries in front that stand before the key.
 abbrev pub below : ℕ → List Entry → List Entry
@@ -15,10 +16,10 @@ abbrev pub from : ℕ → List Entry → List Entry
 from key [] = []
 from key (e ∷ es) = if nat_lt e.0 key then from key es else e ∷ es
 
--- The slot number of the first entry, where that has the key.
-abbrev pub slot_at : ℕ → List Entry → Option ℕ
-slot_at key [] = None
-slot_at key (e ∷ es) = if nat_eq e.0 key then Some e.1 else None
+-- What stands under the first entry, where that has the key.
+abbrev pub filed_at : ℕ → List Entry → Option Filed
+filed_at key [] = None
+filed_at key (e ∷ es) = if nat_eq e.0 key then Some e.1 else None
 
 -- The first entry.
 abbrev pub first_of : List Entry → Option Entry

@@ -1,12 +1,16 @@
 ghost use Rattle.std.specs.Prelude.{◌≡◌, ◌+◌, ◌<◌, ◌≤◌, [], ◌∷◌, ◌++◌, length, drop, None, IfOk, IsSome};
-ghost use Rattle.key_index.specs.Entries.{below, from, slot_at, first_of, last_of, AreRising};
+ghost use Rattle.key_index.specs.Entries.{below, from, filed_at, first_of, last_of, AreRising};
 ghost use Rattle.key_index.specs.Index.{index};
+ghost use Rattle.key_index.specs.Marks.{marked, mark_at};
 
+use crate::filed::{Filed, Mark, Marks};
 use crate::key::IndexKey;
-use crate::leaf::Leaf;
+use crate::leaf::{LEAF_SIZE, Leaf};
 use crate::leaves::{
-    first_from, last_before, leaf_of, make_room, put, reclaim, release_empty, take_out,
+    first_from, first_marked, last_before, last_marked, leaf_of, make_room, mark, put, put_at,
+    reclaim, release_empty, seek, settled, take_out,
 };
+use crate::place::Place;
 use std::alloc::{AllocError, Global};
 use std::marker::Model;
 
@@ -78,56 +82,122 @@ impl KeyIndex {
         self.capacity
     }
 
-    /// The slot number of a key; none where the key is absent.
-    pub fn get(&self, key: IndexKey) -> Option<u32>
-        ensures { result ≡ slot_at key (from key self.now.entries) }
+    /// The place where a key stands or belongs, to be handed to the calls that take one.
+    pub fn place(&self, key: IndexKey) -> Place {
+        if self.leaves.is_empty() {
+            return Place { leaf: 0, entry: 0 };
+        }
+        seek(&self.leaves, key)
+    }
+
+    /// What stands under a key; none where the key is absent.
+    pub fn get(&self, place: Place, key: IndexKey) -> Option<Filed>
+        ensures { result ≡ filed_at key (from key self.now.entries) }
     {
-        match self.at_or_after(key) {
-            Some((found, slot)) if found == key => Some(slot),
+        match self.at_or_after(place, key) {
+            Some((found, filed)) if found == key => Some(filed),
             _ => None,
         }
     }
 
     /// The first entry whose key is the one given or greater.
-    pub fn at_or_after(&self, key: IndexKey) -> Option<(IndexKey, u32)>
+    pub fn at_or_after(&self, place: Place, key: IndexKey) -> Option<(IndexKey, Filed)>
         ensures { result ≡ first_of (from key self.now.entries) }
     {
         if self.leaves.is_empty() {
             return None;
         }
-        let at = leaf_of(&self.leaves, key);
-        let place = self.leaves[at].place_of(key);
-        first_from(&self.leaves, at, place)
+        let at = settled(&self.leaves, place, key);
+        first_from(&self.leaves, at.leaf, at.entry)
     }
 
     /// The last entry whose key is smaller than the one given.
-    pub fn before(&self, key: IndexKey) -> Option<(IndexKey, u32)>
+    pub fn before(&self, place: Place, key: IndexKey) -> Option<(IndexKey, Filed)>
         ensures { result ≡ last_of (below key self.now.entries) }
     {
         if self.leaves.is_empty() {
             return None;
         }
-        let at = leaf_of(&self.leaves, key);
-        let place = self.leaves[at].place_of(key);
-        last_before(&self.leaves, at, place)
+        let at = settled(&self.leaves, place, key);
+        last_before(&self.leaves, at.leaf, at.entry)
     }
 
-    /// Puts in an entry. The key is absent, and there is room.
-    pub fn insert(&mut self, key: IndexKey, slot: u32)
-        requires absent { slot_at key (from key self.old.entries) ≡ None }
+    /// The last entry with a mark whose key is smaller than the one given.
+    pub fn before_marked(
+        &self,
+        place: Place,
+        key: IndexKey,
+        mark: Mark,
+    ) -> Option<(IndexKey, Filed)>
+        ensures { result ≡ last_of (marked mark (below key self.now.entries)) }
+    {
+        if self.leaves.is_empty() {
+            return None;
+        }
+        let at = settled(&self.leaves, place, key);
+        last_marked(&self.leaves, at, mark)
+    }
+
+    /// The first entry with a mark whose key is the one given or greater.
+    pub fn at_or_after_marked(
+        &self,
+        place: Place,
+        key: IndexKey,
+        mark: Mark,
+    ) -> Option<(IndexKey, Filed)>
+        ensures { result ≡ first_of (marked mark (from key self.now.entries)) }
+    {
+        if self.leaves.is_empty() {
+            return None;
+        }
+        let at = settled(&self.leaves, place, key);
+        first_marked(&self.leaves, at, mark)
+    }
+
+    /// Sets the marks of the entry of a key, which is there.
+    pub fn set_marks(&mut self, key: IndexKey, marks: Marks)
+        requires { IsSome (filed_at key (from key self.old.entries)) }
+        ensures entries { self.new.entries ≡ below key self.old.entries ++ mark_at marks 0 (from key self.old.entries) }
+        ensures capacity { self.new.capacity ≡ self.old.capacity }
+    {
+        let at = leaf_of(&self.leaves, key);
+        mark(&mut self.leaves, at, key, marks);
+    }
+
+    /// Puts in an entry at its place. The key is absent, and there is room.
+    pub fn insert(&mut self, place: Place, key: IndexKey, filed: Filed)
+        requires absent { filed_at key (from key self.old.entries) ≡ None }
         requires room { length self.old.entries < self.old.capacity }
-        ensures entries { self.new.entries ≡ below key self.old.entries ++ (key, slot) ∷ from key self.old.entries }
+        ensures entries { self.new.entries ≡ below key self.old.entries ++ (key, filed) ∷ from key self.old.entries }
+        ensures capacity { self.new.capacity ≡ self.old.capacity }
+    {
+        if !self.leaves.is_empty() {
+            let at = settled(&self.leaves, place, key);
+            if self.leaves[at.leaf].len() < LEAF_SIZE {
+                put_at(&mut self.leaves, at, key, filed, &mut self.scratch);
+                self.len += 1;
+                return;
+            }
+        }
+        self.insert_making_room(key, filed);
+    }
+
+    // Puts in an entry where its leaf may be full, or there is none.
+    fn insert_making_room(&mut self, key: IndexKey, filed: Filed)
+        requires absent { filed_at key (from key self.old.entries) ≡ None }
+        requires room { length self.old.entries < self.old.capacity }
+        ensures entries { self.new.entries ≡ below key self.old.entries ++ (key, filed) ∷ from key self.old.entries }
         ensures capacity { self.new.capacity ≡ self.old.capacity }
     {
         reclaim(&mut self.leaves, &mut self.spare);
         let at = make_room(&mut self.leaves, &mut self.spare, key);
-        put(&mut self.leaves, at, key, slot, &mut self.scratch);
+        put(&mut self.leaves, at, key, filed, &mut self.scratch);
         self.len += 1;
     }
 
     /// Takes out the entry of a key, which is there.
     pub fn remove(&mut self, key: IndexKey)
-        requires { IsSome (slot_at key (from key self.old.entries)) }
+        requires { IsSome (filed_at key (from key self.old.entries)) }
         ensures entries { self.new.entries ≡ below key self.old.entries ++ drop 1 (from key self.old.entries) }
         ensures capacity { self.new.capacity ≡ self.old.capacity }
     {

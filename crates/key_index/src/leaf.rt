@@ -1,8 +1,12 @@
 //! A run of up to [`LEAF_SIZE`] entries, whose memory is taken when it is opened.
 ghost use Rattle.std.specs.Prelude.{◌≡◌, ◌+◌, ◌<◌, ◌≤◌, [], ◌++◌, length, take, drop, slice_get, Some, IfOk};
 ghost use Rattle.std.specs.List.{insert, remove};
-ghost use Rattle.key_index.specs.Entries.{below, AreRising};
+ghost use Rattle.std.specs.Vec.{vec_len, vec_capacity};
+ghost use Rattle.key_index.specs.Entries.{below, first_of, last_of, AreRising};
+ghost use Rattle.key_index.specs.Marks.{marked, mark_at};
 
+use crate::counts::{Counts, counts_over};
+use crate::filed::{Filed, Mark, Marks};
 use crate::key::IndexKey;
 use std::alloc::{AllocError, Global};
 use std::marker::Model;
@@ -10,22 +14,54 @@ use std::marker::Model;
 /// The most entries of a leaf.
 pub const LEAF_SIZE: usize = 128;
 
-/// A run of entries. Contracts see the list of their keys and slot numbers.
+/// A run of entries, with how many of them have each mark. Contracts see the list of their keys and
+/// what stands under them.
 #[derive(Drop)]
 pub struct Leaf {
-    entries: Vec<(IndexKey, u32)>,
+    entries: Vec<(IndexKey, Filed)>,
+    counts: Counts,
 }
 
 impl Model for Leaf {
-    ghost use Rattle.std.specs.Prelude.{ℕ, List, length, ◌≤◌};
+    ghost use Rattle.std.specs.Prelude.{List, length, ◌≤◌};
     ghost use Rattle.std.specs.Vec.{vec_capacity};
     ghost use Rattle.key_index.specs.declared.leaf.TheConstants.{LEAF_SIZE};
+    ghost use Rattle.key_index.specs.Entries.{Entry};
+    ghost use Rattle.key_index.specs.Marks.{AreCounts};
 
-    ghost Value = { List (ℕ × ℕ) };
+    ghost Value = { List Entry };
 
     ghost view = { λ l. l.entries.items };
 
-    ghost invariant = { λ l. (LEAF_SIZE ≤ vec_capacity l.entries) × (length l.entries.items ≤ LEAF_SIZE) };
+    ghost invariant = { λ l. (LEAF_SIZE ≤ vec_capacity l.entries) × (length l.entries.items ≤ LEAF_SIZE) × AreCounts l.counts l.entries.items };
+}
+
+// Moves the entries from a place on into an empty vector, copied as a whole run.
+fn move_from(entries: &mut Vec<(IndexKey, Filed)>, place: usize, empty: &mut Vec<(IndexKey, Filed)>)
+    requires place { place ≤ length entries.old.items }
+    requires empty { empty.old.items ≡ [] }
+    requires room { length entries.old.items ≤ vec_capacity empty.old }
+    ensures kept { entries.new.items ≡ take place entries.old.items }
+    ensures moved { empty.new.items ≡ drop place entries.old.items }
+    ensures capacity { (vec_capacity entries.old ≤ vec_capacity entries.new) × (vec_capacity empty.old ≤ vec_capacity empty.new) }
+{
+    match empty.extend_from_slice(&entries[place..]) {
+        Ok(()) => (),
+        Err(_) => unreachable!(),
+    }
+    entries.truncate(place);
+}
+
+// Copies entries behind those of a vector that has room for them.
+fn push_all(entries: &mut Vec<(IndexKey, Filed)>, more: &[(IndexKey, Filed)])
+    requires { length entries.old.items + length more.now ≤ vec_capacity entries.old }
+    ensures items { entries.new.items ≡ entries.old.items ++ more.now }
+    ensures capacity { vec_capacity entries.old ≤ vec_capacity entries.new }
+{
+    match entries.extend_from_slice(more) {
+        Ok(()) => (),
+        Err(_) => unreachable!(),
+    }
 }
 
 impl Leaf {
@@ -34,7 +70,10 @@ impl Leaf {
         ensures { IfOk result (λ l. l ≡ []) }
     {
         let entries = Vec::with_capacity(alloc, LEAF_SIZE)?;
-        Ok(Leaf { entries })
+        Ok(Leaf {
+            entries,
+            counts: Counts::none(),
+        })
     }
 
     /// How many entries it holds.
@@ -45,8 +84,15 @@ impl Leaf {
         self.entries.len()
     }
 
+    /// How many of them have a mark.
+    pub(crate) fn count(&self, mark: Mark) -> u8
+        ensures { result ≡ length (marked mark self.now) }
+    {
+        self.counts.of(mark)
+    }
+
     /// The entry at a place.
-    pub(crate) fn entry(&self, place: usize) -> (IndexKey, u32)
+    pub(crate) fn entry(&self, place: usize) -> (IndexKey, Filed)
         requires { place < length self.now }
         ensures { slice_get self.now place ≡ Some result }
     {
@@ -72,19 +118,72 @@ impl Leaf {
         low
     }
 
+    /// The last entry with a mark in front of a place.
+    pub(crate) fn last_marked(&self, place: usize, mark: Mark) -> Option<(IndexKey, Filed)>
+        requires { place ≤ length self.now }
+        ensures { result ≡ last_of (marked mark (take place self.now)) }
+    {
+        if self.counts.of(mark) == 0 {
+            return None;
+        }
+        let mut at = place;
+        while at > 0 {
+            at -= 1;
+            let entry = self.entries[at];
+            if entry.1.marks.has(mark) {
+                return Some(entry);
+            }
+        }
+        None
+    }
+
+    /// The first entry with a mark from a place on.
+    pub(crate) fn first_marked(&self, place: usize, mark: Mark) -> Option<(IndexKey, Filed)>
+        ensures { result ≡ first_of (marked mark (drop place self.now)) }
+    {
+        if self.counts.of(mark) == 0 {
+            return None;
+        }
+        let mut at = place;
+        while at < self.entries.len() {
+            let entry = self.entries[at];
+            if entry.1.marks.has(mark) {
+                return Some(entry);
+            }
+            at += 1;
+        }
+        None
+    }
+
+    /// Sets the marks of the entry at a place.
+    pub(crate) fn set_marks(&mut self, place: usize, marks: Marks)
+        requires { place < length self.old }
+        ensures { self.new ≡ mark_at marks place self.old }
+    {
+        let entry = self.entries[place];
+        let filed = Filed {
+            slot: entry.1.slot,
+            marks,
+        };
+        self.counts = self.counts.less(entry.1.marks).more(marks);
+        self.entries[place] = (entry.0, filed);
+    }
+
     /// Puts an entry at a place; those from there on, where there are any, move up by way of an empty
     /// leaf, copied there and back as a whole run.
-    pub(crate) fn insert(&mut self, place: usize, key: IndexKey, slot: u32, empty: &mut Leaf)
+    pub(crate) fn insert(&mut self, place: usize, key: IndexKey, filed: Filed, empty: &mut Leaf)
         requires { (place ≤ length self.old) × (length self.old < LEAF_SIZE) × (empty.old ≡ []) }
-        ensures { (self.new ≡ insert self.old place (key, slot)) × (empty.new ≡ []) }
+        ensures { (self.new ≡ insert self.old place (key, filed)) × (empty.new ≡ []) }
     {
+        self.counts = self.counts.more(filed.marks);
         if place == self.entries.len() {
-            self.entries.push_reserved((key, slot));
+            self.entries.push_reserved((key, filed));
             return;
         }
-        self.split_at(place, empty);
-        self.entries.push_reserved((key, slot));
-        self.append(empty);
+        move_from(&mut self.entries, place, &mut empty.entries);
+        self.entries.push_reserved((key, filed));
+        push_all(&mut self.entries, &empty.entries);
+        empty.entries.clear();
     }
 
     /// Takes out the entry at a place; those after it move down.
@@ -92,7 +191,8 @@ impl Leaf {
         requires { place < length self.old }
         ensures { self.new ≡ remove self.old place }
     {
-        let _entry = self.entries.remove(place);
+        let entry = self.entries.remove(place);
+        self.counts = self.counts.less(entry.1.marks);
     }
 
     /// Moves the entries from a place on into an empty leaf.
@@ -100,11 +200,10 @@ impl Leaf {
         requires { (place ≤ length self.old) × (empty.old ≡ []) }
         ensures { (self.new ≡ take place self.old) × (empty.new ≡ drop place self.old) }
     {
-        match empty.entries.extend_from_slice(&self.entries[place..]) {
-            Ok(()) => (),
-            Err(_) => unreachable!(),
-        }
-        self.entries.truncate(place);
+        let moved = counts_over(&self.entries[place..]);
+        move_from(&mut self.entries, place, &mut empty.entries);
+        empty.counts = moved;
+        self.counts = self.counts.minus(moved);
     }
 
     /// Moves the entries of another leaf behind this one's.
@@ -112,10 +211,9 @@ impl Leaf {
         requires { length self.old + length other.old ≤ LEAF_SIZE }
         ensures { (self.new ≡ self.old ++ other.old) × (other.new ≡ []) }
     {
-        match self.entries.extend_from_slice(&other.entries) {
-            Ok(()) => (),
-            Err(_) => unreachable!(),
-        }
+        push_all(&mut self.entries, &other.entries);
+        self.counts = self.counts.plus(other.counts);
         other.entries.clear();
+        other.counts = Counts::none();
     }
 }

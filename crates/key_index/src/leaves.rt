@@ -1,12 +1,16 @@
 //! The leaves of an index: where a key belongs, and how a leaf is split and two are joined.
-ghost use Rattle.std.specs.Prelude.{◌≡◌, ◌+◌, ◌*◌, ◌<◌, ◌≤◌, suc, [], ◌∷◌, ◌++◌, length, take, drop, get_or, slice_set, IfSome, IfNone};
+ghost use Rattle.std.specs.Prelude.{◌≡◌, ◌+◌, ◌*◌, ◌<◌, ◌≤◌, suc, [], ◌∷◌, ◌++◌, length, take, drop, get_or, slice_set, true, IfSome, IfNone};
 ghost use Rattle.std.specs.List.{insert, remove};
 ghost use Rattle.std.specs.Vec.{vec_len, vec_capacity};
-ghost use Rattle.key_index.specs.Entries.{below, first_of, last_of, AreRising};
+ghost use Rattle.key_index.specs.Entries.{below, from, first_of, last_of, AreRising};
+ghost use Rattle.key_index.specs.Marks.{marked, mark_at};
+ghost use Rattle.key_index.specs.Places.{in_front, on_from, IsCutAt, IsPlace};
 ghost use Rattle.key_index.specs.Leaves.{all_of, AreFilled, AreEmpty, Belongs, NoneFit, IsKept, IsReady, HaveRoom};
 
+use crate::filed::{Filed, Mark, Marks};
 use crate::key::IndexKey;
 use crate::leaf::{LEAF_SIZE, Leaf};
+use crate::place::Place;
 
 /// The leaf in which a key stands or belongs: the last one that begins at the key or before it, or
 /// the first leaf.
@@ -28,7 +32,7 @@ pub(crate) fn leaf_of(leaves: &Vec<Leaf>, key: IndexKey) -> usize
 }
 
 /// The first entry from a place of a leaf on.
-pub(crate) fn first_from(leaves: &Vec<Leaf>, at: usize, place: usize) -> Option<(IndexKey, u32)>
+pub(crate) fn first_from(leaves: &Vec<Leaf>, at: usize, place: usize) -> Option<(IndexKey, Filed)>
     requires { (at < length leaves.now.items) × AreFilled leaves.now.items }
     ensures { result ≡ first_of (drop place (get_or leaves.now.items at []) ++ all_of (drop (suc at) leaves.now.items)) }
 {
@@ -42,7 +46,7 @@ pub(crate) fn first_from(leaves: &Vec<Leaf>, at: usize, place: usize) -> Option<
 }
 
 /// The last entry before a place of a leaf.
-pub(crate) fn last_before(leaves: &Vec<Leaf>, at: usize, place: usize) -> Option<(IndexKey, u32)>
+pub(crate) fn last_before(leaves: &Vec<Leaf>, at: usize, place: usize) -> Option<(IndexKey, Filed)>
     requires { (at < length leaves.now.items) × AreFilled leaves.now.items × (place ≤ length (get_or leaves.now.items at [])) }
     ensures { result ≡ last_of (all_of (take at leaves.now.items) ++ take place (get_or leaves.now.items at [])) }
 {
@@ -56,16 +60,142 @@ pub(crate) fn last_before(leaves: &Vec<Leaf>, at: usize, place: usize) -> Option
     None
 }
 
-/// Puts an entry into a leaf that is not full, where its key belongs, by way of an empty leaf.
-pub(crate) fn put(leaves: &mut Vec<Leaf>, at: usize, key: IndexKey, slot: u32, empty: &mut Leaf)
-    requires { (at < length leaves.old.items) × (length (get_or leaves.old.items at []) < 128) × AreRising (get_or leaves.old.items at []) × (empty.old ≡ []) }
-    ensures empty { empty.new ≡ [] }
-    ensures items { let leaf = get_or leaves.old.items at [] in leaves.new.items ≡ slice_set leaves.old.items at (insert leaf (length (below key leaf)) (key, slot)) }
+/// The place of a key.
+pub(crate) fn seek(leaves: &Vec<Leaf>, key: IndexKey) -> Place
+    requires { (0 < length leaves.now.items) × AreFilled leaves.now.items × AreRising (all_of leaves.now.items) }
+    ensures { IsPlace key leaves.now.items result }
+{
+    let at = leaf_of(leaves, key);
+    let entry = leaves[at].place_of(key);
+    Place { leaf: at, entry }
+}
+
+/// Tells whether a place is that of a key.
+fn fits(leaves: &Vec<Leaf>, place: Place, key: IndexKey) -> bool
+    requires { (place.leaf < length leaves.now.items) × AreFilled leaves.now.items × (place.entry ≤ length (get_or leaves.now.items place.leaf [])) }
+    ensures { result ≡ true → IsCutAt key (in_front place.leaf place.entry leaves.now.items) (on_from place.leaf place.entry leaves.now.items) }
+{
+    if let Some(entry) = last_before(leaves, place.leaf, place.entry) {
+        if !entry.0.is_before(key) {
+            return false;
+        }
+    }
+    match first_from(leaves, place.leaf, place.entry) {
+        Some(entry) => !entry.0.is_before(key),
+        None => true,
+    }
+}
+
+/// The place of a key, where there is a hint of it.
+pub(crate) fn settled(leaves: &Vec<Leaf>, place: Place, key: IndexKey) -> Place
+    requires { (0 < length leaves.now.items) × AreFilled leaves.now.items × AreRising (all_of leaves.now.items) }
+    ensures { IsPlace key leaves.now.items result }
+{
+    if place.leaf < leaves.len() {
+        if place.entry <= leaves[place.leaf].len() {
+            if fits(leaves, place, key) {
+                return place;
+            }
+        }
+    }
+    seek(leaves, key)
+}
+
+/// The last entry with a mark in the leaves in front of one.
+fn last_in_front(leaves: &Vec<Leaf>, at: usize, mark: Mark) -> Option<(IndexKey, Filed)>
+    requires { at ≤ length leaves.now.items }
+    ensures { result ≡ last_of (marked mark (all_of (take at leaves.now.items))) }
+{
+    let mut front = at;
+    while front > 0 {
+        front -= 1;
+        let leaf = &leaves[front];
+        if leaf.count(mark) > 0 {
+            return leaf.last_marked(leaf.len(), mark);
+        }
+    }
+    None
+}
+
+/// The first entry with a mark in the leaves from one on.
+fn first_behind(leaves: &Vec<Leaf>, at: usize, mark: Mark) -> Option<(IndexKey, Filed)>
+    ensures { result ≡ first_of (marked mark (all_of (drop at leaves.now.items))) }
+{
+    let mut back = at;
+    while back < leaves.len() {
+        let leaf = &leaves[back];
+        if leaf.count(mark) > 0 {
+            return leaf.first_marked(0, mark);
+        }
+        back += 1;
+    }
+    None
+}
+
+/// The last entry with a mark in front of a place.
+pub(crate) fn last_marked(leaves: &Vec<Leaf>, place: Place, mark: Mark) -> Option<(IndexKey, Filed)>
+    requires { (place.leaf < length leaves.now.items) × (place.entry ≤ length (get_or leaves.now.items place.leaf [])) }
+    ensures { result ≡ last_of (marked mark (in_front place.leaf place.entry leaves.now.items)) }
+{
+    match leaves[place.leaf].last_marked(place.entry, mark) {
+        Some(entry) => Some(entry),
+        None => last_in_front(leaves, place.leaf, mark),
+    }
+}
+
+/// The first entry with a mark from a place on.
+pub(crate) fn first_marked(
+    leaves: &Vec<Leaf>,
+    place: Place,
+    mark: Mark,
+) -> Option<(IndexKey, Filed)>
+    requires { place.leaf < length leaves.now.items }
+    ensures { result ≡ first_of (marked mark (on_from place.leaf place.entry leaves.now.items)) }
+{
+    match leaves[place.leaf].first_marked(place.entry, mark) {
+        Some(entry) => Some(entry),
+        None => first_behind(leaves, place.leaf + 1, mark),
+    }
+}
+
+/// Sets the marks of the entry at a place of a leaf.
+pub(crate) fn mark(leaves: &mut Vec<Leaf>, at: usize, key: IndexKey, marks: Marks)
+    requires { (at < length leaves.old.items) × AreRising (get_or leaves.old.items at []) × (length (below key (get_or leaves.old.items at [])) < length (get_or leaves.old.items at [])) }
+    ensures items { let leaf = get_or leaves.old.items at [] in leaves.new.items ≡ slice_set leaves.old.items at (mark_at marks (length (below key leaf)) leaf) }
     ensures capacity { vec_capacity leaves.new ≡ vec_capacity leaves.old }
 {
     let leaf = &mut leaves[at];
     let place = leaf.place_of(key);
-    leaf.insert(place, key, slot, empty);
+    leaf.set_marks(place, marks);
+}
+
+/// Puts an entry at a place of a leaf that is not full, by way of an empty leaf.
+pub(crate) fn put_at(
+    leaves: &mut Vec<Leaf>,
+    place: Place,
+    key: IndexKey,
+    filed: Filed,
+    empty: &mut Leaf,
+)
+    requires { (place.leaf < length leaves.old.items) × (length (get_or leaves.old.items place.leaf []) < 128) × (place.entry ≤ length (get_or leaves.old.items place.leaf [])) × (empty.old ≡ []) }
+    ensures empty { empty.new ≡ [] }
+    ensures items { let leaf = get_or leaves.old.items place.leaf [] in leaves.new.items ≡ slice_set leaves.old.items place.leaf (insert leaf place.entry (key, filed)) }
+    ensures capacity { vec_capacity leaves.new ≡ vec_capacity leaves.old }
+{
+    let leaf = &mut leaves[place.leaf];
+    leaf.insert(place.entry, key, filed, empty);
+}
+
+/// Puts an entry into a leaf that is not full, where its key belongs, by way of an empty leaf.
+pub(crate) fn put(leaves: &mut Vec<Leaf>, at: usize, key: IndexKey, filed: Filed, empty: &mut Leaf)
+    requires { (at < length leaves.old.items) × (length (get_or leaves.old.items at []) < 128) × AreRising (get_or leaves.old.items at []) × (empty.old ≡ []) }
+    ensures empty { empty.new ≡ [] }
+    ensures items { let leaf = get_or leaves.old.items at [] in leaves.new.items ≡ slice_set leaves.old.items at (insert leaf (length (below key leaf)) (key, filed)) }
+    ensures capacity { vec_capacity leaves.new ≡ vec_capacity leaves.old }
+{
+    let leaf = &mut leaves[at];
+    let place = leaf.place_of(key);
+    leaf.insert(place, key, filed, empty);
 }
 
 /// Moves the upper half of a full leaf into an empty one behind it.

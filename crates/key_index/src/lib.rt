@@ -1,29 +1,44 @@
-//! An ordered index from keys to slot numbers, with all its memory taken when it is opened.
+//! An ordered index from keys to slot numbers with marks, with all its memory taken when it is opened.
 //!
 //! A key is a transaction's slot and a sequence number, and keys go by transaction first. The entries
 //! lie in leaves of up to 128. A full leaf is split into one of the leaves to spare; where none is
 //! left, two neighbours that fit one are joined first, and two such are always there. So no call but
-//! [`KeyIndex::open`] takes memory, and each is two binary searches and the moving of one leaf.
+//! [`KeyIndex::open`] takes memory. Beside its slot number an entry has [`Marks`], and each leaf counts
+//! how many of its entries have each mark, so that a search for the nearest marked entry passes over a
+//! leaf without one by reading its count.
 //!
 //! The crate's one contract: an index is a list of entries by rising key. [`KeyIndex::get`] finds an
-//! entry, [`KeyIndex::before`] and [`KeyIndex::at_or_after`] its neighbours, [`KeyIndex::insert`]
-//! puts one between what is in front of its key and what is left, and [`KeyIndex::remove`] takes one
-//! out.
+//! entry, [`KeyIndex::before`] and [`KeyIndex::at_or_after`] its neighbours,
+//! [`KeyIndex::before_marked`] and [`KeyIndex::at_or_after_marked`] the nearest ones with a mark.
+//! [`KeyIndex::insert`] puts an entry between what is in front of its key and what is left,
+//! [`KeyIndex::set_marks`] changes its marks where it stands, and [`KeyIndex::remove`] takes one out.
+//! Most calls take a [`Place`] beside the key, a hint that saves the search: [`KeyIndex::place`] gives
+//! the one of a key, and an old or a wrong one changes no answer.
 //!
 //! ```text
 //! let mut index = KeyIndex::open(rt.alloc(), 100)?;
-//! index.insert(IndexKey::new(3, 7), 41);
-//! // index.get(IndexKey::new(3, 7)) is Some(41)
-//! // index.before(IndexKey::new(3, 9)) is the same entry
+//! let key = IndexKey::new(3, 7);
+//! let place = index.place(key);
+//! index.insert(place, key, Filed { slot: 41, marks: Marks::NONE });
+//! // index.get(place, key) is Some(..) with slot 41
+//! // index.before(Place::UNKNOWN, IndexKey::new(3, 9)) is the same entry
 //! ```
 #![tactic(auto)]
 
+mod counts;
+mod filed;
 mod index;
 mod key;
 mod leaf;
 mod leaves;
+mod place;
+
+pub use filed::{Filed, Mark, Marks};
 pub use index::KeyIndex;
 pub use key::IndexKey;
+pub use place::Place;
 // A crate can name an index in a contract only if the types of its fields are exported.
+#[doc(hidden)]
+pub use counts::Counts;
 #[doc(hidden)]
 pub use leaf::Leaf;

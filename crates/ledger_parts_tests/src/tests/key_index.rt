@@ -1,4 +1,4 @@
-use key_index::{IndexKey, KeyIndex};
+use key_index::{Filed, IndexKey, KeyIndex, Mark, Marks, Place};
 use std::test::Fail;
 
 // The key of a transaction and a sequence number below 2^31.
@@ -6,22 +6,53 @@ fn key(transaction: u32, number: u32) -> IndexKey {
     IndexKey::new(transaction, number & 0x7fff_ffff)
 }
 
+// What stands under a key: the number, and marks that follow from it.
+fn filed(slot: u32) -> Filed {
+    Filed {
+        slot,
+        marks: Marks {
+            live: slot % 2 == 1,
+            carries: slot % 5 == 0,
+            names: false,
+        },
+    }
+}
+
+// The slot number of a key.
+fn slot_of(index: &KeyIndex, key: IndexKey) -> Option<u32> {
+    match index.get(index.place(key), key) {
+        Some(filed) => Some(filed.slot),
+        None => None,
+    }
+}
+
 // Puts a key in where it is absent and there is room, and tells whether it did.
 fn put(index: &mut KeyIndex, key: IndexKey, slot: u32) -> bool {
-    if index.get(key).is_some() || index.len() >= index.capacity() {
+    let place = index.place(key);
+    if index.get(place, key).is_some() || index.len() >= index.capacity() {
         return false;
     }
-    index.insert(key, slot);
+    index.insert(place, key, filed(slot));
     true
 }
 
 // Takes a key out where it is there, and tells whether it did.
 fn cut(index: &mut KeyIndex, key: IndexKey) -> bool {
-    if index.get(key).is_none() {
+    if index.get(Place::UNKNOWN, key).is_none() {
         return false;
     }
     index.remove(key);
     true
+}
+
+// The slot numbers of the nearest entries with a mark in front of a key and from it on.
+fn sides(index: &KeyIndex, place: Place, key: IndexKey, mark: Mark) -> (u32, u32) {
+    let before = index.before_marked(place, key, mark);
+    let behind = index.at_or_after_marked(place, key, mark);
+    (
+        before.map_or(0, |e| e.1.slot),
+        behind.map_or(0, |e| e.1.slot),
+    )
 }
 
 // Three entries of two transactions, put in out of order.
@@ -31,21 +62,22 @@ fn three_entries(index: &mut KeyIndex) -> bool {
 
 // Whether the three are found by their keys, and nothing by another.
 fn finds_three(index: &KeyIndex) -> bool {
-    index.len() == 3 && index.get(key(1, 9)) == Some(19) && index.get(key(2, 9)).is_none()
+    index.len() == 3 && slot_of(index, key(1, 9)) == Some(19) && slot_of(index, key(2, 9)).is_none()
 }
 
 // Whether each of the three has its neighbours.
 fn neighbours_of_three(index: &KeyIndex) -> bool {
-    index.before(key(2, 5)) == Some((key(2, 1), 21))
-        && index.before(key(1, 9)).is_none()
-        && index.at_or_after(key(1, 10)) == Some((key(2, 1), 21))
-        && index.at_or_after(key(2, 5)) == Some((key(2, 5), 25))
-        && index.at_or_after(key(2, 6)).is_none()
+    let any = Place::UNKNOWN;
+    index.before(any, key(2, 5)) == Some((key(2, 1), filed(21)))
+        && index.before(any, key(1, 9)).is_none()
+        && index.at_or_after(any, key(1, 10)) == Some((key(2, 1), filed(21)))
+        && index.at_or_after(any, key(2, 5)) == Some((key(2, 5), filed(25)))
+        && index.at_or_after(any, key(2, 6)).is_none()
 }
 
 // Whether the first entry has these parts of a key.
 fn begins_with(index: &KeyIndex, transaction: u32, number: u32) -> bool {
-    match index.at_or_after(key(1, 0)) {
+    match index.at_or_after(Place::UNKNOWN, key(1, 0)) {
         Some((found, _)) => found.transaction() == transaction && found.number() == number,
         None => false,
     }
@@ -54,11 +86,11 @@ fn begins_with(index: &KeyIndex, transaction: u32, number: u32) -> bool {
 #[test]
 fn keys_go_by_transaction_then_number(rt: HostRuntime) -> Result<(), Fail> {
     let mut index = KeyIndex::open(rt.alloc(), 4)?;
-    assert!(rt; index.capacity() == 4 && index.at_or_after(key(0, 0)).is_none());
+    assert!(rt; index.capacity() == 4 && index.at_or_after(Place::UNKNOWN, key(0, 0)).is_none());
     assert!(rt; three_entries(&mut index));
     assert!(rt; finds_three(&index) && neighbours_of_three(&index));
     assert!(rt; cut(&mut index, key(2, 1)));
-    assert!(rt; index.before(key(2, 5)) == Some((key(1, 9), 19)));
+    assert!(rt; index.before(Place::UNKNOWN, key(2, 5)) == Some((key(1, 9), filed(19))));
     assert!(rt; begins_with(&index, 1, 9));
     Ok(())
 }
@@ -82,7 +114,7 @@ fn fill(index: &mut KeyIndex) -> bool {
 // Takes out all but each eighth entry; tells whether each was there.
 fn thin(index: &mut KeyIndex) -> bool {
     for n in 0..65_536u32 {
-        let is_there = index.get(jumping(n)) == Some(n);
+        let is_there = slot_of(index, jumping(n)) == Some(n);
         if !is_there || (n % 8 != 0 && !cut(index, jumping(n))) {
             return false;
         }
@@ -104,7 +136,85 @@ fn fill_again(index: &mut KeyIndex) -> bool {
 fn count_rising(index: &KeyIndex) -> u32 {
     let mut at = key(0, 0);
     for count in 0..65_537 {
-        match index.at_or_after(at) {
+        match index.at_or_after(Place::UNKNOWN, at) {
+            Some((found, _)) => at = key(found.transaction(), found.number().wrapping_add(1)),
+            None => return count,
+        }
+    }
+    65_537
+}
+
+// Ten entries of one transaction, those of odd numbers live.
+fn ten_entries(index: &mut KeyIndex) -> bool {
+    for n in 1..11u32 {
+        if !put(index, key(7, n), n) {
+            return false;
+        }
+    }
+    true
+}
+
+// Sets the marks of a key where it is there.
+fn set_live(index: &mut KeyIndex, key: IndexKey, live: bool) -> bool {
+    if index.get(Place::UNKNOWN, key).is_none() {
+        return false;
+    }
+    let marks = Marks {
+        live,
+        ..Marks::NONE
+    };
+    index.set_marks(key, marks);
+    true
+}
+
+#[test]
+fn the_nearest_marked_entry_is_found(rt: HostRuntime) -> Result<(), Fail> {
+    let mut index = KeyIndex::open(rt.alloc(), 10)?;
+    assert!(rt; ten_entries(&mut index));
+    let place = index.place(key(7, 6));
+    assert!(rt; sides(&index, place, key(7, 6), Mark::Live) == (5, 7));
+    assert!(rt; sides(&index, place, key(7, 6), Mark::Carries) == (5, 10));
+    assert!(rt; sides(&index, place, key(7, 6), Mark::Names) == (0, 0));
+    assert!(rt; set_live(&mut index, key(7, 5), false) && set_live(&mut index, key(7, 6), true));
+    assert!(rt; sides(&index, place, key(7, 6), Mark::Live) == (3, 6));
+    assert!(rt; sides(&index, place, key(7, 6), Mark::Carries) == (0, 10));
+    Ok(())
+}
+
+#[test]
+fn a_place_of_another_key_is_not_taken(rt: HostRuntime) -> Result<(), Fail> {
+    let mut index = KeyIndex::open(rt.alloc(), 12)?;
+    assert!(rt; ten_entries(&mut index));
+    let stale = index.place(key(7, 2));
+    assert!(rt; sides(&index, stale, key(7, 8), Mark::Live) == (7, 9));
+    assert!(rt; index.get(stale, key(9, 0)).is_none());
+    index_at(&mut index, stale, key(7, 20));
+    assert!(rt; index.before(stale, key(8, 0)) == Some((key(7, 20), filed(41))));
+    Ok(())
+}
+
+// Puts in an entry at a place that may be another key's.
+fn index_at(index: &mut KeyIndex, place: Place, key: IndexKey) {
+    if index.get(place, key).is_none() && index.len() < index.capacity() {
+        index.insert(place, key, filed(41));
+    }
+}
+
+// Clears the marks of all entries but each thousandth; tells whether each was there.
+fn unmark(index: &mut KeyIndex) -> bool {
+    for n in 0..65_536u32 {
+        if !set_live(index, jumping(n), n % 1_000 == 0) {
+            return false;
+        }
+    }
+    true
+}
+
+// How many live entries stand one after the other, up to one more than there is room for.
+fn count_live(index: &KeyIndex) -> u32 {
+    let mut at = key(0, 0);
+    for count in 0..65_537 {
+        match index.at_or_after_marked(Place::UNKNOWN, at, Mark::Live) {
             Some((found, _)) => at = key(found.transaction(), found.number().wrapping_add(1)),
             None => return count,
         }
@@ -117,6 +227,8 @@ fn a_full_index_is_emptied_and_filled_in_another_order(rt: HostRuntime) -> Resul
     let mut index = KeyIndex::open(rt.alloc(), 65_536)?;
     assert!(rt; fill(&mut index) && index.len() == 65_536);
     assert!(rt; !put(&mut index, key(300, 0), 0));
+    assert!(rt; count_live(&index) == 32_768);
+    assert!(rt; unmark(&mut index) && count_live(&index) == 66);
     assert!(rt; thin(&mut index) && index.len() == 8_192);
     assert!(rt; fill_again(&mut index) && index.len() == 65_536);
     assert!(rt; count_rising(&index) == 65_536);

@@ -2,16 +2,19 @@ use Rattle.std.proofs.Common.{◌≡◌, ◌<◌, ◌^◌, true, false, is_some,
 use Rattle.key_index.specs.Key.{rank}
 use Rattle.transaction_table.specs.Table.{row_of}
 use Rattle.event_chain.specs.Flat.{place_of}
+use Rattle.event_chain.specs.Edits.{place_at}
+use Rattle.event_chain.specs.Placed.{Index}
 use Rattle.event_chain.proofs.Places.{found_at, place_at_row}
 use Rattle.event_chain.proofs.spots.locate.Goals as goal
 
 pub unreachable-requires-in-None-get : goal.unreachable-requires-in-None-get
 unreachable-requires-in-None-get c =
-    let es = c.args.stored.now.entries in let rows = c.args.table.now.rows in let row = c.in-Some.row in let key = c.args.key.now in
+    let es = c.stored-stored.result.entries in let rows = c.args.table.now.rows in let row = c.in-Some.row in let key = c.args.key.now in
     let lt : key.seq < 2 ^ 31 = omega (arith, c.seq.ensures.value, c.seq.ensures.range) in
-    let none = place_at_row rows es key row (sym (c.in-Some.ensures ∙ ap (λ t. row_of t rows) c.tx.ensures)) lt ∙ ap (λ r. place_of r es) (ap (rank row.slot) (sym c.seq.ensures.value) ∙ sym c.new-at.ensures)
+    let none = sym (ap (λ (x : Index). place_at rows x.entries key) c.stored-stored.ensures) ∙ place_at_row rows es key row (sym (c.in-Some.ensures ∙ ap (λ t. row_of t rows) c.tx.ensures)) lt ∙ ap (λ r. place_of r es) (ap (rank row.slot) (sym c.seq.ensures.value) ∙ sym c.new-at.ensures)
     ∙ sym (found_at c.new-at.result es c.keys_rise.ensures.rising) ∙ sym c.get-2.ensures ∙ c.in-None-get.is in
     let f : false ≡ true = ap is_some (sym none) ∙ c.requires in cc
 
 pub returns-clause-slot : goal.returns-clause-slot
-returns-clause-slot c = sym (found_at c.new-at.result c.args.stored.now.entries c.keys_rise.ensures.rising) ∙ sym c.in-Some-get.ensures
+returns-clause-slot c =
+    sym (ap (λ (x : Index). place_of c.new-at.result x.entries) c.stored-stored.ensures) ∙ sym (found_at c.new-at.result c.stored-stored.result.entries c.keys_rise.ensures.rising) ∙ sym c.get-2.ensures ∙ c.in-Some-get.is

@@ -9,6 +9,6 @@ use Rattle.event_chain.proofs.chains.Chains.end_count.Goals as goal
 
 pub returns : goal.returns
 returns c =
-    let m = c.self.inside in let k = c.self.invariant in let rows = m.table.rows in let es = m.stored.entries in let slots = m.store.slots in
+    let m = c.self.inside in let k = c.self.invariant in let rows = m.table.rows in let es = m.places.stored.entries in let slots = m.store.slots in
     ap (λ (p : ℕ × ℕ). p.1) c.counts_in.ensures ∙ ends_counted rows es slots k.figured c.args.tx.now c.get.result c.get.ensures
-    ∙ ap (λ xs. count_by is_end (kinds_of c.args.tx.now xs)) (sym (entries_all m.limits m.table m.store m.stored m.live m.carriers m.naming k)) ∙ ap (λ (x : Chained). count_by is_end (kinds_of c.args.tx.now (stored x))) c.self.view_is
+    ∙ ap (λ xs. count_by is_end (kinds_of c.args.tx.now xs)) (sym (entries_all m.limits m.table m.store m.places.stored m.places.live m.places.carriers m.places.naming k)) ∙ ap (λ (x : Chained). count_by is_end (kinds_of c.args.tx.now (stored x))) c.self.view_is

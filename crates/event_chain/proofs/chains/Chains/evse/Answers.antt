@@ -10,12 +10,12 @@ use Rattle.event_chain.proofs.chains.Chains.evse.Goals as goal
 
 pub evse_at-requires : goal.evse_at-requires
 evse_at-requires c =
-    let m = c.self.inside in let k = c.self.invariant in let rows = m.table.rows in let es = m.stored.entries in let slots = m.store.slots in
-    subst (IsStored slots) (sym c.first_in.ensures) (first_held slots m.naming.entries c.get.result (all_held is_naming rows es m.naming.entries slots k.keyed k.indexed.names))
+    let m = c.self.inside in let k = c.self.invariant in let rows = m.table.rows in let es = m.places.stored.entries in let slots = m.store.slots in
+    subst (IsStored slots) (sym c.first_naming.ensures) (first_held slots m.places.naming.entries c.get.result (all_held is_naming rows es m.places.naming.entries slots k.keyed k.indexed.names))
 
 pub returns : goal.returns
 returns c =
-    let m = c.self.inside in let k = c.self.invariant in let rows = m.table.rows in let es = m.stored.entries in let slots = m.store.slots in
-    c.evse_at.ensures ∙ ap (evse_at slots) (c.first_in.ensures ∙ ap (first_under m.naming.entries) c.get.ensures)
-    ∙ sym (evse_number rows es m.naming.entries slots k.keyed.rising k.keyed.ranks k.indexed.names c.args.tx.now)
-    ∙ ap (λ xs. evse_of c.args.tx.now xs) (sym (entries_all m.limits m.table m.store m.stored m.live m.carriers m.naming k)) ∙ ap (λ (x : Chained). evse_of c.args.tx.now (stored x)) c.self.view_is
+    let m = c.self.inside in let k = c.self.invariant in let rows = m.table.rows in let es = m.places.stored.entries in let slots = m.store.slots in
+    c.evse_at.ensures ∙ ap (evse_at slots) (c.first_naming.ensures ∙ ap (first_under m.places.naming.entries) c.get.ensures)
+    ∙ sym (evse_number rows es m.places.naming.entries slots k.keyed.rising k.keyed.ranks k.indexed.names c.args.tx.now)
+    ∙ ap (λ xs. evse_of c.args.tx.now xs) (sym (entries_all m.limits m.table m.store m.places.stored m.places.live m.places.carriers m.places.naming k)) ∙ ap (λ (x : Chained). evse_of c.args.tx.now (stored x)) c.self.view_is

@@ -12,31 +12,13 @@ use Rattle.event_chain.proofs.Inserts.{opened, inserted, inserted_events}
 use Rattle.event_chain.proofs.chains.Chains.insert.Goals as goal
 
 pub enter-row-requires : goal.enter-row-requires
-enter-row-requires c absent = let m = c.self.inside in enter_room m.limits m.table m.store m.stored m.live m.carriers m.naming c.self.invariant c.args.key.tx (length c.args.event.now.readings) (ap (λ (x : Chained). room_of x.limits (finite.entries x.events) c.args.key.tx (length c.args.event.now.readings)) c.self.view_is ∙ c.requires.room) (ap (λ t. row_of t m.table.rows) (sym c.tx.ensures) ∙ absent)
+enter-row-requires c absent = let m = c.self.inside in enter_room m.limits m.table m.store m.places.stored m.places.live m.places.carriers m.places.naming c.self.invariant c.args.key.tx (length c.args.event.now.readings) (ap (λ (x : Chained). room_of x.limits (finite.entries x.events) c.args.key.tx (length c.args.event.now.readings)) c.self.view_is ∙ c.requires.room) (ap (λ t. row_of t m.table.rows) (sym c.tx.ensures) ∙ absent)
 
 pub put-slot-requires-clause-free : goal.put-slot-requires-clause-free
-put-slot-requires-clause-free c = let m = c.self.inside in let lt = event_room m.limits m.table m.store m.stored m.live m.carriers m.naming c.self.invariant c.args.key.tx (length c.args.event.now.readings) (ap (λ (x : Chained). room_of x.limits (finite.entries x.events) c.args.key.tx (length c.args.event.now.readings)) c.self.view_is ∙ c.requires.room) in omega (arith, lt, c.self.invariant.counted.held_are, c.self.invariant.counted.slots_are)
+put-slot-requires-clause-free c = let m = c.self.inside in let lt = event_room m.limits m.table m.store m.places.stored m.places.live m.places.carriers m.places.naming c.self.invariant c.args.key.tx (length c.args.event.now.readings) (ap (λ (x : Chained). room_of x.limits (finite.entries x.events) c.args.key.tx (length c.args.event.now.readings)) c.self.view_is ∙ c.requires.room) in omega (arith, lt, c.self.invariant.counted.held_are, c.self.invariant.counted.slots_are)
 
 pub put-slot-requires-clause-room : goal.put-slot-requires-clause-room
-put-slot-requires-clause-room c = let m = c.self.inside in reading_room m.limits m.table m.store m.stored m.live m.carriers m.naming c.self.invariant c.args.key.tx (length c.args.event.now.readings) (ap (λ (x : Chained). room_of x.limits (finite.entries x.events) c.args.key.tx (length c.args.event.now.readings)) c.self.view_is ∙ c.requires.room)
-
-pub put_place-requires-clause-absent : goal.put_place-requires-clause-absent
-put_place-requires-clause-absent c =
-    let m = c.self.inside in let row = c.enter-row.result in let mid = c.enter-row.new.table.rows in
-    let entered = subst (λ t. IsEntered m.table.rows mid t row) c.tx.ensures c.enter-row.ensures.entered in
-    let number : c.args.key.seq < 2 ^ 31 = omega (arith, c.seq.ensures.value, c.seq.ensures.range) in let is = c.new-at.ensures ∙ ap (rank row.slot) c.seq.ensures.value in
-    let absent = ap (λ (x : Chained). finite.get x.events c.args.key) c.self.view_is ∙ c.requires.absent in
-    let ready = opened m.limits m.table m.store m.stored m.live m.carriers m.naming c.self.invariant c.args.key mid row c.new-at.result entered number is absent c.args.key.tx (length c.args.event.now.readings) (ap (λ (x : Chained). room_of x.limits (finite.entries x.events) c.args.key.tx (length c.args.event.now.readings)) c.self.view_is ∙ c.requires.room) in
-    ready.stored_absent
-
-pub put_place-requires-clause-room : goal.put_place-requires-clause-room
-put_place-requires-clause-room c =
-    let m = c.self.inside in let row = c.enter-row.result in let mid = c.enter-row.new.table.rows in
-    let entered = subst (λ t. IsEntered m.table.rows mid t row) c.tx.ensures c.enter-row.ensures.entered in
-    let number : c.args.key.seq < 2 ^ 31 = omega (arith, c.seq.ensures.value, c.seq.ensures.range) in let is = c.new-at.ensures ∙ ap (rank row.slot) c.seq.ensures.value in
-    let absent = ap (λ (x : Chained). finite.get x.events c.args.key) c.self.view_is ∙ c.requires.absent in
-    let ready = opened m.limits m.table m.store m.stored m.live m.carriers m.naming c.self.invariant c.args.key mid row c.new-at.result entered number is absent c.args.key.tx (length c.args.event.now.readings) (ap (λ (x : Chained). room_of x.limits (finite.entries x.events) c.args.key.tx (length c.args.event.now.readings)) c.self.view_is ∙ c.requires.room) in
-    ready.stored_room
+put-slot-requires-clause-room c = let m = c.self.inside in reading_room m.limits m.table m.store m.places.stored m.places.live m.places.carriers m.places.naming c.self.invariant c.args.key.tx (length c.args.event.now.readings) (ap (λ (x : Chained). room_of x.limits (finite.entries x.events) c.args.key.tx (length c.args.event.now.readings)) c.self.view_is ∙ c.requires.room)
 
 pub insert-requires-clause-absent : goal.insert-requires-clause-absent
 insert-requires-clause-absent c =
@@ -44,8 +26,8 @@ insert-requires-clause-absent c =
     let entered = subst (λ t. IsEntered m.table.rows mid t row) c.tx.ensures c.enter-row.ensures.entered in
     let number : c.args.key.seq < 2 ^ 31 = omega (arith, c.seq.ensures.value, c.seq.ensures.range) in let is = c.new-at.ensures ∙ ap (rank row.slot) c.seq.ensures.value in
     let absent = ap (λ (x : Chained). finite.get x.events c.args.key) c.self.view_is ∙ c.requires.absent in
-    let ready = opened m.limits m.table m.store m.stored m.live m.carriers m.naming c.self.invariant c.args.key mid row c.new-at.result entered number is absent c.args.key.tx (length c.args.event.now.readings) (ap (λ (x : Chained). room_of x.limits (finite.entries x.events) c.args.key.tx (length c.args.event.now.readings)) c.self.view_is ∙ c.requires.room) in
-    ready.live_absent
+    let ready = opened m.limits m.table m.store m.places.stored m.places.live m.places.carriers m.places.naming c.self.invariant c.args.key mid row c.new-at.result entered number is absent c.args.key.tx (length c.args.event.now.readings) (ap (λ (x : Chained). room_of x.limits (finite.entries x.events) c.args.key.tx (length c.args.event.now.readings)) c.self.view_is ∙ c.requires.room) in
+    ready.stored_absent
 
 pub insert-requires-clause-room : goal.insert-requires-clause-room
 insert-requires-clause-room c =
@@ -53,50 +35,14 @@ insert-requires-clause-room c =
     let entered = subst (λ t. IsEntered m.table.rows mid t row) c.tx.ensures c.enter-row.ensures.entered in
     let number : c.args.key.seq < 2 ^ 31 = omega (arith, c.seq.ensures.value, c.seq.ensures.range) in let is = c.new-at.ensures ∙ ap (rank row.slot) c.seq.ensures.value in
     let absent = ap (λ (x : Chained). finite.get x.events c.args.key) c.self.view_is ∙ c.requires.absent in
-    let ready = opened m.limits m.table m.store m.stored m.live m.carriers m.naming c.self.invariant c.args.key mid row c.new-at.result entered number is absent c.args.key.tx (length c.args.event.now.readings) (ap (λ (x : Chained). room_of x.limits (finite.entries x.events) c.args.key.tx (length c.args.event.now.readings)) c.self.view_is ∙ c.requires.room) in
-    ready.live_room
+    let ready = opened m.limits m.table m.store m.places.stored m.places.live m.places.carriers m.places.naming c.self.invariant c.args.key mid row c.new-at.result entered number is absent c.args.key.tx (length c.args.event.now.readings) (ap (λ (x : Chained). room_of x.limits (finite.entries x.events) c.args.key.tx (length c.args.event.now.readings)) c.self.view_is ∙ c.requires.room) in
+    ready.stored_room
 
 pub insert-requires-clause-slot : goal.insert-requires-clause-slot
 insert-requires-clause-slot c = let k = c.self.invariant in omega (arith, c.put-slot.ensures.within, k.counted.slots_are, k.roomy.for_live)
 
 pub insert-requires-clause-unused : goal.insert-requires-clause-unused
-insert-requires-clause-unused c rank at = let m = c.self.inside in unused_free m.table.rows m.stored.entries m.live.entries m.store.slots c.self.invariant.keyed c.self.invariant.indexed.lives c.put-slot.result c.put-slot.ensures.was_free rank at
-
-pub put_place-requires-2-clause-absent : goal.put_place-requires-2-clause-absent
-put_place-requires-2-clause-absent c =
-    let m = c.self.inside in let row = c.enter-row.result in let mid = c.enter-row.new.table.rows in
-    let entered = subst (λ t. IsEntered m.table.rows mid t row) c.tx.ensures c.enter-row.ensures.entered in
-    let number : c.args.key.seq < 2 ^ 31 = omega (arith, c.seq.ensures.value, c.seq.ensures.range) in let is = c.new-at.ensures ∙ ap (rank row.slot) c.seq.ensures.value in
-    let absent = ap (λ (x : Chained). finite.get x.events c.args.key) c.self.view_is ∙ c.requires.absent in
-    let ready = opened m.limits m.table m.store m.stored m.live m.carriers m.naming c.self.invariant c.args.key mid row c.new-at.result entered number is absent c.args.key.tx (length c.args.event.now.readings) (ap (λ (x : Chained). room_of x.limits (finite.entries x.events) c.args.key.tx (length c.args.event.now.readings)) c.self.view_is ∙ c.requires.room) in
-    ready.carriers_absent
-
-pub put_place-requires-2-clause-room : goal.put_place-requires-2-clause-room
-put_place-requires-2-clause-room c =
-    let m = c.self.inside in let row = c.enter-row.result in let mid = c.enter-row.new.table.rows in
-    let entered = subst (λ t. IsEntered m.table.rows mid t row) c.tx.ensures c.enter-row.ensures.entered in
-    let number : c.args.key.seq < 2 ^ 31 = omega (arith, c.seq.ensures.value, c.seq.ensures.range) in let is = c.new-at.ensures ∙ ap (rank row.slot) c.seq.ensures.value in
-    let absent = ap (λ (x : Chained). finite.get x.events c.args.key) c.self.view_is ∙ c.requires.absent in
-    let ready = opened m.limits m.table m.store m.stored m.live m.carriers m.naming c.self.invariant c.args.key mid row c.new-at.result entered number is absent c.args.key.tx (length c.args.event.now.readings) (ap (λ (x : Chained). room_of x.limits (finite.entries x.events) c.args.key.tx (length c.args.event.now.readings)) c.self.view_is ∙ c.requires.room) in
-    ready.carriers_room
-
-pub put_place-requires-3-clause-absent : goal.put_place-requires-3-clause-absent
-put_place-requires-3-clause-absent c =
-    let m = c.self.inside in let row = c.enter-row.result in let mid = c.enter-row.new.table.rows in
-    let entered = subst (λ t. IsEntered m.table.rows mid t row) c.tx.ensures c.enter-row.ensures.entered in
-    let number : c.args.key.seq < 2 ^ 31 = omega (arith, c.seq.ensures.value, c.seq.ensures.range) in let is = c.new-at.ensures ∙ ap (rank row.slot) c.seq.ensures.value in
-    let absent = ap (λ (x : Chained). finite.get x.events c.args.key) c.self.view_is ∙ c.requires.absent in
-    let ready = opened m.limits m.table m.store m.stored m.live m.carriers m.naming c.self.invariant c.args.key mid row c.new-at.result entered number is absent c.args.key.tx (length c.args.event.now.readings) (ap (λ (x : Chained). room_of x.limits (finite.entries x.events) c.args.key.tx (length c.args.event.now.readings)) c.self.view_is ∙ c.requires.room) in
-    ready.naming_absent
-
-pub put_place-requires-3-clause-room : goal.put_place-requires-3-clause-room
-put_place-requires-3-clause-room c =
-    let m = c.self.inside in let row = c.enter-row.result in let mid = c.enter-row.new.table.rows in
-    let entered = subst (λ t. IsEntered m.table.rows mid t row) c.tx.ensures c.enter-row.ensures.entered in
-    let number : c.args.key.seq < 2 ^ 31 = omega (arith, c.seq.ensures.value, c.seq.ensures.range) in let is = c.new-at.ensures ∙ ap (rank row.slot) c.seq.ensures.value in
-    let absent = ap (λ (x : Chained). finite.get x.events c.args.key) c.self.view_is ∙ c.requires.absent in
-    let ready = opened m.limits m.table m.store m.stored m.live m.carriers m.naming c.self.invariant c.args.key mid row c.new-at.result entered number is absent c.args.key.tx (length c.args.event.now.readings) (ap (λ (x : Chained). room_of x.limits (finite.entries x.events) c.args.key.tx (length c.args.event.now.readings)) c.self.view_is ∙ c.requires.room) in
-    ready.naming_room
+insert-requires-clause-unused c rank at = let m = c.self.inside in unused_free m.table.rows m.places.stored.entries m.places.live.entries m.store.slots c.self.invariant.keyed c.self.invariant.indexed.lives c.put-slot.result c.put-slot.ensures.was_free rank at
 
 pub overflow_add-after : goal.overflow_add-after
 overflow_add-after c =
@@ -104,7 +50,7 @@ overflow_add-after c =
     let entered = subst (λ t. IsEntered m.table.rows mid t row) c.tx.ensures c.enter-row.ensures.entered in
     let number : c.args.key.seq < 2 ^ 31 = omega (arith, c.seq.ensures.value, c.seq.ensures.range) in let is = c.new-at.ensures ∙ ap (rank row.slot) c.seq.ensures.value in
     let absent = ap (λ (x : Chained). finite.get x.events c.args.key) c.self.view_is ∙ c.requires.absent in
-    let ready = opened m.limits m.table m.store m.stored m.live m.carriers m.naming c.self.invariant c.args.key mid row c.new-at.result entered number is absent c.args.key.tx (length c.args.event.now.readings) (ap (λ (x : Chained). room_of x.limits (finite.entries x.events) c.args.key.tx (length c.args.event.now.readings)) c.self.view_is ∙ c.requires.room) in
+    let ready = opened m.limits m.table m.store m.places.stored m.places.live m.places.carriers m.places.naming c.self.invariant c.args.key mid row c.new-at.result entered number is absent c.args.key.tx (length c.args.event.now.readings) (ap (λ (x : Chained). room_of x.limits (finite.entries x.events) c.args.key.tx (length c.args.event.now.readings)) c.self.view_is ∙ c.requires.room) in
     let few = ready.live_few in omega arith
 
 pub overflow_add-after-2 : goal.overflow_add-after-2
@@ -113,7 +59,7 @@ overflow_add-after-2 c =
     let entered = subst (λ t. IsEntered m.table.rows mid t row) c.tx.ensures c.enter-row.ensures.entered in
     let number : c.args.key.seq < 2 ^ 31 = omega (arith, c.seq.ensures.value, c.seq.ensures.range) in let is = c.new-at.ensures ∙ ap (rank row.slot) c.seq.ensures.value in
     let absent = ap (λ (x : Chained). finite.get x.events c.args.key) c.self.view_is ∙ c.requires.absent in
-    let ready = opened m.limits m.table m.store m.stored m.live m.carriers m.naming c.self.invariant c.args.key mid row c.new-at.result entered number is absent c.args.key.tx (length c.args.event.now.readings) (ap (λ (x : Chained). room_of x.limits (finite.entries x.events) c.args.key.tx (length c.args.event.now.readings)) c.self.view_is ∙ c.requires.room) in
+    let ready = opened m.limits m.table m.store m.places.stored m.places.live m.places.carriers m.places.naming c.self.invariant c.args.key mid row c.new-at.result entered number is absent c.args.key.tx (length c.args.event.now.readings) (ap (λ (x : Chained). room_of x.limits (finite.entries x.events) c.args.key.tx (length c.args.event.now.readings)) c.self.view_is ∙ c.requires.room) in
     let few = ready.ends_few in let one = c.ends_of.ensures.few in omega arith
 
 pub set-requires : goal.set-requires
@@ -128,7 +74,7 @@ invariant_of-self c =
     let absent = ap (λ (x : Chained). finite.get x.events c.args.key) c.self.view_is ∙ c.requires.absent in
     let ev = c.args.event.now in let after : TableRow = record { slot = row.slot; live = row.live + 1; ends = row.ends + c.ends_of.result } in
     let carries = not c.is_empty.result in let names = c.is_some-names.result in
-    inserted m.limits m.table m.store m.stored m.live m.carriers m.naming c.self.invariant c.args.key mid row c.new-at.result entered number is absent c.set.new.self c.put-slot.new.self c.put_place.new.index c.insert.new.self c.put_place-2.new.index c.put_place-3.new.index after c.put-slot.result ev carries names (record {
+    inserted m.limits m.table m.store m.places.stored m.places.live m.places.carriers m.places.naming c.self.invariant c.args.key mid row c.new-at.result entered number is absent c.set.new.self c.put-slot.new.self c.insert.new.self.stored c.insert.new.self.live c.insert.new.self.carriers c.insert.new.self.naming after c.put-slot.result ev carries names (record {
       rows = c.set.ensures.rows ∙ ap (λ t. with_row t after mid) c.tx-2.ensures;
       transactions = c.set.ensures.capacity ∙ c.enter-row.ensures.capacity;
       rising = c.rows_rise.ensures.rising;
@@ -138,14 +84,14 @@ invariant_of-self c =
       slots = c.put-slot.ensures.slots;
       readings = c.put-slot.ensures.readings;
       room = c.put-slot.ensures.capacity;
-      stored_is = c.put_place.ensures.entries;
-      live_is = c.insert.ensures.entries;
-      carriers_is = c.put_place-2.ensures.entries;
-      naming_is = c.put_place-3.ensures.entries;
-      stored_cap = c.put_place.ensures.capacity;
-      live_cap = c.insert.ensures.capacity;
-      carriers_cap = c.put_place-2.ensures.capacity;
-      naming_cap = c.put_place-3.ensures.capacity;
+      stored_is = (λ i. (c.insert.ensures.stored i).entries);
+      live_is = (λ i. (c.insert.ensures.live i).entries);
+      carriers_is = (λ i. (c.insert.ensures.carriers i).entries);
+      naming_is = (λ i. (c.insert.ensures.naming i).entries);
+      stored_cap = (λ i. (c.insert.ensures.stored i).capacity);
+      live_cap = (λ i. (c.insert.ensures.live i).capacity);
+      carriers_cap = (λ i. (c.insert.ensures.carriers i).capacity);
+      naming_cap = (λ i. (c.insert.ensures.naming i).capacity);
       carries_is = ap not (c.is_empty.ensures ∙ ap (λ rs. length rs == 0) c.readings.ensures.value) ∙ some_readings (length ev.readings);
       names_is = c.is_some-names.ensures ∙ ap is_some c.evse.ensures.value;
       same = refl;
@@ -161,7 +107,7 @@ returns-clause-events c =
     let absent = ap (λ (x : Chained). finite.get x.events c.args.key) c.self.view_is ∙ c.requires.absent in
     let ev = c.args.event.now in let after : TableRow = record { slot = row.slot; live = row.live + 1; ends = row.ends + c.ends_of.result } in
     let carries = not c.is_empty.result in let names = c.is_some-names.result in
-    inserted_events m.limits m.table m.store m.stored m.live m.carriers m.naming c.self.invariant c.args.key mid row c.new-at.result entered number is absent c.set.new.self c.put-slot.new.self c.put_place.new.index c.insert.new.self c.put_place-2.new.index c.put_place-3.new.index after c.put-slot.result ev carries names (record {
+    inserted_events m.limits m.table m.store m.places.stored m.places.live m.places.carriers m.places.naming c.self.invariant c.args.key mid row c.new-at.result entered number is absent c.set.new.self c.put-slot.new.self c.insert.new.self.stored c.insert.new.self.live c.insert.new.self.carriers c.insert.new.self.naming after c.put-slot.result ev carries names (record {
       rows = c.set.ensures.rows ∙ ap (λ t. with_row t after mid) c.tx-2.ensures;
       transactions = c.set.ensures.capacity ∙ c.enter-row.ensures.capacity;
       rising = c.rows_rise.ensures.rising;
@@ -171,14 +117,14 @@ returns-clause-events c =
       slots = c.put-slot.ensures.slots;
       readings = c.put-slot.ensures.readings;
       room = c.put-slot.ensures.capacity;
-      stored_is = c.put_place.ensures.entries;
-      live_is = c.insert.ensures.entries;
-      carriers_is = c.put_place-2.ensures.entries;
-      naming_is = c.put_place-3.ensures.entries;
-      stored_cap = c.put_place.ensures.capacity;
-      live_cap = c.insert.ensures.capacity;
-      carriers_cap = c.put_place-2.ensures.capacity;
-      naming_cap = c.put_place-3.ensures.capacity;
+      stored_is = (λ i. (c.insert.ensures.stored i).entries);
+      live_is = (λ i. (c.insert.ensures.live i).entries);
+      carriers_is = (λ i. (c.insert.ensures.carriers i).entries);
+      naming_is = (λ i. (c.insert.ensures.naming i).entries);
+      stored_cap = (λ i. (c.insert.ensures.stored i).capacity);
+      live_cap = (λ i. (c.insert.ensures.live i).capacity);
+      carriers_cap = (λ i. (c.insert.ensures.carriers i).capacity);
+      naming_cap = (λ i. (c.insert.ensures.naming i).capacity);
       carries_is = ap not (c.is_empty.ensures ∙ ap (λ rs. length rs == 0) c.readings.ensures.value) ∙ some_readings (length ev.readings);
       names_is = c.is_some-names.ensures ∙ ap is_some c.evse.ensures.value;
       same = refl;

@@ -1,5 +1,5 @@
 use Rattle.std.proofs.Common.{length, arith, ◌-◌, slice_get, option_map, sym, ap, ◌∙◌}
-use Rattle.key_index.specs.Index.{Index}
+use Rattle.event_chain.specs.Placed.{Index}
 use Rattle.ledger_model.specs.Gaps.{numbers_of}
 use Rattle.event_chain.specs.Chains.{Chained, stored}
 use Rattle.event_chain.specs.Edits.{last_under}
@@ -9,12 +9,12 @@ use Rattle.event_chain.proofs.Lives.{last_number}
 use Rattle.event_chain.proofs.Rows.{row_below}
 use Rattle.event_chain.proofs.chains.Chains.last.Goals as goal
 
-pub last_in-requires : goal.last_in-requires
-last_in-requires c = row_below c.self.inside.table.rows c.self.inside.table.capacity c.args.tx.now c.get.result c.rows_rise.ensures.below (omega (arith, c.rows_rise.ensures.few)) c.get.ensures
+pub last_live-requires : goal.last_live-requires
+last_live-requires c = row_below c.self.inside.table.rows c.self.inside.table.capacity c.args.tx.now c.get.result c.rows_rise.ensures.below (omega (arith, c.rows_rise.ensures.few)) c.get.ensures
 
 pub returns : goal.returns
 returns c =
-    let m = c.self.inside in let k = c.self.invariant in let rows = m.table.rows in let es = m.stored.entries in let slots = m.store.slots in
-    c.number_of.ensures ∙ ap (option_map number_in) (c.last_in.ensures ∙ ap (λ (x : Index). last_under x.entries c.get.result) c.index-live.ensures.same ∙ ap (last_under m.live.entries) c.get.ensures)
-    ∙ sym (last_number rows es m.live.entries slots k.keyed.rising k.keyed.ranks k.indexed.lives c.args.tx.now)
-    ∙ ap (λ xs. let ns = numbers_of c.args.tx.now xs in slice_get ns (length ns - 1)) (sym (entries_all m.limits m.table m.store m.stored m.live m.carriers m.naming k)) ∙ ap (λ (x : Chained). let ns = numbers_of c.args.tx.now (stored x) in slice_get ns (length ns - 1)) c.self.view_is
+    let m = c.self.inside in let k = c.self.invariant in let rows = m.table.rows in let es = m.places.stored.entries in let slots = m.store.slots in
+    c.number_of.ensures ∙ ap (option_map number_in) (c.last_live.ensures ∙ ap (last_under m.places.live.entries) c.get.ensures)
+    ∙ sym (last_number rows es m.places.live.entries slots k.keyed.rising k.keyed.ranks k.indexed.lives c.args.tx.now)
+    ∙ ap (λ xs. let ns = numbers_of c.args.tx.now xs in slice_get ns (length ns - 1)) (sym (entries_all m.limits m.table m.store m.places.stored m.places.live m.places.carriers m.places.naming k)) ∙ ap (λ (x : Chained). let ns = numbers_of c.args.tx.now (stored x) in slice_get ns (length ns - 1)) c.self.view_is

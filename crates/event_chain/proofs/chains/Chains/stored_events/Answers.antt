@@ -4,4 +4,4 @@ use Rattle.event_chain.proofs.Facts.{entries_all}
 use Rattle.event_chain.proofs.chains.Chains.stored_events.Goals as goal
 
 pub returns : goal.returns
-returns c = let m = c.self.inside in let k = c.self.invariant in c.len.ensures.len ∙ sym k.counted.all_are ∙ ap length (sym (entries_all m.limits m.table m.store m.stored m.live m.carriers m.naming k)) ∙ ap (λ (x : Chained). length (stored x)) c.self.view_is
+returns c = let m = c.self.inside in let k = c.self.invariant in c.len.ensures ∙ sym k.counted.all_are ∙ ap length (sym (entries_all m.limits m.table m.store m.places.stored m.places.live m.places.carriers m.places.naming k)) ∙ ap (λ (x : Chained). length (stored x)) c.self.view_is

@@ -9,21 +9,21 @@ use Rattle.event_chain.proofs.Used.{live_under}
 use Rattle.event_chain.proofs.chains.Chains.walk.Goals as goal
 
 pub over-requires : goal.over-requires
-over-requires c = let m = c.self.inside in let k = c.self.invariant in live_under m.table.rows m.stored.entries m.live.entries m.store.slots k.keyed k.indexed.lives
+over-requires c = let m = c.self.inside in let k = c.self.invariant in live_under m.table.rows m.places.stored.entries m.places.live.entries m.store.slots k.keyed k.indexed.lives
 
 pub over-requires-in-None : goal.over-requires-in-None
-over-requires-in-None c = let m = c.self.inside in let k = c.self.invariant in live_under m.table.rows m.stored.entries m.live.entries m.store.slots k.keyed k.indexed.lives
+over-requires-in-None c = let m = c.self.inside in let k = c.self.invariant in live_under m.table.rows m.places.stored.entries m.places.live.entries m.store.slots k.keyed k.indexed.lives
 
 pub returns-in-Some : goal.returns-in-Some
 returns-in-Some c =
     let m = c.self.inside in let k = c.self.invariant in
-    c.over.ensures ∙ ap (λ o. numbers_at m.live.entries (option_map (λ (r : TableRow). r.slot) o)) c.in-Some.ensures
-    ∙ sym (live_numbers m.table.rows m.stored.entries m.live.entries m.store.slots k.keyed.rising k.keyed.ranks k.indexed.lives c.args.tx.now)
-    ∙ ap (numbers_of c.args.tx.now) (sym (entries_all m.limits m.table m.store m.stored m.live m.carriers m.naming k)) ∙ ap (λ (x : Chained). numbers_of c.args.tx.now (stored x)) c.self.view_is
+    c.over.ensures ∙ ap (λ o. numbers_at m.places.live.entries (option_map (λ (r : TableRow). r.slot) o)) c.in-Some.ensures
+    ∙ sym (live_numbers m.table.rows m.places.stored.entries m.places.live.entries m.store.slots k.keyed.rising k.keyed.ranks k.indexed.lives c.args.tx.now)
+    ∙ ap (numbers_of c.args.tx.now) (sym (entries_all m.limits m.table m.store m.places.stored m.places.live m.places.carriers m.places.naming k)) ∙ ap (λ (x : Chained). numbers_of c.args.tx.now (stored x)) c.self.view_is
 
 pub returns-in-None : goal.returns-in-None
 returns-in-None c =
     let m = c.self.inside in let k = c.self.invariant in
-    c.over-in-None.ensures ∙ ap (λ o. numbers_at m.live.entries (option_map (λ (r : TableRow). r.slot) o)) c.in-None.ensures
-    ∙ sym (live_numbers m.table.rows m.stored.entries m.live.entries m.store.slots k.keyed.rising k.keyed.ranks k.indexed.lives c.args.tx.now)
-    ∙ ap (numbers_of c.args.tx.now) (sym (entries_all m.limits m.table m.store m.stored m.live m.carriers m.naming k)) ∙ ap (λ (x : Chained). numbers_of c.args.tx.now (stored x)) c.self.view_is
+    c.over-in-None.ensures ∙ ap (λ o. numbers_at m.places.live.entries (option_map (λ (r : TableRow). r.slot) o)) c.in-None.ensures
+    ∙ sym (live_numbers m.table.rows m.places.stored.entries m.places.live.entries m.store.slots k.keyed.rising k.keyed.ranks k.indexed.lives c.args.tx.now)
+    ∙ ap (numbers_of c.args.tx.now) (sym (entries_all m.limits m.table m.store m.places.stored m.places.live m.places.carriers m.places.naming k)) ∙ ap (λ (x : Chained). numbers_of c.args.tx.now (stored x)) c.self.view_is

@@ -1,57 +1,37 @@
 use Rattle.std.proofs.Common.{◌≡◌, ◌<◌, ◌++◌, ◌∷◌, [], None, length, get_or, subst, sym, ap, ◌∙◌, arith, length-set}
-use Rattle.std.proofs.lemmas.List.Edits.{length-insert}
 use Rattle.std.specs.List.{insert}
-use Rattle.key_index.specs.Entries.{below, from, slot_at, AreRising}
+use Rattle.std.proofs.lemmas.List.Edits.{length-insert}
+use Rattle.key_index.specs.Entries.{Entry, below, from, filed_at, AreRising}
 use Rattle.key_index.specs.Leaves.{all_of, AreFilled}
-use Rattle.key_index.proofs.Orders.{below_within}
-use Rattle.key_index.proofs.Edits.{filled_set}
-use Rattle.key_index.proofs.Cuts.{rising_leaf, put_all, rising_put, length_put}
+use Rattle.key_index.proofs.Edits.{filled_round, filled_set}
+use Rattle.key_index.proofs.Cuts.{rising_put, length_put}
+use Rattle.key_index.proofs.Placing.{put_place}
 use Rattle.key_index.proofs.index.KeyIndex.insert.Goals as goal
 
-pub put-requires : goal.put-requires
-put-requires c =
-    let ready = c.make_room-at.ensures.ready in let ls = c.make_room-at.new.leaves.items in
-    (ready.belongs.within, ready.room, rising_leaf ls c.make_room-at.result ready.belongs.within (subst AreRising (sym ready.same) c.reclaim.ensures.kept.rising), c.self.invariant.clear)
-
-pub returns-clause-entries : goal.returns-clause-entries
-returns-clause-entries c =
-    let ready = c.make_room-at.ensures.ready in let ls = c.make_room-at.new.leaves.items in let key = c.args.key in let slot = c.args.slot in
-    let same : all_of ls ≡ c.args.self.now.entries = ready.same ∙ c.reclaim.ensures.same ∙ ap (λ i. i.entries) c.self.view_is in
-    ap all_of c.put.ensures.items ∙ put_all key slot ls c.make_room-at.result ready.belongs ∙ ap (λ es. below key es ++ (key, slot) ∷ from key es) same
+pub returns-then-len-lt-LEAF_SIZE-clause-entries : goal.returns-then-len-lt-LEAF_SIZE-clause-entries
+returns-then-len-lt-LEAF_SIZE-clause-entries c =
+    let ls = c.self.inside.leaves.items in let key = c.args.key in let e : Entry = (key, c.args.filed) in
+    ap all_of c.put_at.ensures.items ∙ put_place key e ls c.settled-at.result c.settled-at.ensures ∙ ap (λ i. below key i.entries ++ e ∷ from key i.entries) c.self.view_is
 
 pub invariant_of-self : goal.invariant_of-self
 invariant_of-self c =
-    let was = c.self.invariant in let room = c.make_room-at in let ready = room.ensures.ready in let ls = room.new.leaves.items in let at = room.result in let key = c.args.key in let slot = c.args.slot in
-    let leaf = get_or ls at [] in let more = insert leaf (length (below key leaf)) (key, slot) in let old = c.self.inside.leaves.items in let es = all_of old in
-    let same : all_of ls ≡ es = ready.same ∙ c.reclaim.ensures.same in
-    let all : all_of c.put.new.leaves.items ≡ below key es ++ (key, slot) ∷ from key es = ap all_of c.put.ensures.items ∙ put_all key slot ls at ready.belongs ∙ ap (λ l. below key l ++ (key, slot) ∷ from key l) same in
-    let absent : slot_at key (from key es) ≡ None = ap (λ i. slot_at key (from key i.entries)) c.self.view_is ∙ c.requires.absent in
-    let some : 0 < length more = omega (arith, length-insert leaf (length (below key leaf)) (key, slot) (below_within key leaf)) in
-    let as_many : length c.put.new.leaves.items ≡ length ls = ap length c.put.ensures.items ∙ length-set ls at more in
+    let was = c.self.invariant in let ls = c.self.inside.leaves.items in let key = c.args.key in let filed = c.args.filed in let e : Entry = (key, filed) in let place = c.settled-at.result in let is = c.settled-at.ensures in
+    let at = place.leaf in let leaf = get_or ls at [] in let more = insert leaf place.entry e in let es = all_of ls in
+    let all : all_of c.put_at.new.leaves.items ≡ below key es ++ e ∷ from key es = ap all_of c.put_at.ensures.items ∙ put_place key e ls place is in
+    let absent : filed_at key (from key es) ≡ None = ap (λ i. filed_at key (from key i.entries)) c.self.view_is ∙ c.requires.absent in
+    let some : 0 < length more = omega (arith, length-insert leaf place.entry e is.entry) in
+    let as_many : length c.put_at.new.leaves.items ≡ length ls = ap length c.put_at.ensures.items ∙ length-set ls at more in let round = filled_round ls at is.leaf was.kept.filled in
     let entries : length es ≡ length c.args.self.now.entries = ap (λ i. length i.entries) c.self.view_is in
     let limit : c.self.inside.capacity ≡ c.args.self.now.capacity = ap (λ i. i.capacity) c.self.view_is in
     record {
       kept = record {
-        filled = subst AreFilled (sym c.put.ensures.items) (filled_set ls at more ready.belongs.within ready.front ready.back some);
-        rising = subst AreRising (sym all) (rising_put key slot es was.kept.rising absent);
-        empty = room.ensures.empty;
+        filled = subst AreFilled (sym c.put_at.ensures.items) (filled_set ls at more is.leaf round.0 round.1 some);
+        rising = subst AreRising (sym all) (rising_put key filed es was.kept.rising absent);
+        empty = was.kept.empty;
       };
-      room = omega (
-        arith,
-        was.room,
-        as_many,
-        room.ensures.total,
-        room.ensures.capacity,
-        c.reclaim.ensures.total,
-        c.reclaim.ensures.capacity,
-        c.put.ensures.capacity,
-        c.put.new.leaves.ok.0,
-        room.new.spare.ok.0,
-        c.self.inside.leaves.ok.0,
-        c.self.inside.spare.ok.0,
-      );
-      clear = c.put.ensures.empty;
-      total = omega (arith, was.total, as_many, room.ensures.total, c.reclaim.ensures.total);
-      count = omega (arith, was.count, ap length all, length_put key slot es);
+      room = omega (arith, was.room, as_many, c.put_at.ensures.capacity, c.put_at.new.leaves.ok.0, c.self.inside.leaves.ok.0);
+      clear = c.put_at.ensures.empty;
+      total = omega (arith, was.total, as_many);
+      count = omega (arith, was.count, ap length all, length_put key filed es);
       few = omega (arith, was.count, entries, limit, c.requires.room);
     }

@@ -1,0 +1,58 @@
+use Rattle.std.proofs.Common.{◌≡◌, ℕ, ◌<◌, true, false, Some, None, option_map, is_some, slice_get, length, refl, sym, ap, ◌∙◌, subst, arith}
+use Rattle.std.specs.Ordering.{nat_cmp}
+use Rattle.std.specs.FinMap.{put}
+use Rattle.slot_links.specs.Links.{linked_in, linked_out}
+use Rattle.std.proofs.lemmas.List.{length-map}
+use Rattle.key_index.specs.declared.filed.Mark.TheVariants.{Live, Carries, Names}
+use Rattle.key_index.specs.declared.filed.Filed.{Filed}
+use Rattle.key_index.specs.declared.filed.Marks.{Marks}
+use Rattle.key_index.specs.Index as keyed
+use Rattle.event_chain.specs.Flat.{place_of}
+use Rattle.event_chain.specs.Edits.{put_if, out, places_before, places_behind}
+use Rattle.event_chain.specs.Lists.{slot_in, slot_before, slot_after, AreListed}
+use Rattle.event_chain.specs.Placed.{Index, index, lane, lane_of, Placed}
+use Rattle.event_chain.specs.Ranked.{last_of}
+use Rattle.event_chain.proofs.Lanes.{lane_rising, lane_absent, filed_absent, filed_some, lane_put, lane_out, lane_void, lane_stays, lane_enter, out_absent}
+use Rattle.event_chain.proofs.Lists.{sides_absent, sides_present, slot_present, prev_present, next_present, listed_put, listed_out, listed_same, listed_none}
+use Rattle.event_chain.proofs.place_index.PlaceIndex.remove.Goals as goal
+
+pub remove-requires : goal.remove-requires
+remove-requires c =
+    let m = c.self.inside in let key = c.args.key in let es = m.index.entries in let up = c.keys_rise.ensures.rising in
+    let at : is_some (place_of key (lane None es)) ≡ true = ap (λ (x : Placed). is_some (place_of key x.stored.entries)) c.self.view_is ∙ c.requires.stored in let filed = filed_some key es up at in let f = filed.0 in let there = filed.1 in
+    ap is_some there
+
+pub invariant_of-self : goal.invariant_of-self
+invariant_of-self c =
+    let m = c.self.inside in let key = c.args.key in let es = m.index.entries in let up = c.keys_rise.ensures.rising in
+    let at : is_some (place_of key (lane None es)) ≡ true = ap (λ (x : Placed). is_some (place_of key x.stored.entries)) c.self.view_is ∙ c.requires.stored in let filed = filed_some key es up at in let f = filed.0 in let there = filed.1 in
+    let L = lane_of (Some Live) m.index in
+    listed_same (lane_of (Some Live) c.remove.new.self) L m.links m.links (ap (lane (Some Live)) c.remove.ensures.entries ∙ lane_out (Some Live) key f es up there ∙ out_absent key L.entries (ap (λ (x : Placed). place_of key x.live.entries) c.self.view_is ∙ c.requires.live)) c.remove.ensures.capacity refl c.self.invariant
+
+pub returns-clause-stored : goal.returns-clause-stored
+returns-clause-stored c =
+    let m = c.self.inside in let key = c.args.key in let es = m.index.entries in let up = c.keys_rise.ensures.rising in
+    let at : is_some (place_of key (lane None es)) ≡ true = ap (λ (x : Placed). is_some (place_of key x.stored.entries)) c.self.view_is ∙ c.requires.stored in let filed = filed_some key es up at in let f = filed.0 in let there = filed.1 in
+    let entries = ap (lane None) c.remove.ensures.entries ∙ lane_out None key f es up there in
+    (λ i. index (entries i) (c.remove.ensures.capacity i)) ∙ ap (λ (x : Placed). index (out key x.stored.entries) x.stored.capacity) c.self.view_is
+
+pub returns-clause-live : goal.returns-clause-live
+returns-clause-live c =
+    let m = c.self.inside in let key = c.args.key in let es = m.index.entries in let up = c.keys_rise.ensures.rising in
+    let at : is_some (place_of key (lane None es)) ≡ true = ap (λ (x : Placed). is_some (place_of key x.stored.entries)) c.self.view_is ∙ c.requires.stored in let filed = filed_some key es up at in let f = filed.0 in let there = filed.1 in
+    let entries = ap (lane (Some Live)) c.remove.ensures.entries ∙ lane_out (Some Live) key f es up there ∙ out_absent key (lane (Some Live) es) (ap (λ (x : Placed). place_of key x.live.entries) c.self.view_is ∙ c.requires.live) in
+    (λ i. index (entries i) (c.remove.ensures.capacity i)) ∙ ap (λ (x : Placed). x.live) c.self.view_is
+
+pub returns-clause-carriers : goal.returns-clause-carriers
+returns-clause-carriers c =
+    let m = c.self.inside in let key = c.args.key in let es = m.index.entries in let up = c.keys_rise.ensures.rising in
+    let at : is_some (place_of key (lane None es)) ≡ true = ap (λ (x : Placed). is_some (place_of key x.stored.entries)) c.self.view_is ∙ c.requires.stored in let filed = filed_some key es up at in let f = filed.0 in let there = filed.1 in
+    let entries = ap (lane (Some Carries)) c.remove.ensures.entries ∙ lane_out (Some Carries) key f es up there ∙ out_absent key (lane (Some Carries) es) (ap (λ (x : Placed). place_of key x.carriers.entries) c.self.view_is ∙ c.requires.carriers) in
+    (λ i. index (entries i) (c.remove.ensures.capacity i)) ∙ ap (λ (x : Placed). x.carriers) c.self.view_is
+
+pub returns-clause-naming : goal.returns-clause-naming
+returns-clause-naming c =
+    let m = c.self.inside in let key = c.args.key in let es = m.index.entries in let up = c.keys_rise.ensures.rising in
+    let at : is_some (place_of key (lane None es)) ≡ true = ap (λ (x : Placed). is_some (place_of key x.stored.entries)) c.self.view_is ∙ c.requires.stored in let filed = filed_some key es up at in let f = filed.0 in let there = filed.1 in
+    let entries = ap (lane (Some Names)) c.remove.ensures.entries ∙ lane_out (Some Names) key f es up there ∙ out_absent key (lane (Some Names) es) (ap (λ (x : Placed). place_of key x.naming.entries) c.self.view_is ∙ c.requires.naming) in
+    (λ i. index (entries i) (c.remove.ensures.capacity i)) ∙ ap (λ (x : Placed). x.naming) c.self.view_is

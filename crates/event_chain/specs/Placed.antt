@@ -1,0 +1,47 @@
+-- The places of events in one index, by their marks.
+use Rattle.std.specs.Prelude.{ℕ, Bool, true, List, Option, Some, None, map}
+use Rattle.key_index.specs.declared.filed.Mark.{Mark}
+use Rattle.key_index.specs.declared.filed.Mark.TheVariants.{Live, Carries, Names}
+use Rattle.key_index.specs.declared.filed.Marks.{Marks}
+use Rattle.key_index.specs.Entries.{Entry}
+use Rattle.key_index.specs.Index as keyed
+use Rattle.key_index.specs.Marks.{has_mark, marked}
+use Rattle.event_chain.specs.Flat.{Place}
+
+-- Places by rising rank, and how many there may be.
+pub record Index : Type 0 where
+  pub entries : List Place
+  pub capacity : ℕ
+
+-- An index of these places.
+abbrev pub index : List Place → ℕ → Index
+index entries capacity = record { entries = entries; capacity = capacity }
+
+-- The rank of an entry and its slot.
+abbrev pub place_in : Entry → Place
+place_in e = (e.0, e.1.slot)
+
+-- The places of a lane: of all entries, or of those that have a mark.
+abbrev pub lane : Option Mark → List Entry → List Place
+lane None es = map place_in es
+lane (Some m) es = map place_in (marked m es)
+
+-- The marks put an entry into the lane.
+abbrev pub passes : Option Mark → Marks → Bool
+passes None marks = true
+passes (Some m) marks = has_mark m marks
+
+-- The places of all events, of the live ones, of those with a reading, and of those that name an EVSE.
+pub record Placed : Type 0 where
+  pub stored : Index
+  pub live : Index
+  pub carriers : Index
+  pub naming : Index
+
+-- A lane as an index of its own.
+abbrev pub lane_of : Option Mark → keyed.Index → Index
+lane_of o i = index (lane o i.entries) i.capacity
+
+-- The four lanes of one index.
+abbrev pub placed : keyed.Index → Placed
+placed i = record { stored = lane_of None i; live = lane_of (Some Live) i; carriers = lane_of (Some Carries) i; naming = lane_of (Some Names) i }

@@ -1,0 +1,84 @@
+//! The places of a station's events, read by their marks.
+ghost use Rattle.std.specs.Prelude.{◌≡◌, ◌≤◌, length, option_map};
+ghost use Rattle.event_chain.specs.Ranked.{below, from, slot_at, first_of, last_of, AreRising};
+ghost use Rattle.event_chain.specs.Placed.{place_in, lane_of};
+
+use key_index::{Filed, IndexKey, KeyIndex, Mark, Place};
+use std::marker::Model;
+
+// The entries of an index that have a mark, or all of them. Contracts see an index of their places. The
+// place is a hint for look-ups, and changes no answer.
+#[derive(Drop)]
+pub(crate) struct Lane<'a> {
+    index: &'a KeyIndex,
+    mark: Option<Mark>,
+    place: Place,
+}
+
+impl<'a> Model for Lane<'a> {
+    ghost use Rattle.event_chain.specs.Placed.{Index, lane_of};
+
+    ghost Value = { Index };
+
+    ghost view = { λ l. lane_of l.mark l.index.now };
+}
+
+// The key of an entry and its slot.
+fn slot_under(entry: Option<(IndexKey, Filed)>) -> Option<(IndexKey, u32)>
+    ensures { result ≡ option_map place_in entry }
+{
+    match entry {
+        Some(entry) => Some((entry.0, entry.1.slot)),
+        None => None,
+    }
+}
+
+impl<'a> Lane<'a> {
+    // The lane of a mark, or of all entries.
+    pub(crate) fn over(index: &'a KeyIndex, mark: Option<Mark>, place: Place) -> Self
+        ensures { result ≡ lane_of mark index.now }
+    {
+        Lane { index, mark, place }
+    }
+
+    // The keys rise, and the places are no more than there may be. It does nothing: a caller names the
+    // fact by it.
+    pub(crate) fn keys_rise(&self)
+        ensures rising { AreRising self.now.entries }
+        ensures within { length self.now.entries ≤ self.now.capacity }
+    {
+        self.index.keys_rise();
+    }
+
+    // The slot of a key; none where the key is absent.
+    pub(crate) fn get(&self, key: IndexKey) -> Option<u32>
+        ensures { result ≡ slot_at key (from key self.now.entries) }
+    {
+        match self.at_or_after(key) {
+            Some((found, slot)) if found == key => Some(slot),
+            _ => None,
+        }
+    }
+
+    // The first place whose key is the one given or greater.
+    pub(crate) fn at_or_after(&self, key: IndexKey) -> Option<(IndexKey, u32)>
+        ensures { result ≡ first_of (from key self.now.entries) }
+    {
+        self.index.keys_rise();
+        match self.mark {
+            Some(mark) => slot_under(self.index.at_or_after_marked(self.place, key, mark)),
+            None => slot_under(self.index.at_or_after(self.place, key)),
+        }
+    }
+
+    // The last place whose key is smaller than the one given.
+    pub(crate) fn before(&self, key: IndexKey) -> Option<(IndexKey, u32)>
+        ensures { result ≡ last_of (below key self.now.entries) }
+    {
+        self.index.keys_rise();
+        match self.mark {
+            Some(mark) => slot_under(self.index.before_marked(self.place, key, mark)),
+            None => slot_under(self.index.before(self.place, key)),
+        }
+    }
+}

@@ -1,0 +1,236 @@
+//! The places of a station's events in one ordered index, and linked lists of the live ones.
+ghost use Rattle.std.specs.Prelude.{◌≡◌, ℕ, ◌<◌, [], length, None, Some, IfOk, IsSome, slice_get, option_map};
+ghost use Rattle.std.specs.Ordering.{nat_cmp};
+ghost use Rattle.std.specs.FinMap.{put};
+ghost use Rattle.event_chain.specs.Ranked.{last_of, AreRising};
+ghost use Rattle.slot_links.specs.Links.{linked_in};
+ghost use Rattle.key_index.specs.declared.filed.Mark.TheVariants.{Live};
+ghost use Rattle.event_chain.specs.Placed.{index, lane_of};
+ghost use Rattle.event_chain.specs.Flat.{place_of};
+ghost use Rattle.event_chain.specs.Edits.{put_if, out, places_before, places_behind};
+ghost use Rattle.event_chain.specs.Lists.{slot_in, HasRank, AreOwn, AreListed, slot_before, slot_after};
+
+use crate::lane::Lane;
+use crate::spots::{place_before, place_behind};
+use key_index::{Filed, IndexKey, KeyIndex, Mark, Marks, Place};
+use slot_links::SlotLinks;
+use std::alloc::{AllocError, Global};
+use std::marker::Model;
+
+// All events by their keys, each with its slot and its marks, and a doubly linked list of each
+// transaction's live ones over their slots. The index finds where an event is linked in, the links lead
+// from one to the next. Contracts see four indexes: of all places, and of those with each mark.
+#[derive(Drop)]
+pub(crate) struct PlaceIndex {
+    index: KeyIndex,
+    links: SlotLinks,
+}
+
+impl Model for PlaceIndex {
+    ghost use Rattle.std.specs.Prelude.{Some};
+    ghost use Rattle.key_index.specs.declared.filed.Mark.TheVariants.{Live};
+    ghost use Rattle.event_chain.specs.Placed.{Placed, placed, lane_of};
+    ghost use Rattle.event_chain.specs.Lists.{AreListed};
+
+    ghost Value = { Placed };
+
+    ghost view = { λ p. placed p.index };
+
+    ghost invariant = { λ p. AreListed (lane_of (Some Live) p.index) p.links };
+}
+
+// The slot of a place.
+fn slot_of_place(place: Option<(IndexKey, u32)>) -> Option<u32>
+    ensures { result ≡ option_map slot_in place }
+{
+    match place {
+        Some(place) => Some(place.1),
+        None => None,
+    }
+}
+
+// The slot behind a new key, where the one in front of it is known: a link leads there, and a look-up
+// where the key comes first.
+fn slot_behind(
+    live: &Lane<'_>,
+    links: &SlotLinks,
+    key: IndexKey,
+    before: Option<u32>,
+) -> Option<u32>
+    requires listed { AreListed live.now links.now }
+    requires absent { place_of key live.now.entries ≡ None }
+    requires before { before ≡ option_map slot_in (last_of (places_before key live.now.entries)) }
+    ensures { result ≡ option_map slot_in (slice_get (places_behind key live.now.entries) 0) }
+{
+    live.keys_rise();
+    match before {
+        Some(slot) => links.next(slot),
+        None => slot_of_place(place_behind(live, key)),
+    }
+}
+
+// Links the event of a slot in between those on either side of its key.
+fn link_live(index: &KeyIndex, links: &mut SlotLinks, place: Place, key: IndexKey, slot: u32)
+    requires listed { AreListed (lane_of (Some Live) index.now) links.old }
+    requires absent { place_of key (lane_of (Some Live) index.now).entries ≡ None }
+    requires slot { slot < (lane_of (Some Live) index.now).capacity }
+    requires unused { (rank : ℕ) → place_of rank (lane_of (Some Live) index.now).entries ≡ Some slot → ⊥ }
+    ensures { links.new ≡ linked_in links.old (slot_before key (lane_of (Some Live) index.now).entries) slot slot (slot_after key (lane_of (Some Live) index.now).entries) }
+{
+    let live = Lane::over(index, Some(Mark::Live), place);
+    live.keys_rise();
+    let before = slot_of_place(place_before(&live, key));
+    let after = slot_behind(&live, links, key, before);
+    links.link_in(before, slot, slot, after);
+}
+
+impl PlaceIndex {
+    // No events, with room for so many, in as many slots.
+    pub(crate) fn open(alloc: Global, events: u32) -> Result<Self, AllocError>
+        ensures stored { IfOk result (λ p. p.stored ≡ index [] events) }
+        ensures live { IfOk result (λ p. p.live ≡ index [] events) }
+        ensures carriers { IfOk result (λ p. p.carriers ≡ index [] events) }
+        ensures naming { IfOk result (λ p. p.naming ≡ index [] events) }
+    {
+        Ok(PlaceIndex {
+            index: KeyIndex::open(alloc, events)?,
+            links: SlotLinks::open(alloc, events)?,
+        })
+    }
+
+    // How many events there are.
+    pub(crate) fn len(&self) -> u32
+        ensures { result ≡ length self.now.stored.entries }
+    {
+        self.index.len()
+    }
+
+    // The place where a key stands or belongs, to be handed to the calls that take one.
+    pub(crate) fn place(&self, key: IndexKey) -> Place {
+        self.index.place(key)
+    }
+
+    // All events.
+    pub(crate) fn stored(&self, place: Place) -> Lane<'_>
+        ensures { result ≡ self.now.stored }
+    {
+        Lane::over(&self.index, None, place)
+    }
+
+    // The live events, each with a slot of its own.
+    pub(crate) fn live(&self, place: Place) -> Lane<'_>
+        ensures same { result ≡ self.now.live }
+        ensures rising { AreRising self.now.live.entries }
+        ensures own { AreOwn self.now.live.entries }
+    {
+        let live = Lane::over(&self.index, Some(Mark::Live), place);
+        live.keys_rise();
+        live
+    }
+
+    // The live events that have a reading.
+    pub(crate) fn carriers(&self, place: Place) -> Lane<'_>
+        ensures { result ≡ self.now.carriers }
+    {
+        Lane::over(&self.index, Some(Mark::Carries), place)
+    }
+
+    // The live events that name an EVSE.
+    pub(crate) fn naming(&self, place: Place) -> Lane<'_>
+        ensures { result ≡ self.now.naming }
+    {
+        Lane::over(&self.index, Some(Mark::Names), place)
+    }
+
+    // Puts in a live event under a new key.
+    pub(crate) fn insert(
+        &mut self,
+        place: Place,
+        key: IndexKey,
+        slot: u32,
+        carries: bool,
+        names: bool,
+    )
+        requires absent { place_of key self.old.stored.entries ≡ None }
+        requires room { length self.old.stored.entries < self.old.stored.capacity }
+        requires slot { slot < self.old.live.capacity }
+        requires unused { (rank : ℕ) → place_of rank self.old.live.entries ≡ Some slot → ⊥ }
+        ensures stored { self.new.stored ≡ index (put nat_cmp key slot self.old.stored.entries) self.old.stored.capacity }
+        ensures live { self.new.live ≡ index (put nat_cmp key slot self.old.live.entries) self.old.live.capacity }
+        ensures carriers { self.new.carriers ≡ index (put_if carries key slot self.old.carriers.entries) self.old.carriers.capacity }
+        ensures naming { self.new.naming ≡ index (put_if names key slot self.old.naming.entries) self.old.naming.capacity }
+    {
+        self.index.keys_rise();
+        link_live(&self.index, &mut self.links, place, key, slot);
+        let marks = Marks {
+            live: true,
+            carries,
+            names,
+        };
+        self.index.insert(place, key, Filed { slot, marks });
+    }
+
+    // Takes a live event's marks away; it keeps its place and its slot.
+    pub(crate) fn void(&mut self, key: IndexKey, slot: u32)
+        requires stored { place_of key self.old.stored.entries ≡ Some slot }
+        requires live { place_of key self.old.live.entries ≡ Some slot }
+        ensures stored { self.new.stored ≡ self.old.stored }
+        ensures live { self.new.live ≡ index (out key self.old.live.entries) self.old.live.capacity }
+        ensures carriers { self.new.carriers ≡ index (out key self.old.carriers.entries) self.old.carriers.capacity }
+        ensures naming { self.new.naming ≡ index (out key self.old.naming.entries) self.old.naming.capacity }
+    {
+        self.index.keys_rise();
+        let before = self.links.prev(slot);
+        let after = self.links.next(slot);
+        self.links.link_out(before, after);
+        self.index.set_marks(key, Marks::NONE);
+    }
+
+    // Makes a voided event live again.
+    pub(crate) fn restore(&mut self, key: IndexKey, slot: u32, carries: bool, names: bool)
+        requires stored { place_of key self.old.stored.entries ≡ Some slot }
+        requires live { place_of key self.old.live.entries ≡ None }
+        requires carriers { place_of key self.old.carriers.entries ≡ None }
+        requires naming { place_of key self.old.naming.entries ≡ None }
+        requires slot { slot < self.old.live.capacity }
+        requires unused { (rank : ℕ) → place_of rank self.old.live.entries ≡ Some slot → ⊥ }
+        ensures stored { self.new.stored ≡ self.old.stored }
+        ensures live { self.new.live ≡ index (put nat_cmp key slot self.old.live.entries) self.old.live.capacity }
+        ensures carriers { self.new.carriers ≡ index (put_if carries key slot self.old.carriers.entries) self.old.carriers.capacity }
+        ensures naming { self.new.naming ≡ index (put_if names key slot self.old.naming.entries) self.old.naming.capacity }
+    {
+        self.index.keys_rise();
+        let place = self.index.place(key);
+        link_live(&self.index, &mut self.links, place, key, slot);
+        let marks = Marks {
+            live: true,
+            carries,
+            names,
+        };
+        self.index.set_marks(key, marks);
+    }
+
+    // Takes out an event that is not live.
+    pub(crate) fn remove(&mut self, key: IndexKey)
+        requires stored { IsSome (place_of key self.old.stored.entries) }
+        requires live { place_of key self.old.live.entries ≡ None }
+        requires carriers { place_of key self.old.carriers.entries ≡ None }
+        requires naming { place_of key self.old.naming.entries ≡ None }
+        ensures stored { self.new.stored ≡ index (out key self.old.stored.entries) self.old.stored.capacity }
+        ensures live { self.new.live ≡ self.old.live }
+        ensures carriers { self.new.carriers ≡ self.old.carriers }
+        ensures naming { self.new.naming ≡ self.old.naming }
+    {
+        self.index.keys_rise();
+        self.index.remove(key);
+    }
+
+    // The slot of the live event that comes after that of a slot in its transaction.
+    pub(crate) fn next(&self, slot: u32) -> Option<u32>
+        requires { HasRank self.now.live.entries slot }
+        ensures { (rank : ℕ) → place_of rank self.now.live.entries ≡ Some slot → result ≡ option_map slot_in (slice_get (places_behind rank self.now.live.entries) 0) }
+    {
+        self.index.keys_rise();
+        self.links.next(slot)
+    }
+}

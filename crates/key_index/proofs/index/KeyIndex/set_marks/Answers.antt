@@ -1,0 +1,50 @@
+use Rattle.std.proofs.Common.{◌≡◌, ◌<◌, ◌++◌, suc, true, [], is_some, length, drop, get_or, subst, sym, ap, ◌∙◌, arith, length-set, length-append}
+use Rattle.key_index.specs.Entries.{below, from, filed_at, AreRising}
+use Rattle.key_index.specs.Leaves.{all_of, AreFilled}
+use Rattle.key_index.specs.Marks.{mark_at}
+use Rattle.key_index.proofs.Orders.{cut_whole}
+use Rattle.key_index.proofs.Edits.{filled_round, filled_set}
+use Rattle.key_index.proofs.Cuts.{rising_leaf, from_at, present_in, place_within}
+use Rattle.key_index.proofs.Counting.{length-mark_at}
+use Rattle.key_index.proofs.Placing.{mark_all, rising_mark}
+use Rattle.key_index.proofs.index.KeyIndex.set_marks.Goals as goal
+
+pub mark-requires : goal.mark-requires
+mark-requires c =
+    let ls = c.self.inside.leaves.items in let at = c.leaf_of-at.result in let b = c.leaf_of-at.ensures in let key = c.args.key in let leaf = get_or ls at [] in
+    let there : is_some (filed_at key (from key leaf ++ all_of (drop (suc at) ls))) ≡ true =
+    ap (λ l. is_some (filed_at key l)) (sym (from_at key ls at b)) ∙ ap (λ i. is_some (filed_at key (from key i.entries))) c.self.view_is ∙ c.requires in
+    let some = present_in key (from key leaf) (all_of (drop (suc at) ls)) b.back there in
+    (b.within, rising_leaf ls at b.within c.self.invariant.kept.rising, place_within key leaf some)
+
+pub returns-clause-entries : goal.returns-clause-entries
+returns-clause-entries c =
+    let ls = c.self.inside.leaves.items in let at = c.leaf_of-at.result in let b = c.leaf_of-at.ensures in let key = c.args.key in let leaf = get_or ls at [] in let marks = c.args.marks in
+    let there : is_some (filed_at key (from key leaf ++ all_of (drop (suc at) ls))) ≡ true =
+    ap (λ l. is_some (filed_at key l)) (sym (from_at key ls at b)) ∙ ap (λ i. is_some (filed_at key (from key i.entries))) c.self.view_is ∙ c.requires in
+    let some = present_in key (from key leaf) (all_of (drop (suc at) ls)) b.back there in
+    ap all_of c.mark.ensures.items ∙ mark_all marks key ls at b some ∙ ap (λ i. below key i.entries ++ mark_at marks 0 (from key i.entries)) c.self.view_is
+
+pub invariant_of-self : goal.invariant_of-self
+invariant_of-self c =
+    let was = c.self.invariant in let ls = c.self.inside.leaves.items in let at = c.leaf_of-at.result in let b = c.leaf_of-at.ensures in let key = c.args.key in let leaf = get_or ls at [] in let marks = c.args.marks in
+    let es = all_of ls in let new = mark_at marks (length (below key leaf)) leaf in
+    let there : is_some (filed_at key (from key leaf ++ all_of (drop (suc at) ls))) ≡ true =
+    ap (λ l. is_some (filed_at key l)) (sym (from_at key ls at b)) ∙ ap (λ i. is_some (filed_at key (from key i.entries))) c.self.view_is ∙ c.requires in
+    let some = present_in key (from key leaf) (all_of (drop (suc at) ls)) b.back there in
+    let all : all_of c.mark.new.leaves.items ≡ below key es ++ mark_at marks 0 (from key es) = ap all_of c.mark.ensures.items ∙ mark_all marks key ls at b some in
+    let long : length (all_of c.mark.new.leaves.items) ≡ length es =
+    omega (arith, ap length all, length-append (below key es) (mark_at marks 0 (from key es)), length-mark_at marks (from key es) 0, length-append (below key es) (from key es), ap length (cut_whole key es)) in
+    let as_many : length c.mark.new.leaves.items ≡ length ls = ap length c.mark.ensures.items ∙ length-set ls at new in let round = filled_round ls at b.within was.kept.filled in
+    record {
+      kept = record {
+        filled = subst AreFilled (sym c.mark.ensures.items) (filled_set ls at new b.within round.0 round.1 (omega (arith, length-mark_at marks leaf (length (below key leaf)), place_within key leaf some)));
+        rising = subst AreRising (sym all) (rising_mark marks key es was.kept.rising);
+        empty = was.kept.empty;
+      };
+      room = omega (arith, was.room, as_many, c.mark.ensures.capacity, c.mark.new.leaves.ok.0, c.self.inside.leaves.ok.0);
+      clear = was.clear;
+      total = omega (arith, was.total, as_many);
+      count = omega (arith, was.count, long);
+      few = omega (arith, was.few);
+    }

@@ -1,0 +1,43 @@
+-- The marks of entries, and how many entries have each.
+use Rattle.std.specs.Prelude.{◌≡◌, ℕ, zero, suc, Bool, if◌then◌else◌, List, [], ◌∷◌, length}
+use Rattle.std.specs.List.{filter}
+use Rattle.key_index.specs.declared.filed.Mark.{Mark}
+use Rattle.key_index.specs.declared.filed.Mark.TheVariants.{Live, Carries, Names}
+use Rattle.key_index.specs.declared.filed.Marks.{Marks}
+use Rattle.key_index.specs.declared.filed.Filed.{Filed}
+use Rattle.key_index.specs.declared.counts.Counts.{Counts}
+use Rattle.key_index.specs.Entries.{Entry}
+
+-- The mark is set.
+abbrev pub has_mark : Mark → Marks → Bool
+has_mark Live m = m.live
+has_mark Carries m = m.carries
+has_mark Names m = m.names
+
+-- Counts a mark that is set.
+abbrev pub weigh : Bool → ℕ
+weigh b = if b then 1 else 0
+
+-- How many have the mark.
+abbrev pub count_of : Mark → Counts → ℕ
+count_of Live c = c.live
+count_of Carries c = c.carries
+count_of Names c = c.names
+
+-- The entries that have the mark, in order.
+abbrev pub marked : Mark → List Entry → List Entry
+marked mark es = filter (λ e. has_mark mark e.1.marks) es
+
+-- So many entries have each mark.
+abbrev pub AreCounts : Counts → List Entry → Type 0
+AreCounts counts es = (m : Mark) → count_of m counts ≡ length (marked m es)
+
+-- The entry, with these marks.
+abbrev pub with_marks : Marks → Entry → Entry
+with_marks marks e = (e.0, record { slot = e.1.slot; marks = marks })
+
+-- The entries, with these marks at a place.
+abbrev pub mark_at : Marks → ℕ → List Entry → List Entry
+mark_at marks i [] = []
+mark_at marks zero (e ∷ es) = with_marks marks e ∷ es
+mark_at marks (suc i) (e ∷ es) = e ∷ mark_at marks i es

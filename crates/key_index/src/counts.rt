@@ -1,0 +1,106 @@
+//! How many entries of a leaf have each mark.
+ghost use Rattle.std.specs.Prelude.{◌≡◌, ◌+◌, ◌<◌, ◌≤◌, take, length};
+ghost use Rattle.key_index.specs.declared.filed.Mark.{Mark};
+ghost use Rattle.key_index.specs.Marks.{has_mark, weigh, count_of, AreCounts};
+
+use crate::filed::{Filed, Mark, Marks};
+use crate::key::IndexKey;
+
+/// How many of at most 128 entries have each mark.
+#[derive(Clone, Copy)]
+pub struct Counts {
+    live: u8,
+    carries: u8,
+    names: u8,
+}
+
+// One for a mark that is set.
+fn weight(is_set: bool) -> u8
+    ensures { result ≡ weigh is_set }
+{
+    if is_set { 1 } else { 0 }
+}
+
+impl Counts {
+    // Those of no entries.
+    pub(crate) fn none() -> Self
+        ensures { (m : Mark) → count_of m result ≡ 0 }
+    {
+        Counts {
+            live: 0,
+            carries: 0,
+            names: 0,
+        }
+    }
+
+    // How many have a mark.
+    pub(crate) fn of(self, mark: Mark) -> u8
+        ensures { result ≡ count_of mark self }
+    {
+        match mark {
+            Mark::Live => self.live,
+            Mark::Carries => self.carries,
+            Mark::Names => self.names,
+        }
+    }
+
+    // With an entry of these marks more.
+    pub(crate) fn more(self, marks: Marks) -> Self
+        requires { (m : Mark) → count_of m self < 255 }
+        ensures { (m : Mark) → count_of m result ≡ count_of m self + weigh (has_mark m marks) }
+    {
+        Counts {
+            live: self.live + weight(marks.live),
+            carries: self.carries + weight(marks.carries),
+            names: self.names + weight(marks.names),
+        }
+    }
+
+    // With one fewer.
+    pub(crate) fn less(self, marks: Marks) -> Self
+        requires { (m : Mark) → weigh (has_mark m marks) ≤ count_of m self }
+        ensures { (m : Mark) → count_of m result + weigh (has_mark m marks) ≡ count_of m self }
+    {
+        Counts {
+            live: self.live - weight(marks.live),
+            carries: self.carries - weight(marks.carries),
+            names: self.names - weight(marks.names),
+        }
+    }
+
+    // With those of other entries.
+    pub(crate) fn plus(self, other: Counts) -> Self
+        requires { (m : Mark) → count_of m self + count_of m other ≤ 255 }
+        ensures { (m : Mark) → count_of m result ≡ count_of m self + count_of m other }
+    {
+        Counts {
+            live: self.live + other.live,
+            carries: self.carries + other.carries,
+            names: self.names + other.names,
+        }
+    }
+
+    // Without those of some of the entries.
+    pub(crate) fn minus(self, other: Counts) -> Self
+        requires { (m : Mark) → count_of m other ≤ count_of m self }
+        ensures { (m : Mark) → count_of m result + count_of m other ≡ count_of m self }
+    {
+        Counts {
+            live: self.live - other.live,
+            carries: self.carries - other.carries,
+            names: self.names - other.names,
+        }
+    }
+}
+
+// The counts of at most 128 entries.
+pub(crate) fn counts_over(entries: &[(IndexKey, Filed)]) -> Counts
+    requires { length entries.now ≤ 128 }
+    ensures { AreCounts result entries.now }
+{
+    let mut counts = Counts::none();
+    for entry in entries {
+        counts = counts.more(entry.1.marks);
+    }
+    counts
+}

@@ -1,0 +1,54 @@
+//! What an index keeps under a key: a slot number, and marks.
+ghost use Rattle.std.specs.Prelude.{◌≡◌};
+ghost use Rattle.key_index.specs.Marks.{has_mark};
+
+/// The marks of an entry. What they mean is its owner's choice.
+#[derive(Clone, Copy, Debug, PartialEq, Eq)]
+pub struct Marks {
+    /// The entry counts.
+    pub live: bool,
+    /// It counts, and carries a reading.
+    pub carries: bool,
+    /// It counts, and names a place.
+    pub names: bool,
+}
+
+/// One of the marks that an entry may have.
+#[derive(Clone, Copy, Debug, PartialEq, Eq)]
+pub enum Mark {
+    /// `Marks::live`.
+    Live,
+    /// `Marks::carries`.
+    Carries,
+    /// `Marks::names`.
+    Names,
+}
+
+/// What stands under a key.
+#[derive(Clone, Copy, Debug, PartialEq, Eq)]
+pub struct Filed {
+    /// The slot number.
+    pub slot: u32,
+    /// The marks.
+    pub marks: Marks,
+}
+
+impl Marks {
+    /// No mark.
+    pub const NONE: Marks = Marks {
+        live: false,
+        carries: false,
+        names: false,
+    };
+
+    /// Tells whether the mark is set.
+    pub fn has(self, mark: Mark) -> bool
+        ensures { result ≡ has_mark mark self }
+    {
+        match mark {
+            Mark::Live => self.live,
+            Mark::Carries => self.carries,
+            Mark::Names => self.names,
+        }
+    }
+}

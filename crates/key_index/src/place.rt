@@ -1,0 +1,17 @@
+//! Places in an index, found once and handed on.
+
+/// A place in an index, as a hint: each call that takes one tests it, and searches again where it is
+/// not the place of the call's key.
+#[derive(Clone, Copy, Debug, PartialEq, Eq)]
+pub struct Place {
+    pub(crate) leaf: usize,
+    pub(crate) entry: usize,
+}
+
+impl Place {
+    /// A place that is no key's, where none is known yet.
+    pub const UNKNOWN: Place = Place {
+        leaf: usize::MAX,
+        entry: 0,
+    };
+}
