@@ -1,4 +1,4 @@
-ghost use Rattle.std.specs.Prelude.{◌≡◌, ℕ, ◌<◌, ◌≤◌, IfOk, IfSome, length};
+ghost use Rattle.std.specs.Prelude.{◌≡◌, ℕ, ◌<◌, ◌≤◌, IfOk, length};
 ghost use Rattle.board_report.specs.Plans.{IsBoardWithin};
 ghost use Rattle.board_report.specs.Sums.{station_quarters, QuartersFit};
 ghost use Rattle.ledger_model.specs.Ranges.{most_readings};
@@ -260,14 +260,18 @@ fn board_within(alloc: Global, ledger: &StationLedger) -> Result<StationBoard, A
 }
 
 // The boards of both stations by name, whose sums fit.
-fn boards_of<J: Naming>(alloc: Global, closed: &Closed<J>) -> Option<Vec<(Name, StationBoard)>>
+fn boards_of<J: Naming>(
+    alloc: Global,
+    closed: &Closed<J>,
+    first: Name,
+    second: Name,
+) -> Result<Vec<(Name, StationBoard)>, AllocError>
     requires { length closed.now.cells ≡ 2 }
-    ensures { IfSome result (λ boards. QuartersFit (station_quarters boards.items)) }
+    ensures { IfOk result (λ boards. QuartersFit (station_quarters boards.items)) }
 {
-    let (first, second) = (Name::new("A")?, Name::new("B")?);
-    let a = board_within(alloc, closed.ledger(0)).ok()?;
-    let b = board_within(alloc, closed.ledger(1)).ok()?;
-    vec![in alloc; (first, a), (second, b)].ok()
+    let a = board_within(alloc, closed.ledger(0))?;
+    let b = board_within(alloc, closed.ledger(1))?;
+    Ok(vec![in alloc; (first, a), (second, b)]?)
 }
 
 // Tells whether the threads leave the board of their script.
@@ -275,7 +279,8 @@ fn is_board_of_script<J: Naming>(alloc: Global, closed: &Closed<J>) -> Option<bo
     if closed.stations() != 2 || closed.sites() != 1 {
         return None;
     }
-    let stations = boards_of(alloc, closed)?;
+    let (first, second) = (Name::new("A")?, Name::new("B")?);
+    let stations = boards_of(alloc, closed, first, second).ok()?;
     let board = site_board(alloc, &Name::new("north")?, closed.totals(0), stations).ok()?;
     let text = write_board(alloc, &board).ok()?;
     Some(text.as_slice() == BOARD.as_bytes())

@@ -20,6 +20,6 @@ returns g c =
       sum_by-cons (λ (limits : Bounds). limits.readings) first (second ∷ []),
       sum_by-cons (λ (limits : Bounds). limits.readings) second [],
     ) in
-    let boards = (c.in_ok-first.first, c.in_ok-a.a) ∷ (c.in_ok-second.second, c.in_ok-b.b) ∷ [] in
+    let boards = (c.args.first, c.in_ok-a.a) ∷ (c.args.second, c.in_ok-b.b) ∷ [] in
     let within : AreBoardsWithin (first ∷ second ∷ []) boards = (c.in_ok-a.ensures.within, (c.in_ok-b.ensures.within, tt)) in
     subst (λ items. QuartersFit (station_quarters items)) (sym c.in_ok-vec.ensures.items) (plans_fit (first ∷ second ∷ []) boards few within)
