@@ -22,6 +22,7 @@ mod index;
 mod key;
 mod leaf;
 mod leaves;
+
 pub use index::KeyIndex;
 pub use key::IndexKey;
 // A crate can name an index in a contract only if the types of its fields are exported.
