@@ -5,7 +5,9 @@ ghost use Rattle.board_report.specs.Sums.{station_quarters, QuartersFit};
 
 use board_report::{SiteBoard, energy_text, site_board, total_text, write_board};
 use energy_flow::{Flow, Level, Work, difference};
-use ledger_model::{Answer, Command, Event, Figures, Key, Kind, Limits, Moment, Name, Reading, TxId};
+use ledger_model::{
+    Answer, Command, Event, Figures, Key, Kind, Limits, Moment, Name, Reading, TxId,
+};
 use station_ledger::{StationBoard, StationLedger};
 use std::alloc::Global;
 use std::process::Abort;

@@ -21,6 +21,7 @@ mod event_slot;
 mod links;
 mod readings;
 mod store;
+
 pub use event_ref::EventRef;
 #[doc(hidden)]
 pub use event_slot::EventSlot;

@@ -1,8 +1,8 @@
-mod event_store;
-mod gap_list;
-mod key_index;
-mod quarter_table;
-mod slot_arena;
-mod slot_links;
-mod transaction_map;
-mod transaction_table;
+mod arena;
+mod gaps;
+mod index;
+mod links;
+mod map;
+mod quarters;
+mod store;
+mod table;

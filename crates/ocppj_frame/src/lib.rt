@@ -26,7 +26,8 @@ mod incoming;
 mod json_string;
 pub mod laws;
 mod message_id;
-mod reply;mod verdict;
+mod reply;
+mod verdict;
 
 pub use action::Action;
 pub use body::Body;

@@ -1,10 +1,10 @@
 //! What no clause says: that calls are read while there is memory, and texts as OCPP 2.0.1 Part 4 and this
 //! product's profile give them.
 
+use arrayvec::ArrayString;
 use ocppj_frame::{
     Action, Body, ErrorCode, Incoming, error_text, is_message_id, read_frame, result_text,
 };
-use arrayvec::ArrayString;
 use std::test::Fail;
 
 // Thirty-six characters of four bytes each.

@@ -26,5 +26,6 @@ pub mod laws;
 mod place;
 mod row;
 mod table;
+
 pub use row::QuarterRow;
 pub use table::QuarterTable;

@@ -26,7 +26,8 @@ mod laws;
 mod moment;
 mod numeral;
 mod period;
-mod scale;mod text;
+mod scale;
+mod text;
 
 pub use decimal::{DecimalFault, Unit, multiplier_ok, mwh_of};
 pub use laws::{reads_back, reads_numbers, rounds_down, starts_quarters};

@@ -1,8 +1,8 @@
 ghost use Rattle.std.specs.Prelude.{◌≡◌, IfSome};
 ghost use Rattle.site_book.specs.Tables.{HasTable, NamedBy};
 
-use site_book::{Naming, SiteBook, Tables, Told, Viewer};
 use ledger_model::{Figures, Limits};
+use site_book::{Naming, SiteBook, Tables, Told, Viewer};
 use std::alloc::Global;
 use std::marker::Brand;
 use std::process::Abort;

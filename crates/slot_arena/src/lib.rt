@@ -24,6 +24,7 @@ mod arena;
 mod block;
 mod id;
 mod slot;
+
 pub use arena::{MAX_SLOTS, SlotArena};
 // A crate can name an arena in a contract only if the types of its fields are exported.
 #[doc(hidden)]

@@ -20,4 +20,5 @@
 
 pub mod laws;
 mod links;
+
 pub use links::SlotLinks;

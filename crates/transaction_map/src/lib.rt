@@ -18,6 +18,7 @@
 
 mod map;
 mod named;
+
 pub use map::TransactionMap;
 // A crate can name a map in a contract only if the types of its fields are exported.
 #[doc(hidden)]

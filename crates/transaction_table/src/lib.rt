@@ -17,5 +17,6 @@
 
 mod row;
 mod table;
+
 pub use row::TableRow;
 pub use table::TransactionTable;

@@ -122,12 +122,7 @@ fn text_stops_at_each_byte(rt: HostRuntime) -> Result<(), Fail> {
 
 // A reader that fails once, when it was asked so many times, and would go on: the text of the complete lines
 // stands. All of the script is shown at once, so that what comes is looked at after each line.
-fn fails_once<X: AllocGlobal + Threads>(
-    rt: &X,
-    script: &[u8],
-    text: &[u8],
-    asked: usize,
-) -> bool {
+fn fails_once<X: AllocGlobal + Threads>(rt: &X, script: &[u8], text: &[u8], asked: usize) -> bool {
     let mut reader = FlakyReader {
         rest: script,
         step: script.len(),

@@ -25,8 +25,7 @@ loop-before-preserved c =
     let site : c.copied.result ≡ codes "sim" = c.copied.ensures ∙ k.0 in
     let limits : c.default.result ≡ default_limits = search rules in
     let name : c.station_name-station.result ≡ simulated_name (suc n) = c.station_name-station.ensures ∙ ap simulated_name (sym next) in
-    let number = (λ i. site_number (position (λ (s : SitePlan). bytes_eq c.copied.result s.name) (k.1 i)) (k.1 i)) ∙ number_next c.copied.result n site in
-    (
+    let number = (λ i. site_number (position (λ (s : SitePlan). bytes_eq c.copied.result s.name) (k.1 i)) (k.1 i)) ∙ number_next c.copied.result n site in (
       k.0,
       c.declare.ensures.sites ∙ (λ i. sites_with (position (λ (s : SitePlan). bytes_eq c.copied.result s.name) (k.1 i)) c.copied.result 0 (k.1 i)) ∙ sites_next c.copied.result n site ∙ ap simulated_sites next,
       c.declare.ensures.stations ∙ (λ i. k.2 i ++ record { site = number i; name = name i; limits = limits i } ∷ []) ∙ ap simulated_stations next,

@@ -1,6 +1,6 @@
-use quarter_table::QuarterTable;
 use energy_flow::{Flow, Level, Work, difference};
 use ledger_model::Quarter;
+use quarter_table::QuarterTable;
 use std::test::Fail;
 
 // The quarter that begins at 10:30 on the first of March 2026.

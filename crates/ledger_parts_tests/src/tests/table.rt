@@ -1,6 +1,6 @@
-use transaction_table::{TableRow, TransactionTable};
 use ledger_model::TxId;
 use std::test::Fail;
+use transaction_table::{TableRow, TransactionTable};
 
 // Puts a transaction in where it is new and there is room, and answers its slot.
 fn put(table: &mut TransactionTable, tx: &TxId) -> Option<u32> {

@@ -1,6 +1,6 @@
-use transaction_map::TransactionMap;
 use ledger_model::TxId;
 use std::test::Fail;
+use transaction_map::TransactionMap;
 
 // Writes a value where its transaction is there or there is room, and tells whether it did.
 fn put(map: &mut TransactionMap<u32>, tx: &TxId, value: u32) -> bool {
