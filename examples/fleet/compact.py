@@ -1,0 +1,111 @@
+#!/usr/bin/python3
+"""Removes the lines of a shard's log that changed nothing: messages that were taken before.
+
+    PGPASSWORD=.. compact.py --db postgresql://OWNER@HOST:PORT/DATABASE --program ocpp_board --shard 7
+
+The log up to where answers were told is replayed under the plan's limits, and after each message the station's total
+is asked for. A message that was taken and left the total as it was is a repeat, since each accepted change counts in
+it. What was refused stays, since it tells of a conflict. Before anything is removed the lines that are left are
+replayed, and their boards must be the same.
+"""
+
+import argparse
+import asyncio
+import sys
+from typing import Any
+
+from database import (
+    LOST,
+    Fault,
+    Plan,
+    Replay,
+    ReplayEnded,
+    Unreachable,
+    asyncpg,
+    connect,
+    knows_period,
+    password_or_fault,
+    told,
+)
+
+# Nothing that was told up to a place is changed behind it, so reading needs no transaction, which would stall workers.
+READ = """
+select xid::text, id, line from own_log where shard = $1 and (xid, id) <= ($2::text::xid8, $3) order by xid, id
+"""
+# Not under limits other than those that it was found under.
+REMOVE = """
+delete from own_log l using unnest($2::text[], $3::bigint[]) as g (xid, id)
+where l.shard = $1 and l.xid = g.xid::xid8 and l.id = g.id and $4 = (select plan from own_shard where shard = $1)
+"""
+
+
+async def boards(program: str, plan: Plan, lines: list[str]) -> list[bytes]:
+    replay = await Replay.start(program)
+    try:
+        await replay.open(plan)
+        replay.write("".join(line + "\n" for line in lines).encode())
+        await replay.answers(len(lines))
+        return [await replay.board(site) for site in plan.sites]
+    finally:
+        replay.kill()
+
+
+async def repeats(program: str, plan: Plan, rows: list[Any]) -> list[Any]:
+    """The messages that were taken and changed nothing."""
+    replay, totals, found = await Replay.start(program), dict[str, bytes](), []
+    try:
+        await replay.open(plan)
+        for front in range(0, len(rows), 500):
+            part = rows[front : front + 500]
+            stations = [row["line"].split(" ", 2)[1] for row in part]
+            replay.write("".join(f"{row['line']}\ntotal {station}\n" for row, station in zip(part, stations)).encode())
+            answers = await replay.answers(2 * len(part))
+            for row, station, answer, total in zip(part, stations, answers[::2], answers[1::2]):
+                if answer.startswith(b"[3,") and totals.get(station) == total:
+                    found.append(row)
+                totals[station] = total
+    finally:
+        replay.kill()
+    return found
+
+
+async def compact(words: argparse.Namespace) -> None:
+    with_period = knows_period(words.program)
+    session = await connect(words.db, application_name="compact.py")
+    if not await session.fetchval("select reserve_shard($1)", words.shard):
+        raise Fault(f"shard {words.shard} is being moved or compacted by another program")
+    mark = await session.fetchrow("select plan, xid::text, id from own_shard where shard = $1", words.shard)
+    if mark is None:
+        raise Fault(f"no shard {words.shard} in this cell")
+    plan = await Plan.of(session.fetch, words.shard, with_period)
+    rows = await session.fetch(READ, words.shard, mark["xid"], mark["id"])
+    gone = await repeats(words.program, plan, rows)
+    places = {(row["xid"], row["id"]) for row in gone}
+    left = [row["line"] for row in rows if (row["xid"], row["id"]) not in places]
+    if await boards(words.program, plan, [row["line"] for row in rows]) != await boards(words.program, plan, left):
+        raise Fault(f"shard {words.shard}: the boards would change, so nothing was removed")
+    xids, ids = [row["xid"] for row in gone], [row["id"] for row in gone]
+    done = await session.execute(REMOVE, words.shard, xids, ids, mark["plan"])
+    if done != f"DELETE {len(gone)}":
+        raise Fault(f"shard {words.shard}: its plan or its log was changed meanwhile; removed: {done}")
+    await session.close()
+    print(f"shard {words.shard}: {len(rows)} lines, {len(gone)} repeats removed, boards as before")
+
+
+def main() -> int:
+    parser = argparse.ArgumentParser(description=__doc__, formatter_class=argparse.RawDescriptionHelpFormatter)
+    parser.add_argument("--db", required=True, help="the cell's database, as its owner")
+    parser.add_argument("--program", default="ocpp_board", help="the built program (default: ocpp_board)")
+    parser.add_argument("--shard", type=int, required=True, help="which shard")
+    words = parser.parse_args()
+    try:
+        password_or_fault()
+        asyncio.run(compact(words))
+    except (Fault, ReplayEnded, Unreachable, *LOST, asyncpg.PostgresError) as fault:
+        told("compact.py", fault)
+        return 2
+    return 0
+
+
+if __name__ == "__main__":
+    sys.exit(main())

@@ -1,0 +1,244 @@
+"""A fleet of one's own on this machine, for trying and measuring: its database, its parts, what its boards must be."""
+
+import asyncio
+import os
+import pwd
+import secrets
+import shutil
+import signal
+import socket
+import subprocess
+import tempfile
+import time
+from pathlib import Path
+from typing import Any
+
+from database import Fault, Plan, connect, knows_period
+
+HERE = Path(__file__).resolve().parent
+BIN = Path("/usr/lib/postgresql/15/bin")
+
+
+def free_port() -> int:
+    with socket.socket() as one:
+        one.bind(("127.0.0.1", 0))
+        return int(one.getsockname()[1])
+
+
+def children(pid: int) -> list[int]:
+    """The processes that this one started, and those that they started."""
+    try:
+        own = [int(word) for word in Path(f"/proc/{pid}/task/{pid}/children").read_text().split()]
+    except OSError:
+        return []
+    return own + [one for child in own for one in children(child)]
+
+
+class Database:
+    """A server of PostgreSQL in a folder of its own, run by a user that is not root."""
+
+    def __init__(self, fleet: "Fleet", folder: Path) -> None:
+        self.fleet, self.folder, self.port = fleet, folder, free_port()
+        self.process: subprocess.Popen[bytes] | None = None
+
+    def run(self, *command: object) -> None:
+        made = subprocess.run(
+            list(map(str, command)),
+            stdout=subprocess.PIPE,
+            stderr=subprocess.STDOUT,
+            cwd="/",
+            check=False,
+            **self.fleet.user,
+        )
+        if made.returncode:
+            raise Fault(f"{command[0]}: {made.stdout.decode().strip().splitlines()[-1:]}")
+
+    def make(self, *more: str) -> None:
+        secret = self.fleet.folder / "password"
+        secret.write_text(self.fleet.password)
+        secret.chmod(0o644)
+        self.run(BIN / "initdb", "-D", self.folder, "-U", "owner", "-A", "scram-sha-256", "--pwfile", secret, *more)
+        secret.unlink()
+
+    def copy(self, other: "Database") -> None:
+        """Makes this one a standby of another one."""
+        login = f"host=127.0.0.1 port={other.port} user=owner password={self.fleet.password}"
+        self.run(BIN / "pg_basebackup", "-D", self.folder, "-R", "-c", "fast", "-d", login)
+
+    def start(self, **settings: str) -> None:
+        words = [f"--{name}={value}" for name, value in settings.items()]
+        with open(self.fleet.folder / "database.log", "ab") as log:
+            process = self.process = subprocess.Popen(
+                [str(BIN / "postgres"), "-D", str(self.folder), "-p", str(self.port), "-k", str(self.fleet.folder)]
+                + ["-c", "listen_addresses=127.0.0.1", *words],
+                stdin=subprocess.DEVNULL,
+                stdout=log,
+                stderr=log,
+                cwd="/",
+                **self.fleet.user,
+            )
+        end = time.monotonic() + 20
+        while subprocess.run(
+            [BIN / "pg_isready", "-q", "-h127.0.0.1", f"-p{self.port}", "-Uowner", "-dpostgres"], check=False
+        ).returncode:
+            if process.poll() is not None or time.monotonic() > end:
+                raise Fault(f"the database does not start: {self.fleet.folder / 'database.log'}")
+            time.sleep(0.05)
+
+    def psql(self, database: str, *words: object, **more: Any) -> None:
+        command = ["psql", "-h", "127.0.0.1", "-p", self.port, "-U", "owner", "-qX", "-d", database, *words]
+        subprocess.run(list(map(str, command)), check=True, **more)
+
+    def fill(self, cell: int) -> None:
+        self.psql("postgres", "-c", "create database ledger")
+        roles = {f"{role}_PASSWORD": self.fleet.password for role in ("GATEWAY", "WORKER", "READER")}
+        self.psql("ledger", "-v", f"cell={cell}", "-f", HERE / "schema.sql", env=os.environ | roles)
+
+    def kill(self) -> None:
+        """Ends the server and all its processes at once, as a machine that fails."""
+        if self.process and self.process.poll() is None:
+            for pid in [self.process.pid, *children(self.process.pid)]:
+                try:
+                    os.kill(pid, signal.SIGKILL)
+                except ProcessLookupError:
+                    pass
+            self.process.wait()
+
+    def stop(self) -> None:
+        if self.process and self.process.poll() is None:
+            self.process.send_signal(signal.SIGQUIT)
+            self.process.wait()
+
+
+class Fleet:
+    """What was started, and what stations sent."""
+
+    def __init__(self, program: str, user: str) -> None:
+        self.program, self.folder = os.path.abspath(program), Path(tempfile.mkdtemp(prefix="ocpp-fleet."))
+        self.with_period = knows_period(self.program)
+        self.processes: list[subprocess.Popen[bytes]] = []
+        self.databases: list[Database] = []
+        self.password = secrets.token_hex(12)
+        self.user: dict[str, Any] = {}
+        self.folder.chmod(0o755)
+        if os.geteuid() == 0:
+            one = pwd.getpwnam(user)
+            self.user = {"user": one.pw_uid, "group": one.pw_gid, "extra_groups": []}
+            os.chown(self.folder, one.pw_uid, one.pw_gid)
+        os.environ["PGPASSWORD"] = self.password
+        self.log = open(self.folder / "parts.log", "ab")
+        self.records: list[Path] = []
+        self.stations = 0
+
+    def database(self, name: str = "data") -> Database:
+        self.databases.append(Database(self, self.folder / name))
+        return self.databases[-1]
+
+    def dsn(self, user: str, *ports: int) -> str:
+        hosts = ",".join(f"127.0.0.1:{port}" for port in ports or [one.port for one in self.databases])
+        return f"postgresql://{user}@{hosts}/ledger"
+
+    def start(self, *command: object, **more: Any) -> subprocess.Popen[bytes]:
+        more = dict[str, Any](stdin=subprocess.DEVNULL, stdout=self.log, stderr=self.log) | more
+        self.processes.append(subprocess.Popen(list(map(str, command)), **more))
+        return self.processes[-1]
+
+    def worker(self, *more: object, dsn: str = "") -> subprocess.Popen[bytes]:
+        login = dsn or self.dsn("ledger_worker")
+        return self.start(HERE / "worker.py", "--db", login, "--program", self.program, *more)
+
+    def gateway(self, *dsns: str) -> tuple[subprocess.Popen[bytes], str]:
+        logins = [word for dsn in dsns or [self.dsn("ledger_gateway")] for word in ("--db", dsn)]
+        process = self.start(
+            HERE / "gateway.py", *logins, "--program", self.program, "--port", 0, stdout=subprocess.PIPE
+        )
+        assert process.stdout
+        words = process.stdout.readline().decode().split()
+        if len(words) != 2:
+            raise Fault(f"a gateway does not start: {self.folder / 'parts.log'}")
+        return process, f"ws://{words[1]}/ocpp"
+
+    async def add(
+        self, owner: Any, count: int, each: int, shard: int, limits: tuple[int, int, int] | None = None
+    ) -> int:
+        """Adds so many stations, `each` to a shard, from this shard on. Gives the number of the first."""
+        first = self.stations
+        self.stations += count
+        async with owner.transaction():
+            for number in range(count):
+                place = shard + number // each
+                await owner.execute("select add_station($1, $2, $3)", place, f"site-{place}", f"CS-{first + number:05}")
+            if limits:
+                await owner.execute(
+                    "update own_station set transactions = $2, events = $3, readings = $4 where shard >= $1",
+                    shard,
+                    *limits,
+                )
+        return first
+
+    def load(self, urls: list[str], first: int, stations: int, *more: object) -> subprocess.Popen[bytes]:
+        self.records.append(self.folder / f"sent.{first}.script")
+        return self.start(
+            HERE / "load.py",
+            *("--first", first, "--stations", stations, "--record", self.records[-1]),
+            *more,
+            *urls,
+            stdout=subprocess.PIPE,
+        )
+
+    def sent(self) -> list[str]:
+        """All lines that were answered."""
+        return [line for record in self.records for line in record.read_text().splitlines()]
+
+    async def compare(self, owner: Any, shard: int = 0) -> list[str]:
+        """What differs: answered lines that the log lacks, and boards, of this shard and those behind it, that are not
+        those of a replay from scratch."""
+        differ, sent = [], self.sent()
+        in_log = {row["line"] for row in await owner.fetch("select line from own_log")}
+        if missing := sum(line not in in_log for line in sent):
+            differ.append(f"{missing} answered lines are not in the log")
+        shards = {row["station"]: row["shard"] for row in await owner.fetch("select station, shard from own_station")}
+        texts: dict[int, list[str]] = {}
+        for line in sent:
+            if (home := shards.get(line.split(" ", 2)[1])) is not None:
+                texts.setdefault(home, []).append(line)
+        for number in sorted(number for number in set(shards.values()) if number >= shard):
+            plan = await Plan.of(owner.fetch, number, self.with_period)
+            lines = [*texts.get(number, ()), *(f"board {site}" for site in plan.sites)]
+            script = plan.lines + "".join(line + "\n" for line in lines).encode()
+            made = subprocess.run([self.program, "replay"], input=script, stdout=subprocess.PIPE, check=True).stdout
+            rows = await owner.fetch("select site, text from own_board where shard = $1", number)
+            boards = {row["site"]: row["text"] for row in rows}
+            wanted = made[made.index(b"board ") :].decode()
+            if "".join(boards.get(site, "") for site in plan.sites) != wanted:
+                differ.append(f"shard {number}: the boards differ")
+        return differ
+
+    async def compared(self, owner: Any, shard: int = 0, seconds: float = 15) -> list[str]:
+        """What differs, once boards have had the time to be written."""
+        end = time.monotonic() + seconds
+        while (differ := await self.compare(owner, shard)) and time.monotonic() < end:
+            await asyncio.sleep(0.3)
+        return differ
+
+    async def owner(self, *ports: int) -> Any:
+        return await connect(self.dsn("owner", *ports))
+
+    def close(self, keep: bool = False) -> None:
+        """Ends what was started, by its ids."""
+        for process in reversed(self.processes):
+            if process.poll() is None:
+                process.send_signal(signal.SIGCONT)
+                process.kill()
+                process.wait()
+        for database in self.databases:
+            database.stop()
+        self.log.close()
+        if not keep:
+            shutil.rmtree(self.folder)
+
+
+async def ended(process: subprocess.Popen[bytes]) -> tuple[int, str]:
+    """The status of a process, once it ended, and what it wrote."""
+    data, _ = await asyncio.to_thread(process.communicate)
+    return process.returncode, (data or b"").decode().strip()

@@ -1,0 +1,265 @@
+-- The ledger of one cell: its plan, its log and its boards, and what workers need to share its shards.
+--
+--     psql -v cell=1 -f schema.sql
+--
+-- Needs PostgreSQL 15, a superuser and an empty database. The passwords of the roles come from the environment:
+-- GATEWAY_PASSWORD, WORKER_PASSWORD and READER_PASSWORD; a role whose variable is not set gets none.
+--
+-- shard, site, station, log and board are tables over all cells; what lies in this one is own_shard, own_site, own_station,
+-- own_log and own_board, and `see_cell` adds another one's. Gateways and workers use the own ones alone, so that a cell
+-- which is down is none of their business.
+\set ON_ERROR_STOP on
+\if :{?cell}
+\else
+    \set cell 1
+\endif
+\getenv gateway_password GATEWAY_PASSWORD
+\getenv worker_password WORKER_PASSWORD
+\getenv reader_password READER_PASSWORD
+
+begin;
+set local client_min_messages = warning;
+create extension if not exists postgres_fdw;
+
+do $$
+declare
+    role_name text;
+begin
+    foreach role_name in array array['ledger_gateway', 'ledger_worker', 'ledger_reader'] loop
+        if not exists (select from pg_roles where rolname = role_name) then
+            execute format('create role %I login', role_name);
+        end if;
+    end loop;
+end $$;
+\if :{?gateway_password}
+    alter role ledger_gateway password :'gateway_password';
+\endif
+\if :{?worker_password}
+    alter role ledger_worker password :'worker_password';
+\endif
+\if :{?reader_password}
+    alter role ledger_reader password :'reader_password';
+\endif
+
+create table own_cell (
+    cell smallint primary key check (cell > 0)
+);
+create unique index own_cell_is_one on own_cell ((true));
+insert into own_cell values (:cell);
+
+-- The plan -----------------------------------------------------------------------------------------------------------
+
+-- Names as the program takes them.
+create domain name_in_plan as text
+    check (value ~ '^[A-Za-z0-9*\-_=:+|@.]{1,48}$');
+
+-- A shard: up to 64 stations with one log and one `replay`. It says up to which place of the log replies were given.
+create table shard (
+    cell smallint not null default :cell,
+    shard integer not null,
+    moving_to smallint,                    -- the cell that it moves to (move.py); it takes no lines then
+    plan bigint not null default 0,        -- rises with each change of its sites and stations
+    taken bigint not null default 0,       -- how often a worker took it
+    xid xid8 not null default '0',
+    id bigint not null default 0
+) partition by list (cell);
+create table own_shard partition of shard (
+    primary key (shard),
+    check (shard >= 0)
+) for values in (:cell) with (fillfactor = 50);
+
+create table site (
+    cell smallint not null default :cell,
+    shard integer not null,
+    site name_in_plan not null,
+    period integer not null default 900    -- seconds
+) partition by list (cell);
+create table own_site partition of site (
+    primary key (shard, site),
+    foreign key (shard) references own_shard on delete cascade,
+    constraint "a period is 300, 900, 1800 or 3600 seconds" check (period in (300, 900, 1800, 3600))
+) for values in (:cell);
+
+create sequence place_in_plan;
+create table station (
+    cell smallint not null default :cell,
+    shard integer not null,
+    station name_in_plan not null,
+    site name_in_plan not null,
+    place bigint not null default nextval('place_in_plan'),     -- boards show stations in this order
+    transactions integer not null default 256,                  -- the limits of what the station may keep
+    events integer not null default 2048,
+    readings integer not null default 2048,
+    changes bigint not null default 1000000000
+) partition by list (cell);
+create table own_station partition of station (
+    primary key (station),
+    foreign key (shard, site) references own_site on delete cascade on update cascade,
+    constraint "a station may keep 1 to 4,096 transactions" check (transactions between 1 and 4096),
+    constraint "a station may keep 1 to 65,536 events" check (events between 1 and 65536),
+    constraint "a station may keep 1 to 65,536 readings" check (readings between 1 and 65536),
+    constraint "a station may accept 1 change or more" check (changes > 0)
+) for values in (:cell);
+create index on own_station (shard, place);
+
+-- Each change of a shard's plan is told, and what the program would refuse is refused here.
+create function plan_changed() returns trigger language plpgsql as $$
+declare
+    shard_number integer := case when tg_op = 'DELETE' then old.shard else new.shard end;
+    sums record;
+begin
+    update own_shard set plan = plan + 1 where shard = shard_number;
+    select count(*) as stations, count(distinct site) as sites, coalesce(sum(readings), 0) as readings
+        into sums from own_station where shard = shard_number;
+    if sums.stations > 64 then
+        raise 'shard % would have % stations, and a shard has at most 64', shard_number, sums.stations;
+    elsif sums.sites > 16 then
+        raise 'shard % would have % sites, and a shard has at most 16', shard_number, sums.sites;
+    elsif sums.readings > 1048576 then
+        raise 'the stations of shard % would keep % readings, and may keep at most 1,048,576', shard_number, sums.readings;
+    end if;
+    perform pg_notify('plan', shard_number::text);
+    return null;
+end $$;
+create trigger plan_changed after insert or update or delete on own_station
+    for each row execute function plan_changed();
+create trigger plan_changed after update of period on own_site
+    for each row execute function plan_changed();
+
+-- A station that takes part from now on: gateways let it in, and its shard's replay begins anew from the log.
+create function add_station(shard_number integer, site_name text, station_name text) returns void
+    language sql as $$
+    insert into own_shard (shard) values (shard_number) on conflict do nothing;
+    insert into own_site (shard, site) values (shard_number, site_name) on conflict do nothing;
+    insert into own_station (shard, site, station) values (shard_number, site_name, station_name);
+$$;
+
+-- The log ------------------------------------------------------------------------------------------------------------
+
+-- Lines of a shard's script, in the order of (xid, id). Numbers alone are not in the order of commits; below the oldest
+-- transaction that is still open, (xid, id) is: no row ever commits in front of one that was read there.
+create sequence place_in_log;
+create table log (
+    cell smallint not null default :cell,
+    shard integer not null,
+    xid xid8 not null default pg_current_xact_id(),
+    id bigint not null default nextval('place_in_log'),
+    at timestamptz not null default now(),
+    gateway text,                          -- the channel on which the line's answer is told, with the token
+    token bigint,
+    line text not null
+) partition by list (cell);
+create table own_log partition of log (
+    primary key (shard, xid, id),
+    -- Each line has exactly one line of answer, or all answers behind it would be those of others.
+    constraint "a line is msg, void, restore or erase without a line feed, of at most 262,400 bytes" check (
+        line ~ '^(msg|void|restore|erase) ' and strpos(line, E'\n') = 0 and octet_length(line) <= 262400)
+) for values in (:cell);
+
+-- An operator's line, which is behind all that came before: operate('void', 'CS-00441', 'TX-2', 3).
+create function operate(command text, station_name text, transaction_id text, sequence_number bigint) returns bigint
+    language plpgsql as $$
+declare
+    shard_number integer;
+    place bigint;
+begin
+    if command not in ('void', 'restore', 'erase') then
+        raise 'a command is void, restore or erase, and not %', command;
+    elsif transaction_id !~ '^[\x21-\x7E]{1,36}$' then
+        raise 'a transaction id has 1 to 36 characters without blanks, and is not "%"', transaction_id;
+    elsif sequence_number not between 0 and 2147483647 then
+        raise 'a sequence number is 0 to 2,147,483,647, and not %', sequence_number;
+    end if;
+    select s.shard into shard_number from own_station t join own_shard s using (shard)
+        where t.station = station_name and s.moving_to is null;
+    if shard_number is null then
+        raise 'no station % in this cell', station_name;
+    end if;
+    insert into own_log (shard, line)
+        values (shard_number, format('%s %s %s %s', command, station_name, transaction_id, sequence_number))
+        returning id into place;
+    perform pg_notify('wake', shard_number::text);
+    return place;
+end $$;
+
+-- Boards -------------------------------------------------------------------------------------------------------------
+
+-- The text of a site's board after the log up to (xid, id). Of a site with stations in several shards one a shard.
+create table board (
+    cell smallint not null default :cell,
+    shard integer not null,
+    site text not null,
+    xid xid8 not null,
+    id bigint not null,
+    at timestamptz not null default now(),
+    text text not null
+) partition by list (cell);
+create table own_board partition of board (
+    primary key (shard, site),
+    foreign key (shard) references own_shard on delete cascade
+) for values in (:cell);
+
+-- Workers ------------------------------------------------------------------------------------------------------------
+
+-- The workers that live, each with its session: it is what holds shards, and whoever ends it fences the worker.
+create unlogged table worker (
+    worker text primary key,
+    pid integer not null,
+    began timestamptz not null,
+    beat timestamptz not null,
+    shards integer not null
+);
+
+-- A worker that was killed has a row until that is too old, and no session.
+create function living_workers() returns bigint language sql as $$
+    select count(*) from worker w join pg_stat_activity a on a.pid = w.pid and a.backend_start = w.began;
+$$;
+create function hold_shard(shard_number integer) returns boolean language sql as $$
+    select pg_try_advisory_lock(1, shard_number);
+$$;
+create function release_shard(shard_number integer) returns boolean language sql as $$
+    select pg_advisory_unlock(1, shard_number);
+$$;
+-- One program at a time removes or moves lines of a shard's log.
+create function reserve_shard(shard_number integer) returns boolean language sql as $$
+    select pg_try_advisory_lock(3, shard_number);
+$$;
+
+-- Roles --------------------------------------------------------------------------------------------------------------
+
+-- A gateway sees the plan and inserts `msg` lines; it reads, changes and removes nothing.
+grant select on own_cell, own_shard, own_site, own_station to ledger_gateway, ledger_worker, ledger_reader;
+grant insert (shard, gateway, token, line) on own_log to ledger_gateway;
+grant usage on sequence place_in_log to ledger_gateway;
+alter table own_log enable row level security;
+create policy messages on own_log for insert to ledger_gateway with check (line like 'msg %');
+create policy lines on own_log for select to ledger_worker, ledger_reader using (true);
+
+grant select on own_log to ledger_worker;
+grant update (taken, xid, id) on own_shard to ledger_worker;
+grant select, insert, update, delete on own_board, worker to ledger_worker;
+
+grant select on shard, site, station, log, board, own_log, own_board to ledger_reader;
+
+-- Other cells --------------------------------------------------------------------------------------------------------
+
+-- Makes another cell's rows visible in shard, site, station, log and board. `hosts` and `ports` may be lists with commas.
+create procedure see_cell(other smallint, hosts text, ports text, database text, reader_password text)
+    language plpgsql as $$
+declare
+    name text;
+begin
+    if exists (select from own_cell where cell = other) then
+        raise 'cell % is this one', other;
+    end if;
+    execute format('create server cell_%s foreign data wrapper postgres_fdw options (host %L, port %L, dbname %L, '
+        'target_session_attrs %L, connect_timeout %L, tcp_user_timeout %L, async_capable %L, fetch_size %L)',
+        other, hosts, ports, database, 'read-write', '3', '10000', 'true', '1000');
+    execute format('create user mapping for public server cell_%s options (user %L, password %L)',
+        other, 'ledger_reader', reader_password);
+    foreach name in array array['shard', 'site', 'station', 'log', 'board'] loop
+        execute format('create foreign table %s_%s partition of %s for values in (%s) server cell_%s options (table_name %L)',
+            name, other, name, other, other, 'own_' || name);
+    end loop;
+end $$;
+commit;
