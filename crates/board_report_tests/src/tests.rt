@@ -90,11 +90,19 @@ fn station(
 {
     let mut ledger = StationLedger::open(alloc, Limits::default())?;
     for one in asked {
-        let command = command(alloc, *one).ok_or("no command")?;
-        let answer = ledger.apply(command, work);
-        assert!(rt; matches!(answer, Answer::Accepted(_)));
+        assert!(rt; is_taken(&mut ledger, command(alloc, *one), work));
     }
     Ok(ledger.board(alloc)?)
+}
+
+// Whether there is a command, and the ledger accepts it.
+fn is_taken(ledger: &mut StationLedger, command: Option<Command>, work: &mut Work) -> bool
+    ensures { ledger.new.limits ≡ ledger.old.limits }
+{
+    match command {
+        Some(command) => matches!(ledger.apply(command, work), Answer::Accepted(_)),
+        None => false,
+    }
 }
 
 // The boards of a site's stations by name; a plan of default limits has at most 64 stations.

@@ -14,11 +14,9 @@
 mod chunk;
 mod delivery;
 mod lookahead;
-#[cfg(test)]
-mod tests;
 
 #[doc(hidden)]
 pub use chunk::FoundEvent;
-pub use chunk::MessageLines;
+pub use chunk::{Chunk, MessageLines};
 pub use delivery::Delivery;
 pub use lookahead::Lookahead;

@@ -1,21 +1,15 @@
-//! What the program's words ask for.
-ghost use Rattle.std.specs.Prelude.{◌≤◌, IfOk};
-ghost use Rattle.clap.specs.Matches.{found_of};
-ghost use Rattle.ocpp_board.specs.Arguments.{AsksServe, AsksService, AsksSimulate, IsAskable};
+//! The program's commands and options.
+ghost use Rattle.std.specs.Prelude.{IfOk};
+ghost use Rattle.board_words.specs.Arguments.{IsAskable};
 
-use crate::station_words::{WordFault, plan_of};
-use clap::{Arg, ArgAction, ArgMatches, Command, Error, value_parser};
-use ledger_model::MAX_STATIONS;
-use site_desk::Plan;
-use site_server::{MAX_CONNECTIONS, MAX_SIMULATED_EVENTS, Service};
+use board_words::{Asked, MAX_SIMULATED_STATIONS, serve_asked, sim_asked};
+use clap::{Arg, ArgAction, Command, Error, value_parser};
+use site_server::{MAX_CONNECTIONS, MAX_SIMULATED_EVENTS};
 use std::alloc::{AllocError, Global};
 use std::convert::AsStr;
 
 // How many times a server's totals may be shown.
 const MAX_GLANCES: u16 = 600;
-
-// How many stations a simulation may have: as many as a plan.
-const MAX_SIMULATED_STATIONS: u16 = MAX_STATIONS as u16;
 
 const ABOUT: &str =
     "The transaction ledger and site board of an OCPP 2.0.1 charging station management system";
@@ -71,16 +65,6 @@ Example:
 Exit status: 0; 1 with `fault <name>` (ListenFailed, HandshakeFailed, ReadFault, WriteFault,
 OutOfMemory, Torn); 2 for a fault of the arguments.";
 
-/// What the program is asked to do.
-pub enum Asked<'a> {
-    /// To answer a script.
-    Replay,
-    /// To serve the stations of a plan, over 1 to 64 connections; or what is wrong with their words.
-    Serve(Result<Plan, WordFault<'a>>, Service),
-    /// To play so many simulated stations, 1 to 64, each with so many events, 2 to 64.
-    Simulate(u16, u32),
-}
-
 /// What these words ask for, the first of which is the program's name.
 pub fn read_arguments<'a, S: AsStr>(alloc: Global, words: &'a [S]) -> Result<Asked<'a>, Error>
     ensures { IfOk result IsAskable }
@@ -91,46 +75,6 @@ pub fn read_arguments<'a, S: AsStr>(alloc: Global, words: &'a [S]) -> Result<Ask
         Some(("sim", matches)) => sim_asked(matches),
         _ => Asked::Replay,
     })
-}
-
-// What `serve` is asked for.
-fn serve_asked<'a>(matches: &ArgMatches<'a>) -> Asked<'a>
-    ensures range { IsAskable result }
-    ensures asked { AsksServe (found_of matches.now) result }
-{
-    let service = service_of(matches);
-    let words = matches.get_strs("stations").unwrap_or(&[]);
-    let viewers = if service.glances > 0 { 1 } else { 0 };
-    Asked::Serve(plan_of(words, viewers), service)
-}
-
-// What the options of `serve` ask for. The number of connections is in range already, which the checker sees by
-// the clamp.
-fn service_of(matches: &ArgMatches<'_>) -> Service
-    ensures range { (1 ≤ result.connections) × (result.connections ≤ 64) }
-    ensures asked { AsksService (found_of matches.now) result }
-{
-    let port = matches.get_one::<u16>("port");
-    let connections = matches.get_one::<u8>("connections");
-    let watch = matches.get_one::<u16>("watch");
-    Service {
-        port: port.unwrap_or(0),
-        connections: connections.unwrap_or(1).clamp(1, MAX_CONNECTIONS),
-        glances: watch.unwrap_or(0),
-    }
-}
-
-// What `sim` is asked for. Its numbers are in range already, which the checker sees by the clamps.
-fn sim_asked<'a>(matches: &ArgMatches<'a>) -> Asked<'a>
-    ensures range { IsAskable result }
-    ensures asked { AsksSimulate (found_of matches.now) result }
-{
-    let stations = matches.get_one::<u16>("stations").unwrap_or(2);
-    let events = matches.get_one::<u32>("events").unwrap_or(3);
-    Asked::Simulate(
-        stations.clamp(1, MAX_SIMULATED_STATIONS),
-        events.clamp(2, MAX_SIMULATED_EVENTS),
-    )
 }
 
 // The program and its commands.
@@ -149,58 +93,76 @@ fn program<'a>(alloc: Global) -> Result<Command<'a>, AllocError> {
 
 // The command `serve`.
 fn serve_command<'a>(alloc: Global) -> Result<Command<'a>, AllocError> {
-    let port = Arg::new(alloc, "port")
+    Command::new(alloc, "serve")
+        .about("Serves charging stations over WebSocket, and writes the boards when all have left")
+        .after_help(SERVE_EXAMPLE)
+        .arg(port_option(alloc))?
+        .arg(connections_option(alloc))?
+        .arg(watch_option(alloc))?
+        .arg(station_words(alloc))
+}
+
+fn port_option<'a>(alloc: Global) -> Arg<'a> {
+    Arg::new(alloc, "port")
         .long("port")
         .value_name("PORT")
         .value_parser(value_parser!(u16))
         .default_value("0")
-        .help("The port of 127.0.0.1 to listen on; 0 lets the system choose");
-    let connections = Arg::new(alloc, "connections")
+        .help("The port of 127.0.0.1 to listen on; 0 lets the system choose")
+}
+
+fn connections_option<'a>(alloc: Global) -> Arg<'a> {
+    Arg::new(alloc, "connections")
         .long("connections")
         .value_name("COUNT")
         .value_parser(value_parser!(u8).range(1..=i64::from(MAX_CONNECTIONS)))
         .default_value("1")
-        .help("How many connections to serve before it ends, 1 to 64; one unless this is given");
-    let watch = Arg::new(alloc, "watch")
+        .help("How many connections to serve before it ends, 1 to 64; one unless this is given")
+}
+
+fn watch_option<'a>(alloc: Global) -> Arg<'a> {
+    Arg::new(alloc, "watch")
         .long("watch")
         .value_name("TIMES")
         .value_parser(value_parser!(u16).range(0..=i64::from(MAX_GLANCES)))
         .default_value("0")
         .help(
             "How many times to write each site's totals to standard error, one second apart, 0 to 600",
-        );
-    let stations = Arg::new(alloc, "stations")
+        )
+}
+
+fn station_words<'a>(alloc: Global) -> Arg<'a> {
+    Arg::new(alloc, "stations")
         .value_name("SITE/STATION")
         .required(true)
         .num_args(1..)
         .action(ArgAction::Append)
-        .help("The stations, each with its site");
-    Command::new(alloc, "serve")
-        .about("Serves charging stations over WebSocket, and writes the boards when all have left")
-        .after_help(SERVE_EXAMPLE)
-        .arg(port)?
-        .arg(connections)?
-        .arg(watch)?
-        .arg(stations)
+        .help("The stations, each with its site")
 }
 
 // The command `sim`.
 fn sim_command<'a>(alloc: Global) -> Result<Command<'a>, AllocError> {
-    let stations = Arg::new(alloc, "stations")
+    Command::new(alloc, "sim")
+        .about("Plays simulated stations against a server in the same process")
+        .after_help(SIM_EXAMPLE)
+        .arg(stations_option(alloc))?
+        .arg(events_option(alloc))
+}
+
+fn stations_option<'a>(alloc: Global) -> Arg<'a> {
+    Arg::new(alloc, "stations")
         .long("stations")
         .value_name("COUNT")
         .value_parser(value_parser!(u16).range(1..=i64::from(MAX_SIMULATED_STATIONS)))
         .default_value("2")
-        .help("How many stations, 1 to 64");
-    let events = Arg::new(alloc, "events")
+        .help("How many stations, 1 to 64")
+}
+
+fn events_option<'a>(alloc: Global) -> Arg<'a> {
+    Arg::new(alloc, "events")
         .long("events")
         .value_name("COUNT")
         .value_parser(value_parser!(u32).range(2..=i64::from(MAX_SIMULATED_EVENTS)))
         .default_value("3")
-        .help("How many events each sends, 2 to 64");
-    Command::new(alloc, "sim")
-        .about("Plays simulated stations against a server in the same process")
-        .after_help(SIM_EXAMPLE)
-        .arg(stations)?
-        .arg(events)
+        .help("How many events each sends, 2 to 64")
 }

@@ -1,7 +1,7 @@
 ghost use Rattle.std.specs.Prelude.{◌≡◌};
 
-use crate::arguments::{Asked, read_arguments};
-use crate::station_words::WordFault;
+use crate::arguments::read_arguments;
+use board_words::{Asked, WordFault};
 use clap::Error;
 use clap::error::ErrorKind;
 use ledger_model::{MAX_SITES, MAX_STATIONS};

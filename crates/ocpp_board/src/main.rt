@@ -2,13 +2,12 @@
 //!
 //! `ocpp_board` or `ocpp_board replay` answers a script from standard input on standard output, by
 //! `script_replay`; `serve` and `sim` run a server of stations, and simulated ones, by `site_server`.
-//! `arguments` says what the words ask for, `station_words` which plan the words of `serve` make, and
-//! `cli` starts it and tells faults and exit statuses.
+//! `arguments` has its commands and options, `board_words` says what they ask for, and `cli` starts it and
+//! tells faults and exit statuses.
 #![tactic(auto)]
 
 mod arguments;
 mod cli;
-mod station_words;
 
 use crate::cli::{STOPPED, run_command_line, tell_bytes, tell_fault};
 use script_replay::ReplayFault;

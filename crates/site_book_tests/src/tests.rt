@@ -68,27 +68,49 @@ fn two_rows<J: Naming, R: Abort>(rt: &R, alloc: Global, mut tables: Tables) -> R
     requires there { HasTable tables 1 }
 {
     let limits = default_limits().ok_or("no limits")?;
-    let other = Limits::new(1_024, 16_384, 16_384, 9).ok_or("no limits")?;
-    let (mut book, mut viewers) = SiteBook::<J>::open(alloc, &mut tables, 1, &[limits, limits], 1)?;
+    let (book, mut viewers) = SiteBook::<J>::open(alloc, &mut tables, 1, &[limits, limits], 1)?;
     assert!(rt; tables.has(0) && !tables.has(1) && !tables.has(2));
-    assert!(rt; book.site() == 1 && book.totals() == Figures::zero());
-    assert!(rt; book.holds(1, &limits) && !book.holds(1, &other) && !book.holds(2, &limits));
+    assert!(rt; is_new(&book, &limits), "the book");
     let mut viewer = viewers.pop().ok_or("no viewer")?;
     assert!(rt; viewers.is_empty() && viewer.site() == 1 && viewer.glance() == Figures::zero());
-    for (row, figures) in [(0, 1), (1, 2)] {
-        let told = posted(&mut book, &limits, row, events(figures)).ok_or("no post")?;
-        assert!(rt; told.site() == 1 && learnt(&mut viewer, told), "row {row}");
-    }
-    let last = posted(&mut book, &limits, 0, events(3)).ok_or("no post")?;
-    assert_eq!(rt; book.totals(), events(5));
-    assert_eq!(rt; book.rows(), 2);
-    assert_eq!(rt; (book.row(0), book.row(1)), (events(3), events(2)));
-    assert_eq!(rt; (viewer.posts(), last.posts(), book.posts()), (2, 3, 3));
-    assert_eq!(rt; viewer.glance(), events(5), "before the last is learnt");
-    assert!(rt; learnt(&mut viewer, last));
-    assert_eq!(rt; viewer.glance(), events(5), "after it");
-    assert!(rt; is_taken(&mut book, viewer) && book.can_post() && book.totals() == events(5));
+    assert!(rt; three_posts(book, viewer, &limits) == Some(true));
     Ok(())
+}
+
+// Whether this is a book of site 1 with two rows of these limits, to which nothing was posted.
+fn is_new<J: Naming>(book: &SiteBook<J>, limits: &Limits) -> bool {
+    let other = Limits::new(1_024, 16_384, 16_384, 9);
+    let holds = book.holds(1, limits) && !book.holds(2, limits);
+    let holds_other = other.is_none_or(|other| book.holds(1, &other));
+    book.site() == 1 && book.totals() == Figures::zero() && holds && !holds_other
+}
+
+// Whether rows 0, 1 and 0 again are posted and told as they should be; `None` where one is refused.
+fn three_posts<J: Naming>(
+    mut book: SiteBook<J>,
+    mut viewer: Viewer<J>,
+    limits: &Limits,
+) -> Option<bool> {
+    let first = posted(&mut book, limits, 0, events(1))?;
+    let second = posted(&mut book, limits, 1, events(2))?;
+    let both = first.site() == 1 && second.site() == 1;
+    let learnt_both = learnt(&mut viewer, first) && learnt(&mut viewer, second);
+    let last = posted(&mut book, limits, 0, events(3))?;
+    let is_posted = has_rows(&book) && last.posts() == 3;
+    let is_told = both && learnt_both && learns_last(&mut viewer, last);
+    Some(is_posted && is_told && is_taken(&mut book, viewer) && book.can_post() && has_rows(&book))
+}
+
+// Whether the book has 3 events in row 0 and 2 in row 1, after three posts.
+fn has_rows<J: Naming>(book: &SiteBook<J>) -> bool {
+    let rows = book.rows() == 2 && book.row(0) == events(3) && book.row(1) == events(2);
+    rows && book.totals() == events(5) && book.posts() == 3
+}
+
+// Whether a viewer that learnt two posts sees the last before and after it learns it.
+fn learns_last<J: Naming>(viewer: &mut Viewer<J>, last: Told<J>) -> bool {
+    let before = viewer.posts() == 2 && viewer.glance() == events(5);
+    before && learnt(viewer, last) && viewer.glance() == events(5)
 }
 
 #[test]
@@ -106,21 +128,33 @@ fn sees_what_it_was_not_told<J: Naming, R: Abort>(
     requires there { HasTable tables 0 }
 {
     let limits = default_limits().ok_or("no limits")?;
-    let (mut book, mut viewers) = SiteBook::<J>::open(alloc, &mut tables, 0, &[limits], 2)?;
-    let mut told_nothing = viewers.pop().ok_or("no viewer")?;
-    let mut told_once = viewers.pop().ok_or("no viewer")?;
-    let first = posted(&mut book, &limits, 0, events(7)).ok_or("no post")?;
-    let again = posted(&mut book, &limits, 0, events(8)).ok_or("no post")?;
-    assert!(rt; learnt(&mut told_once, again) && told_once.glance() == events(8));
-    posted(&mut book, &limits, 0, events(6)).ok_or("no post")?;
-    assert_eq!(rt; (told_once.glance(), told_once.posts()), (events(6), 3));
-    assert!(rt; learnt(&mut told_once, first), "what it was told late");
-    assert_eq!(rt; (told_once.glance(), told_once.posts()), (events(6), 3));
-    assert_eq!(rt;
-        (told_nothing.glance(), told_nothing.posts()),
-        (events(6), 3)
-    );
+    let (book, mut viewers) = SiteBook::<J>::open(alloc, &mut tables, 0, &[limits], 2)?;
+    let told_nothing = viewers.pop().ok_or("no viewer")?;
+    let told_once = viewers.pop().ok_or("no viewer")?;
+    assert!(rt; sees_late(book, told_nothing, told_once, &limits) == Some(true));
     Ok(())
+}
+
+// Whether a viewer that was told of one post late, and one that was told of none, see the last; `None` where a
+// post is refused.
+fn sees_late<J: Naming>(
+    mut book: SiteBook<J>,
+    mut told_nothing: Viewer<J>,
+    mut told_once: Viewer<J>,
+    limits: &Limits,
+) -> Option<bool> {
+    let first = posted(&mut book, limits, 0, events(7))?;
+    let again = posted(&mut book, limits, 0, events(8))?;
+    let is_seen = learnt(&mut told_once, again) && told_once.glance() == events(8);
+    posted(&mut book, limits, 0, events(6))?;
+    let is_last = sees_last(&mut told_once);
+    let is_late = learnt(&mut told_once, first) && sees_last(&mut told_once);
+    Some(is_seen && is_last && is_late && sees_last(&mut told_nothing))
+}
+
+// Whether the viewer sees the third post.
+fn sees_last<J: Naming>(viewer: &mut Viewer<J>) -> bool {
+    viewer.glance() == events(6) && viewer.posts() == 3
 }
 
 const POSTS: u64 = 100_000;

@@ -27,9 +27,6 @@ mod simulation;
 mod watch;
 
 pub use fault::ServiceFault;
-pub use serve::{MAX_CONNECTIONS, serve_many};
-pub use service::{Service, serve_plan};
+pub use serve::{MAX_CONNECTIONS, serve_many, serve_on};
+pub use service::{Served, Service, open_desk, serve_plan, serve_watched};
 pub use simulation::{MAX_SIMULATED_EVENTS, simulate};
-
-#[cfg(test)]
-mod tests;

@@ -65,8 +65,9 @@ pub fn serve_many<J: Naming + Send + Sync, R: Threads + Wait + Clock + Sync, G: 
     serve_on(rt, alloc, listener, connections, desk, gate, SESSION_STACK)
 }
 
-// The same, with so large a stack for each thread.
-pub(crate) fn serve_on<J: Naming + Send + Sync, R: Threads + Wait + Clock + Sync, G: Gate + Sync>(
+/// [`serve_many`] with so large a stack, in bytes, for each thread; a connection whose thread can't start is
+/// dropped, and counts as ended.
+pub fn serve_on<J: Naming + Send + Sync, R: Threads + Wait + Clock + Sync, G: Gate + Sync>(
     rt: &R,
     alloc: Global,
     listener: &TcpListener,

@@ -110,8 +110,8 @@ fn serve_under<
     close(alloc, plan, desk, passes?, viewers, output)
 }
 
-// The desk of a plan, and its viewers.
-pub(crate) fn open_desk<J: Naming>(
+/// The desk of a plan, and its viewers.
+pub fn open_desk<J: Naming>(
     alloc: Global,
     tables: Tables,
     plan: &Plan,
@@ -170,11 +170,12 @@ fn port_line(port: u16) -> ArrayString<32>
     line
 }
 
-// What serving gives back when all connections have ended: their passes, the viewers, and the lines.
-type Served<J, L> = (Result<Vec<Pass>, AllocError>, Vec<Viewer<J>>, L);
+/// What serving gives back when all connections have ended: their passes, the viewers, and the lines.
+pub type Served<J, L> = (Result<Vec<Pass>, AllocError>, Vec<Viewer<J>>, L);
 
-// Serves the connections, with a thread beside them that glances at the totals.
-pub(crate) fn serve_watched<
+/// Serves the connections, with a thread beside them, of so large a stack in bytes, that glances at the totals;
+/// where that thread can't start, no line is written.
+pub fn serve_watched<
     J: Naming + Send + Sync,
     R: Threads + Wait + Clock + Sync,
     L: Write + Send + Drop,

@@ -1,4 +1,4 @@
-//! The tests of `site_server`, but those of threads that can't start, which need its own calls.
+//! The tests of `site_server`.
 #![tactic(auto)]
 
 #[cfg(test)]

@@ -1,5 +1,6 @@
 mod client;
 mod closing;
+mod no_thread;
 mod refused;
 mod sessions_in_turn;
 mod sims;

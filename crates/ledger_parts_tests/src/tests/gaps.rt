@@ -58,20 +58,26 @@ fn some_left(numbers: &[u32]) -> Option<&[u32]>
     }
 }
 
+// Whether these are the gaps of a walk.
+fn are_gaps(walk: &SliceWalk<'_>, gaps: &[(u32, u32)]) -> bool {
+    let mut left = gaps;
+    for gap in Gaps::over(walk) {
+        match left {
+            [first, rest @ ..] if *first == gap => left = rest,
+            _ => return false,
+        }
+    }
+    left.is_empty()
+}
+
 // Compares the gaps of these numbers, and how many are missing, with what they are to be.
 fn expect_gaps(rt: &impl Abort, label: &str, numbers: &[u32], gaps: &[(u32, u32)], missing: u64)
     requires { AreRising numbers.now }
 {
     let walk = SliceWalk { numbers };
-    let mut found = 0;
-    for gap in Gaps::over(&walk) {
-        assert_eq!(rt; gaps.get(found).copied(), Some(gap), "{label}: gap {found}");
-        found += 1;
-    }
-    assert_eq!(rt; found, gaps.len(), "{label}: how many gaps");
-    assert_eq!(rt;
-        missing_count(&walk),
-        missing,
+    assert!(rt; are_gaps(&walk, gaps), "{label}: gaps");
+    assert!(rt;
+        missing_count(&walk) == missing,
         "{label}: how many are missing"
     );
 }

@@ -11,34 +11,53 @@ fn put(map: &mut TransactionMap<u32>, tx: &TxId, value: u32) -> bool {
     true
 }
 
+// The transactions a to d.
+#[derive(Drop)]
+struct Four {
+    a: TxId,
+    b: TxId,
+    c: TxId,
+    d: TxId,
+}
+
+fn make_four() -> Option<Four> {
+    Some(Four {
+        a: TxId::new("a")?,
+        b: TxId::new("b")?,
+        c: TxId::new("c")?,
+        d: TxId::new("d")?,
+    })
+}
+
+// Whether the id at this place, in the order of ids, has this text.
+fn is_at(map: &TransactionMap<u32>, at: usize, text: &str) -> bool {
+    match map.id_at(at) {
+        Some(id) => id.text() == text,
+        None => false,
+    }
+}
+
+// Whether a map of three takes c, a and b, and no fourth.
+fn takes_three(map: &mut TransactionMap<u32>, ids: &Four) -> bool {
+    let is_empty = map.len() == 0 && map.capacity() == 3 && map.remove(&ids.a).is_none();
+    let taken = put(map, &ids.c, 3) && put(map, &ids.a, 1) && put(map, &ids.b, 2);
+    is_empty && taken && !put(map, &ids.d, 4)
+}
+
+// Whether the map has 1 for a, this for b, and 3 for c.
+fn has(map: &TransactionMap<u32>, ids: &Four, b: Option<u32>) -> bool {
+    map.get(&ids.a) == Some(1) && map.get(&ids.b) == b && map.get(&ids.c) == Some(3)
+}
+
 #[test]
 fn values_are_found_written_and_taken_out(rt: HostRuntime) -> Result<(), Fail> {
     let mut map = TransactionMap::open(rt.alloc(), 3)?;
-    let (a, b, c, d) = (
-        TxId::new("a").ok_or("no id")?,
-        TxId::new("b").ok_or("no id")?,
-        TxId::new("c").ok_or("no id")?,
-        TxId::new("d").ok_or("no id")?,
-    );
-    assert_eq!(rt; (map.len(), map.capacity()), (0, 3));
-    assert_eq!(rt; map.remove(&a), None);
-    assert!(rt; put(&mut map, &c, 3));
-    assert!(rt; put(&mut map, &a, 1));
-    assert!(rt; put(&mut map, &b, 2));
-    assert!(rt; !put(&mut map, &d, 4));
-    assert_eq!(rt; map.id_at(0).map(|id| id.text()), Some("a"));
-    assert_eq!(rt; map.id_at(2).map(|id| id.text()), Some("c"));
-    assert_eq!(rt; map.id_at(3).map(|id| id.text()), None);
-    assert!(rt; put(&mut map, &b, 5));
-    assert_eq!(rt;
-        (map.get(&a), map.get(&b), map.get(&c), map.get(&d)),
-        (Some(1), Some(5), Some(3), None)
-    );
-    assert_eq!(rt; map.remove(&b), Some(5));
-    assert_eq!(rt;
-        (map.get(&a), map.get(&b), map.get(&c)),
-        (Some(1), None, Some(3))
-    );
-    assert_eq!(rt; (map.len(), map.capacity()), (2, 3));
+    let ids = make_four().ok_or("no ids")?;
+    assert!(rt; takes_three(&mut map, &ids));
+    assert!(rt; is_at(&map, 0, "a") && is_at(&map, 2, "c") && map.id_at(3).is_none());
+    assert!(rt; put(&mut map, &ids.b, 5));
+    assert!(rt; has(&map, &ids, Some(5)) && map.get(&ids.d).is_none());
+    assert_eq!(rt; map.remove(&ids.b), Some(5));
+    assert!(rt; has(&map, &ids, None) && map.len() == 2 && map.capacity() == 3);
     Ok(())
 }

@@ -29,27 +29,47 @@ fn count(table: &mut TransactionTable, tx: &TxId) {
     }
 }
 
+// The text of the id at this place, in the order of ids.
+fn is_at(table: &TransactionTable, at: usize, text: &str) -> bool {
+    match table.id_at(at) {
+        Some(id) => id.text() == text,
+        None => false,
+    }
+}
+
+// Whether so many events of a transaction are live.
+fn has_live(table: &TransactionTable, tx: &TxId, live: u32) -> bool {
+    match table.get(tx) {
+        Some(row) => row.live == live,
+        None => false,
+    }
+}
+
+// Whether a table of two takes a and b, and no third; `None` where a slot is lacking.
+fn takes_two(table: &mut TransactionTable, a: &TxId, b: &TxId, c: &TxId) -> Option<bool> {
+    let second = put(table, b)?;
+    let first = put(table, a)?;
+    let refused = put(table, b).is_none() && put(table, c).is_none();
+    Some(first != second && refused && is_at(table, 0, "a") && is_at(table, 1, "b"))
+}
+
+// Whether the slot of b is handed out to c once b is out; `None` where a transaction is lacking.
+fn hands_out_again(table: &mut TransactionTable, b: &TxId, c: &TxId) -> Option<bool> {
+    let second = table.get(b)?.slot;
+    let is_cut = cut(table, b) && !cut(table, b);
+    let is_same = put(table, c) == Some(second);
+    Some(is_cut && is_same && table.len() == 2 && table.capacity() == 2)
+}
+
 #[test]
 fn a_slot_is_one_transactions_and_is_handed_out_again(rt: HostRuntime) -> Result<(), Fail> {
     let mut table = TransactionTable::open(rt.alloc(), 2)?;
-    let (a, b, c) = (
-        TxId::new("a").ok_or("no id")?,
-        TxId::new("b").ok_or("no id")?,
-        TxId::new("c").ok_or("no id")?,
-    );
-    let second = put(&mut table, &b).ok_or("no room")?;
-    let first = put(&mut table, &a).ok_or("no room")?;
-    assert!(rt; first != second);
-    assert_eq!(rt; put(&mut table, &b), None);
-    assert_eq!(rt; put(&mut table, &c), None);
-    assert_eq!(rt; table.id_at(0).map(|id| id.text()), Some("a"));
-    assert_eq!(rt; table.id_at(1).map(|id| id.text()), Some("b"));
+    let a = TxId::new("a").ok_or("no id")?;
+    let b = TxId::new("b").ok_or("no id")?;
+    let c = TxId::new("c").ok_or("no id")?;
+    assert!(rt; takes_two(&mut table, &a, &b, &c) == Some(true));
     count(&mut table, &a);
-    assert_eq!(rt; table.get(&a).map(|row| row.live), Some(1));
-    assert_eq!(rt; table.get(&b).map(|row| row.live), Some(0));
-    assert!(rt; cut(&mut table, &b));
-    assert!(rt; !cut(&mut table, &b));
-    assert_eq!(rt; put(&mut table, &c), Some(second));
-    assert_eq!(rt; (table.len(), table.capacity()), (2, 2));
+    assert!(rt; has_live(&table, &a, 1) && has_live(&table, &b, 0));
+    assert!(rt; hands_out_again(&mut table, &b, &c) == Some(true));
     Ok(())
 }

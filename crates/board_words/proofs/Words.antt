@@ -6,7 +6,7 @@ use Rattle.ledger_model.specs.Name.{is_name}
 use Rattle.site_desk.specs.declared.plan.SitePlan.{SitePlan}
 use Rattle.site_desk.specs.declared.plan.StationPlan.{StationPlan}
 use Rattle.site_desk.specs.Plan.{is_past, site_number, sites_with}
-use Rattle.ocpp_board.specs.StationWords.{declared_by, found_site, is_too_many, new_station, site_of, station_of, station_word}
+use Rattle.board_words.specs.StationWords.{declared_by, found_site, is_too_many, new_station, site_of, station_of, station_word}
 
 abbrev first : Option (List ℕ × List ℕ) → List ℕ
 first None = []

@@ -10,8 +10,8 @@ use Rattle.site_desk.specs.declared.plan.Plan.{Plan}
 use Rattle.site_desk.specs.declared.plan.SitePlan.{SitePlan}
 use Rattle.site_desk.specs.declared.plan.StationPlan.{StationPlan}
 use Rattle.site_desk.specs.Plan.{is_past, site_number, sites_with}
-use Rattle.ocpp_board.specs.declared.station_words.WordFault.{WordFault}
-use Rattle.ocpp_board.specs.declared.station_words.WordFault.TheVariants.{BadStation, PlanLimit}
+use Rattle.board_words.specs.declared.station_words.WordFault.{WordFault}
+use Rattle.board_words.specs.declared.station_words.WordFault.TheVariants.{BadStation, PlanLimit}
 
 -- what stands before the first `/` of a word, and what stands behind it
 abbrev pub site_of : List ℕ → List ℕ

@@ -1,10 +1,7 @@
-//! What no clause says: which events are found, and that threads find them.
-
-use crate::chunk::Chunk;
-use crate::{Delivery, Lookahead, MessageLines};
+// What no clause says: which events are found ahead of their lines, and that threads find them.
 use ledger_model::Moment;
+use message_ahead::{Chunk, Delivery, Lookahead, MessageLines};
 use std::alloc::Global;
-use std::process::Abort;
 use std::test::Fail;
 use std::thread;
 use std::thread::Threads;
@@ -30,11 +27,6 @@ const FAULT: &str = r#"[2,"c","TransactionEvent",{}]"#;
 
 const LAST: &str =
     r#"[2,"d","TransactionEvent",{"eventType":"Ended","timestamp":"2026-03-01T10:05:00Z","triggerReason":"EVDeparted","seqNo":1,"transactionInfo":{"transactionId":"T1"},"idToken":{"idToken":"A","type":"Local"}}]"#;
-
-// The id of the event of this line, if it was found.
-fn taken(chunk: &mut Chunk, room: usize, text: &str) -> Option<Delivery> {
-    chunk.take(room, text)
-}
 
 // Whether the event is that of this id.
 fn is_of(delivery: Option<Delivery>, id: &str) -> bool {
@@ -64,92 +56,110 @@ fn lines(alloc: Global) -> Result<(Vec<u8>, Vec<usize>), Fail> {
     Ok((bytes, rooms))
 }
 
+// Whether the events of the first line and the fifth are given, each once, and none of the others.
+fn gives_events(chunk: &mut Chunk, rooms: &[usize]) -> bool {
+    let [first, comment, heartbeat, fault, last, empty] = rooms else {
+        return false;
+    };
+    let is_first = is_of(chunk.take(*first, FIRST), "a") && chunk.take(*first, FIRST).is_none();
+    let is_none = chunk.take(*comment, FIRST).is_none()
+        && chunk.take(*heartbeat, HEARTBEAT).is_none()
+        && chunk.take(*fault, FAULT).is_none();
+    is_first && is_none && is_of(chunk.take(*last, LAST), "d") && chunk.take(*empty, "").is_none()
+}
+
 #[test]
 fn events_are_found_at_their_lines(rt: HostRuntime) -> Result<(), Fail> {
     let (bytes, rooms) = lines(rt.alloc())?;
-    let [first, comment, heartbeat, fault, last, empty] = rooms.as_slice() else {
-        return Err("six lines")?;
-    };
     let mut chunk = Chunk::read::<Marked>(rt.alloc(), bytes, 100_000);
-    assert!(rt; is_of(taken(&mut chunk, *first, FIRST), "a"));
-    assert!(rt;
-        taken(&mut chunk, *first, FIRST).is_none(),
-        "an event is given once"
-    );
-    assert!(rt; taken(&mut chunk, *comment, FIRST).is_none());
-    assert!(rt; taken(&mut chunk, *heartbeat, HEARTBEAT).is_none());
-    assert!(rt; taken(&mut chunk, *fault, FAULT).is_none());
-    assert!(rt; is_of(taken(&mut chunk, *last, LAST), "d"));
-    assert!(rt; taken(&mut chunk, *empty, "").is_none());
+    assert!(rt; gives_events(&mut chunk, &rooms));
     assert!(rt; !chunk.is_short());
     Ok(())
+}
+
+// Whether nothing is given for a line before all, for another text at the fifth line's place, for that line
+// once its event was dropped, and for the lines before it.
+fn gives_no_other(chunk: &mut Chunk, rooms: &[usize]) -> bool {
+    let [first, .., last, _] = rooms else {
+        return false;
+    };
+    let is_before = chunk.take(100_001, FIRST).is_none();
+    let is_dropped = chunk.take(*last, FIRST).is_none() && chunk.take(*last, LAST).is_none();
+    is_before && is_dropped && chunk.take(*first, FIRST).is_none()
 }
 
 #[test]
 fn events_of_other_lines_are_not_given(rt: HostRuntime) -> Result<(), Fail> {
     let (bytes, rooms) = lines(rt.alloc())?;
-    let [first, .., last, _] = rooms.as_slice() else {
-        return Err("six lines")?;
-    };
     let mut chunk = Chunk::read::<Marked>(rt.alloc(), bytes, 100_000);
-    assert!(rt;
-        taken(&mut chunk, 100_001, FIRST).is_none(),
-        "a line before all"
-    );
-    assert!(rt;
-        taken(&mut chunk, *last, FIRST).is_none(),
-        "another text at its place"
-    );
-    assert!(rt; taken(&mut chunk, *last, LAST).is_none(), "it was dropped");
-    assert!(rt;
-        taken(&mut chunk, *first, FIRST).is_none(),
-        "the lines before were dropped"
-    );
+    assert!(rt; gives_no_other(&mut chunk, &rooms));
     Ok(())
 }
 
-// Walks over the lines as a caller does; tells how many events were read ahead, each as it is when read now.
-fn walk<X: Threads + Clock + Abort>(
-    rt: &X,
+// Whether an event that was read ahead is as it is when its text is read now.
+fn is_read_now(alloc: Global, delivery: &Delivery, text: &str, moment: Moment) -> bool {
+    match message_of(alloc, text, moment) {
+        Message::Event {
+            id,
+            key,
+            event,
+            token,
+        } => {
+            let is_key = delivery.id.as_str() == id.as_str() && delivery.key == key;
+            is_key && delivery.event.is_same(&event) && delivery.token == token
+        }
+        _ => false,
+    }
+}
+
+// How many events were read ahead.
+#[derive(Drop)]
+struct Count {
+    right: u64,
+    wrong: u64,
+}
+
+// Takes the event of a line, where it has one that was read ahead.
+fn count_event(
     alloc: Global,
-    bytes: &[u8],
+    ahead: &mut Lookahead,
+    line: &[u8],
     moment: Moment,
-) -> Result<u64, Fail> {
+    counted: &mut Count,
+) {
+    if let Some(text) = Marked::text(line) {
+        if let Some(delivery) = ahead.take(text) {
+            if is_read_now(alloc, &delivery, text, moment) {
+                counted.right = counted.right.saturating_add(1);
+            } else {
+                counted.wrong = counted.wrong.saturating_add(1);
+            }
+        }
+    }
+}
+
+// Walks over the lines as a caller does; tells how many events were read ahead, or `None` where one was not
+// as it is when read now, or memory ran out.
+fn walk<X: Threads + Clock>(rt: &X, alloc: Global, bytes: &[u8], moment: Moment) -> Option<u64> {
     let mut ahead = Lookahead::new(alloc);
-    let mut count = 0u64;
+    let mut counted = Count { right: 0, wrong: 0 };
     let mut from = 0usize;
     for (number, line) in bytes.split(|byte| *byte == b'\n').enumerate() {
-        let Some(rest) = bytes.get(from..) else {
-            return Ok(count);
-        };
+        let rest = bytes.get(from..)?;
         if number % 100 == 99 {
             thread::sleep(rt, Duration::from_millis(5));
         }
         if ahead.is_due(rest.len()) {
             ahead.look::<Marked, X>(rt, rest);
         }
-        if let Some(text) = Marked::text(line) {
-            if let Some(delivery) = ahead.take(text) {
-                let Message::Event {
-                    id,
-                    key,
-                    event,
-                    token,
-                } = message_of(alloc, text, moment)
-                else {
-                    return Err("no event")?;
-                };
-                assert_eq!(rt; delivery.id.as_str(), id.as_str());
-                assert!(rt; delivery.key == key);
-                assert!(rt; delivery.event.is_same(&event));
-                assert_eq!(rt; delivery.token, token);
-                count = count.saturating_add(1);
-            }
-        }
+        count_event(alloc, &mut ahead, line, moment, &mut counted);
         from = from.saturating_add(line.len()).saturating_add(1);
     }
-    assert!(rt; !ahead.is_short());
-    Ok(count)
+    if counted.wrong == 0 && !ahead.is_short() {
+        Some(counted.right)
+    } else {
+        None
+    }
 }
 
 #[test]
@@ -166,7 +176,8 @@ fn threads_read_events_ahead(rt: HostRuntime) -> Result<(), Fail> {
     // One processor reads nothing ahead; with more, a thread has its turn at last.
     let can_read = thread::available_parallelism(&rt)?.get() > 1;
     for _ in 0..100 {
-        if walk(&rt, alloc, &bytes, moment)? > 0 || !can_read {
+        let read = walk(&rt, alloc, &bytes, moment).ok_or("another event, or no memory")?;
+        if read > 0 || !can_read {
             return Ok(());
         }
     }

@@ -3,8 +3,8 @@ use Rattle.std.proofs.lemmas.List.{take_rest}
 use Rattle.std.specs.List.{position}
 use Rattle.site_desk.specs.declared.plan.SitePlan.{SitePlan}
 use Rattle.site_desk.specs.Plan.{is_past, site_number}
-use Rattle.ocpp_board.proofs.Words.{one_declared, one_too_many}
-use Rattle.ocpp_board.proofs.station_words.+declare_words.Goals as goal
+use Rattle.board_words.proofs.Words.{one_declared, one_too_many}
+use Rattle.board_words.proofs.station_words.+declare_words.Goals as goal
 
 pub returns-then-is_past : goal.returns-then-is_past
 returns-then-is_past t c =

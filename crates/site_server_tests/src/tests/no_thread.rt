@@ -1,17 +1,16 @@
-// Threads that can't start: their calls with a stack for which none does are the crate's own.
+// Threads that can't start, since none does with so large a stack.
 ghost use Rattle.std.specs.Prelude.{ℕ, ◌<◌, length};
 ghost use Rattle.site_book.specs.Tables.{HasTable, NamedBy};
 
-use crate::serve::serve_on;
-use crate::service::{Service, open_desk, serve_watched};
-use arrayvec::ArrayVec;
-use ledger_model::{Limits, Name};
+use super::listen;
+use desk_fixtures::plan_of;
 use site_book::{Naming, Tables};
-use site_desk::{NoGate, Plan, SitePlan, StationPlan};
+use site_desk::{NoGate, Plan};
+use site_server::{Service, open_desk, serve_on, serve_watched};
 use station_link::SimStation;
 use std::alloc::Global;
 use std::marker::Brand;
-use std::net::{Ipv4Addr, Net, SocketAddr, TcpListener, TcpStream};
+use std::net::{Net, SocketAddr, TcpListener, TcpStream};
 use std::process::Abort;
 use std::random::RandomSource;
 use std::sync::Wait;
@@ -25,31 +24,7 @@ const TOO_LARGE: usize = usize::MAX / 2;
 
 // Site north with the station CS-1 and a viewer.
 fn plan() -> Option<Plan> {
-    let mut plan = Plan {
-        sites: ArrayVec::new(),
-        stations: ArrayVec::new(),
-    };
-    let site = SitePlan {
-        name: Name::new("north")?,
-        viewers: 1,
-    };
-    plan.sites.try_push(site).ok()?;
-    let station = StationPlan {
-        site: 0,
-        name: Name::new("CS-1")?,
-        limits: Limits::default(),
-    };
-    plan.stations.try_push(station).ok()?;
-    Some(plan)
-}
-
-// A listener on a port that the system chooses, and its address.
-fn listen<R: Net<Listener = TcpListener, Stream = TcpStream>>(
-    rt: &R,
-) -> Option<(TcpListener, SocketAddr)> {
-    let listener = TcpListener::bind(rt, (Ipv4Addr::LOCALHOST, 0)).ok()?;
-    let address = listener.local_addr().ok()?;
-    Some((listener, address))
+    plan_of(&["north"], &[(0, "CS-1")], 1)
 }
 
 // How many replies the simulated station gets; `None` where it is not let in.
@@ -77,7 +52,7 @@ fn no_session<
     requires there { (site : ℕ) → site < length plan.now.sites.items → HasTable tables site }
 {
     let (desk, viewers) = open_desk::<J>(alloc, tables, plan).ok().ok_or("no desk")?;
-    let (listener, address) = listen(rt).ok_or("no listener")?;
+    let (listener, address) = listen(rt)?;
     let (shared, socket) = (&desk, &listener);
     let (passes, replies) = thread::join(
         rt,
@@ -111,7 +86,7 @@ fn no_glance<
     requires there { (site : ℕ) → site < length plan.now.sites.items → HasTable tables site }
 {
     let (desk, viewers) = open_desk::<J>(alloc, tables, plan).ok().ok_or("no desk")?;
-    let (listener, address) = listen(rt).ok_or("no listener")?;
+    let (listener, address) = listen(rt)?;
     let lines = Vec::<u8>::new(alloc);
     let (shared, socket) = (&desk, &listener);
     let ((passes, viewers, lines), replies) = thread::join(

@@ -1,6 +1,6 @@
 //! The words `SITE/STATION` of a server, and the plan that they make.
 ghost use Rattle.std.specs.Prelude.{◌≡◌, None, map, option_map};
-ghost use Rattle.ocpp_board.specs.StationWords.{declared_by, first_bad, station_word, AnswersWords};
+ghost use Rattle.board_words.specs.StationWords.{declared_by, first_bad, station_word, AnswersWords};
 
 use ledger_model::{Limits, Name};
 use site_desk::Plan;

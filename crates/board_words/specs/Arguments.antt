@@ -3,9 +3,9 @@ use Rattle.std.specs.Prelude.{◌≡◌, ℕ, ◌<◌, ◌≤◌, ◌^◌, ⊤, 
 use Rattle.core.specs.Str.Parse.{IsNumeral, digits_value, without_leading_plus}
 use Rattle.clap.specs.Matches.{matched_of, one_text, raw_values}
 use Rattle.clap.specs.declared.parser.matches.Found.{Found}
-use Rattle.ocpp_board.specs.declared.arguments.Asked.{Asked}
-use Rattle.ocpp_board.specs.declared.arguments.Asked.TheVariants.{Replay, Serve, Simulate}
-use Rattle.ocpp_board.specs.StationWords.{AnswersWords}
+use Rattle.board_words.specs.declared.asked.Asked.{Asked}
+use Rattle.board_words.specs.declared.asked.Asked.TheVariants.{Replay, Serve, Simulate}
+use Rattle.board_words.specs.StationWords.{AnswersWords}
 use Rattle.site_server.specs.declared.service.Service.{Service}
 use Rattle.station_link.specs.Sim.{IsSimulated}
 

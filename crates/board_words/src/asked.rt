@@ -1,0 +1,63 @@
+//! What the options of a command ask for.
+ghost use Rattle.std.specs.Prelude.{◌≤◌};
+ghost use Rattle.clap.specs.Matches.{found_of};
+ghost use Rattle.board_words.specs.Arguments.{AsksServe, AsksService, AsksSimulate, IsAskable};
+
+use crate::station_words::{WordFault, plan_of};
+use clap::ArgMatches;
+use ledger_model::MAX_STATIONS;
+use site_desk::Plan;
+use site_server::{MAX_CONNECTIONS, MAX_SIMULATED_EVENTS, Service};
+
+/// How many stations a simulation may have: as many as a plan.
+pub const MAX_SIMULATED_STATIONS: u16 = MAX_STATIONS as u16;
+
+/// What the program is asked to do.
+pub enum Asked<'a> {
+    /// To answer a script.
+    Replay,
+    /// To serve the stations of a plan, over 1 to 64 connections; or what is wrong with their words.
+    Serve(Result<Plan, WordFault<'a>>, Service),
+    /// To play so many simulated stations, 1 to 64, each with so many events, 2 to 64.
+    Simulate(u16, u32),
+}
+
+/// What `serve` is asked for.
+pub fn serve_asked<'a>(matches: &ArgMatches<'a>) -> Asked<'a>
+    ensures range { IsAskable result }
+    ensures asked { AsksServe (found_of matches.now) result }
+{
+    let service = service_of(matches);
+    let words = matches.get_strs("stations").unwrap_or(&[]);
+    let viewers = if service.glances > 0 { 1 } else { 0 };
+    Asked::Serve(plan_of(words, viewers), service)
+}
+
+/// What the options of `serve` ask for. The number of connections is in range already, which the checker sees by
+/// the clamp.
+pub fn service_of(matches: &ArgMatches<'_>) -> Service
+    ensures range { (1 ≤ result.connections) × (result.connections ≤ 64) }
+    ensures asked { AsksService (found_of matches.now) result }
+{
+    let port = matches.get_one::<u16>("port");
+    let connections = matches.get_one::<u8>("connections");
+    let watch = matches.get_one::<u16>("watch");
+    Service {
+        port: port.unwrap_or(0),
+        connections: connections.unwrap_or(1).clamp(1, MAX_CONNECTIONS),
+        glances: watch.unwrap_or(0),
+    }
+}
+
+/// What `sim` is asked for. Its numbers are in range already, which the checker sees by the clamps.
+pub fn sim_asked<'a>(matches: &ArgMatches<'a>) -> Asked<'a>
+    ensures range { IsAskable result }
+    ensures asked { AsksSimulate (found_of matches.now) result }
+{
+    let stations = matches.get_one::<u16>("stations").unwrap_or(2);
+    let events = matches.get_one::<u32>("events").unwrap_or(3);
+    Asked::Simulate(
+        stations.clamp(1, MAX_SIMULATED_STATIONS),
+        events.clamp(2, MAX_SIMULATED_EVENTS),
+    )
+}
