@@ -129,36 +129,39 @@ def sessions() -> list[Session]:
     return found
 
 
-def read_until(stream: socket.socket, read: bytes, end: bytes) -> bytes:
-    """What came, with what comes until this is among it, or the server ends it."""
+def read_until(stream: socket.socket, read: bytearray, end: bytes) -> None:
+    """Reads until this is among what came, or the server ends it."""
     while end not in read and (part := stream.recv(65_536)):
         read += part
-    return read
 
 
 def played(port: int, session: Session) -> str:
     """How a session differs from what it should be; nothing where it does not."""
     wanted = b"".join(frame._replace(is_masked=False).bytes() for frame in session.answered)
-    frames = b""
+    read = bytearray()
     with socket.create_connection(("127.0.0.1", port), LONGEST_WAIT) as stream:
         request = (
             f"GET {session.path} HTTP/1.1\r\nHost: h\r\nConnection: Upgrade\r\nUpgrade: websocket\r\n"
             f"Sec-WebSocket-Version: 13\r\nSec-WebSocket-Key: dGhlIHNhbXBsZSBub25jZQ==\r\n{session.offer}\r\n"
         )
         stream.sendall(request.encode())
-        head, _, frames = read_until(stream, b"", b"\r\n\r\n").partition(b"\r\n\r\n")
+        read_until(stream, read, b"\r\n\r\n")
         try:
             for frame in session.sent:
                 stream.sendall(frame.bytes())
+        except ConnectionError:
+            pass  # The server closed while bytes were on their way to it.
+        try:
             # Behind the close frame the server waits for the station to leave.
-            frames = read_until(stream, frames, wanted[-4:])
+            read_until(stream, read, wanted[-4:])
             stream.shutdown(socket.SHUT_WR)
             while part := stream.recv(65_536):
-                frames += part
+                read += part
         except TimeoutError:
             return "the server does not end it"
         except OSError:
-            pass  # The server closed while bytes were on their way to it; what it wrote before is compared.
+            pass  # The same; what it wrote before is compared.
+    head, _, frames = bytes(read).partition(b"\r\n\r\n")
     if not head.startswith(b"HTTP/1.1 101 "):
         return f"the handshake is answered by {head[:80]!r}"
     has_subprotocol = b"\r\nsec-websocket-protocol: ocpp2.0.1" in head.lower()
