@@ -153,10 +153,10 @@ const MOMENTS: [(u64, bool); 4] = [
 ];
 
 const QUARTERS: [(u32, bool); 4] = [
-    (1_051_871, false),
-    (1_051_872, true),
-    (4_558_271, true),
-    (4_558_272, false),
+    (262_967, false),
+    (262_968, true),
+    (13_674_815, true),
+    (13_674_816, false),
 ];
 
 #[test]
