@@ -34,6 +34,13 @@ impl Period {
         }
     }
 
+    /// It is one of the four. It does nothing: a caller names the fact by it.
+    pub fn keep_range(self)
+        ensures { IsPeriod self }
+    {
+        let _ = self.seconds;
+    }
+
     /// How many seconds it has.
     pub fn seconds(self) -> u16
         ensures value { result ≡ self }
