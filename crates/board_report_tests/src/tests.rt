@@ -6,7 +6,7 @@ ghost use Rattle.board_report.specs.Sums.{station_quarters, QuartersFit};
 use board_report::{SiteBoard, energy_text, site_board, total_text, write_board};
 use energy_flow::{Flow, Level, Work, difference};
 use ledger_model::{
-    Answer, Command, Event, Figures, Key, Kind, Limits, Moment, Name, Reading, TxId,
+    Answer, Command, Event, Figures, Key, Kind, Limits, Moment, Name, Period, Reading, TxId,
 };
 use station_ledger::{StationBoard, StationLedger};
 use std::alloc::Global;
@@ -88,7 +88,7 @@ fn station(
 ) -> Result<StationBoard, Fail>
     ensures { IfOk result (λ b. IsBoardWithin default_limits b) }
 {
-    let mut ledger = StationLedger::open(alloc, Limits::default())?;
+    let mut ledger = StationLedger::open(alloc, Limits::default(), Period::default())?;
     for one in asked {
         let command = command(alloc, *one).ok_or("no command")?;
         let answer = ledger.apply(command, work);

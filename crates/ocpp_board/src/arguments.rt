@@ -1,11 +1,11 @@
 //! What the program's words ask for.
 ghost use Rattle.std.specs.Prelude.{◌≤◌, IfOk};
 ghost use Rattle.clap.specs.Matches.{found_of};
-ghost use Rattle.ocpp_board.specs.Arguments.{AsksServe, AsksService, AsksSimulate, IsAskable};
+ghost use Rattle.ocpp_board.specs.Arguments.{AsksPeriod, AsksServe, AsksService, AsksSimulate, IsAskable};
 
 use crate::station_words::{WordFault, plan_of};
 use clap::{Arg, ArgAction, ArgMatches, Command, Error, value_parser};
-use ledger_model::MAX_STATIONS;
+use ledger_model::{MAX_STATIONS, Period};
 use site_desk::Plan;
 use site_server::{MAX_CONNECTIONS, MAX_SIMULATED_EVENTS, Service};
 use std::alloc::{AllocError, Global};
@@ -16,6 +16,9 @@ const MAX_GLANCES: u16 = 600;
 
 // How many stations a simulation may have: as many as a plan.
 const MAX_SIMULATED_STATIONS: u16 = MAX_STATIONS as u16;
+
+// The seconds that a settlement period may have.
+const PERIODS: [&str; 4] = ["300", "900", "1800", "3600"];
 
 const ABOUT: &str =
     "The transaction ledger and site board of an OCPP 2.0.1 charging station management system";
@@ -29,13 +32,15 @@ A script has one line for each step, and each answer is one line, or a board:
   limits <transactions> <events> <readings> <changes>
                              holds for the stations that follow; writes nothing
   station <site> <station>   declares a station; writes nothing
+  period <site> <seconds>    the settlement period of the site's boards: 300, 900, 1800 or
+                             3600 seconds, 900 where none is told; writes nothing
   now <time>                 sets the moment, as 2026-03-01T10:00:00Z; writes nothing
   msg <station> <text>       an OCPP-J message of the station; writes the reply, or `silent`
   void, restore or erase, with <station> <transaction id> <seqNo>
                              an operator's command; writes `accepted <n>` or `refused <name>`
   energy <station>           writes `energy up=<n> down=<n>`, in milliwatt-hours
   total <station>            writes the station's figures
-  board <site>               writes the board of the site, from `board <site>` to `end`
+  board <site>               writes the board of the site, from its name to `end`
 Empty lines and lines that begin with # write nothing. A line with a fault writes
 `fault <name>` and changes no plan, content or moment: LineTooLong, BadLine,
 DeclaredLate, PlanLimit, StationTwice, UnknownStation or UnknownSite.
@@ -101,7 +106,8 @@ fn serve_asked<'a>(matches: &ArgMatches<'a>) -> Asked<'a>
     let service = service_of(matches);
     let words = matches.get_strs("stations").unwrap_or(&[]);
     let viewers = if service.glances > 0 { 1 } else { 0 };
-    Asked::Serve(plan_of(words, viewers), service)
+    let period = period_of(matches);
+    Asked::Serve(plan_of(words, viewers, period), service)
 }
 
 // What the options of `serve` ask for. The number of connections is in range already, which the checker sees by
@@ -117,6 +123,19 @@ fn service_of(matches: &ArgMatches<'_>) -> Service
         port: port.unwrap_or(0),
         connections: connections.unwrap_or(1).clamp(1, MAX_CONNECTIONS),
         glances: watch.unwrap_or(0),
+    }
+}
+
+// The settlement period of all sites. It is one of the four already, which the checker sees by the match.
+fn period_of(matches: &ArgMatches<'_>) -> Period
+    ensures { AsksPeriod (found_of matches.now) result }
+{
+    match matches.get_one::<u16>("period") {
+        Some(seconds) => match Period::new(seconds) {
+            Some(period) => period,
+            None => Period::default(),
+        },
+        None => Period::default(),
     }
 }
 
@@ -169,6 +188,12 @@ fn serve_command<'a>(alloc: Global) -> Result<Command<'a>, AllocError> {
         .help(
             "How many times to write each site's totals to standard error, one second apart, 0 to 600",
         );
+    let period = Arg::new(alloc, "period")
+        .long("period")
+        .value_name("SECONDS")
+        .value_parser(PERIODS.as_slice())
+        .default_value("900")
+        .help("The settlement period of all sites' boards, in seconds");
     let stations = Arg::new(alloc, "stations")
         .value_name("SITE/STATION")
         .required(true)
@@ -181,6 +206,7 @@ fn serve_command<'a>(alloc: Global) -> Result<Command<'a>, AllocError> {
         .arg(port)?
         .arg(connections)?
         .arg(watch)?
+        .arg(period)?
         .arg(stations)
 }
 

@@ -5,7 +5,7 @@ ghost use Rattle.site_book.specs.Tables.{HasTable, NamedBy};
 use crate::serve::serve_on;
 use crate::service::{Service, open_desk, serve_watched};
 use arrayvec::ArrayVec;
-use ledger_model::{Limits, Name};
+use ledger_model::{Limits, Name, Period};
 use site_book::{Naming, Tables};
 use site_desk::{NoGate, Plan, SitePlan, StationPlan};
 use station_link::SimStation;
@@ -32,6 +32,7 @@ fn plan() -> Option<Plan> {
     let site = SitePlan {
         name: Name::new("north")?,
         viewers: 1,
+        period: Period::default(),
     };
     plan.sites.try_push(site).ok()?;
     let station = StationPlan {
