@@ -158,13 +158,13 @@ for day in day site_day; do
 done
 made_by ./board_to_tables.py --tz Europe/Berlin --from 2026-03-29 --to 2026-10-25 --out "$made/berlin" tables/berlin.text
 made_by ./board_to_tables.py --out "$made/states" tables/states.text
-for name in berlin.quarters berlin.transactions states.transactions; do
+for name in berlin.periods berlin.transactions states.transactions; do
     as_stored "tables/$name.csv" "$made/$name.csv"
 done
 holds tables/berlin.said
 made_by ./board_to_tables.py --tz Europe/Berlin --day 2026-03-29 --out "$made/one" tables/berlin.text
-grep -E '^board|:00Z,2026-03-29T' tables/berlin.quarters.csv > "$made/one.rows"
-diff "$made/one.rows" "$made/one.quarters.csv" || differs "a day of tables/berlin.quarters.csv"
+grep -E '^board|:00Z,2026-03-29T' tables/berlin.periods.csv > "$made/one.rows"
+diff "$made/one.rows" "$made/one.periods.csv" || differs "a day of tables/berlin.periods.csv"
 gives 1 tables/broken ./board_to_tables.py --out "$made/broken" tables/broken.text
 tells 1 "the text ends, and no board began in it" ./board_to_tables.py --out "$made/noise" day.jsonl
 tells 2 "the text is compressed by gzip" ./board_to_tables.py --out "$made/noise" "$made/day.jsonl.gz"
