@@ -95,6 +95,8 @@ gives 0 forms/ocpp.script ./log_to_script.py --form ocpp --site north --utc form
 gives 0 forms/maeve.script ./log_to_script.py --form maeve --stations forms/stations.txt --no-boards forms/maeve.mqtt
 citrineos=(--site north --site-map forms/sites.txt --limits 100 1000 2000 1000000)
 gives 0 forms/citrineos.script ./log_to_script.py --form citrineos "${citrineos[@]}" forms/citrineos.jsonl
+gives 0 forms/periods.script ./log_to_script.py --form citrineos --site north --site-map forms/sites.txt --period 1800 \
+    --period north=300 forms/citrineos.jsonl
 gives 0 forms/citrineos.script ./log_to_script.py --form citrineos-csv "${citrineos[@]}" forms/citrineos.csv
 
 # Logs that were compressed, one of which is cut short, and words and lines that can't be taken.
@@ -111,6 +113,8 @@ tells 2 "line 1 names no column message, origin, stationId, timestamp" \
     ./log_to_script.py --form citrineos-csv --site north forms/ocpp.log
 tells 2 "has no sites: --site, --site-map or --stations names them" ./log_to_script.py --form ocpp forms/ocpp.log
 tells 2 "forms/ocpp.log line 2: not two names" ./log_to_script.py --stations forms/ocpp.log day.jsonl
+tells 2 "not 300, 900, 1800 or 3600 seconds: 'north=600'" ./log_to_script.py --period north=600 day.jsonl
+tells 2 "no name of a site: 'no/name=300'" ./log_to_script.py --period no/name=300 day.jsonl
 tells 2 "No such file or directory" ./log_to_script.py nowhere.jsonl
 tells 2 "No space left on device" bash -c './log_to_script.py site_day.jsonl > /dev/full'
 tells 2 "No space left on device" bash -c './log_to_script.py --form maeve --stations forms/stations.txt forms/maeve.mqtt > /dev/full'
