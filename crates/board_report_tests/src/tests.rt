@@ -1,7 +1,8 @@
 ghost use Rattle.std.specs.Prelude.{◌≡◌, ◌≤◌, IfOk};
 ghost use Rattle.ledger_model.specs.Limits.{Bounds, default_limits};
+ghost use Rattle.ledger_model.specs.Quarter.{default_period};
 ghost use Rattle.board_report.specs.Plans.{IsBoardWithin};
-ghost use Rattle.board_report.specs.Sums.{station_quarters, QuartersFit};
+ghost use Rattle.board_report.specs.Sums.{station_quarters, AreOfPeriod, QuartersFit};
 
 use board_report::{SiteBoard, energy_text, site_board, total_text, write_board};
 use energy_flow::{Flow, Level, Work, difference};
@@ -86,7 +87,8 @@ fn station(
     work: &mut Work,
     asked: &[Asked],
 ) -> Result<StationBoard, Fail>
-    ensures { IfOk result (λ b. IsBoardWithin default_limits b) }
+    ensures within { IfOk result (λ b. IsBoardWithin default_limits b) }
+    ensures period { IfOk result (λ b. b.period ≡ default_period) }
 {
     let mut ledger = StationLedger::open(alloc, Limits::default(), Period::default())?;
     for one in asked {
@@ -104,7 +106,8 @@ fn stations(
     work: &mut Work,
     told: &[(&'static str, &'static [Asked])],
 ) -> Result<Vec<(Name, StationBoard)>, Fail>
-    ensures { IfOk result (λ boards. QuartersFit (station_quarters boards.items)) }
+    ensures fit { IfOk result (λ boards. QuartersFit (station_quarters boards.items)) }
+    ensures periods { IfOk result (λ boards. AreOfPeriod default_period boards.items) }
 {
     if told.len() > 64 {
         return Err(Fail::from("too many stations"));
@@ -138,7 +141,13 @@ fn board_of(
 ) -> Result<SiteBoard, Fail> {
     let name = Name::new("north").ok_or("no name")?;
     let boards = stations(rt, alloc, work, site.stations)?;
-    Ok(site_board(alloc, &name, figures(site.figures), boards)?)
+    Ok(site_board(
+        alloc,
+        &name,
+        Period::default(),
+        figures(site.figures),
+        boards,
+    )?)
 }
 
 #[test]
@@ -180,7 +189,13 @@ fn a_board_without_memory_is_made_again(rt: HostRuntime) -> Result<(), Fail> {
     let mut work = Work::open(&rt);
     let name = Name::new("north").ok_or("no name")?;
     let boards = stations(&rt, rt.alloc(), &mut work, TWO_STATIONS.stations)?;
-    let board = match site_board(rt.alloc(), &name, figures(TWO_STATIONS.figures), boards) {
+    let board = match site_board(
+        rt.alloc(),
+        &name,
+        Period::default(),
+        figures(TWO_STATIONS.figures),
+        boards,
+    ) {
         Ok(board) => board,
         Err(_) => board_of(&rt, rt.alloc(), &mut work, &TWO_STATIONS)?,
     };
