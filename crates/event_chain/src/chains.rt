@@ -24,7 +24,7 @@ use crate::spots::{
 use crate::tx_ids::TxIds;
 use crate::tx_walk::TxWalk;
 use event_store::{EventRef, EventStore, Readings};
-use key_index::IndexKey;
+use key_index::{IndexKey, Place};
 use ledger_model::{Event, EvseId, Key, Kind, Limits, Reading, TxId};
 use std::alloc::{AllocError, Global};
 use std::marker::Model;
@@ -96,6 +96,22 @@ impl Chains {
         })
     }
 
+    /// Searches for a key once, for the calls that come next. Nothing that they answer changes.
+    pub fn seek(&mut self, key: &Key)
+        ensures { self.new ≡ self.old }
+    {
+        self.table.seek(key.tx());
+        if let Some(row) = self.table.get(key.tx()) {
+            self.places.seek(IndexKey::new(row.slot, key.seq()));
+        }
+    }
+
+    /// Where the transaction of the key that was sought last stood or belonged by its id, as a hint for
+    /// another map of about the same transactions.
+    pub fn near(&self) -> usize {
+        self.table.near()
+    }
+
     /// Whether there is room for an event of this transaction under a new key, with so many readings.
     pub fn room_for(&self, tx: &TxId, readings: usize) -> Room
         ensures { result ≡ room_of self.now.limits (stored self.now) tx.now readings }
@@ -126,7 +142,14 @@ impl Chains {
     pub fn event(&self, key: &Key) -> Option<EventRef<'_>>
         ensures { option_map (λ e. e.1) result ≡ finite.get self.now.events key.now }
     {
-        match slot_of(&self.table, &self.places, key) {
+        self.event_near(Place::UNKNOWN, key)
+    }
+
+    // The same, where the key may be at this place.
+    fn event_near(&self, near: Place, key: &Key) -> Option<EventRef<'_>>
+        ensures { option_map (λ e. e.1) result ≡ finite.get self.now.events key.now }
+    {
+        match slot_of(&self.table, &self.places, near, key) {
             Some(slot) => Some(self.store.get(slot)),
             None => None,
         }
@@ -213,7 +236,7 @@ impl Chains {
     pub fn readings(&self, key: &Key) -> Readings<'_>
         ensures { result ≡ readings_under (finite.get self.now.events key.now) }
     {
-        match self.event(key) {
+        match self.event_near(self.places.near(), key) {
             Some(event) => event.readings(),
             None => self.store.no_readings(),
         }
