@@ -19,12 +19,12 @@ use crate::answers::{Found, Room, TxStanding};
 use crate::place_index::PlaceIndex;
 use crate::spots::{
     carrier_before, carrier_behind, enter, evse_at, first_at, first_live, first_naming, kind_at,
-    last_at, last_live, leave, locate, number_of, slot_of,
+    last_at, last_live, leave, locate, number_of, slot_of, slot_sought,
 };
 use crate::tx_ids::TxIds;
 use crate::tx_walk::TxWalk;
 use event_store::{EventRef, EventStore, Readings};
-use key_index::{IndexKey, Place};
+use key_index::IndexKey;
 use ledger_model::{Event, EvseId, Key, Kind, Limits, Reading, TxId};
 use std::alloc::{AllocError, Global};
 use std::marker::Model;
@@ -100,8 +100,7 @@ impl Chains {
     pub fn seek(&mut self, key: &Key)
         ensures { self.new ≡ self.old }
     {
-        self.table.seek(key.tx());
-        if let Some(row) = self.table.get(key.tx()) {
+        if let Some(row) = self.table.seek(key.tx()) {
             self.places.seek(IndexKey::new(row.slot, key.seq()));
         }
     }
@@ -142,14 +141,17 @@ impl Chains {
     pub fn event(&self, key: &Key) -> Option<EventRef<'_>>
         ensures { option_map (λ e. e.1) result ≡ finite.get self.now.events key.now }
     {
-        self.event_near(Place::UNKNOWN, key)
+        match slot_of(&self.table, &self.places, key) {
+            Some(slot) => Some(self.store.get(slot)),
+            None => None,
+        }
     }
 
-    // The same, where the key may be at this place.
-    fn event_near(&self, near: Place, key: &Key) -> Option<EventRef<'_>>
+    // The same of the key that was sought last.
+    fn event_sought(&self, key: &Key) -> Option<EventRef<'_>>
         ensures { option_map (λ e. e.1) result ≡ finite.get self.now.events key.now }
     {
-        match slot_of(&self.table, &self.places, near, key) {
+        match slot_sought(&self.table, &self.places, key) {
             Some(slot) => Some(self.store.get(slot)),
             None => None,
         }
@@ -236,7 +238,7 @@ impl Chains {
     pub fn readings(&self, key: &Key) -> Readings<'_>
         ensures { result ≡ readings_under (finite.get self.now.events key.now) }
     {
-        match self.event_near(self.places.near(), key) {
+        match self.event_sought(key) {
             Some(event) => event.readings(),
             None => self.store.no_readings(),
         }

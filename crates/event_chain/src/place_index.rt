@@ -24,8 +24,9 @@ use std::marker::Model;
 pub(crate) struct PlaceIndex {
     index: KeyIndex,
     links: SlotLinks,
-    // Where the key that was sought last stands or belongs, and where its transaction begins: they save
-    // searches, and change no answer.
+    // The key that was sought last, where it stands or belongs, and where its transaction begins: they
+    // save searches, and change no answer.
+    sought: IndexKey,
     near: Place,
     start: Place,
 }
@@ -99,6 +100,7 @@ impl PlaceIndex {
         Ok(PlaceIndex {
             index: KeyIndex::open(alloc, events)?,
             links: SlotLinks::open(alloc, events)?,
+            sought: IndexKey::new(0, 0),
             near: Place::UNKNOWN,
             start: Place::UNKNOWN,
         })
@@ -116,13 +118,22 @@ impl PlaceIndex {
         ensures { self.new ≡ self.old }
     {
         let first = IndexKey::new(key.transaction(), 0);
-        self.near = self.index.place_near(self.near.next(), key);
+        self.near = self.index.place_near(self.behind(key), key);
+        self.sought = key;
         self.start = self.index.place_near(self.start, first);
     }
 
     // The place where a key stands or belongs, to be handed to the calls that take one.
     pub(crate) fn place(&self, key: IndexKey) -> Place {
         self.index.place_near(self.near, key)
+    }
+
+    // A key that comes after the one that was sought last mostly stands or belongs right behind it.
+    pub(crate) fn behind(&self, key: IndexKey) -> Place {
+        if self.sought.is_before(key) {
+            return self.near.next();
+        }
+        Place::UNKNOWN
     }
 
     // Where the key that was sought last stands or belongs.
@@ -194,6 +205,7 @@ impl PlaceIndex {
         };
         self.index.insert(place, key, Filed { slot, marks });
         self.near = place;
+        self.sought = key;
     }
 
     // Takes a live event's marks away; it keeps its place and its slot.

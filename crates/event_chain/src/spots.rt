@@ -28,19 +28,34 @@ pub(crate) struct Spot {
     pub(crate) slot: u32,
 }
 
-// Finds a key, which may be at this place; none where it is absent.
-pub(crate) fn slot_of(
-    table: &TransactionTable,
-    places: &PlaceIndex,
-    near: Place,
-    key: &Key,
-) -> Option<u32>
-    ensures { result ≡ place_at table.now.rows places.now.stored.entries key.now }
+// The slot of a key of the index; none where it is absent.
+fn slot_at(places: &PlaceIndex, near: Place, key: IndexKey) -> Option<u32>
+    ensures { result ≡ place_of key places.now.stored.entries }
 {
     let stored = places.stored(near);
     stored.keys_rise();
+    stored.get(key)
+}
+
+// Finds a key, also one that was not sought before; none where it is absent.
+pub(crate) fn slot_of(table: &TransactionTable, places: &PlaceIndex, key: &Key) -> Option<u32>
+    ensures { result ≡ place_at table.now.rows places.now.stored.entries key.now }
+{
     match table.get(key.tx()) {
-        Some(row) => stored.get(IndexKey::new(row.slot, key.seq())),
+        Some(row) => {
+            let at = IndexKey::new(row.slot, key.seq());
+            slot_at(places, places.behind(at), at)
+        }
+        None => None,
+    }
+}
+
+// Finds the key that was sought last; none where it is absent.
+pub(crate) fn slot_sought(table: &TransactionTable, places: &PlaceIndex, key: &Key) -> Option<u32>
+    ensures { result ≡ place_at table.now.rows places.now.stored.entries key.now }
+{
+    match table.get(key.tx()) {
+        Some(row) => slot_at(places, places.near(), IndexKey::new(row.slot, key.seq())),
         None => None,
     }
 }

@@ -70,14 +70,22 @@ impl<V: Copy> TransactionMap<V> {
         })
     }
 
-    /// Searches for a transaction once, for the calls that come next. Nothing that they answer changes.
-    pub fn seek(&mut self, tx: &TxId)
-        ensures { self.new ≡ self.old }
+    /// The value of a transaction, which is searched once for the calls that come next; none where it is
+    /// absent. Nothing that they answer changes.
+    pub fn seek(&mut self, tx: &TxId) -> Option<V>
+        ensures value { result ≡ find id_cmp tx.now self.old.rows }
+        ensures same { self.new ≡ self.old }
     {
-        self.near = match place_near(&self.rows, self.near, tx) {
-            Ok(at) => at,
-            Err(at) => at,
-        };
+        match place_near(&self.rows, self.near, tx) {
+            Ok(at) => {
+                self.near = at;
+                Some(self.rows[at].value())
+            }
+            Err(at) => {
+                self.near = at;
+                None
+            }
+        }
     }
 
     /// Where the transaction that was sought last stood or belonged, for [`TransactionMap::look_near`]

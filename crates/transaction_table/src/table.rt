@@ -70,11 +70,13 @@ impl TransactionTable {
         self.rows.capacity()
     }
 
-    /// Searches for a transaction once, for the calls that come next. Nothing that they answer changes.
-    pub fn seek(&mut self, tx: &TxId)
-        ensures { self.new ≡ self.old }
+    /// What is kept of a transaction, which is searched once for the calls that come next; none where it
+    /// is absent. Nothing that they answer changes.
+    pub fn seek(&mut self, tx: &TxId) -> Option<TableRow>
+        ensures value { result ≡ row_of tx.now self.old.rows }
+        ensures same { self.new ≡ self.old }
     {
-        self.rows.seek(tx);
+        self.rows.seek(tx)
     }
 
     /// Where the transaction that was sought last stood or belonged, as a hint for another map of about

@@ -5,7 +5,7 @@ use Rattle.event_chain.specs.Chains.{Chained}
 use Rattle.event_chain.specs.Flat.{stored_in, event_at}
 use Rattle.event_chain.proofs.Facts.{get_place}
 use Rattle.event_chain.proofs.Marks.{held_place}
-use Rattle.event_chain.proofs.chains.Chains.event_near.Goals as goal
+use Rattle.event_chain.proofs.chains.Chains.event.Goals as goal
 
 pub get-requires : goal.get-requires
 get-requires c =
