@@ -105,9 +105,18 @@ pub(crate) fn erase(chains: &mut Chains, sums: &mut Sums, key: &Key)
     sums.figures.voided -= 1;
 }
 
+// Searches for a key once, for what is done there.
+fn seek(chains: &mut Chains, sums: &mut Sums, key: &Key)
+    ensures chains { chains.new ≡ chains.old }
+    ensures sums { sums.new ≡ sums.old }
+{
+    chains.seek(key);
+    sums.kept.look_near(chains.near());
+}
+
 // Carries out a command that may be accepted.
 #[tactic(auto, unfolding(crate::specs::Spent::most_spent))]
-pub(crate) fn carry_out(chains: &mut Chains, sums: &mut Sums, command: Command, work: &mut Work)
+fn carry(chains: &mut Chains, sums: &mut Sums, command: Command, work: &mut Work)
     requires ready { IsReady chains.old command }
     requires before { AreAllowed chains.old.limits (stored chains.old) }
     requires after { AreAllowed chains.old.limits (finite.entries (events_after chains.old.events command)) }
@@ -127,4 +136,22 @@ pub(crate) fn carry_out(chains: &mut Chains, sums: &mut Sums, command: Command, 
         Command::Restore(key) => restore(chains, sums, &key, work),
         Command::Erase(key) => erase(chains, sums, &key),
     }
+}
+
+// Finds the place of a command's key, and carries it out there.
+pub(crate) fn carry_out(chains: &mut Chains, sums: &mut Sums, command: Command, work: &mut Work)
+    requires ready { IsReady chains.old command }
+    requires before { AreAllowed chains.old.limits (stored chains.old) }
+    requires after { AreAllowed chains.old.limits (finite.entries (events_after chains.old.events command)) }
+    requires summed { AreSummed chains.old.limits (stored chains.old) sums.old.kept sums.old.evses.items sums.old.quarters sums.old.energy sums.old.figures }
+    requires voided { sums.old.figures.voided ≡ voided_in chains.old }
+    ensures limits { chains.new.limits ≡ chains.old.limits }
+    ensures events { chains.new.events ≡ events_after chains.old.events command }
+    ensures summed { AreSummed chains.new.limits (stored chains.new) sums.new.kept sums.new.evses.items sums.new.quarters sums.new.energy sums.new.figures }
+    ensures voided { sums.new.figures.voided ≡ voided_in chains.new }
+    ensures work { work.new ≤ work.old + most_spent chains.old.events command }
+    ensures grows { work.old ≤ work.new }
+{
+    seek(chains, sums, command.key());
+    carry(chains, sums, command, work);
 }
