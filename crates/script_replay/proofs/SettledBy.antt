@@ -1,5 +1,5 @@
 -- Another settlement period for a site of a plan, and the script that it is seen as.
-use Rattle.std.proofs.Common.{◌≡◌, ℕ, zero, suc, ◌+◌, ◌<◌, Bool, cond, false, List, [], ◌∷◌, Option, None, Some, All, length, map, get_or, slice_set, refl, ap, sym, subst, ◌∙◌, bytes_eq, arith}
+use Rattle.std.proofs.Common.{◌≡◌, ℕ, zero, suc, ◌+◌, ◌<◌, Bool, true, cond, false, List, [], ◌∷◌, Option, None, Some, All, length, map, get_or, slice_set, refl, ap, sym, subst, ◌∙◌, bytes_eq, arith}
 use Rattle.std.specs.Prelude.{slice_get}
 use Rattle.std.specs.List.{position, position_from}
 use Rattle.std.proofs.lemmas.Iterator.Adapters.{position_from-zero}
@@ -7,8 +7,10 @@ use Rattle.ledger_model.specs.Quarter.{default_period}
 use Rattle.site_desk.specs.declared.plan.SitePlan.{SitePlan}
 use Rattle.site_desk.specs.declared.plan.StationPlan.{StationPlan}
 use Rattle.site_desk.specs.Plan.{has_twice, period_at, sites_by}
+use Rattle.script_lines.specs.declared.script_line.LineFault.TheVariants.{PlanLimit, UnknownSite}
+use Rattle.script_lines.specs.Texts.{fault_line}
 use Rattle.script_replay.specs.Drafts.{Drafted, IsPlan, planned, planned_world, site_name}
-use Rattle.script_replay.specs.Script.{new_station, period_of, settled_by, site_number}
+use Rattle.script_replay.specs.Script.{is_period, new_station, period_of, period_to, settled_by, site_number}
 
 -- a site stands at one place in the plan and in the list of names
 from_alike : (name : List ℕ) (i : ℕ) (sites : List SitePlan) → position_from (bytes_eq name) i (map (λ s. s.name) sites) ≡ position_from (λ (s : SitePlan). bytes_eq name s.name) i sites
@@ -79,3 +81,15 @@ settled_planned d name n period e =
 pub settled_unknown : (d : Drafted) (name : List ℕ) (period : ℕ) → position (λ (s : SitePlan). bytes_eq name s.name) d.sites ≡ None
     → settled_by (site_number name (planned d).sites) (planned d) period ≡ settled_by None (planned d) period
 settled_unknown d name period e = ap (λ o. settled_by o (planned d) period) (number_alike name d.sites ∙ e)
+
+-- what a `period` line of one of the four periods is answered
+pub period_unknown : (d : Drafted) (name : List ℕ) (seconds : ℕ) → is_period seconds ≡ true → position (λ (s : SitePlan). bytes_eq name s.name) d.sites ≡ None
+    → period_to (planned d) name seconds ≡ (planned d, fault_line UnknownSite)
+period_unknown d name seconds is e =
+    ap (λ b. cond b (settled_by (site_number name (planned d).sites) (planned d) seconds) (planned d, fault_line PlanLimit)) is ∙ settled_unknown d name seconds e
+
+pub period_known : (d : Drafted) (name : List ℕ) (seconds n period : ℕ) → is_period seconds ≡ true → period ≡ seconds → position (λ (s : SitePlan). bytes_eq name s.name) d.sites ≡ Some n
+    → period_to (planned d) name seconds ≡ (planned (record d { sites = sites_by n period d.sites }), [])
+period_known d name seconds n period is same e =
+    ap (λ b. cond b (settled_by (site_number name (planned d).sites) (planned d) seconds) (planned d, fault_line PlanLimit)) is
+    ∙ settled_planned d name n seconds e ∙ ap (λ p. (planned (record d { sites = sites_by n p d.sites }), [])) (sym same)

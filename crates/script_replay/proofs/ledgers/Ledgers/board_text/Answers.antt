@@ -1,4 +1,4 @@
-use Rattle.std.proofs.Common.{◌≤◌, ◌<◌, length, refl, ap, sym, subst, ◌∙◌, arith}
+use Rattle.std.proofs.Common.{◌≡◌, ◌≤◌, ◌<◌, List, length, refl, ap, sym, subst, ◌∙◌, arith}
 use Rattle.std.specs.Prelude.{sum_by}
 use Rattle.std.proofs.lemmas.Option.{slice_get_read}
 use Rattle.ledger_model.specs.Board.{site_board}
@@ -43,6 +43,7 @@ returns g c =
     let boards = boards_at period s.draft.stations s.cells.items site in
     let stations = stations_of name (running s.draft s.cells.items).world in
     let totals = c.totals-totals.ensures.sums ∙ totals_are s.draft s.cells.items s.books.items s.passes.items s.running period site c.index.result.now book in
-    let alike = (λ i. site_named name (period_at (c.plan.ensures.sites i) site) c.totals-totals.result (boards_at (period_at (c.plan.ensures.sites i) site) (c.plan.ensures.stations i) (c.deref.ensures.value i) site)) in
+    let alike : site_named name (period_at c.plan.result.now.sites.items site) c.totals-totals.result (boards_at (period_at c.plan.result.now.sites.items site) c.plan.result.now.stations.items c.deref.result.now site) ≡ site_named name period c.totals-totals.result boards =
+    (λ i. site_named name (period_at (c.plan.ensures.sites i) site) c.totals-totals.result (boards_at (period_at (c.plan.ensures.sites i) site) (c.plan.ensures.stations i) (c.deref.ensures.value i) site)) in
     let is = board_is name (period_named (running s.draft s.cells.items) name) period (site_named name period c.totals-totals.result boards) stations boards (site_shown period s.draft s.cells.items name site s.running.plan c.requires) (period_found name s.draft.sites site c.requires) refl refl totals refl refl in
     value_told c.site_text.result _ _ (λ text h. h ∙ ap board_text alike ∙ ap board_text is) c.site_text.ensures
