@@ -281,6 +281,35 @@ class Demo:
         answer = await heard(link)
         self.check(answer == "closed 1009", f"a message of 600,000 bytes: {answer}")
         await self.wrong_words()
+        await self.names()
+
+    async def names(self) -> None:
+        """A station's name is in one cell only; the second cell is another database of the same server."""
+        database, station = self.fleet.databases[0], "CS-00000"
+        database.fill(2, "second")
+        second = await connect(self.fleet.dsn("owner").replace("/ledger", "/second"))
+        see = f"call see_cell(1::smallint, '127.0.0.1', '{database.port}', 'ledger', '{self.fleet.password}')"
+
+        async def refused(query: str) -> str:
+            try:
+                await second.execute(query)
+            except asyncpg.PostgresError as fault:
+                return str(fault)
+            return "not refused"
+
+        add = f"select add_station(0, 'north', '{station}')"
+        await second.execute(see)
+        text = await refused(add)
+        self.check(text == f"station {station} is in shard 0 of cell_1 already", f"a name of another cell: {text}")
+        await second.execute("select add_station(0, 'north', 'CS-NEW')")
+        self.check(await second.fetchval("select count(*) from station_twice") == 0, "no station is in two cells")
+        await second.execute(add.replace(")", ", unasked => true)"))
+        twice = [tuple(row) for row in await second.fetch("select station, cells from station_twice")]
+        self.check(twice == [(station, [1, 2])], f"a name that is in two cells: {twice}")
+        await second.execute("alter server cell_1 options (set port '1')")
+        text = await refused("select add_station(0, 'north', 'CS-NEWER')")
+        self.check(text.startswith("cell_1 does not answer"), f"a name while the other cell is down: {text}")
+        await second.close()
 
     async def wrong_words(self) -> None:
         made = subprocess.run(

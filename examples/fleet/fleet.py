@@ -89,10 +89,10 @@ class Database:
         command = ["psql", "-h", "127.0.0.1", "-p", self.port, "-U", "owner", "-qX", "-d", database, *words]
         subprocess.run(list(map(str, command)), check=True, **more)
 
-    def fill(self, cell: int) -> None:
-        self.psql("postgres", "-c", "create database ledger")
+    def fill(self, cell: int, name: str = "ledger") -> None:
+        self.psql("postgres", "-c", f"create database {name}")
         roles = {f"{role}_PASSWORD": self.fleet.password for role in ("GATEWAY", "WORKER", "READER")}
-        self.psql("ledger", "-v", f"cell={cell}", "-f", HERE / "schema.sql", env=os.environ | roles)
+        self.psql(name, "-v", f"cell={cell}", "-f", HERE / "schema.sql", env=os.environ | roles)
 
     def kill(self) -> None:
         """Ends the server and all its processes at once, as a machine that fails."""

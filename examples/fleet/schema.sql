@@ -126,13 +126,36 @@ create trigger plan_changed after insert or update or delete on own_station
 create trigger plan_changed after update of period on own_site
     for each row execute function plan_changed();
 
--- A station that takes part from now on: gateways let it in, and its shard's replay begins anew from the log.
-create function add_station(shard_number integer, site_name text, station_name text) returns void
-    language sql as $$
+-- A station that takes part from now on: gateways let it in, and its shard's replay begins anew from the log. Its name is
+-- to be in one cell only, so the other cells that this one sees are asked for it, unless `unasked` says not to.
+create function add_station(shard_number integer, site_name text, station_name text, unasked boolean default false)
+    returns void language plpgsql as $$
+declare
+    other text;
+    other_shard integer;
+begin
+    for other in select srvname from pg_foreign_server where srvname ~ '^cell_[0-9]+$' and not unasked order by 1 loop
+        begin
+            execute format('select shard from %I where station = $1', 'station_' || substr(other, 6))
+                into other_shard using station_name;
+        exception when sqlclient_unable_to_establish_sqlconnection or connection_failure then
+            raise '% does not answer, so whether it has a station % is not known; add_station(.., unasked => true) does not ask',
+                other, station_name;
+        end;
+        if other_shard is not null then
+            raise 'station % is in shard % of % already', station_name, other_shard, other;
+        end if;
+    end loop;
     insert into own_shard (shard) values (shard_number) on conflict do nothing;
     insert into own_site (shard, site) values (shard_number, site_name) on conflict do nothing;
     insert into own_station (shard, site, station) values (shard_number, site_name, station_name);
-$$;
+end $$;
+
+-- The stations that are in several cells, of which there should be none; a shard that moves counts where it arrives.
+create view station_twice as
+    select station, array_agg(cell order by cell) as cells
+    from station join shard using (cell, shard) where moving_to is null
+    group by station having count(*) > 1;
 
 -- The log ------------------------------------------------------------------------------------------------------------
 
@@ -239,7 +262,7 @@ grant select on own_log to ledger_worker;
 grant update (taken, xid, id) on own_shard to ledger_worker;
 grant select, insert, update, delete on own_board, worker to ledger_worker;
 
-grant select on shard, site, station, log, board, own_log, own_board to ledger_reader;
+grant select on shard, site, station, station_twice, log, board, own_log, own_board to ledger_reader;
 
 -- Other cells --------------------------------------------------------------------------------------------------------
 
