@@ -186,6 +186,24 @@ class Demo:
         for load in loads:
             status, text = await ended(load)
             self.check(status == 0, f"plan: stations that were added while all runs: {text}")
+        await self.period(self.shards - 1)
+
+    async def period(self, shard: int) -> None:
+        """Another settlement period for a shard's site; a program that knows none is not given the shard."""
+        begin = "update own_site set period = $2 where shard = $1"
+        await self.owner.execute(begin, shard, 300)
+        if not self.fleet.with_period:
+            log, fault, end = self.fleet.folder / "parts.log", f"shard {shard}: the program knows no periods", 5
+            while fault not in log.read_text() and end > 0:
+                await asyncio.sleep(0.1)
+                end -= 0.1
+            self.check(end > 0, f"plan: a period of 300 seconds, of which this program knows none, is told: {fault}")
+            await self.owner.execute(begin, shard, 900)
+            return
+        differ = await self.fleet.compared(self.owner, shard)
+        text = await self.owner.fetchval("select text from own_board where shard = $1", shard)
+        head = (text or "").split("\n")[0]
+        self.check(not differ and head.endswith(" period=300"), f"plan: a period of 300 seconds: {head} {differ or ''}")
 
     async def common(self) -> None:
         """The faults that share a fleet, and what is tried after them."""
