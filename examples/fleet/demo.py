@@ -193,11 +193,14 @@ class Demo:
         begin = "update own_site set period = $2 where shard = $1"
         await self.owner.execute(begin, shard, 300)
         if not self.fleet.with_period:
-            log, fault, end = self.fleet.folder / "parts.log", f"shard {shard}: the program knows no periods", 5
-            while fault not in log.read_text() and end > 0:
+            log, fault = self.fleet.folder / "parts.log", f"shard {shard}: the program knows no periods"
+            end = time.monotonic() + 5
+            while fault not in log.read_text() and time.monotonic() < end:
                 await asyncio.sleep(0.1)
-                end -= 0.1
-            self.check(end > 0, f"plan: a period of 300 seconds, of which this program knows none, is told: {fault}")
+            self.check(
+                fault in log.read_text(),
+                f"plan: a period of 300 seconds, of which this program knows none, is told: {fault}",
+            )
             await self.owner.execute(begin, shard, 900)
             return
         differ = await self.fleet.compared(self.owner, shard)

@@ -72,12 +72,14 @@ create table site (
     cell smallint not null default :cell,
     shard integer not null,
     site name_in_plan not null,
-    period integer not null default 900    -- seconds
+    period integer not null default 900,   -- seconds
+    zone text not null default 'UTC'       -- whose days are its settlement days, such as Europe/Berlin
 ) partition by list (cell);
 create table own_site partition of site (
     primary key (shard, site),
     foreign key (shard) references own_shard on delete cascade,
-    constraint "a period is 300, 900, 1800 or 3600 seconds" check (period in (300, 900, 1800, 3600))
+    constraint "a period is 300, 900, 1800 or 3600 seconds" check (period in (300, 900, 1800, 3600)),
+    constraint "a zone is one that PostgreSQL knows" check (timestamp '2000-01-01' at time zone zone is not null)
 ) for values in (:cell);
 
 create sequence place_in_plan;
@@ -222,6 +224,81 @@ create table own_board partition of board (
     foreign key (shard) references own_shard on delete cascade
 ) for values in (:cell);
 
+-- Closed days --------------------------------------------------------------------------------------------------------
+
+-- What close_day.py did to a shard's stations of a site: up to which day it settled, and up to which place of the log.
+create table closing (
+    cell smallint not null default :cell,
+    shard integer not null,
+    site text not null,
+    closing integer not null,              -- 1, 2, ..
+    day date not null,                     -- in the site's zone
+    period integer not null,
+    xid xid8 not null,
+    id bigint not null,
+    at timestamptz not null default now(),
+    archive text                           -- the file of the lines that it took out of the log
+) partition by list (cell);
+create table own_closing partition of closing (
+    primary key (shard, site, closing)
+) for values in (:cell);
+
+-- The energy in mWh of a station's period as it was settled, and behind that what later closings found it to differ.
+create table closed_period (
+    cell smallint not null default :cell,
+    shard integer not null,
+    site text not null,
+    closing integer not null,
+    station text not null,
+    starts timestamptz not null,
+    day date not null,
+    up bigint not null,
+    down bigint not null
+) partition by list (cell);
+create table own_closed_period partition of closed_period (
+    primary key (shard, site, station, starts, closing),
+    foreign key (shard, site, closing) references own_closing on delete cascade
+) for values in (:cell);
+
+-- What the transactions that a closing took out of the log give to a period, or to that of an earlier closing.
+create table archived_period (
+    cell smallint not null default :cell,
+    shard integer not null,
+    site text not null,
+    closing integer not null,
+    station text not null,
+    starts timestamptz not null,
+    up bigint not null,
+    down bigint not null
+) partition by list (cell);
+create table own_archived_period partition of archived_period (
+    primary key (shard, site, station, starts, closing),
+    foreign key (shard, site, closing) references own_closing on delete cascade
+) for values in (:cell);
+
+-- The transactions that are no longer in the log, with the closing whose archive has their lines.
+create table archived_transaction (
+    cell smallint not null default :cell,
+    shard integer not null,
+    site text not null,
+    closing integer not null,
+    station text not null,
+    transaction text not null,
+    complete boolean not null,
+    missing bigint not null,
+    up bigint not null,
+    down bigint not null
+) partition by list (cell);
+create table own_archived_transaction partition of archived_transaction (
+    primary key (shard, site, station, transaction),
+    foreign key (shard, site, closing) references own_closing on delete cascade
+) for values in (:cell);
+
+-- What is settled: each period once, with how often it was corrected.
+create view settled_period as
+    select site, station, day, starts, sum(up) as up, sum(down) as down, count(*) - 1 as corrections
+    from closed_period group by site, station, day, starts;
+
 -- Workers ------------------------------------------------------------------------------------------------------------
 
 -- The workers that live, each with its session: it is what holds shards, and whoever ends it fences the worker.
@@ -262,7 +339,9 @@ grant select on own_log to ledger_worker;
 grant update (taken, xid, id) on own_shard to ledger_worker;
 grant select, insert, update, delete on own_board, worker to ledger_worker;
 
-grant select on shard, site, station, station_twice, log, board, own_log, own_board to ledger_reader;
+grant select on shard, site, station, station_twice, log, board, own_log, own_board,
+    closing, closed_period, archived_period, archived_transaction, settled_period,
+    own_closing, own_closed_period, own_archived_period, own_archived_transaction to ledger_reader;
 
 -- Other cells --------------------------------------------------------------------------------------------------------
 
@@ -280,7 +359,8 @@ begin
         other, hosts, ports, database, 'read-write', '3', '10000', 'true', '1000');
     execute format('create user mapping for public server cell_%s options (user %L, password %L)',
         other, 'ledger_reader', reader_password);
-    foreach name in array array['shard', 'site', 'station', 'log', 'board'] loop
+    foreach name in array array['shard', 'site', 'station', 'log', 'board',
+                                'closing', 'closed_period', 'archived_period', 'archived_transaction'] loop
         execute format('create foreign table %s_%s partition of %s for values in (%s) server cell_%s options (table_name %L)',
             name, other, name, other, other, 'own_' || name);
     end loop;

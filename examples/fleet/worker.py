@@ -360,7 +360,7 @@ class Session:
 
     async def tell(self, answered: list[Answers]) -> None:
         """Tells answers to the gateways that wait for them, and up to which place of the log that was done."""
-        new = [shard for shard, *_ in answered if is_after(shard.read, shard.told)]
+        new = [shard for shard, *_ in answered if order(shard.read) > order(shard.told)]
         if new:
             channels, payloads = payloads_of([answer for _, answers, _ in answered for answer in answers])
             read = [shard.read for shard in new]
@@ -388,7 +388,8 @@ class Session:
                     continue
                 try:
                     async with shard.busy:
-                        shard.changed, place = False, shard.read
+                        # Lines in front of where answers were told may be in an archive by now.
+                        shard.changed, place = False, max(shard.read, shard.told, key=order)
                         texts = [
                             await asyncio.wait_for(shard.replay.board(site), self.words.hang) for site in shard.sites
                         ]
@@ -401,8 +402,9 @@ class Session:
                 shard.due = clock() + self.words.boards
 
 
-def is_after(place: tuple[str, int], other: tuple[str, int]) -> bool:
-    return (int(place[0]), place[1]) > (int(other[0]), other[1])
+def order(place: tuple[str, int]) -> tuple[int, int]:
+    """Places of the log as they follow one another."""
+    return int(place[0]), place[1]
 
 
 def payloads_of(answers: list[tuple[str, str]]) -> tuple[list[str], list[str]]:
