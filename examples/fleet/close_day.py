@@ -269,10 +269,10 @@ class Closing:
                 raise Fault(f"shard {self.shard}: its plan or its log was changed meanwhile; nothing was taken from it")
             await self.session.execute("select pg_notify('plan', $1)", str(self.shard))
         self.tell_late(late)
-        corrections = sum(row[2] < day for row in settled) if before else 0
+        corrections = sum(row[2] <= max(one["day"] for one in before) for row in settled) if before else 0
         return (
-            f"{self.site}, shard {self.shard}: settled up to {day}, {len(settled)} rows, {corrections} of them of days "
-            f"before; {len(gone)} transactions archived, {len(late)} late lines, {len(refused)} refused ones, "
+            f"{self.site}, shard {self.shard}: settled up to {day}, {len(settled)} rows, {corrections} of them corrections; "
+            f"{len(gone)} transactions archived, {len(late)} late lines, {len(refused)} refused ones, "
             f"{sum(is_repeat(line.answer, line.is_change) for line in live)} repeats; {name or 'no archive needed'}"
         )
 

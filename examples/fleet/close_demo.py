@@ -184,7 +184,7 @@ class Demo:
         await self.closed("a first day", "2026-03-01", "0 transactions archived", "2 refused ones, 1 repeats")
         await self.closed("the same day again", "2026-03-01", "is closed already, and nothing came since")
         await self.came(*night[3:], open_one[1])
-        await self.closed("a late event of an open transaction", "2026-03-01", "3 rows, 0 of them")
+        await self.closed("a late event of an open transaction", "2026-03-01", "2 rows, 2 of them corrections")
         await self.came(open_one[4])
         await self.closed("a transaction over midnight", "2026-03-02", "2 transactions archived")
         count = await self.owner.fetchval("select count(*) from own_log where line like 'msg A %TX-1%'")
@@ -192,7 +192,7 @@ class Demo:
         await self.closed("the day after that", "2026-03-03", "1 transactions archived")
         days = [session("D", f"TX-{day}", local(f"2026-03-0{day} 12:00"), 6) for day in (1, 2, 3)]
         await self.came(*[line for lines in days for line in lines])
-        await self.closed("a station that was offline for three days", "2026-03-03", "10 of them of days before")
+        await self.closed("a station that was offline for three days", "2026-03-03", "15 rows, 15 of them corrections")
         self.first = first
 
     async def corrections(self) -> None:
@@ -213,7 +213,7 @@ class Demo:
         await self.came(last)
         await self.closed("an event behind the end of an archived one", "2026-03-03", "; 1 taken")
         row = await self.owner.fetchrow(
-            "select complete, missing from own_archived_transaction where transaction='tx-1'"
+            "select complete, missing from own_archived_transaction where station = 'A' and transaction = 'tx-1'"
         )
         self.check(tuple(row) == (False, 0), f"which is no longer complete: {tuple(row)}")
 
@@ -252,7 +252,7 @@ class Demo:
             await lock.close()
             gone = await self.owner.fetchval("select count(*) from own_closing where day = '2026-11-03'")
             self.check(blocked == 1 and gone == 0, f"close_day.py is killed while {step}, and closed nothing")
-        await self.closed("closing after it was killed", "2026-11-03", "2 transactions archived")
+        await self.closed("closing after it was killed", "2026-11-03", "3 transactions archived")
         await self.came(*session("A", "Kill-after", local("2026-11-04 08:00"), 4))
         process = self.fleet.start(*self.command("2026-11-05"), stdout=-1, stderr=subprocess.STDOUT)
         end = time.monotonic() + 15
