@@ -271,8 +271,8 @@ class Closing:
         self.tell_late(late)
         corrections = sum(row[2] <= max(one["day"] for one in before) for row in settled) if before else 0
         return (
-            f"{self.site}, shard {self.shard}: settled up to {day}, {len(settled)} rows, {corrections} of them corrections; "
-            f"{len(gone)} transactions archived, {len(late)} late lines, {len(refused)} refused ones, "
+            f"{self.site}, shard {self.shard}: settled up to {day}, {len(settled)} rows, {corrections} of them "
+            f"corrections; {len(gone)} transactions archived, {len(late)} late lines, {len(refused)} refused ones, "
             f"{sum(is_repeat(line.answer, line.is_change) for line in live)} repeats; {name or 'no archive needed'}"
         )
 
