@@ -13,6 +13,7 @@ import time
 from pathlib import Path
 from typing import Any
 
+from boards import Figures, figures
 from database import Fault, Plan, connect, knows_period
 
 HERE = Path(__file__).resolve().parent
@@ -108,6 +109,19 @@ class Database:
         if self.process and self.process.poll() is None:
             self.process.send_signal(signal.SIGQUIT)
             self.process.wait()
+
+
+# The numbers of a station's lines, which are columns.
+NUMBERS = {
+    "total": {"events", "voided", "transactions", "complete", "missing", "up", "down"},
+    "period": {"up", "down"},
+    "tx": {"evse", "events", "first", "last", "complete", "missing", "up", "down"},
+    "gap": set[str](),
+}
+
+
+def without_evses(part: Figures) -> Figures:
+    return {key: numbers for key, numbers in part.items() if key[1] != "evse"}
 
 
 class Fleet:
@@ -212,7 +226,25 @@ class Fleet:
             wanted = made[made.index(b"board ") :].decode()
             if "".join(boards.get(site, "") for site in plan.sites) != wanted:
                 differ.append(f"shard {number}: the boards differ")
+            elif await self.rows(owner, number) != without_evses(figures(wanted)):
+                differ.append(f"shard {number}: the boards' rows differ from their texts")
         return differ
+
+    async def rows(self, owner: Any, shard: int) -> Figures:
+        """The figures of a shard's stations as rows have them."""
+        found: Figures = {}
+        for kind, table in (("total", "station"), ("period", "period"), ("tx", "transaction"), ("gap", "gap")):
+            for row in await owner.fetch(f"select * from own_board_{table} where shard = $1", shard):
+                name = ""
+                if kind == "period":
+                    name = f"{row['starts']:%Y-%m-%dT%H:%M:%SZ}"
+                elif kind == "tx":
+                    name = row["transaction"]
+                elif kind == "gap":
+                    name = f"{row['transaction']} {row['first']}..{row['last']}"
+                numbers = {key: int(value) for key, value in row.items() if key in NUMBERS[kind]}
+                found[row["station"], kind, name] = numbers
+        return found
 
     async def compared(self, owner: Any, shard: int = 0, seconds: float = 15) -> list[str]:
         """What differs, once boards have had the time to be written."""
