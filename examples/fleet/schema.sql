@@ -446,7 +446,7 @@ create table own_archived_transaction partition of archived_transaction (
 -- Energy in kWh by local time: what is in the log, and what closings took out of it.
 create view energy as
     select site, (starts at time zone zone)::date as day, starts at time zone zone as local_start, starts, station,
-        sum(up) / 1000000 as up_kwh, sum(down) / 1000000 as down_kwh
+        trim_scale(sum(up) / 1000000) as up_kwh, trim_scale(sum(down) / 1000000) as down_kwh
     from (select cell, shard, site, station, starts, up, down from board_period union all
           select cell, shard, site, station, starts, up, down from archived_period) as flow
     join site using (cell, shard, site) group by site, zone, starts, station;
