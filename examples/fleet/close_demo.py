@@ -23,8 +23,7 @@ from pathlib import Path
 from typing import Any
 from zoneinfo import ZoneInfo
 
-from boards import Figures, added, figures, periods
-from database import LOST, Fault, Plan, Unreachable, asyncpg, told
+from database import LOST, Fault, Unreachable, asyncpg, told
 from fleet import HERE, Fleet, ended
 
 ZONE = ZoneInfo("Europe/Berlin")
@@ -107,58 +106,14 @@ class Demo:
     async def close(self, day: str, **more: Any) -> tuple[int, str]:
         return await ended(self.fleet.start(*self.command(day, **more), stdout=-1, stderr=subprocess.STDOUT))
 
-    async def whole(self, shard: int) -> Figures:
-        """The figures of the site by a replay from scratch of all that came."""
-        plan = await Plan.of(self.owner.fetch, shard, self.fleet.with_period)
-        script = plan.lines + "".join(line + "\n" for line in self.lines.get(shard, [])).encode() + b"board north\n"
-        made = subprocess.run([self.fleet.program, "replay"], input=script, stdout=subprocess.PIPE, check=True).stdout
-        return figures(made[made.index(b"board ") :].decode())
-
-    async def live(self, shard: int) -> Figures:
-        query = "select text from own_board where shard = $1 and site = 'north'"
-        return figures(await self.owner.fetchval(query, shard) or "")
-
-    async def archived(self, shard: int) -> Figures:
-        """What the archives say that hold a transaction last, replayed as anyone would."""
-        rows = await self.owner.fetch(
-            "select station, transaction, archive from own_archived_transaction join own_closing "
-            "using (shard, site, closing) where shard = $1 and site = 'north'",
-            shard,
-        )
-        parts = []
-        for name in {row["archive"] for row in rows}:
-            script = (self.archives / name).read_bytes()
-            kept = {(row["station"], row["transaction"]) for row in rows if row["archive"] == name}
-            lines = [line for line in script.decode().splitlines() if is_of(line, kept)]
-            text = subprocess.run(
-                [self.fleet.program, "replay"],
-                input="".join(line + "\n" for line in [*lines, "board north"]).encode(),
-                stdout=subprocess.PIPE,
-                check=True,
-            ).stdout
-            parts.append(figures(text[text.index(b"board ") :].decode()))
-        return added(parts)
-
     async def same(self, text: str, day: str) -> None:
         """Whether boards and archives together are the whole, and what is settled its periods up to the day."""
         end, differ = time.monotonic() + 10, ["not compared"]
         while differ and time.monotonic() < end:
             differ = []
             for shard in sorted(set(self.homes.values())):
-                whole, parts = await self.whole(shard), [await self.live(shard), await self.archived(shard)]
-                try:
-                    if added(parts) != whole:
-                        differ.append(f"shard {shard}: boards and archives are not those of all that came")
-                except ValueError as fault:
-                    differ.append(f"shard {shard}: {fault}")
-                rows = await self.owner.fetch("select station, starts, up, down from settled_period")
-                settled = {(r["station"], r["starts"]): (int(r["up"]), int(r["down"])) for r in rows}
-                settled = {key: flow for key, flow in settled.items() if self.homes[key[0]] == shard}
-                last = date.fromisoformat(day)
-                wanted = {key: flow for key, flow in periods(whole).items() if key[1].astimezone(ZONE).date() <= last}
-                none = {key: (0, 0) for key in settled.keys() - wanted.keys()}
-                if settled != wanted | none:
-                    differ.append(f"shard {shard}: what is settled is not the periods of all that came")
+                lines = [line for line in self.lines.get(shard, []) if not line.startswith("msg C ")]
+                differ += await self.fleet.compare_closed(self.owner, self.archives, shard, "north", lines, day)
             if differ:
                 await asyncio.sleep(0.1)
         self.check(
@@ -322,16 +277,6 @@ class Demo:
         await self.kills()
         await self.bad_input()
         await self.owner.close()
-
-
-def is_of(line: str, kept: set[tuple[str, str]]) -> bool:
-    """Whether a line of an archive declares, or is of one of these transactions."""
-    words = line.split(" ", 2)
-    if words[0] in ("limits", "station", "period"):
-        return True
-    if words[0] == "msg":
-        return (words[1], json.loads(words[2])[3]["transactionInfo"]["transactionId"].lower()) in kept
-    return words[0] in ("void", "restore", "erase") and (words[1], words[2].split(" ")[0].lower()) in kept
 
 
 def main() -> int:
