@@ -29,6 +29,8 @@ from fleet import HERE, Fleet, children, ended, free_port
 
 FIRST = date(2026, 3, 1)
 EACH = 50
+# Bytes of the record from which events to void are chosen.
+RECENT = 1 << 17
 
 
 def memory(pids: list[int]) -> float:
@@ -42,6 +44,15 @@ def memory(pids: list[int]) -> float:
         if "RssAnon:" in text:
             total += int(text.split("RssAnon:")[1].split()[0])
     return total / 1024
+
+
+def recent(record: Path) -> list[str]:
+    """Some of the lines that were answered last; what is not written whole yet is left out."""
+    if not record.exists():
+        return []
+    with open(record, "rb") as file:
+        file.seek(max(0, record.stat().st_size - RECENT))
+        return file.read().decode("utf-8", "replace").split("\n")[1:-1]
 
 
 class Soak:
@@ -101,8 +112,7 @@ class Soak:
         voided = set[str]()
         while True:
             await asyncio.sleep(1)
-            lines = await asyncio.to_thread(self.fleet.sent)
-            if not lines:
+            if not (lines := recent(self.fleet.records[0])):
                 continue
             _, station, text = self.chance.choice(lines).split(" ", 2)
             payload = json.loads(text)[3]
