@@ -307,7 +307,7 @@ def differences(new: Flows, old: Flows) -> Flows:
     found = {}
     for key in new.keys() | old.keys():
         (up, down), had = new.get(key, (0, 0)), old.get(key, (0, 0))
-        if new.get(key) != had or key not in old:
+        if (up, down) != had or key not in old:
             found[key] = (up - had[0], down - had[1])
     return found
 

@@ -163,6 +163,7 @@ class Demo:
         await self.closed("an archived event voided", "2026-03-03", "1 late lines for tx-1 of A", "; 1 taken")
         rows = await self.owner.fetch("select up, down from own_closed_period where closing > 6 and shard = 0")
         self.check(any(row["up"] < 0 for row in rows), f"a correction has the difference: {[tuple(r) for r in rows]}")
+        await self.closed("that again", "2026-03-03", "0: 2026-03-03 is closed already, and nothing came since")
         await self.came("restore A TX-1 2")
         await self.closed("and restored", "2026-03-03", "; 1 taken")
         await self.came(last)
