@@ -130,6 +130,11 @@ class Demo:
     # What is tried ----------------------------------------------------------------------------------------------------
 
     async def days(self) -> None:
+        # An event and its void, the transactions of which are not in the order of their numbers' texts.
+        await self.came(*session("B", "Early", local("2026-03-01 06:00"), 3))
+        while int(await self.owner.fetchval("select pg_current_xact_id()::text")) < 1000:
+            pass
+        await self.came("void B Early 1")
         first = session("A", "TX-1", local("2026-03-01 08:00"), 5)
         night = session("A", "Night", local("2026-03-01 23:20"), 6)
         open_one = session("B", "TX-1", local("2026-03-01 10:00"), 5)

@@ -28,8 +28,10 @@ from database import (
 )
 
 # Nothing that was told up to a place is changed behind it, so reading needs no transaction, which would stall workers.
+# The order is by l.xid, since a bare xid would be the text that is selected.
 READ = """
-select xid::text, id, at, line from own_log where shard = $1 and (xid, id) <= ($2::text::xid8, $3) order by xid, id
+select l.xid::text, l.id, l.at, l.line from own_log l where l.shard = $1 and (l.xid, l.id) <= ($2::text::xid8, $3)
+order by l.xid, l.id
 """
 # Not under limits other than those that it was found under.
 REMOVE = """

@@ -254,9 +254,7 @@ class Demo:
         lines = set(self.fleet.sent())
         row = next(
             row
-            for row in await self.owner.fetch(
-                "select shard, xid::text, id, line from own_log where shard = 0 order by xid, id"
-            )
+            for row in await self.owner.fetch("select line from own_log where shard = 0 order by xid, id")
             if row["line"] in lines
         )
         await self.owner.execute("delete from own_log where shard = 0 and line = $1", row["line"])

@@ -18,11 +18,12 @@ from typing import Any
 
 from database import LOST, Fault, Unreachable, asyncpg, connect, password_or_fault, told
 
-# Rows are copied in their order; behind the oldest open transaction there may be more to come in between.
+# Rows are copied in their order; behind the oldest open transaction there may be more to come in between. The order is
+# by l.xid, since a bare xid would be the text that is selected.
 READ = """
-select xid::text, id, at, gateway, token, line from own_log
-where shard = $1 and (xid, id) > ($2::text::xid8, $3) and ($4 or xid < pg_snapshot_xmin(pg_current_snapshot()))
-order by xid, id limit 2000
+select l.xid::text, l.id, l.at, l.gateway, l.token, l.line from own_log l
+where l.shard = $1 and (l.xid, l.id) > ($2::text::xid8, $3) and ($4 or l.xid < pg_snapshot_xmin(pg_current_snapshot()))
+order by l.xid, l.id limit 2000
 """
 WRITE = """
 insert into own_log (shard, at, gateway, token, line)
@@ -44,7 +45,7 @@ PARTS = (
     ("own_archived_period", "site, closing, station, starts, up, down", "starts"),
     ("own_archived_transaction", "site, closing, station, transaction, complete, missing, up, down", "transaction"),
 )
-PLACE = "select xid::text, id from own_log where shard = $1 order by xid, id offset $2 limit 1"
+PLACE = "select l.xid::text, l.id from own_log l where l.shard = $1 order by l.xid, l.id offset $2 limit 1"
 
 
 class Move:
