@@ -317,7 +317,7 @@ class Fleet:
     async def owner(self, *ports: int) -> Any:
         return await connect(self.dsn("owner", *ports))
 
-    def close(self, keep: bool = False) -> None:
+    def close(self) -> None:
         """Ends what was started, by its ids."""
         for process in reversed(self.processes):
             if process.poll() is None:
@@ -327,8 +327,12 @@ class Fleet:
         for database in self.databases:
             database.stop()
         self.log.close()
-        if not keep:
-            shutil.rmtree(self.folder)
+        # A process that is just ending may still write into the folder.
+        for _ in range(50):
+            if not self.folder.exists():
+                break
+            shutil.rmtree(self.folder, ignore_errors=True)
+            time.sleep(0.1)
 
 
 async def ended(process: subprocess.Popen[bytes]) -> tuple[int, str]:
