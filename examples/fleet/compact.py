@@ -12,7 +12,6 @@ replayed, and their boards must be the same.
 import argparse
 import asyncio
 import sys
-from typing import Any
 
 from database import (
     LOST,
@@ -29,8 +28,10 @@ from database import (
 )
 
 # Nothing that was told up to a place is changed behind it, so reading needs no transaction, which would stall workers.
+# The order is by l.xid, since a bare xid would be the text that is selected.
 READ = """
-select xid::text, id, line from own_log where shard = $1 and (xid, id) <= ($2::text::xid8, $3) order by xid, id
+select l.xid::text, l.id, l.at, l.line from own_log l where l.shard = $1 and (l.xid, l.id) <= ($2::text::xid8, $3)
+order by l.xid, l.id
 """
 # Not under limits other than those that it was found under.
 REMOVE = """
@@ -50,23 +51,29 @@ async def boards(program: str, plan: Plan, lines: list[str]) -> list[bytes]:
         replay.kill()
 
 
-async def repeats(program: str, plan: Plan, rows: list[Any]) -> list[Any]:
-    """The messages that were taken and changed nothing."""
-    replay, totals, found = await Replay.start(program), dict[str, bytes](), []
+async def answered(program: str, plan: Plan, lines: list[str]) -> list[tuple[bytes, bool]]:
+    """The answer to each line, and whether it changed its station."""
+    replay, found = await Replay.start(program), list[tuple[bytes, bool]]()
     try:
         await replay.open(plan)
-        for front in range(0, len(rows), 500):
-            part = rows[front : front + 500]
-            stations = [row["line"].split(" ", 2)[1] for row in part]
-            replay.write("".join(f"{row['line']}\ntotal {station}\n" for row, station in zip(part, stations)).encode())
+        replay.write("".join(f"total {station}\n" for station in plan.stations).encode())
+        totals = dict(zip(plan.stations, await replay.answers(len(plan.stations))))
+        for front in range(0, len(lines), 500):
+            part = lines[front : front + 500]
+            stations = [line.split(" ", 2)[1] for line in part]
+            replay.write("".join(f"{line}\ntotal {station}\n" for line, station in zip(part, stations)).encode())
             answers = await replay.answers(2 * len(part))
-            for row, station, answer, total in zip(part, stations, answers[::2], answers[1::2]):
-                if answer.startswith(b"[3,") and totals.get(station) == total:
-                    found.append(row)
+            for station, answer, total in zip(stations, answers[::2], answers[1::2]):
+                found.append((answer, totals.get(station) != total))
                 totals[station] = total
     finally:
         replay.kill()
     return found
+
+
+def is_repeat(answer: bytes, is_change: bool) -> bool:
+    """Whether a message was taken before."""
+    return answer.startswith(b"[3,") and not is_change
 
 
 async def compact(words: argparse.Namespace) -> None:
@@ -79,7 +86,8 @@ async def compact(words: argparse.Namespace) -> None:
         raise Fault(f"no shard {words.shard} in this cell")
     plan = await Plan.of(session.fetch, words.shard, with_period)
     rows = await session.fetch(READ, words.shard, mark["xid"], mark["id"])
-    gone = await repeats(words.program, plan, rows)
+    answers = await answered(words.program, plan, [row["line"] for row in rows])
+    gone = [row for row, answer in zip(rows, answers) if is_repeat(*answer)]
     places = {(row["xid"], row["id"]) for row in gone}
     left = [row["line"] for row in rows if (row["xid"], row["id"]) not in places]
     if await boards(words.program, plan, [row["line"] for row in rows]) != await boards(words.program, plan, left):

@@ -186,6 +186,27 @@ class Demo:
         for load in loads:
             status, text = await ended(load)
             self.check(status == 0, f"plan: stations that were added while all runs: {text}")
+        await self.period(self.shards - 1)
+
+    async def period(self, shard: int) -> None:
+        """Another settlement period for a shard's site; a program that knows none is not given the shard."""
+        begin = "update own_site set period = $2 where shard = $1"
+        await self.owner.execute(begin, shard, 300)
+        if not self.fleet.with_period:
+            log, fault = self.fleet.folder / "parts.log", f"shard {shard}: the program knows no periods"
+            end = time.monotonic() + 5
+            while fault not in log.read_text() and time.monotonic() < end:
+                await asyncio.sleep(0.1)
+            self.check(
+                fault in log.read_text(),
+                f"plan: a period of 300 seconds, of which this program knows none, is told: {fault}",
+            )
+            await self.owner.execute(begin, shard, 900)
+            return
+        differ = await self.fleet.compared(self.owner, shard)
+        text = await self.owner.fetchval("select text from own_board where shard = $1", shard)
+        head = (text or "").split("\n")[0]
+        self.check(not differ and head.endswith(" period=300"), f"plan: a period of 300 seconds: {head} {differ or ''}")
 
     async def common(self) -> None:
         """The faults that share a fleet, and what is tried after them."""
@@ -233,9 +254,7 @@ class Demo:
         lines = set(self.fleet.sent())
         row = next(
             row
-            for row in await self.owner.fetch(
-                "select shard, xid::text, id, line from own_log where shard = 0 order by xid, id"
-            )
+            for row in await self.owner.fetch("select line from own_log where shard = 0 order by xid, id")
             if row["line"] in lines
         )
         await self.owner.execute("delete from own_log where shard = 0 and line = $1", row["line"])
@@ -281,6 +300,35 @@ class Demo:
         answer = await heard(link)
         self.check(answer == "closed 1009", f"a message of 600,000 bytes: {answer}")
         await self.wrong_words()
+        await self.names()
+
+    async def names(self) -> None:
+        """A station's name is in one cell only; the second cell is another database of the same server."""
+        database, station = self.fleet.databases[0], "CS-00000"
+        database.fill(2, "second")
+        second = await connect(self.fleet.dsn("owner").replace("/ledger", "/second"))
+        see = f"call see_cell(1::smallint, '127.0.0.1', '{database.port}', 'ledger', '{self.fleet.password}')"
+
+        async def refused(query: str) -> str:
+            try:
+                await second.execute(query)
+            except asyncpg.PostgresError as fault:
+                return str(fault)
+            return "not refused"
+
+        add = f"select add_station(0, 'north', '{station}')"
+        await second.execute(see)
+        text = await refused(add)
+        self.check(text == f"station {station} is in shard 0 of cell_1 already", f"a name of another cell: {text}")
+        await second.execute("select add_station(0, 'north', 'CS-NEW')")
+        self.check(await second.fetchval("select count(*) from station_twice") == 0, "no station is in two cells")
+        await second.execute(add.replace(")", ", unasked => true)"))
+        twice = [tuple(row) for row in await second.fetch("select station, cells from station_twice")]
+        self.check(twice == [(station, [1, 2])], f"a name that is in two cells: {twice}")
+        await second.execute("alter server cell_1 options (set port '1')")
+        text = await refused("select add_station(0, 'north', 'CS-NEWER')")
+        self.check(text.startswith("cell_1 does not answer"), f"a name while the other cell is down: {text}")
+        await second.close()
 
     async def wrong_words(self) -> None:
         made = subprocess.run(

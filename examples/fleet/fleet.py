@@ -10,9 +10,13 @@ import socket
 import subprocess
 import tempfile
 import time
+from datetime import date
 from pathlib import Path
 from typing import Any
+from zoneinfo import ZoneInfo
 
+from boards import Figures, added, figures, periods
+from close_day import COMMANDS, transaction_of
 from database import Fault, Plan, connect, knows_period
 
 HERE = Path(__file__).resolve().parent
@@ -89,10 +93,10 @@ class Database:
         command = ["psql", "-h", "127.0.0.1", "-p", self.port, "-U", "owner", "-qX", "-d", database, *words]
         subprocess.run(list(map(str, command)), check=True, **more)
 
-    def fill(self, cell: int) -> None:
-        self.psql("postgres", "-c", "create database ledger")
+    def fill(self, cell: int, name: str = "ledger") -> None:
+        self.psql("postgres", "-c", f"create database {name}")
         roles = {f"{role}_PASSWORD": self.fleet.password for role in ("GATEWAY", "WORKER", "READER")}
-        self.psql("ledger", "-v", f"cell={cell}", "-f", HERE / "schema.sql", env=os.environ | roles)
+        self.psql(name, "-v", f"cell={cell}", "-f", HERE / "schema.sql", env=os.environ | roles)
 
     def kill(self) -> None:
         """Ends the server and all its processes at once, as a machine that fails."""
@@ -108,6 +112,26 @@ class Database:
         if self.process and self.process.poll() is None:
             self.process.send_signal(signal.SIGQUIT)
             self.process.wait()
+
+
+# The numbers of a station's lines, which are columns.
+NUMBERS = {
+    "total": {"events", "voided", "transactions", "complete", "missing", "up", "down"},
+    "period": {"up", "down"},
+    "tx": {"evse", "events", "first", "last", "complete", "missing", "up", "down"},
+    "gap": set[str](),
+}
+
+
+def is_of(line: str, kept: set[tuple[str, str]]) -> bool:
+    """Whether a line of an archive declares, or is of one of these transactions."""
+    return line.startswith(("limits ", "station ", "period ")) or (
+        line.startswith(COMMANDS) and transaction_of(line) in kept
+    )
+
+
+def without_evses(part: Figures) -> Figures:
+    return {key: numbers for key, numbers in part.items() if key[1] != "evse"}
 
 
 class Fleet:
@@ -147,10 +171,10 @@ class Fleet:
         login = dsn or self.dsn("ledger_worker")
         return self.start(HERE / "worker.py", "--db", login, "--program", self.program, *more)
 
-    def gateway(self, *dsns: str) -> tuple[subprocess.Popen[bytes], str]:
+    def gateway(self, *dsns: str, port: int = 0) -> tuple[subprocess.Popen[bytes], str]:
         logins = [word for dsn in dsns or [self.dsn("ledger_gateway")] for word in ("--db", dsn)]
         process = self.start(
-            HERE / "gateway.py", *logins, "--program", self.program, "--port", 0, stdout=subprocess.PIPE
+            HERE / "gateway.py", *logins, "--program", self.program, "--port", port, stdout=subprocess.PIPE
         )
         assert process.stdout
         words = process.stdout.readline().decode().split()
@@ -212,7 +236,25 @@ class Fleet:
             wanted = made[made.index(b"board ") :].decode()
             if "".join(boards.get(site, "") for site in plan.sites) != wanted:
                 differ.append(f"shard {number}: the boards differ")
+            elif await self.rows(owner, number) != without_evses(figures(wanted)):
+                differ.append(f"shard {number}: the boards' rows differ from their texts")
         return differ
+
+    async def rows(self, owner: Any, shard: int) -> Figures:
+        """The figures of a shard's stations as rows have them."""
+        found: Figures = {}
+        for kind, table in (("total", "station"), ("period", "period"), ("tx", "transaction"), ("gap", "gap")):
+            for row in await owner.fetch(f"select * from own_board_{table} where shard = $1", shard):
+                name = ""
+                if kind == "period":
+                    name = f"{row['starts']:%Y-%m-%dT%H:%M:%SZ}"
+                elif kind == "tx":
+                    name = row["transaction"]
+                elif kind == "gap":
+                    name = f"{row['transaction']} {row['first']}..{row['last']}"
+                numbers = {key: int(value) for key, value in row.items() if key in NUMBERS[kind]}
+                found[row["station"], kind, name] = numbers
+        return found
 
     async def compared(self, owner: Any, shard: int = 0, seconds: float = 15) -> list[str]:
         """What differs, once boards have had the time to be written."""
@@ -221,10 +263,61 @@ class Fleet:
             await asyncio.sleep(0.3)
         return differ
 
+    async def whole(self, owner: Any, shard: int, site: str, lines: list[str]) -> Figures:
+        """The figures of a site's stations in a shard by a replay from scratch of what came."""
+        plan = await Plan.of(owner.fetch, shard, self.with_period)
+        return self.replayed(plan.lines, lines, site)
+
+    def replayed(self, declared: bytes, lines: list[str], site: str) -> Figures:
+        script = declared + "".join(line + "\n" for line in [*lines, f"board {site}"]).encode()
+        made = subprocess.run([self.program, "replay"], input=script, stdout=subprocess.PIPE, check=True).stdout
+        return figures(made[made.index(b"board ") :].decode())
+
+    async def parts(self, owner: Any, archives: Path, shard: int, site: str) -> Figures:
+        """What the live board says, and each archive of the transactions that it has as they are now."""
+        text = await owner.fetchval("select text from own_board where shard = $1 and site = $2", shard, site)
+        rows = await owner.fetch(
+            "select station, transaction, archive from own_archived_transaction join own_closing "
+            "using (shard, site, closing) where shard = $1 and site = $2",
+            shard,
+            site,
+        )
+        parts = [figures(text or "")]
+        for name in {row["archive"] for row in rows}:
+            kept = {(row["station"], row["transaction"]) for row in rows if row["archive"] == name}
+            lines = [line for line in (archives / name).read_bytes().decode().split("\n") if is_of(line, kept)]
+            parts.append(self.replayed(b"", lines, site))
+        return added(parts)
+
+    async def compare_closed(
+        self, owner: Any, archives: Path, shard: int, site: str, lines: list[str], day: str
+    ) -> list[str]:
+        """What differs between a replay from scratch and boards with archives, and what is settled up to the day."""
+        differ, whole = [], await self.whole(owner, shard, site, lines)
+        try:
+            if await self.parts(owner, archives, shard, site) != whole:
+                differ.append(f"shard {shard}: boards and archives are not those of all that came")
+        except ValueError as fault:
+            differ.append(f"shard {shard}: {fault}")
+        rows = await owner.fetch(
+            "select station, starts, sum(up)::bigint as up, sum(down)::bigint as down from own_closed_period "
+            "where shard = $1 and site = $2 group by station, starts",
+            shard,
+            site,
+        )
+        settled = {(row["station"], row["starts"]): (row["up"], row["down"]) for row in rows}
+        zone = ZoneInfo(await owner.fetchval("select zone from own_site where shard = $1 and site = $2", shard, site))
+        last = date.fromisoformat(day)
+        wanted = {key: flow for key, flow in periods(whole).items() if key[1].astimezone(zone).date() <= last}
+        # A period that was settled and has no reading any more has no energy.
+        if settled != wanted | {key: (0, 0) for key in settled.keys() - wanted.keys()}:
+            differ.append(f"shard {shard}: what is settled is not the periods of all that came")
+        return differ
+
     async def owner(self, *ports: int) -> Any:
         return await connect(self.dsn("owner", *ports))
 
-    def close(self, keep: bool = False) -> None:
+    def close(self) -> None:
         """Ends what was started, by its ids."""
         for process in reversed(self.processes):
             if process.poll() is None:
@@ -234,8 +327,12 @@ class Fleet:
         for database in self.databases:
             database.stop()
         self.log.close()
-        if not keep:
-            shutil.rmtree(self.folder)
+        # A process that is just ending may still write into the folder.
+        for _ in range(50):
+            if not self.folder.exists():
+                break
+            shutil.rmtree(self.folder, ignore_errors=True)
+            time.sleep(0.1)
 
 
 async def ended(process: subprocess.Popen[bytes]) -> tuple[int, str]:

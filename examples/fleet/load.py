@@ -26,14 +26,15 @@ from websocket import ClientLink, Request, Response
 PATIENCE, PAUSE = 40.0, 0.1
 
 
-def messages(station: int, events: int) -> list[str]:
-    """The station's messages, in the order in which it sends them."""
+def messages(station: int, events: int, step: int = 300, near: int = 0) -> list[str]:
+    """The station's messages, in the order in which it sends them: `step` seconds apart, and shuffled among `near` that
+    follow one another, or among all."""
     made, chance = [], random.Random(station)
     for number in range(events):
         session, seq = divmod(number, 8)
         last = seq == 7 or number == events - 1
         kind = "Started" if seq == 0 else "Ended" if last else "Updated"
-        moment = time.strftime("%Y-%m-%dT%H:%M:%SZ", time.gmtime(1_772_323_200 + 300 * number))
+        moment = time.strftime("%Y-%m-%dT%H:%M:%SZ", time.gmtime(1_772_323_200 + step * number))
         payload = {
             "eventType": kind,
             "timestamp": moment,
@@ -43,7 +44,10 @@ def messages(station: int, events: int) -> list[str]:
             "meterValue": [{"timestamp": moment, "sampledValue": [{"value": 1000 + 250 * number}]}],
         }
         made.append(json.dumps([2, f"{number}", "TransactionEvent", payload], separators=(",", ":")))
-    chance.shuffle(made)
+    parts = [made[front : front + (near or events)] for front in range(0, events, near or events)]
+    for part in parts:
+        chance.shuffle(part)
+    made = [text for part in parts for text in part]
     return [text for one in made for text in [one] * (2 if chance.random() < 0.2 else 1)]
 
 
@@ -94,7 +98,7 @@ class Station:
     def __init__(self, load: Load, number: int) -> None:
         words = load.words
         self.load, self.name, self.turn = load, f"CS-{number:05}", number
-        self.rest, self.wanted = messages(number, words.events), ""
+        self.rest, self.wanted = messages(number, words.events, words.step, words.near), ""
         self.pause = words.stations / words.rate if words.rate else 0.0
         self.first = 0.0
         self.link: StationEnd | None = None
@@ -195,6 +199,8 @@ def main() -> int:
     parser.add_argument("--stations", type=int, default=100, help="how many (default: 100)")
     parser.add_argument("--first", type=int, default=0, help="the number of the first one (default: 0)")
     parser.add_argument("--events", type=int, default=16, help="how many each (default: 16)")
+    parser.add_argument("--step", type=int, default=300, help="seconds from one's time to the next's (default: 300)")
+    parser.add_argument("--near", type=int, default=0, help="how many are shuffled at a time (default: all)")
     parser.add_argument("--rate", type=float, default=0, help="messages a second in all (default: all they can)")
     parser.add_argument("--seconds", type=float, default=60, help="until it gives up (default: 60)")
     parser.add_argument("--record", required=True, help="the file of what was answered")

@@ -18,11 +18,12 @@ from typing import Any
 
 from database import LOST, Fault, Unreachable, asyncpg, connect, password_or_fault, told
 
-# Rows are copied in their order; behind the oldest open transaction there may be more to come in between.
+# Rows are copied in their order; behind the oldest open transaction there may be more to come in between. The order is
+# by l.xid, since a bare xid would be the text that is selected.
 READ = """
-select xid::text, id, at, gateway, token, line from own_log
-where shard = $1 and (xid, id) > ($2::text::xid8, $3) and ($4 or xid < pg_snapshot_xmin(pg_current_snapshot()))
-order by xid, id limit 2000
+select l.xid::text, l.id, l.at, l.gateway, l.token, l.line from own_log l
+where l.shard = $1 and (l.xid, l.id) > ($2::text::xid8, $3) and ($4 or l.xid < pg_snapshot_xmin(pg_current_snapshot()))
+order by l.xid, l.id limit 2000
 """
 WRITE = """
 insert into own_log (shard, at, gateway, token, line)
@@ -34,7 +35,17 @@ as w (at, gateway, token, line, place) order by w.place
 TOLD = (
     "select count(*) from own_log l join own_shard s using (shard) where shard = $1 and (l.xid, l.id) <= (s.xid, s.id)"
 )
-PLACE = "select xid::text, id from own_log where shard = $1 order by xid, id offset $2 limit 1"
+# What goes with a shard, in an order in which it can be written.
+PARTS = (
+    ("own_site", "site, period, zone", "site"),
+    ("own_station", "site, station, transactions, events, readings, changes", "place"),
+    ("own_board", "site, text", "site"),
+    ("own_closing", "site, closing, day, period, at, archive", "closing"),
+    ("own_closed_period", "site, closing, station, starts, day, up, down", "starts"),
+    ("own_archived_period", "site, closing, station, starts, up, down", "starts"),
+    ("own_archived_transaction", "site, closing, station, transaction, complete, missing, up, down", "transaction"),
+)
+PLACE = "select l.xid::text, l.id from own_log l where l.shard = $1 order by l.xid, l.id offset $2 limit 1"
 
 
 class Move:
@@ -74,16 +85,13 @@ class Move:
                 place["xid"] if place else "0",
                 place["id"] if place else 0,
             )
-            for table, columns, order in (
-                ("own_site", "site, period", "site"),
-                ("own_station", "site, station, transactions, events, readings, changes", "place"),
-                ("own_board", "site, text", "site"),
-            ):
+            for table, columns, order in PARTS:
+                names = columns.split(", ")
                 rows = await self.source.fetch(
                     f"select {columns} from {table} where shard = $1 order by {order}", self.shard
                 )
-                names = columns.split(", ")
-                more, zeros = (", xid, id", ", '0', 0") if table == "own_board" else ("", "")
+                # Places of the log are others here: a board's and a closing's begin with the first one.
+                more, zeros = (", xid, id", ", '0', 0") if table in ("own_board", "own_closing") else ("", "")
                 marks = ", ".join(f"${place}" for place in range(2, len(names) + 2))
                 await self.target.executemany(
                     f"insert into {table} (shard, {columns}{more}) values ($1, {marks}{zeros})",
@@ -94,6 +102,7 @@ class Move:
         async with self.source.transaction():
             await self.source.execute("delete from own_shard where shard = $1", self.shard)
             await self.source.execute("delete from own_log where shard = $1", self.shard)
+            await self.source.execute("delete from own_closing where shard = $1", self.shard)
             await self.source.execute("select pg_notify('plan', $1)", str(self.shard))
 
 

@@ -72,12 +72,14 @@ create table site (
     cell smallint not null default :cell,
     shard integer not null,
     site name_in_plan not null,
-    period integer not null default 900    -- seconds
+    period integer not null default 900,   -- seconds
+    zone text not null default 'UTC'       -- whose days are its settlement days, such as Europe/Berlin
 ) partition by list (cell);
 create table own_site partition of site (
     primary key (shard, site),
     foreign key (shard) references own_shard on delete cascade,
-    constraint "a period is 300, 900, 1800 or 3600 seconds" check (period in (300, 900, 1800, 3600))
+    constraint "a period is 300, 900, 1800 or 3600 seconds" check (period in (300, 900, 1800, 3600)),
+    constraint "a zone is one that PostgreSQL knows" check (timestamp '2000-01-01' at time zone zone is not null)
 ) for values in (:cell);
 
 create sequence place_in_plan;
@@ -109,6 +111,10 @@ declare
     sums record;
 begin
     update own_shard set plan = plan + 1 where shard = shard_number;
+    if tg_op <> 'INSERT' then
+        delete from own_board b where shard = shard_number
+            and not exists (select from own_station t where t.shard = b.shard and t.site = b.site);
+    end if;
     select count(*) as stations, count(distinct site) as sites, coalesce(sum(readings), 0) as readings
         into sums from own_station where shard = shard_number;
     if sums.stations > 64 then
@@ -126,13 +132,36 @@ create trigger plan_changed after insert or update or delete on own_station
 create trigger plan_changed after update of period on own_site
     for each row execute function plan_changed();
 
--- A station that takes part from now on: gateways let it in, and its shard's replay begins anew from the log.
-create function add_station(shard_number integer, site_name text, station_name text) returns void
-    language sql as $$
+-- A station that takes part from now on: gateways let it in, and its shard's replay begins anew from the log. Its name is
+-- to be in one cell only, so the other cells that this one sees are asked for it, unless `unasked` says not to.
+create function add_station(shard_number integer, site_name text, station_name text, unasked boolean default false)
+    returns void language plpgsql as $$
+declare
+    other text;
+    other_shard integer;
+begin
+    for other in select srvname from pg_foreign_server where srvname ~ '^cell_[0-9]+$' and not unasked order by 1 loop
+        begin
+            execute format('select shard from %I where station = $1', 'station_' || substr(other, 6))
+                into other_shard using station_name;
+        exception when sqlclient_unable_to_establish_sqlconnection or connection_failure then
+            raise '% does not answer, so whether it has a station % is not known; add_station(.., unasked => true) does not ask',
+                other, station_name;
+        end;
+        if other_shard is not null then
+            raise 'station % is in shard % of % already', station_name, other_shard, other;
+        end if;
+    end loop;
     insert into own_shard (shard) values (shard_number) on conflict do nothing;
     insert into own_site (shard, site) values (shard_number, site_name) on conflict do nothing;
     insert into own_station (shard, site, station) values (shard_number, site_name, station_name);
-$$;
+end $$;
+
+-- The stations that are in several cells, of which there should be none; a shard that moves counts where it arrives.
+create view station_twice as
+    select station, array_agg(cell order by cell) as cells
+    from station join shard using (cell, shard) where moving_to is null
+    group by station having count(*) > 1;
 
 -- The log ------------------------------------------------------------------------------------------------------------
 
@@ -199,6 +228,241 @@ create table own_board partition of board (
     foreign key (shard) references own_shard on delete cascade
 ) for values in (:cell);
 
+-- The same as rows, each with when it came to be as it is, and by which place of the log. Energies are in mWh.
+create table board_station (
+    cell smallint not null default :cell,
+    shard integer not null,
+    site text not null,
+    station text not null,
+    xid xid8 not null,
+    id bigint not null,
+    at timestamptz not null default now(),
+    events bigint not null,
+    voided bigint not null,
+    transactions bigint not null,
+    complete bigint not null,
+    missing bigint not null,
+    up bigint not null,
+    down bigint not null
+) partition by list (cell);
+create table own_board_station partition of board_station (
+    primary key (shard, site, station),
+    foreign key (shard, site) references own_board on delete cascade
+) for values in (:cell);
+
+create table board_period (
+    cell smallint not null default :cell,
+    shard integer not null,
+    site text not null,
+    station text not null,
+    starts timestamptz not null,
+    xid xid8 not null,
+    id bigint not null,
+    at timestamptz not null default now(),
+    up bigint not null,
+    down bigint not null
+) partition by list (cell);
+create table own_board_period partition of board_period (
+    primary key (shard, site, station, starts),
+    foreign key (shard, site) references own_board on delete cascade
+) for values in (:cell);
+
+create table board_transaction (
+    cell smallint not null default :cell,
+    shard integer not null,
+    site text not null,
+    station text not null,
+    transaction text not null,
+    xid xid8 not null,
+    id bigint not null,
+    at timestamptz not null default now(),
+    evse smallint not null,                -- 0: none named
+    events bigint not null,
+    first bigint not null,                 -- sequence numbers
+    last bigint not null,
+    complete boolean not null,
+    missing bigint not null,
+    up bigint not null,
+    down bigint not null
+) partition by list (cell);
+create table own_board_transaction partition of board_transaction (
+    primary key (shard, site, station, transaction),
+    foreign key (shard, site) references own_board on delete cascade
+) for values in (:cell);
+
+-- The sequence numbers that a transaction lacks.
+create table board_gap (
+    cell smallint not null default :cell,
+    shard integer not null,
+    site text not null,
+    station text not null,
+    transaction text not null,
+    first bigint not null,
+    last bigint not null,
+    xid xid8 not null,
+    id bigint not null,
+    at timestamptz not null default now()
+) partition by list (cell);
+create table own_board_gap partition of board_gap (
+    primary key (shard, site, station, transaction, first),
+    foreign key (shard, site, station, transaction) references own_board_transaction on delete cascade
+) for values in (:cell);
+
+-- Writes a board as text and as rows. `parts` has the rows that are new since the board of (base_xid, base_id), and those
+-- that are gone; all rows where that is null. False where the board is of an earlier place than the one that is there, or
+-- not based on that.
+create function show_board(shard_number integer, site_name text, base_xid xid8, base_id bigint,
+        new_xid xid8, new_id bigint, new_text text, parts jsonb) returns boolean language plpgsql as $$
+declare
+    had record;
+begin
+    select xid, id into had from own_board where shard = shard_number and site = site_name for update;
+    if (had.xid, had.id) > (new_xid, new_id) or base_xid <> had.xid or base_id <> had.id then
+        return false;
+    end if;
+    insert into own_board (shard, site, xid, id, text) values (shard_number, site_name, new_xid, new_id, new_text)
+        on conflict (shard, site) do update set xid = new_xid, id = new_id, at = now(), text = new_text;
+    if base_xid is null then
+        delete from own_board_station where shard = shard_number and site = site_name and station not in
+            (select station from jsonb_to_recordset(parts->'stations') as r (station text));
+        delete from own_board_period where shard = shard_number and site = site_name and (station, starts) not in
+            (select station, starts from jsonb_to_recordset(parts->'periods') as r (station text, starts timestamptz));
+        delete from own_board_transaction where shard = shard_number and site = site_name
+            and (station, transaction) not in (select station, transaction
+                from jsonb_to_recordset(parts->'transactions') as r (station text, transaction text));
+    end if;
+    delete from own_board_period b
+        using jsonb_to_recordset(parts->'gone_periods') as r (station text, starts timestamptz)
+        where b.shard = shard_number and b.site = site_name and b.station = r.station and b.starts = r.starts;
+    delete from own_board_transaction b
+        using jsonb_to_recordset(parts->'gone_transactions') as r (station text, transaction text)
+        where b.shard = shard_number and b.site = site_name and b.station = r.station and b.transaction = r.transaction;
+    insert into own_board_station as b
+            (shard, site, station, xid, id, events, voided, transactions, complete, missing, up, down)
+        select shard_number, site_name, station, new_xid, new_id, events, voided, transactions, complete, missing, up, down
+        from jsonb_to_recordset(parts->'stations') as r (station text, events bigint, voided bigint,
+            transactions bigint, complete bigint, missing bigint, up bigint, down bigint)
+        on conflict (shard, site, station) do update set xid = excluded.xid, id = excluded.id, at = now(),
+            events = excluded.events, voided = excluded.voided, transactions = excluded.transactions,
+            complete = excluded.complete, missing = excluded.missing, up = excluded.up, down = excluded.down
+        where (b.events, b.voided, b.transactions, b.complete, b.missing, b.up, b.down) <> (excluded.events,
+            excluded.voided, excluded.transactions, excluded.complete, excluded.missing, excluded.up, excluded.down);
+    insert into own_board_period as b (shard, site, station, starts, xid, id, up, down)
+        select shard_number, site_name, station, starts, new_xid, new_id, up, down
+        from jsonb_to_recordset(parts->'periods') as r (station text, starts timestamptz, up bigint, down bigint)
+        on conflict (shard, site, station, starts) do update set xid = excluded.xid, id = excluded.id, at = now(),
+            up = excluded.up, down = excluded.down
+        where (b.up, b.down) <> (excluded.up, excluded.down);
+    insert into own_board_transaction as b (shard, site, station, transaction, xid, id, evse, events, first, last,
+            complete, missing, up, down)
+        select shard_number, site_name, station, transaction, new_xid, new_id, evse, events, first, last,
+            complete = 1, missing, up, down
+        from jsonb_to_recordset(parts->'transactions') as r (station text, transaction text, evse smallint,
+            events bigint, first bigint, last bigint, complete smallint, missing bigint, up bigint, down bigint)
+        on conflict (shard, site, station, transaction) do update set xid = excluded.xid, id = excluded.id, at = now(),
+            evse = excluded.evse, events = excluded.events, first = excluded.first, last = excluded.last,
+            complete = excluded.complete, missing = excluded.missing, up = excluded.up, down = excluded.down
+        where (b.evse, b.events, b.first, b.last, b.complete, b.missing, b.up, b.down) <> (excluded.evse,
+            excluded.events, excluded.first, excluded.last, excluded.complete, excluded.missing, excluded.up,
+            excluded.down);
+    delete from own_board_gap b using jsonb_to_recordset(parts->'transactions') as r (station text, transaction text)
+        where b.shard = shard_number and b.site = site_name and b.station = r.station and b.transaction = r.transaction;
+    insert into own_board_gap (shard, site, station, transaction, first, last, xid, id)
+        select shard_number, site_name, station, transaction, first, last, new_xid, new_id
+        from jsonb_to_recordset(parts->'gaps') as r (station text, transaction text, first bigint, last bigint);
+    return true;
+end $$;
+
+-- Closed days --------------------------------------------------------------------------------------------------------
+
+-- What close_day.py did to a shard's stations of a site: up to which day it settled, and up to which place of the log.
+create table closing (
+    cell smallint not null default :cell,
+    shard integer not null,
+    site text not null,
+    closing integer not null,              -- 1, 2, ..
+    day date not null,                     -- in the site's zone
+    period integer not null,
+    xid xid8 not null,
+    id bigint not null,
+    at timestamptz not null default now(),
+    archive text                           -- the file of the lines that it took out of the log
+) partition by list (cell);
+create table own_closing partition of closing (
+    primary key (shard, site, closing)
+) for values in (:cell);
+
+-- The energy in mWh of a station's period as it was settled, and behind that what later closings found it to differ.
+create table closed_period (
+    cell smallint not null default :cell,
+    shard integer not null,
+    site text not null,
+    closing integer not null,
+    station text not null,
+    starts timestamptz not null,
+    day date not null,
+    up bigint not null,
+    down bigint not null
+) partition by list (cell);
+create table own_closed_period partition of closed_period (
+    primary key (shard, site, station, starts, closing),
+    foreign key (shard, site, closing) references own_closing on delete cascade
+) for values in (:cell);
+
+-- What the transactions that a closing took out of the log give to a period, or to that of an earlier closing.
+create table archived_period (
+    cell smallint not null default :cell,
+    shard integer not null,
+    site text not null,
+    closing integer not null,
+    station text not null,
+    starts timestamptz not null,
+    up bigint not null,
+    down bigint not null
+) partition by list (cell);
+create table own_archived_period partition of archived_period (
+    primary key (shard, site, station, starts, closing),
+    foreign key (shard, site, closing) references own_closing on delete cascade
+) for values in (:cell);
+
+-- The transactions that are no longer in the log, with the closing whose archive has their lines.
+create table archived_transaction (
+    cell smallint not null default :cell,
+    shard integer not null,
+    site text not null,
+    closing integer not null,
+    station text not null,
+    transaction text not null,
+    complete boolean not null,
+    missing bigint not null,
+    up bigint not null,
+    down bigint not null
+) partition by list (cell);
+create table own_archived_transaction partition of archived_transaction (
+    primary key (shard, site, station, transaction),
+    foreign key (shard, site, closing) references own_closing on delete cascade
+) for values in (:cell);
+
+-- Energy in kWh by local time: what is in the log, and what closings took out of it.
+create view energy as
+    select site, (starts at time zone zone)::date as day, starts at time zone zone as local_start, starts, station,
+        trim_scale(sum(up) / 1000000) as up_kwh, trim_scale(sum(down) / 1000000) as down_kwh
+    from (select cell, shard, site, station, starts, up, down from board_period union all
+          select cell, shard, site, station, starts, up, down from archived_period) as flow
+    join site using (cell, shard, site) group by site, zone, starts, station;
+-- Transactions that lack messages, with which ones, and since when they are as they are, in local time.
+create view lacking as
+    select site, station, transaction, missing, complete, at at time zone zone as since, at,
+        (select string_agg(g.first || '..' || g.last, ', ' order by g.first) from board_gap g
+         where (g.cell, g.shard, g.site, g.station, g.transaction) = (t.cell, t.shard, t.site, t.station, t.transaction))
+        as gaps
+    from board_transaction t join site using (cell, shard, site) where not complete;
+
+-- What is settled: each period once, with how often it was corrected.
+create view settled_period as
+    select site, station, day, starts, sum(up) as up, sum(down) as down, count(*) - 1 as corrections
+    from closed_period group by site, station, day, starts;
+
 -- Workers ------------------------------------------------------------------------------------------------------------
 
 -- The workers that live, each with its session: it is what holds shards, and whoever ends it fences the worker.
@@ -237,9 +501,14 @@ create policy lines on own_log for select to ledger_worker, ledger_reader using 
 
 grant select on own_log to ledger_worker;
 grant update (taken, xid, id) on own_shard to ledger_worker;
-grant select, insert, update, delete on own_board, worker to ledger_worker;
+grant select, insert, update, delete on own_board, own_board_station, own_board_period, own_board_transaction,
+    own_board_gap, worker to ledger_worker;
 
-grant select on shard, site, station, log, board, own_log, own_board to ledger_reader;
+grant select on shard, site, station, station_twice, log, board, own_log, own_board,
+    board_station, board_period, board_transaction, board_gap, energy, lacking,
+    own_board_station, own_board_period, own_board_transaction, own_board_gap,
+    closing, closed_period, archived_period, archived_transaction, settled_period,
+    own_closing, own_closed_period, own_archived_period, own_archived_transaction to ledger_reader;
 
 -- Other cells --------------------------------------------------------------------------------------------------------
 
@@ -257,7 +526,9 @@ begin
         other, hosts, ports, database, 'read-write', '3', '10000', 'true', '1000');
     execute format('create user mapping for public server cell_%s options (user %L, password %L)',
         other, 'ledger_reader', reader_password);
-    foreach name in array array['shard', 'site', 'station', 'log', 'board'] loop
+    foreach name in array array['shard', 'site', 'station', 'log', 'board',
+                                'board_station', 'board_period', 'board_transaction', 'board_gap',
+                                'closing', 'closed_period', 'archived_period', 'archived_transaction'] loop
         execute format('create foreign table %s_%s partition of %s for values in (%s) server cell_%s options (table_name %L)',
             name, other, name, other, other, 'own_' || name);
     end loop;

@@ -20,6 +20,7 @@ import sys
 from collections.abc import Coroutine
 from typing import Any
 
+from boards import new_rows
 from database import (
     BY_INDEX,
     LOST,
@@ -86,11 +87,7 @@ update own_shard set taken = taken + 1 where shard = any($1)
 returning shard, plan, xid::text as xid, id, set_config('synchronous_commit', 'on', true)
 """
 # A board never gives way to that of an earlier place, whoever writes it.
-BOARD = """
-insert into own_board (shard, site, xid, id, at, text) values ($1, $2, $3::text::xid8, $4, now(), $5)
-on conflict (shard, site) do update set xid = excluded.xid, id = excluded.id, at = now(), text = excluded.text
-where (own_board.xid, own_board.id) <= (excluded.xid, excluded.id)
-"""
+BOARD = "select show_board($1, $2, $3::text::xid8, $4, $5::text::xid8, $6, $7, $8::text::jsonb) as is_taken"
 # A notification has at most 7,999 bytes.
 PAYLOAD = 7_900
 # Shards that are read at once, and those among them that still read their log from the start.
@@ -112,6 +109,8 @@ class Shard:
         self.told = (row["xid"], row["id"])
         self.read = ("0", 0)
         self.replay, self.sites = replay, sites
+        # The place and the text of each site's board as it was written last.
+        self.shown: dict[str, tuple[tuple[str, int], str]] = {}
         self.began, self.lines = asyncio.get_running_loop().time(), 0
         self.changed, self.due = True, 0.0
         self.is_loaded = self.is_answering = False
@@ -360,7 +359,7 @@ class Session:
 
     async def tell(self, answered: list[Answers]) -> None:
         """Tells answers to the gateways that wait for them, and up to which place of the log that was done."""
-        new = [shard for shard, *_ in answered if is_after(shard.read, shard.told)]
+        new = [shard for shard, *_ in answered if order(shard.read) > order(shard.told)]
         if new:
             channels, payloads = payloads_of([answer for _, answers, _ in answered for answer in answers])
             read = [shard.read for shard in new]
@@ -388,7 +387,8 @@ class Session:
                     continue
                 try:
                     async with shard.busy:
-                        shard.changed, place = False, shard.read
+                        # Lines in front of where answers were told may be in an archive by now.
+                        shard.changed, place = False, max(shard.read, shard.told, key=order)
                         texts = [
                             await asyncio.wait_for(shard.replay.board(site), self.words.hang) for site in shard.sites
                         ]
@@ -397,12 +397,22 @@ class Session:
                     continue
                 for site, text in zip(shard.sites, texts):
                     if self.shards.get(shard.number) is shard:
-                        await self.ask(BOARD, shard.number, site, place[0], place[1], text.decode())
+                        await self.write(shard, site, place, text.decode())
                 shard.due = clock() + self.words.boards
 
+    async def write(self, shard: Shard, site: str, place: tuple[str, int], text: str) -> None:
+        """Writes a board, by what is new since the one that this worker wrote before."""
+        base, old = shard.shown.pop(site, ((None, None), ""))
+        done = await self.ask(BOARD, shard.number, site, *base, *place, text, new_rows(text, old))
+        if done[0]["is_taken"]:
+            shard.shown[site] = (place, text)
+        elif base[0]:
+            shard.changed = True  # Another worker wrote one in between: all rows next time.
 
-def is_after(place: tuple[str, int], other: tuple[str, int]) -> bool:
-    return (int(place[0]), place[1]) > (int(other[0]), other[1])
+
+def order(place: tuple[str, int]) -> tuple[int, int]:
+    """Places of the log as they follow one another."""
+    return int(place[0]), place[1]
 
 
 def payloads_of(answers: list[tuple[str, str]]) -> tuple[list[str], list[str]]:
