@@ -6,18 +6,19 @@
 reads a text with any number of boards; what stands between them (replies, energies, refusals) is
 skipped and counted. It writes
 
-    NAME.quarters.csv       the energy of each quarter of an hour, of each site and of each station
+    NAME.periods.csv        the energy of each settlement period, of each site and of each station
     NAME.transactions.csv   the transactions of each station, with their gaps (missing seqNo)
     NAME.html               the figures of each board, its stations, days and sessions; what is missing or voided
     NAME.<day>.html         a page for each day: bars and a table for each site and each station
 
 In the CSV files energies are whole mWh (milliwatt-hours), and the same in kWh. Times are UTC; with --tz
 the days and hours are those of that zone, and UTC stands beside. `board` counts the boards of the text,
-since a site may be printed more than once. Quarters of a site are the sums of those of its stations, so
-add up rows of one level only.
+since a site may be printed more than once. Periods of a site are the sums of those of its stations, so
+add up rows of one level only. How long a period is, 300, 900, 1800 or 3600 seconds, the first line of its
+board says; sites may have different ones.
 
-What `up` and `down` mean for a settlement: a difference of two readings counts in the quarter of its later
-reading, so what a meter read at 10:15:00 has risen since the reading before belongs to the quarter that
+What `up` and `down` mean for a settlement: a difference of two readings counts in the period of its later
+reading, so what a meter read at 10:15:00 has risen since the reading before belongs to the period that
 begins at 10:15. Readings that an Ended event lists again show as `down`, back to the first of them, and
 again as `up`; the net energy is `up` less `down`.
 
@@ -54,17 +55,15 @@ TABLE_SESSIONS = 500
 MOST_COMPLAINTS = 20
 # Moments whose texts are kept, since all stations share them.
 KEPT_MOMENTS = 131_072
-# Seconds of a settlement period: a quarter of an hour.
-PERIOD = 900
 
 # The lines of a board: this table, NEXT, `Part.add` and `Reader.take` are all that knows them.
 N = r"(0|[1-9][0-9]{0,19})"
 NAME = r"([A-Za-z0-9*\-_=:+|@.]{1,48})"
 FLOW = rf"up={N} down={N}"
 LINES = {
-    "board": re.compile(rf"board {NAME}"),
+    "board": re.compile(rf"board {NAME} period=(300|900|1800|3600)"),
     "total": re.compile(rf"total events={N} voided={N} transactions={N} complete={N} missing={N} {FLOW}"),
-    "quarter": re.compile(rf"quarter ([0-9]{{4}}-[0-9]{{2}}-[0-9]{{2}}T[0-9]{{2}}:[0-9]{{2}}:00Z) {FLOW}"),
+    "period": re.compile(rf"period ([0-9]{{4}}-[0-9]{{2}}-[0-9]{{2}}T[0-9]{{2}}:[0-9]{{2}}:00Z) {FLOW}"),
     "station": re.compile(rf"station {NAME}"),
     "evse": re.compile(rf"evse {N} {FLOW}"),
     "tx": re.compile(rf"tx ([!-~]{{1,36}}) evse={N} events={N} first={N} last={N} complete=(yes|no) missing={N} "
@@ -76,9 +75,9 @@ LINES = {
 NEXT = {
     "board": {"total"},
     "station": {"total"},
-    "total": {"evse", "quarter", "tx"},
-    "evse": {"evse", "quarter", "tx"},
-    "quarter": {"quarter", "tx"},
+    "total": {"evse", "period", "tx"},
+    "evse": {"evse", "period", "tx"},
+    "period": {"period", "tx"},
     "tx": {"tx", "gap"},
     "gap": {"tx", "gap"},
 }
@@ -95,9 +94,10 @@ class Total(NamedTuple):
 
 
 class Period(NamedTuple):
-    """A quarter of an hour, told by its first moment."""
+    """A settlement period of so many seconds, told by its first moment."""
 
     start: datetime
+    seconds: int
     up: int
     down: int
 
@@ -121,8 +121,8 @@ class Session:
 class Part:
     """What a board says of its site, or of one of its stations."""
 
-    def __init__(self, name: str, is_site: bool) -> None:
-        self.name, self.is_site, self.whole = name, is_site, True
+    def __init__(self, name: str, is_site: bool, seconds: int) -> None:
+        self.name, self.is_site, self.seconds, self.whole = name, is_site, seconds, True
         self.total: Total | None = None
         self.evses: list[Evse] = []
         self.periods: list[Period] = []
@@ -134,11 +134,11 @@ class Part:
             self.total = Total(*map(int, values))
         elif kind == "evse":
             self.evses.append(Evse(*map(int, values)))
-        elif kind == "quarter":
-            start = moment_of(values[0])
+        elif kind == "period":
+            start = moment_of(values[0], self.seconds)
             if start is None:
                 return False
-            self.periods.append(Period(start, int(values[1]), int(values[2])))
+            self.periods.append(Period(start, self.seconds, int(values[1]), int(values[2])))
         elif kind == "tx":
             tx, evse, events, first, last, complete, *others = values
             session = Session(tx, complete == "yes", [int(n) for n in (evse, events, first, last, *others)])
@@ -154,13 +154,13 @@ class Part:
 
 
 @lru_cache(KEPT_MOMENTS)
-def moment_of(text: str) -> datetime | None:
-    """The first moment of a period."""
+def moment_of(text: str, seconds: int) -> datetime | None:
+    """The first moment of a period of so many seconds."""
     try:
         moment = datetime.fromisoformat(text)
     except ValueError:
         return None
-    return moment if moment.timestamp() % PERIOD == 0 else None
+    return moment if moment.timestamp() % seconds == 0 else None
 
 
 def understood(line: str) -> tuple[str | None, tuple[str, ...]]:
@@ -254,10 +254,10 @@ class Reader:
         self.sinks, self.progress = sinks, progress
         self.part: Part | None = None
         self.before: str | None = None
-        self.site = ""
+        self.site, self.seconds = "", 0
         self.sessions = Sessions()
         self.counts = dict.fromkeys(
-            ["boards", "stations", "quarters", "transactions", "outside", "faults", "unread"], 0)
+            ["boards", "stations", "periods", "transactions", "outside", "faults", "unread"], 0)
 
     def read(self, text: BinaryIO) -> None:
         number = 0
@@ -276,7 +276,7 @@ class Reader:
         if kind == "board":
             self.break_off(number, "another board begins")
             self.counts["boards"] += 1
-            self.site = values[0]
+            self.site, self.seconds = values[0], int(values[1])
             for sink in self.sinks:
                 sink.board(self.counts["boards"], self.site, number)
             self.begin(values[0], True, kind)
@@ -294,16 +294,16 @@ class Reader:
             self.unread(number, line)
 
     def fits(self, kind: str | None) -> bool:
-        return kind in NEXT.get(self.before, ()) and (not self.part.is_site or kind in ("total", "quarter"))
+        return kind in NEXT.get(self.before, ()) and (not self.part.is_site or kind in ("total", "period"))
 
     def begin(self, name: str, is_site: bool, kind: str) -> None:
-        self.part, self.before = Part(name, is_site), kind
+        self.part, self.before = Part(name, is_site, self.seconds), kind
 
     def leave_part(self, number: int) -> None:
         part = self.part
         if part.total is None:
             self.complain(number, f"{part.name} has no total line before this one")
-        self.counts["quarters"] += len(part.periods)
+        self.counts["periods"] += len(part.periods)
         self.counts["transactions"] += len(part.sessions)
         self.sessions.mark(self.counts["boards"], self.site, part)
         for sink in self.sinks:
@@ -343,7 +343,7 @@ class Reader:
             self.part.whole = False
 
     def tell(self) -> None:
-        print("boards: {boards}, stations: {stations}, quarters: {quarters}, transactions: {transactions}; lines "
+        print("boards: {boards}, stations: {stations}, periods: {periods}, transactions: {transactions}; lines "
               "outside boards: {outside}, of these faults: {faults}; complaints: {unread}".format(**self.counts),
               file=sys.stderr)
 
@@ -375,9 +375,9 @@ class Calendar:
     def time(self, moment: datetime) -> str:
         return moment.astimezone(self.zone).strftime("%H:%M")
 
-    def times_of(self, start: datetime) -> str:
+    def times_of(self, start: datetime, seconds: int) -> str:
         """From when to when a period is, and from when in UTC as another cell; the end of a day is 24:00."""
-        end = self.time(start + timedelta(seconds=PERIOD))
+        end = self.time(start + timedelta(seconds=seconds))
         beside = "" if self.is_utc else f"<td>{start:%H:%M}"
         return f"{self.time(start)} to {'24:00' if end == '00:00' else end}{beside}"
 
@@ -406,12 +406,13 @@ class Tables(Sink):
     TRANSACTIONS = ["board", "site", "station", "transaction", "EVSE (0: not named)", "events", "first seqNo",
                     "last seqNo", "complete", "missing", "gaps (from..to)", *FLOWS, "state"]
 
-    def __init__(self, quarters: TextIO, transactions: TextIO, raw: bool, calendar: Calendar) -> None:
+    def __init__(self, periods: TextIO, transactions: TextIO, raw: bool, calendar: Calendar) -> None:
         self.raw, self.calendar = raw, calendar
-        self.quarters = csv.writer(quarters, lineterminator="\n")
+        self.periods = csv.writer(periods, lineterminator="\n")
         self.transactions = csv.writer(transactions, lineterminator="\n")
-        local = [] if calendar.is_utc else [f"quarter start ({calendar.name})"]
-        self.quarters.writerow(["board", "level", "site", "station", "quarter start (UTC)", *local, *self.FLOWS])
+        local = [] if calendar.is_utc else [f"period start ({calendar.name})"]
+        self.periods.writerow(
+            ["board", "level", "site", "station", "seconds", "period start (UTC)", *local, *self.FLOWS])
         self.transactions.writerow(self.TRANSACTIONS)
 
     def cell(self, text: str) -> str:
@@ -427,8 +428,8 @@ class Tables(Sink):
     def part(self, part: Part) -> None:
         level, station = ("site", "") if part.is_site else ("station", self.cell(part.name))
         for p in self.calendar.shown(part.periods):
-            self.quarters.writerow([self.number, level, self.site, station, *self.calendar.cells(p.start),
-                                    *self.flows(p.up, p.down)])
+            self.periods.writerow([self.number, level, self.site, station, p.seconds, *self.calendar.cells(p.start),
+                                   *self.flows(p.up, p.down)])
         for t in part.sessions:
             self.transactions.writerow(
                 [self.number, self.site, station, self.cell(t.tx), t.evse, t.events, t.first, t.last,
@@ -483,11 +484,11 @@ height="4" patternUnits="userSpaceOnUse" patternTransform="rotate(45)"><rect wid
 <rect width="1.6" height="4" fill="#8a3a00"/></pattern></defs></svg>
 """
 
-BARS = """<p>Energy is in kWh. A bar stands for a quarter of an hour: a full bar goes up by what the meters rose, \
-a hatched bar goes down by what they fell, and a ring is a quarter whose readings show no difference. Each picture has \
+BARS = """<p>Energy is in kWh. A bar stands for a settlement period: a full bar goes up by what the meters rose, \
+a hatched bar goes down by what they fell, and a ring is a period whose readings show no difference. Each picture has \
 its numbers in a table.</p>
-<p>A difference of two readings counts in the quarter of its later reading: what a meter read at 10:15:00 has risen \
-since the reading before belongs to the quarter that begins at 10:15. Readings that an Ended event lists again show as \
+<p>A difference of two readings counts in the period of its later reading: what a meter read at 10:15:00 has risen \
+since the reading before belongs to the period that begins at 10:15. Readings that an Ended event lists again show as \
 down, and again as up.</p>
 """
 
@@ -627,7 +628,7 @@ def picture(label: str, day: date, periods: list[Period], scale: Scale, calendar
         yield f'<line class="grid" x1="{short(x)}%" x2="{short(x)}%" y1="{bottom}" y2="{bottom + 5}"/>'
     for p in periods:
         left = (p.start - begin).total_seconds() / length * 100
-        yield from bar(left, PERIOD / length * 100, p, scale)
+        yield from bar(left, p.seconds / length * 100, p, scale)
     for mwh in scale.marks():
         text = kwh(abs(mwh)) + (" up" if mwh > 0 else " down" if mwh else "")
         yield f'<text x="-5" y="{short(scale.at(mwh) + 4)}" text-anchor="end">{text}</text>'
@@ -642,16 +643,16 @@ def periods_of(day: date, periods: list[Period], calendar: Calendar) -> Iterator
     """The table of a day's periods, whose rows leave out what HTML lets be left out: pages have many."""
     zone = "UTC" if calendar.is_utc else calendar.name
     beside = "" if calendar.is_utc else '<th scope="col">From (UTC)'
-    yield (f'<table class="plain"><caption>{day}, kWh</caption>\n<thead><tr><th scope="col">Quarter ({zone}){beside}'
+    yield (f'<table class="plain"><caption>{day}, kWh</caption>\n<thead><tr><th scope="col">Period ({zone}){beside}'
            '<th scope="col">Up<th scope="col">Down</thead>\n<tbody>\n')
     for p in periods:
-        yield f'<tr><th scope="row">{calendar.times(p.start)}<td>{kwh(p.up)}<td>{kwh(p.down)}\n'
+        yield f'<tr><th scope="row">{calendar.times(p.start, p.seconds)}<td>{kwh(p.up)}<td>{kwh(p.down)}\n'
     yield "</tbody></table>\n"
 
 
 def said_of(whose: str, day: date, periods: list[Period]) -> str:
     up, down = sum(p.up for p in periods), sum(p.down for p in periods)
-    count = "1 quarter" if len(periods) == 1 else f"{len(periods)} quarters"
+    count = "1 period" if len(periods) == 1 else f"{len(periods)} periods"
     return f"{whose} on {day}: {count}, {kwh(up)} kWh up, {kwh(down)} kWh down"
 
 
@@ -661,7 +662,7 @@ def day_of_part(whose: str, day: date, periods: list[Period], scale: Scale, cale
     yield f'<section aria-label="{whose}">\n<h3>{whose}</h3>\n<div class="day">\n<figure>\n'
     yield from picture(f"Bars. {said}. The table has the numbers.", day, periods, scale, calendar)
     yield f'<figcaption>{said}</figcaption>\n</figure>\n'
-    yield f'<div class="scroll" role="group" tabindex="0" aria-label="Quarters of {whose} on {day}">\n'
+    yield f'<div class="scroll" role="group" tabindex="0" aria-label="Periods of {whose} on {day}">\n'
     yield from periods_of(day, periods, calendar)
     yield "</div>\n</div>\n</section>\n"
 
@@ -791,7 +792,7 @@ class Index(Sink):
     def board(self, number: int, site: str, line: int) -> None:
         self.number, self.line, self.name = number, line, escape(site)
         self.whole = True
-        self.site = Part(site, True)
+        self.site = Part(site, True, 0)
         self.rows: list[Row] = []
         self.waiting: list[str] = []
 
@@ -844,8 +845,8 @@ class Index(Sink):
         self.index.put(f'<section aria-labelledby="{label}">\n<h2 id="{label}">Site {self.name}</h2>\n'
                        f"<p>Board {self.number} of the text, from its line {self.line} on.</p>\n{warning}")
         self.index.put("".join(figures(self.site.total)))
-        self.index.put("<h3>Days</h3>\n" + "".join(table("Energy of the site by day, kWh", ["Day", "Quarters", "Up",
-                                                                                            "Down"], self.day_rows())))
+        self.index.put("<h3>Days</h3>\n" + "".join(table("Energy of the site by day, kWh", ["Day", "Periods", "Up",
+                                                                                           "Down"], self.day_rows())))
         self.index.put("<h3>Stations</h3>\n" + "".join(table("Stations of the site", self.STATIONS, self.rows,
                                                              cards=True)))
         self.index.put("".join(self.waiting) + "</section>\n")
@@ -859,7 +860,7 @@ class Index(Sink):
 def arguments() -> argparse.Namespace:
     parser = argparse.ArgumentParser(
         description=__doc__, formatter_class=argparse.RawDescriptionHelpFormatter,
-        epilog="One station at a time is held in memory, the quarters of one site, and a line for each session. Pages "
+        epilog="One station at a time is held in memory, the periods of one site, and a line for each session. Pages "
         "of days that an earlier run wrote and this one has not stay. Exit status: 0; 1 when the text has no board, a "
         "line of a board could not be read or a board has no end; 2 when the words are wrong or a file can't be read "
         "or written.")
@@ -901,11 +902,11 @@ def main() -> int:
     calendar = Calendar(words)
     try:
         with (plain(open(0 if words.text == "-" else words.text, "rb")) as text,
-              open(words.out + ".quarters.csv", "w", encoding="utf-8", newline="") as quarters,
+              open(words.out + ".periods.csv", "w", encoding="utf-8", newline="") as periods,
               open(words.out + ".transactions.csv", "w", encoding="utf-8", newline="") as transactions):
             days = DayPages(words.out, calendar)
             index = Index(words.out, calendar, days)
-            reader = Reader([Tables(quarters, transactions, words.raw, calendar), days, index], Progress(text))
+            reader = Reader([Tables(periods, transactions, words.raw, calendar), days, index], Progress(text))
             reader.read(text)
             days.close()
             index.close(reader.counts["boards"] > 0)

@@ -95,6 +95,8 @@ gives 0 forms/ocpp.script ./log_to_script.py --form ocpp --site north --utc form
 gives 0 forms/maeve.script ./log_to_script.py --form maeve --stations forms/stations.txt --no-boards forms/maeve.mqtt
 citrineos=(--site north --site-map forms/sites.txt --limits 100 1000 2000 1000000)
 gives 0 forms/citrineos.script ./log_to_script.py --form citrineos "${citrineos[@]}" forms/citrineos.jsonl
+gives 0 forms/periods.script ./log_to_script.py --form citrineos --site north --site-map forms/sites.txt --period 1800 \
+    --period north=300 forms/citrineos.jsonl
 gives 0 forms/citrineos.script ./log_to_script.py --form citrineos-csv "${citrineos[@]}" forms/citrineos.csv
 
 # Logs that were compressed, one of which is cut short, and words and lines that can't be taken.
@@ -111,6 +113,8 @@ tells 2 "line 1 names no column message, origin, stationId, timestamp" \
     ./log_to_script.py --form citrineos-csv --site north forms/ocpp.log
 tells 2 "has no sites: --site, --site-map or --stations names them" ./log_to_script.py --form ocpp forms/ocpp.log
 tells 2 "forms/ocpp.log line 2: not two names" ./log_to_script.py --stations forms/ocpp.log day.jsonl
+tells 2 "not 300, 900, 1800 or 3600 seconds: 'north=600'" ./log_to_script.py --period north=600 day.jsonl
+tells 2 "no name of a site: 'no/name=300'" ./log_to_script.py --period no/name=300 day.jsonl
 tells 2 "No such file or directory" ./log_to_script.py nowhere.jsonl
 tells 2 "No space left on device" bash -c './log_to_script.py site_day.jsonl > /dev/full'
 tells 2 "No space left on device" bash -c './log_to_script.py --form maeve --stations forms/stations.txt forms/maeve.mqtt > /dev/full'
@@ -159,13 +163,13 @@ for day in day site_day; do
 done
 made_by ./board_to_tables.py --tz Europe/Berlin --from 2026-03-29 --to 2026-10-25 --out "$made/berlin" tables/berlin.text
 made_by ./board_to_tables.py --out "$made/states" tables/states.text
-for name in berlin.quarters berlin.transactions states.transactions; do
+for name in berlin.periods berlin.transactions states.transactions; do
     as_stored "tables/$name.csv" "$made/$name.csv"
 done
 holds tables/berlin.said
 made_by ./board_to_tables.py --tz Europe/Berlin --day 2026-03-29 --out "$made/one" tables/berlin.text
-grep -E '^board|:00Z,2026-03-29T' tables/berlin.quarters.csv > "$made/one.rows"
-diff "$made/one.rows" "$made/one.quarters.csv" || differs "a day of tables/berlin.quarters.csv"
+grep -E '^board|:00Z,2026-03-29T' tables/berlin.periods.csv > "$made/one.rows"
+diff "$made/one.rows" "$made/one.periods.csv" || differs "a day of tables/berlin.periods.csv"
 gives 1 tables/broken ./board_to_tables.py --out "$made/broken" tables/broken.text
 tells 1 "the text ends, and no board began in it" ./board_to_tables.py --out "$made/noise" day.jsonl
 tells 2 "the text is compressed by gzip" ./board_to_tables.py --out "$made/noise" "$made/day.jsonl.gz"

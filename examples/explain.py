@@ -35,7 +35,7 @@ LONGEST_MESSAGE = 262_144
 MOST_TOLD = 10
 SHOWN = 200
 
-FIRST_WORDS = {"limits": 5, "station": 3, "now": 2, "msg": 3, "void": 4, "restore": 4, "erase": 4, "energy": 2,
+FIRST_WORDS = {"limits": 5, "station": 3, "period": 3, "now": 2, "msg": 3, "void": 4, "restore": 4, "erase": 4, "energy": 2,
                "total": 2, "board": 2}
 ACTIONS = ["BootNotification", "Heartbeat", "StatusNotification", "MeterValues", "TransactionEvent"]
 LIMITS = [("transactions", 4_096), ("events", 65_536), ("readings", 65_536), ("changes", 2**63)]
@@ -106,6 +106,8 @@ def words_fault(words: list[str]) -> Said | None:
         return name_fault("site's name", rest[0]) or name_fault("station's name", rest[1])
     if kind == "board":
         return name_fault("site's name", rest[0])
+    if kind == "period":
+        return name_fault("site's name", rest[0]) or number_fault("number of seconds", rest[1], 2**64 - 1)
     if kind == "limits":
         told = (number_fault(f"number of {what}", text, 2**64 - 1) for (what, _), text in zip(LIMITS, rest))
         return next(filter(None, told), None)
@@ -166,6 +168,7 @@ def bad_line(line: bytes, number: int) -> Said:
         return "a blank stands at the end", "no blank after the last word"
     if len(words) != count:
         form = {"limits": "limits <transactions> <events> <readings> <changes>", "station": "station <site> <station>",
+                "period": "period <site> <seconds>",
                 "now": "now <time>", "msg": "msg <station> <text>", "board": "board <site>",
                 "energy": "energy <station>", "total": "total <station>"}
         return (f"{len(words)} words, and not {count}",
@@ -360,7 +363,7 @@ class Plan:
             self.sites.setdefault(words[1], number)
             self.stations[words[2]] = words[1], number
             self.readings += self.limit
-        elif words[0] not in ("now",) and self.opened is None:
+        elif words[0] not in ("now", "period") and self.opened is None:
             self.opened = number, " ".join(words[:2])
 
     def over(self, words: list[str]) -> Said:
@@ -369,6 +372,8 @@ class Plan:
             told = [f"the number of {what} is {text}, and not 1 to {most}" for (what, most), text in
                     zip(LIMITS, words[1:]) if not 1 <= int(text) <= most]
             return "; ".join(told), "numbers in range"
+        if words[0] == "period":
+            return f"{words[2]} seconds are no settlement period", "300, 900, 1800 or 3600"
         if len(self.stations) >= 64:
             return "it would be the 65th station", "at most 64 stations; run the others in a script of their own"
         if words[1] not in self.sites and len(self.sites) >= 16:
@@ -443,7 +448,7 @@ class Run:
                     self.lines = number
                     if bare and not bare.startswith(b"#") or is_long:
                         word = bare.split(b" ", 1)[0]
-                        is_marked = word in (b"limits", b"station", b"now")
+                        is_marked = word in (b"limits", b"station", b"period", b"now")
                         self.sent.append(Line(number, bare[:LONGEST_LINE + 1], is_marked))
                         # A last line without a line feed is a line of its own; before a mark it gets one.
                         end = b"\r\n" if line.endswith(b"\r") else b"\n"
@@ -515,6 +520,8 @@ class Run:
             return f"station {words[2]} is declared on site {site} by line {at}", "leave one of them out"
         if name == "UnknownStation":
             return f"no station {words[1]} is declared", plan.near("station", words[1], plan.stations)
+        if name == "UnknownSite" and words[0] == "period":
+            return f"no station of site {words[1]} is declared yet", "put it behind a `station` line of the site"
         if name == "UnknownSite":
             return f"no site {words[1]} is declared", plan.near("site", words[1], plan.sites)
         return "it was refused", "see docs/formats.md"

@@ -4,7 +4,7 @@
     live_board.py --out FOLDER <(tail -n +1 -F csms.log | log_to_script.py --stations stations.txt)
 
 runs `ocpp_board replay`, hands it the lines of a script as they come, and every so many seconds writes each
-site's page and tables to FOLDER: SITE.html, SITE.<day>.html, SITE.quarters.csv and SITE.transactions.csv, as
+site's page and tables to FOLDER: SITE.html, SITE.<day>.html, SITE.periods.csv and SITE.transactions.csv, as
 board_to_tables.py makes them. Each file is there whole or not at all.
 
 The script is a file, a named pipe or what `<(..)` of bash gives. Standard input is the operator's: each of

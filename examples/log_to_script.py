@@ -58,6 +58,7 @@ time, so that no `now` line is written."""
 LONGEST_LINE = 262_400
 LONGEST_SCRIPT = 1_073_741_824
 MOST_SITES = 16
+PERIODS = ("300", "900", "1800", "3600")
 MOST_STATIONS = 64
 MOST_READINGS = 1_048_576
 DEFAULT_READINGS = 16_384
@@ -428,6 +429,11 @@ class Script:
     def limits_line(self) -> bytes:
         return f"limits {' '.join(map(str, self.words.limits))}\n".encode() if self.words.limits else b""
 
+    def period_line(self, site: str) -> bytes:
+        """The settlement period of a site, where one is asked for."""
+        seconds = self.words.period.get(site, self.words.period.get(""))
+        return f"period {site} {seconds}\n".encode() if seconds else b""
+
     def begin(self) -> None:
         """Declares the stations that the words' file names."""
         try:
@@ -470,7 +476,8 @@ class Script:
             raise Refused(f"one station more than {MOST_STATIONS}", station)
         if (len(self.site_of) + 1) * self.readings > MOST_READINGS:
             raise Refused(f"the stations' limits of readings would add up to more than {MOST_READINGS:,}", station)
-        self.grow(len(f"station {site} {station}\n") + new_site * self.words.boards * len(f"board {site}\n"))
+        self.grow(len(f"station {site} {station}\n") + new_site * (len(self.period_line(site)) + self.words.boards *
+                                                                   len(f"board {site}\n")))
         self.site_of[station] = site
 
     def grow(self, count: int) -> None:
@@ -491,6 +498,8 @@ class Script:
         self.out.write(self.limits_line())
         for station, site in self.site_of.items():
             self.out.write(f"station {site} {station}\n".encode())
+        for site in self.sites():
+            self.out.write(self.period_line(site))
 
     def write(self) -> None:
         """What was not written yet."""
@@ -567,6 +576,16 @@ class Conversion:
               file=sys.stderr)
 
 
+def period(text: str) -> tuple[str, int]:
+    """A site and its settlement period; without a site that of all others."""
+    site, _, seconds = text.rpartition("=")
+    if seconds not in PERIODS:
+        raise argparse.ArgumentTypeError(f"not 300, 900, 1800 or 3600 seconds: {shown(text)}")
+    if "=" in text and not NAME.fullmatch(site):
+        raise argparse.ArgumentTypeError(f"no name of a site: {shown(text)}")
+    return site, int(seconds)
+
+
 def arguments() -> argparse.Namespace:
     parser = argparse.ArgumentParser(
         description=__doc__ + "\n" + FORMS, formatter_class=argparse.RawDescriptionHelpFormatter,
@@ -599,9 +618,13 @@ def arguments() -> argparse.Namespace:
     parser.add_argument("--limits", nargs=4, type=int, metavar=("TRANSACTIONS", "EVENTS", "READINGS", "CHANGES"),
                         help="a `limits` line for all stations, up to 4096 65536 65536 9223372036854775808, and the "
                         "readings of all stations up to 1,048,576")
+    parser.add_argument("--period", type=period, action="append", default=[], metavar="[SITE=]SECONDS",
+                        help="the settlement period of a site's boards, or of all sites that are not named so: 300, "
+                        "900, 1800 or 3600 seconds (900 where none is told)")
     parser.add_argument("--no-boards", dest="boards", action="store_false",
                         help="leave out the `board` line for each site at the end")
     words = parser.parse_args()
+    words.period = dict(words.period)
     if words.limits and not all(1 <= n <= most for n, most in zip(words.limits, GREATEST_LIMITS)):
         parser.error("--limits are from 1 to 4096, 65536, 65536 and 9223372036854775808")
     if words.one_site and not NAME.fullmatch(words.one_site):

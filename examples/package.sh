@@ -95,7 +95,7 @@ Description: transaction ledger and site board of an OCPP 2.0.1 CSMS
  Takes the TransactionEvent messages that charging stations sent, live or
  queued, repeated, late or out of order, answers each, and shows for each site
  its sessions, their missing sequence numbers, and the energy between meter
- readings by transaction, EVSE, station, site and quarter of an hour.
+ readings by transaction, EVSE, station, site and settlement period.
  .
  Beside the program there are ocpp-board-log-to-script, which reads logs of a
  CSMS, ocpp-board-tables and ocpp-board-live, which write tables and pages,

@@ -9,7 +9,6 @@ use Rattle.ledger_model.specs.BoardLaws.{AreRising, IsIn}
 use Rattle.ledger_model.specs.Content.{Entry}
 use Rattle.ledger_model.specs.Energy.{Pair, difference, pairs, quarter_of, quarters, energy, energy_in}
 use Rattle.ledger_model.specs.Limits.{Bounds}
-use Rattle.ledger_model.specs.Quarter.{quarter_seconds}
 use Rattle.ledger_model.specs.Ranges.{most_plan_readings, greatest_reading}
 use Rattle.ledger_model.proofs.Callers.{sum_by-filter_cons, rising-AreRising}
 use Rattle.board_report.specs.Plans.{IsBoardWithin, AreBoardsWithin}
@@ -60,17 +59,17 @@ sum-filter f p (x ∷ xs) = omega (arith, sum_by-filter_cons f p x xs, sum_by-co
     part true n = omega arith
     part false n = omega arith
 
-in_quarter : (q : ℕ) (es : List Entry) → IsNoMore (energy_in quarter_seconds q es) (energy es)
-in_quarter q es = (
-  sum-filter (λ p. (difference p).up) (λ p. eqb (quarter_of quarter_seconds p) q) (pairs es),
-  sum-filter (λ p. (difference p).down) (λ p. eqb (quarter_of quarter_seconds p) q) (pairs es),
+in_quarter : (period q : ℕ) (es : List Entry) → IsNoMore (energy_in period q es) (energy es)
+in_quarter period q es = (
+  sum-filter (λ p. (difference p).up) (λ p. eqb (quarter_of period p) q) (pairs es),
+  sum-filter (λ p. (difference p).down) (λ p. eqb (quarter_of period p) q) (pairs es),
 )
 
 -- a board shows no more for a quarter than its figures say
-under-board : (q : ℕ) (es : List Entry) → IsNoMore (energy_under q (board quarter_seconds es).quarters) (energy es)
-under-board q es =
-    let one = under-rising (λ quarter. energy_in quarter_seconds quarter es) q (quarters quarter_seconds es) (rising-AreRising (map (quarter_of quarter_seconds) (pairs es))) in
-    let all = in_quarter q es in
+under-board : (period q : ℕ) (es : List Entry) → IsNoMore (energy_under q (board period es).quarters) (energy es)
+under-board period q es =
+    let one = under-rising (λ quarter. energy_in period quarter es) q (quarters period es) (rising-AreRising (map (quarter_of period) (pairs es))) in
+    let all = in_quarter period q es in
     (omega (arith, one.0, all.0), omega (arith, one.1, all.1))
 
 -- nor than its limits allow
@@ -79,7 +78,7 @@ Allows readings e = (e.up ≤ greatest_reading * readings) × (e.down ≤ greate
 
 under-limits : (q : ℕ) (limits : Bounds) (b : Board) → IsBoardWithin limits b → Allows limits.readings (energy_under q b.quarters)
 under-limits q limits b h =
-    let shown = under-board q h.entries in
+    let shown = under-board b.period q h.entries in
     let same = ap (λ (c : Board). energy_under q c.quarters) h.is in
     let figures = ap (λ (c : Board). c.figures) h.is in (
       omega (arith, ap (λ (f : Energy). f.up) same, shown.0, ap {B = ℕ} (λ f. f.up) figures, h.within.up),

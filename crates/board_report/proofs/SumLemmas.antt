@@ -1,17 +1,21 @@
 -- The sums of lines by quarter.
-use Rattle.std.proofs.Common.{◌≡◌, ℕ, zero, suc, ◌+◌, ◌-◌, ◌<◌, ◌≤◌, ◌^◌, ◌⊎◌, inl, inr, cond, eqb, List, [], ◌∷◌, ◌++◌, map, length, take, get_or, refl, sym, ap, subst, ◌∙◌, arith, ⊎_elim}
-use Rattle.std.specs.List.{sum_by}
+use Rattle.std.proofs.Common.{◌≡◌, ℕ, zero, suc, ◌+◌, ◌-◌, ◌<◌, ◌≤◌, ◌^◌, ◌⊎◌, inl, inr, cond, eqb, List, [], ◌∷◌, ◌++◌, map, length, take, get_or, append-nil, refl, sym, ap, subst, ◌∙◌, arith, ⊎_elim}
+use Rattle.std.specs.List.{sum_by, All}
+use Rattle.std.proofs.lemmas.List.Elements.{All-nil, All-cons}
 use Rattle.std.specs.List.Sorted.{IsPermutation, IsNonDecreasingBy}
 use Rattle.std.proofs.lemmas.Bool.{eq-eqb, ne_eqb, lt-ltb, le-ltb, cases_order, cases_eq}
+use Rattle.std.proofs.lemmas.List.{take_more}
+use Rattle.std.proofs.lemmas.Grind.{flat_map-append}
 use Rattle.std.proofs.lemmas.List.Sums.{sum_by-cons}
 use Rattle.std.proofs.lemmas.List.Sorted.{sum_by-IsPermutation, IsPermutation-sym}
 use Rattle.energy_flow.specs.Flow.{Energy, plus, no_energy, CanPlus}
-use Rattle.ledger_model.specs.Board.{Flowed, energy_under}
+use Rattle.ledger_model.specs.Board.{Board, Flowed, energy_under}
 use Rattle.ledger_model.specs.Energy.{put_in, rising}
+use Rattle.ledger_model.specs.Quarter.{IsQuarterOf}
 use Rattle.ledger_model.specs.BoardLaws.{AreRising, IsIn}
 use Rattle.ledger_model.proofs.Callers.{put_in-same, put_in-below, put_in-above, rising-AreRising, rising-IsIn}
 use Rattle.board_report.specs.Lines.{quarter_sums, AreInOrder, put_line, CanLead}
-use Rattle.board_report.specs.Sums.{QuartersFit}
+use Rattle.board_report.specs.Sums.{AreQuartersOf, QuartersFit, station_quarters}
 
 same_energy : (a b : Energy) → a.up ≡ b.up → a.down ≡ b.down → a ≡ b
 same_energy a b up down = λ i. record { up = up i; down = down i }
@@ -258,3 +262,24 @@ fit_permuted xs ys same fit = record {
   up = λ q. subst (λ (e : Energy). e.up < 2 ^ 64) (sym (under_permuted q xs ys same)) (fit.up q);
   down = λ q. subst (λ (e : Energy). e.down < 2 ^ 64) (sym (under_permuted q xs ys same)) (fit.down q);
 }
+
+-- the quarters of lines are the period's
+line_own : (period : ℕ) (xs : List Flowed) (k : ℕ) → AreQuartersOf period xs → IsIn k (numbers xs) → IsQuarterOf period k
+line_own period [] k own h = absurd h
+line_own period (x ∷ xs) k own (inl e) = subst (IsQuarterOf period) (sym e) (own 0 x (omega arith))
+line_own period (x ∷ xs) k own (inr h) = line_own period xs k (λ n d lt. own (suc n) d (omega arith)) h
+
+lines_own : (period : ℕ) (e : ℕ → Energy) (ks : List ℕ) → ((k : ℕ) → IsIn k ks → IsQuarterOf period k) → AreQuartersOf period (map {B = Flowed} (λ k. (k, e k)) ks)
+lines_own period e [] each = All-nil (λ (line : Flowed). IsQuarterOf period line.0)
+lines_own period e (k ∷ ks) each = All-cons (λ (line : Flowed). IsQuarterOf period line.0) (k, e k) (map {B = Flowed} (λ j. (j, e j)) ks) (each k (inl refl)) (lines_own period e ks (λ j h. each j (inr h)))
+
+-- and so are those of their sums
+pub sums_own : (period : ℕ) (xs : List Flowed) → AreQuartersOf period xs → AreQuartersOf period (quarter_sums xs)
+sums_own period xs own = lines_own period (λ k. energy_under k xs) (rising (numbers xs)) (λ k h. line_own period xs k own ((rising-IsIn k (numbers xs)).0 h))
+
+-- the lines of one station more
+pub stations_more : (stations : List (List ℕ × Board)) (k : ℕ) (s : List ℕ × Board) → k < length stations → s ≡ get_or stations k s → station_quarters (take (k + 1) stations) ≡ station_quarters (take k stations) ++ s.1.quarters
+stations_more stations k s less is =
+    ap station_quarters (take_more stations k s less ∙ ap (λ t. take k stations ++ t ∷ []) (sym is))
+    ∙ flat_map-append (λ (t : List ℕ × Board). t.1.quarters) (take k stations) (s ∷ [])
+    ∙ ap (λ ls. station_quarters (take k stations) ++ ls) (append-nil s.1.quarters)

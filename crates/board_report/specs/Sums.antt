@@ -1,7 +1,8 @@
 -- The quarters that the stations of a site show, and the condition on their sums.
-use Rattle.std.specs.Prelude.{ℕ, ◌<◌, List, ◌^◌}
+use Rattle.std.specs.Prelude.{◌≡◌, ℕ, ◌<◌, List, All, ◌^◌}
 use Rattle.std.specs.List.{flat_map}
 use Rattle.ledger_model.specs.Board.{Board, Flowed, energy_under}
+use Rattle.ledger_model.specs.Quarter.{IsQuarterOf}
 
 -- The lines of quarters that stations show, as the stations stand.
 abbrev pub station_quarters : List (List ℕ × Board) → List Flowed
@@ -11,3 +12,11 @@ station_quarters stations = flat_map (λ (s : List ℕ × Board). s.1.quarters) 
 pub record QuartersFit (lines : List Flowed) : Type 0 where
   pub up : (quarter : ℕ) → (energy_under quarter lines).up < 2 ^ 64
   pub down : (quarter : ℕ) → (energy_under quarter lines).down < 2 ^ 64
+
+-- The stations' boards are by this settlement period.
+abbrev pub AreOfPeriod : ℕ → List (List ℕ × Board) → Type 0
+AreOfPeriod period stations = All (λ s. s.1.period ≡ period) stations
+
+-- Each line is of a quarter of this period.
+abbrev pub AreQuartersOf : ℕ → List Flowed → Type 0
+AreQuartersOf period lines = All (λ line. IsQuarterOf period line.0) lines

@@ -6,7 +6,6 @@ use Rattle.energy_flow.specs.Flow.{Energy}
 use Rattle.ledger_model.specs.declared.figures.Figures.{Figures}
 use Rattle.ledger_model.specs.Board.{Board, Flowed, Shown}
 use Rattle.ledger_model.specs.Gaps.{Gap}
-use Rattle.ledger_model.specs.Quarter.{quarter_seconds}
 use Rattle.reading_decimal.specs.MomentText.{text_of}
 use Rattle.reading_decimal.specs.Quarter.{quarter_start}
 use Rattle.board_report.specs.Named.{NamedBoard}
@@ -34,13 +33,13 @@ total_text f =
     ++ (field (codes " transactions=") f.transactions ++ (field (codes " complete=") f.complete
     ++ (field (codes " missing=") f.missing ++ flow_fields f.up f.down))))
 
--- The text of a quarter's first moment.
-unfoldable pub start_text : ℕ → List ℕ
-start_text quarter = text_of (quarter_start quarter_seconds quarter)
+-- The text of a quarter's first moment, by this settlement period.
+unfoldable pub start_text : ℕ → ℕ → List ℕ
+start_text period quarter = text_of (quarter_start period quarter)
 
--- `quarter <start> up=<n> down=<n>`
-unfoldable pub quarter_line : Flowed → List ℕ
-quarter_line q = line (codes "quarter " ++ (start_text q.0 ++ flow_fields q.1.up q.1.down))
+-- `period <start> up=<n> down=<n>`
+unfoldable pub quarter_line : ℕ → Flowed → List ℕ
+quarter_line period q = line (codes "period " ++ (start_text period q.0 ++ flow_fields q.1.up q.1.down))
 
 -- `evse <n> up=<n> down=<n>`
 unfoldable pub evse_line : Flowed → List ℕ
@@ -76,10 +75,14 @@ transaction_text t = transaction_line t ++ flat_map gap_line t.gaps
 unfoldable pub station_text : List ℕ × Board → List ℕ
 station_text s =
     line (codes "station " ++ s.0) ++ (line (total_text s.1.figures) ++ (flat_map evse_line s.1.evses
-    ++ (flat_map quarter_line s.1.quarters ++ flat_map transaction_text s.1.transactions)))
+    ++ (flat_map (quarter_line s.1.period) s.1.quarters ++ flat_map transaction_text s.1.transactions)))
 
--- The text of a site's board: its name, its total, its quarters, its stations, and `end`.
+-- `board <name> period=<seconds>`
+unfoldable pub heading : List ℕ → ℕ → List ℕ
+heading name period = line (codes "board " ++ (name ++ field (codes " period=") period))
+
+-- The text of a site's board: its name with its settlement period, its total, its quarters, its stations, and `end`.
 abbrev pub board_text : NamedBoard → List ℕ
 board_text b =
-    line (codes "board " ++ b.name) ++ (line (total_text b.figures) ++ (flat_map quarter_line b.quarters
+    heading b.name b.period ++ (line (total_text b.figures) ++ (flat_map (quarter_line b.period) b.quarters
     ++ (flat_map station_text b.stations ++ line (codes "end"))))

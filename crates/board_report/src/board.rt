@@ -1,18 +1,19 @@
 ghost use Rattle.std.specs.Prelude.{◌≡◌, IfOk};
 ghost use Rattle.ledger_model.specs.Board.{site_board as site_board_of};
-ghost use Rattle.board_report.specs.Sums.{station_quarters, QuartersFit};
+ghost use Rattle.board_report.specs.Sums.{station_quarters, AreOfPeriod, AreQuartersOf, QuartersFit};
 
 use crate::sums::site_quarters;
-use ledger_model::{Figures, Listed, Name};
+use ledger_model::{Figures, Listed, Name, Period};
 use station_ledger::{QuarterLine, StationBoard};
 use std::alloc::{AllocError, Global};
 use std::marker::Model;
 
-/// The board of a site: its name, its figures, its quarters with their energy, rising, and its
+/// The board of a site: its name, its settlement period, its figures, its quarters with their energy, rising, and its
 /// stations' boards by name, in the order of declaration.
 #[derive(Debug, Drop)]
 pub struct SiteBoard {
     pub(crate) name: Name,
+    pub(crate) period: Period,
     pub(crate) figures: Figures,
     pub(crate) quarters: Listed<QuarterLine>,
     pub(crate) stations: Listed<(Name, StationBoard)>,
@@ -20,10 +21,13 @@ pub struct SiteBoard {
 
 impl Model for SiteBoard {
     ghost use Rattle.board_report.specs.Named.{NamedBoard};
+    ghost use Rattle.board_report.specs.Sums.{AreQuartersOf};
 
     ghost Value = { NamedBoard };
 
-    ghost view = { λ b. record { name = b.name; figures = b.figures; quarters = b.quarters; stations = b.stations } };
+    ghost view = { λ b. record { name = b.name; period = b.period; figures = b.figures; quarters = b.quarters; stations = b.stations } };
+
+    ghost invariant = { λ b. AreQuartersOf b.period b.quarters };
 }
 
 impl SiteBoard {
@@ -34,6 +38,13 @@ impl SiteBoard {
         &self.name
     }
 
+    /// The settlement period that its quarters are counted by.
+    pub fn period(&self) -> Period
+        ensures { result ≡ self.now.period }
+    {
+        self.period
+    }
+
     /// The seven figures of the site.
     pub fn figures(&self) -> Figures
         ensures { result ≡ self.now.figures }
@@ -41,9 +52,11 @@ impl SiteBoard {
         self.figures
     }
 
-    /// The quarters that a station of the site shows, rising, each with its energy over all stations.
+    /// The quarters that a station of the site shows, rising, each one of the site's period and with its
+    /// energy over all stations.
     pub fn quarters(&self) -> &[QuarterLine]
-        ensures { result.now ≡ self.now.quarters }
+        ensures value { result.now ≡ self.now.quarters }
+        ensures own { AreQuartersOf self.now.period result.now }
     {
         self.quarters.as_slice()
     }
@@ -64,24 +77,28 @@ impl SiteBoard {
     }
 }
 
-/// The board of a site of this name, with these figures and these stations' boards: it adds up the
-/// stations' energies quarter by quarter, in milliwatt-hours. The sums of each quarter have to stay
-/// below 2^64.
+/// The board of a site of this name and settlement period, with these figures and these stations'
+/// boards: it adds up the stations' energies quarter by quarter, in milliwatt-hours. The boards have to
+/// be by that period ([`StationBoard::period`] tells), and the sums of each quarter to stay below 2^64.
 pub fn site_board(
     alloc: Global,
     name: &Name,
+    period: Period,
     figures: Figures,
     stations: Vec<(Name, StationBoard)>,
 ) -> Result<SiteBoard, AllocError>
-    requires { QuartersFit (station_quarters stations.items) }
+    requires periods { AreOfPeriod period stations.items }
+    requires fit { QuartersFit (station_quarters stations.items) }
     ensures name { IfOk result (λ board. board.name ≡ name.now) }
+    ensures period { IfOk result (λ board. board.period ≡ period) }
     ensures figures { IfOk result (λ board. board.figures ≡ figures) }
-    ensures quarters { IfOk result (λ board. board.quarters ≡ (site_board_of stations.items).quarters) }
+    ensures quarters { IfOk result (λ board. board.quarters ≡ (site_board_of period stations.items).quarters) }
     ensures stations { IfOk result (λ board. board.stations ≡ stations.items) }
 {
     let quarters = site_quarters(alloc, &stations)?;
     Ok(SiteBoard {
         name: name.copied(),
+        period,
         figures,
         quarters: Listed::of(quarters),
         stations: Listed::of(stations),

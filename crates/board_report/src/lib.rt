@@ -8,15 +8,16 @@
 //!
 //! The crate's one contract: each text has exactly the bytes that a short definition gives for the
 //! values, one definition for each kind of line; and a site's board shows each quarter that one of its
-//! stations shows, once and rising, with the sum over these stations. A caller of `site_board` sees to
-//! it that the sums of each quarter stay below 2^64, which the boards of one plan always do
-//! ([`plans_fit`]). `site_board` and `write_board` alone can run out of memory, and say so.
+//! stations shows, once and rising, with the sum over these stations. The quarters of a board are
+//! quarters of its settlement period. A caller of `site_board` sees to it that all boards are by the
+//! site's period, and that the sums of each quarter stay below 2^64, which the boards of one plan always
+//! do ([`plans_fit`]). `site_board` and `write_board` alone can run out of memory, and say so.
 //!
 //! ```text
-//! let board = site_board(alloc, &name, figures, stations)?;
-//! write_board(alloc, &board)?   // board north
+//! let board = site_board(alloc, &name, period, figures, stations)?;
+//! write_board(alloc, &board)?   // board north period=900
 //!                               // total events=2 voided=0 transactions=1 complete=0 ..
-//!                               // quarter 2026-03-01T10:30:00Z up=600000 down=0
+//!                               // period 2026-03-01T10:30:00Z up=600000 down=0
 //!                               // station A
 //!                               // ..
 //!                               // end

@@ -1,8 +1,8 @@
 // The sums of a site by quarter.
-ghost use Rattle.std.specs.Prelude.{◌≡◌, reverse, IfOk, OnOk};
+ghost use Rattle.std.specs.Prelude.{◌≡◌, ℕ, reverse, IfOk, OnOk};
 ghost use Rattle.std.specs.List.Sorted.{IsPermutation};
 ghost use Rattle.board_report.specs.Lines.{quarter_sums, AreInOrder, put_line, CanLead};
-ghost use Rattle.board_report.specs.Sums.{station_quarters, QuartersFit};
+ghost use Rattle.board_report.specs.Sums.{station_quarters, AreOfPeriod, AreQuartersOf, QuartersFit};
 
 use ledger_model::Name;
 use station_ledger::{QuarterLine, StationBoard};
@@ -13,7 +13,8 @@ fn station_quarters(
     alloc: Global,
     stations: &[(Name, StationBoard)],
 ) -> Result<Vec<QuarterLine>, AllocError>
-    ensures { IfOk result (λ lines. lines.items ≡ station_quarters stations.now) }
+    ensures lines { IfOk result (λ lines. lines.items ≡ station_quarters stations.now) }
+    ensures own { IfOk result (λ lines. (period : ℕ) → AreOfPeriod period stations.now → AreQuartersOf period lines.items) }
 {
     let mut lines = Vec::new(alloc);
     for station in stations {
@@ -70,7 +71,8 @@ pub(crate) fn site_quarters(
     stations: &[(Name, StationBoard)],
 ) -> Result<Vec<QuarterLine>, AllocError>
     requires { QuartersFit (station_quarters stations.now) }
-    ensures { IfOk result (λ quarters. quarters.items ≡ quarter_sums (station_quarters stations.now)) }
+    ensures sums { IfOk result (λ quarters. quarters.items ≡ quarter_sums (station_quarters stations.now)) }
+    ensures own { IfOk result (λ quarters. (period : ℕ) → AreOfPeriod period stations.now → AreQuartersOf period quarters.items) }
 {
     let mut lines = station_quarters(alloc, stations)?;
     put_in_order(&mut lines);

@@ -1,14 +1,16 @@
 // The text of a board, line by line.
 ghost use Rattle.std.specs.Prelude.{◌≡◌, ◌++◌, OnOk, IfOk};
 ghost use Rattle.std.specs.List.{flat_map};
-ghost use Rattle.board_report.specs.Texts.{field, line, flow_fields, start_text, events_fields, completeness_fields, total_text as total_text_of, quarter_line, evse_line, yes_or_no, transaction_line, gap_line, transaction_text, station_text, board_text};
+ghost use Rattle.ledger_model.specs.Quarter.{IsQuarterOf};
+ghost use Rattle.board_report.specs.Sums.{AreQuartersOf};
+ghost use Rattle.board_report.specs.Texts.{field, line, flow_fields, start_text, events_fields, completeness_fields, total_text as total_text_of, quarter_line, evse_line, yes_or_no, transaction_line, gap_line, transaction_text, station_text, heading, board_text};
 
 use crate::board::SiteBoard;
 use crate::fixed::total_text;
 use arrayvec::ArrayString;
 use energy_flow::Flow;
 use itoa::Buffer;
-use ledger_model::{Figures, Name, Quarter};
+use ledger_model::{Figures, Name, Period, Quarter};
 use reading_decimal::{moment_text, quarter_start};
 use station_ledger::{EvseLine, QuarterLine, StationBoard, TxLine};
 use std::alloc::{AllocError, Global};
@@ -53,19 +55,21 @@ fn put_total(text: &mut Vec<u8>, figures: &Figures) -> Result<(), AllocError>
 
 // The first moment of a quarter.
 #[tactic(auto, unfolding(crate::specs::Texts::start_text))]
-fn start_text(quarter: Quarter) -> ArrayString<20>
-    ensures { result.bytes ≡ start_text quarter }
+fn start_text(quarter: Quarter, period: Period) -> ArrayString<20>
+    requires { IsQuarterOf period quarter }
+    ensures { result.bytes ≡ start_text period quarter }
 {
-    moment_text(quarter_start(quarter))
+    moment_text(quarter_start(quarter, period))
 }
 
 // Appends the line of a quarter.
 #[tactic(auto, unfolding(crate::specs::Texts::quarter_line))]
-fn put_quarter(text: &mut Vec<u8>, shown: &QuarterLine) -> Result<(), AllocError>
-    ensures { OnOk result (text.new.items ≡ text.old.items ++ quarter_line shown.now) }
+fn put_quarter(text: &mut Vec<u8>, period: Period, shown: &QuarterLine) -> Result<(), AllocError>
+    requires { IsQuarterOf period shown.now.0 }
+    ensures { OnOk result (text.new.items ≡ text.old.items ++ quarter_line period shown.now) }
 {
-    text.extend_from_slice(b"quarter ")?;
-    text.extend_from_slice(start_text(shown.quarter()).as_str().as_bytes())?;
+    text.extend_from_slice(b"period ")?;
+    text.extend_from_slice(start_text(shown.quarter(), period).as_str().as_bytes())?;
     put_flow(text, shown.flow())
 }
 
@@ -149,11 +153,16 @@ fn put_with_gaps(text: &mut Vec<u8>, shown: &TxLine) -> Result<(), AllocError>
 }
 
 // Appends the lines of quarters.
-fn put_quarters(text: &mut Vec<u8>, quarters: &[QuarterLine]) -> Result<(), AllocError>
-    ensures { OnOk result (text.new.items ≡ text.old.items ++ flat_map quarter_line quarters.now) }
+fn put_quarters(
+    text: &mut Vec<u8>,
+    period: Period,
+    quarters: &[QuarterLine],
+) -> Result<(), AllocError>
+    requires { AreQuartersOf period quarters.now }
+    ensures { OnOk result (text.new.items ≡ text.old.items ++ flat_map (quarter_line period) quarters.now) }
 {
     for quarter in quarters {
-        put_quarter(text, quarter)?;
+        put_quarter(text, period, quarter)?;
     }
     Ok(())
 }
@@ -187,7 +196,7 @@ fn put_station(text: &mut Vec<u8>, station: &(Name, StationBoard)) -> Result<(),
     put_text(text, "station ", station.0.text())?;
     put_total(text, &board.figures())?;
     put_evses(text, board.evses())?;
-    put_quarters(text, board.quarters())?;
+    put_quarters(text, board.period(), board.quarters())?;
     put_transactions(text, board.transactions())
 }
 
@@ -201,16 +210,28 @@ fn put_stations(text: &mut Vec<u8>, stations: &[(Name, StationBoard)]) -> Result
     Ok(())
 }
 
-/// The text of a site's board: its name, its total and its quarters, then each station with its name,
+// Appends the name of a site and its settlement period.
+#[tactic(auto, unfolding(crate::specs::Texts::heading))]
+fn put_heading(text: &mut Vec<u8>, board: &SiteBoard) -> Result<(), AllocError>
+    ensures { OnOk result (text.new.items ≡ text.old.items ++ heading board.now.name board.now.period) }
+{
+    text.extend_from_slice(b"board ")?;
+    text.extend_from_slice(board.name().text().as_bytes())?;
+    put_field(text, " period=", u64::from(board.period().seconds()))?;
+    text.push(b'\n')?;
+    Ok(())
+}
+
+/// The text of a site's board: its name with its settlement period, its total and its quarters, then each station with its name,
 /// its total, its EVSEs, its quarters and its transactions, each of these with its gaps, and `end`.
 /// Each line ends with a line feed.
 pub fn write_board(alloc: Global, board: &SiteBoard) -> Result<Vec<u8>, AllocError>
     ensures { IfOk result (λ text. text.items ≡ board_text board.now) }
 {
     let mut text = Vec::new(alloc);
-    put_text(&mut text, "board ", board.name().text())?;
+    put_heading(&mut text, board)?;
     put_total(&mut text, &board.figures())?;
-    put_quarters(&mut text, board.quarters())?;
+    put_quarters(&mut text, board.period(), board.quarters())?;
     put_stations(&mut text, board.stations())?;
     text.extend_from_slice(b"end\n")?;
     Ok(text)

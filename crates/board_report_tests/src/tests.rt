@@ -1,12 +1,13 @@
 ghost use Rattle.std.specs.Prelude.{◌≡◌, ◌≤◌, IfOk};
 ghost use Rattle.ledger_model.specs.Limits.{Bounds, default_limits};
+ghost use Rattle.ledger_model.specs.Quarter.{default_period};
 ghost use Rattle.board_report.specs.Plans.{IsBoardWithin};
-ghost use Rattle.board_report.specs.Sums.{station_quarters, QuartersFit};
+ghost use Rattle.board_report.specs.Sums.{station_quarters, AreOfPeriod, QuartersFit};
 
 use board_report::{SiteBoard, energy_text, site_board, total_text, write_board};
 use energy_flow::{Flow, Level, Work, difference};
 use ledger_model::{
-    Answer, Command, Event, Figures, Key, Kind, Limits, Moment, Name, Reading, TxId,
+    Answer, Command, Event, Figures, Key, Kind, Limits, Moment, Name, Period, Reading, TxId,
 };
 use station_ledger::{StationBoard, StationLedger};
 use std::alloc::Global;
@@ -41,20 +42,20 @@ const FALLING: &[Asked] = &[
 const TWO_STATIONS: Site = Site {
     figures: [6, 0, 2, 0, 0, 650_000, 1_500_000],
     stations: &[("A", &[START, LATER, MIDDLE]), ("B", FALLING)],
-    text: "board north
+    text: "board north period=900
 total events=6 voided=0 transactions=2 complete=0 missing=0 up=650000 down=1500000
-quarter 2026-03-01T10:00:00Z up=250000 down=1500000
-quarter 2026-03-01T10:30:00Z up=400000 down=0
+period 2026-03-01T10:00:00Z up=250000 down=1500000
+period 2026-03-01T10:30:00Z up=400000 down=0
 station A
 total events=3 voided=0 transactions=1 complete=0 missing=0 up=600000 down=0
 evse 0 up=600000 down=0
-quarter 2026-03-01T10:00:00Z up=200000 down=0
-quarter 2026-03-01T10:30:00Z up=400000 down=0
+period 2026-03-01T10:00:00Z up=200000 down=0
+period 2026-03-01T10:30:00Z up=400000 down=0
 tx t1 evse=0 events=3 first=0 last=2 complete=no missing=0 up=600000 down=0
 station B
 total events=3 voided=0 transactions=1 complete=0 missing=0 up=50000 down=1500000
 evse 0 up=50000 down=1500000
-quarter 2026-03-01T10:00:00Z up=50000 down=1500000
+period 2026-03-01T10:00:00Z up=50000 down=1500000
 tx t1 evse=0 events=3 first=0 last=2 complete=no missing=0 up=50000 down=1500000
 end
 ",
@@ -63,7 +64,7 @@ end
 const NO_STATION: Site = Site {
     figures: [0, 0, 0, 0, 0, 0, 0],
     stations: &[],
-    text: "board north
+    text: "board north period=900
 total events=0 voided=0 transactions=0 complete=0 missing=0 up=0 down=0
 end
 ",
@@ -86,9 +87,10 @@ fn station(
     work: &mut Work,
     asked: &[Asked],
 ) -> Result<StationBoard, Fail>
-    ensures { IfOk result (λ b. IsBoardWithin default_limits b) }
+    ensures within { IfOk result (λ b. IsBoardWithin default_limits b) }
+    ensures period { IfOk result (λ b. b.period ≡ default_period) }
 {
-    let mut ledger = StationLedger::open(alloc, Limits::default())?;
+    let mut ledger = StationLedger::open(alloc, Limits::default(), Period::default())?;
     for one in asked {
         assert!(rt; is_taken(&mut ledger, command(alloc, *one), work));
     }
@@ -112,7 +114,8 @@ fn stations(
     work: &mut Work,
     told: &[(&'static str, &'static [Asked])],
 ) -> Result<Vec<(Name, StationBoard)>, Fail>
-    ensures { IfOk result (λ boards. QuartersFit (station_quarters boards.items)) }
+    ensures fit { IfOk result (λ boards. QuartersFit (station_quarters boards.items)) }
+    ensures periods { IfOk result (λ boards. AreOfPeriod default_period boards.items) }
 {
     if told.len() > 64 {
         return Err(Fail::from("too many stations"));
@@ -146,7 +149,13 @@ fn board_of(
 ) -> Result<SiteBoard, Fail> {
     let name = Name::new("north").ok_or("no name")?;
     let boards = stations(rt, alloc, work, site.stations)?;
-    Ok(site_board(alloc, &name, figures(site.figures), boards)?)
+    Ok(site_board(
+        alloc,
+        &name,
+        Period::default(),
+        figures(site.figures),
+        boards,
+    )?)
 }
 
 #[test]
@@ -188,7 +197,13 @@ fn a_board_without_memory_is_made_again(rt: HostRuntime) -> Result<(), Fail> {
     let mut work = Work::open(&rt);
     let name = Name::new("north").ok_or("no name")?;
     let boards = stations(&rt, rt.alloc(), &mut work, TWO_STATIONS.stations)?;
-    let board = match site_board(rt.alloc(), &name, figures(TWO_STATIONS.figures), boards) {
+    let board = match site_board(
+        rt.alloc(),
+        &name,
+        Period::default(),
+        figures(TWO_STATIONS.figures),
+        boards,
+    ) {
         Ok(board) => board,
         Err(_) => board_of(&rt, rt.alloc(), &mut work, &TWO_STATIONS)?,
     };

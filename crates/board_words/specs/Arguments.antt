@@ -5,6 +5,7 @@ use Rattle.clap.specs.Matches.{matched_of, one_text, raw_values}
 use Rattle.clap.specs.declared.parser.matches.Found.{Found}
 use Rattle.board_words.specs.declared.asked.Asked.{Asked}
 use Rattle.board_words.specs.declared.asked.Asked.TheVariants.{Replay, Serve, Simulate}
+use Rattle.ledger_model.specs.Quarter.{IsPeriod, default_period}
 use Rattle.board_words.specs.StationWords.{AnswersWords}
 use Rattle.site_server.specs.declared.service.Service.{Service}
 use Rattle.station_link.specs.Sim.{IsSimulated}
@@ -33,14 +34,20 @@ pub record AsksService (found : Found) (service : Service) : Type 0 where
   pub connections : GivesWithin found (codes "connections") 8 1 1 64 service.connections
   pub watch : Gives found (codes "watch") 16 0 service.glances
 
+-- The settlement period of all sites of a server: that of its option, where it is one.
+pub record AsksPeriod (found : Found) (period : ℕ) : Type 0 where
+  pub given : ℕ
+  pub gives : Gives found (codes "period") 16 default_period given
+  pub within : IsPeriod given → period ≡ given
+
 -- The words that name stations.
 abbrev pub words_of : Found → List (List ℕ)
 words_of found = unwrap_or (option_map raw_values (matched_of found (codes "stations"))) []
 
--- A server is asked for with the plan of its words, in which each site has a viewer where its totals are watched.
+-- A server is asked for with the plan of its words, in which each site has the settlement period that is asked for, and a viewer where its totals are watched.
 abbrev pub AsksServe : Found → Asked → Type 0
 AsksServe found Replay = ⊥
-AsksServe found (Serve plan service) = AsksService found service × AnswersWords plan (if nat_lt 0 service.glances then 1 else 0) (words_of found)
+AsksServe found (Serve plan service) = AsksService found service × (period : ℕ) × (AsksPeriod found period × AnswersWords plan (if nat_lt 0 service.glances then 1 else 0) period (words_of found))
 AsksServe found (Simulate stations events) = ⊥
 
 -- A simulation is asked for.

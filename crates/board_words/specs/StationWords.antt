@@ -36,20 +36,20 @@ is_too_many sites stations word = is_past (found_site word sites) sites stations
 abbrev pub new_station : List SitePlan → List ℕ → StationPlan
 new_station sites word = record { site = site_number (found_site word sites) sites; name = station_of word; limits = default_limits }
 
--- the words declare their stations in their order, each site with so many viewers where it is mentioned first, up to the first that is one too many: that word, and the plan up to it
-abbrev pub declared_by : ℕ → List (List ℕ) → List SitePlan → List StationPlan → Option (List ℕ) × (List SitePlan × List StationPlan)
-declared_by viewers [] sites stations = (None, (sites, stations))
-declared_by viewers (word ∷ words) sites stations =
+-- the words declare their stations in their order, each site with so many viewers and this settlement period where it is mentioned first, up to the first that is one too many: that word, and the plan up to it
+abbrev pub declared_by : ℕ → ℕ → List (List ℕ) → List SitePlan → List StationPlan → Option (List ℕ) × (List SitePlan × List StationPlan)
+declared_by viewers period [] sites stations = (None, (sites, stations))
+declared_by viewers period (word ∷ words) sites stations =
     if is_too_many sites stations word
     then (Some word, (sites, stations))
-    else declared_by viewers words (sites_with (found_site word sites) (site_of word) viewers sites) (stations ++ new_station sites word ∷ [])
+    else declared_by viewers period words (sites_with (found_site word sites) (site_of word) viewers period sites) (stations ++ new_station sites word ∷ [])
 
 -- the first word that names no station
 abbrev pub first_bad : List (List ℕ) → Option (List ℕ)
 first_bad words = find (λ w. is_none (station_word w)) words
 
 -- Words make the plan that they declare; else the first word that names no station is told, or, where all do, the first that is one too many.
-abbrev pub AnswersWords : Result Plan WordFault → ℕ → List (List ℕ) → Type 0
-AnswersWords (Ok plan) viewers words = (first_bad words ≡ None) × (declared_by viewers words [] [] ≡ (None, (plan.sites.items, plan.stations.items)))
-AnswersWords (Err (BadStation word)) viewers words = first_bad words ≡ Some word.now
-AnswersWords (Err (PlanLimit word)) viewers words = (first_bad words ≡ None) × ((declared_by viewers words [] []).0 ≡ Some word.now)
+abbrev pub AnswersWords : Result Plan WordFault → ℕ → ℕ → List (List ℕ) → Type 0
+AnswersWords (Ok plan) viewers period words = (first_bad words ≡ None) × (declared_by viewers period words [] [] ≡ (None, (plan.sites.items, plan.stations.items)))
+AnswersWords (Err (BadStation word)) viewers period words = first_bad words ≡ Some word.now
+AnswersWords (Err (PlanLimit word)) viewers period words = (first_bad words ≡ None) × ((declared_by viewers period words [] []).0 ≡ Some word.now)

@@ -1,11 +1,11 @@
 //! What the options of a command ask for.
 ghost use Rattle.std.specs.Prelude.{◌≤◌};
 ghost use Rattle.clap.specs.Matches.{found_of};
-ghost use Rattle.board_words.specs.Arguments.{AsksServe, AsksService, AsksSimulate, IsAskable};
+ghost use Rattle.board_words.specs.Arguments.{AsksPeriod, AsksServe, AsksService, AsksSimulate, IsAskable};
 
 use crate::station_words::{WordFault, plan_of};
 use clap::ArgMatches;
-use ledger_model::MAX_STATIONS;
+use ledger_model::{MAX_STATIONS, Period};
 use site_desk::Plan;
 use site_server::{MAX_CONNECTIONS, MAX_SIMULATED_EVENTS, Service};
 
@@ -30,7 +30,8 @@ pub fn serve_asked<'a>(matches: &ArgMatches<'a>) -> Asked<'a>
     let service = service_of(matches);
     let words = matches.get_strs("stations").unwrap_or(&[]);
     let viewers = if service.glances > 0 { 1 } else { 0 };
-    Asked::Serve(plan_of(words, viewers), service)
+    let period = period_of(matches);
+    Asked::Serve(plan_of(words, viewers, period), service)
 }
 
 /// What the options of `serve` ask for. The number of connections is in range already, which the checker sees by
@@ -46,6 +47,19 @@ pub fn service_of(matches: &ArgMatches<'_>) -> Service
         port: port.unwrap_or(0),
         connections: connections.unwrap_or(1).clamp(1, MAX_CONNECTIONS),
         glances: watch.unwrap_or(0),
+    }
+}
+
+/// The settlement period of all sites. It is one of the four already, which the checker sees by the match.
+pub fn period_of(matches: &ArgMatches<'_>) -> Period
+    ensures { AsksPeriod (found_of matches.now) result }
+{
+    match matches.get_one::<u16>("period") {
+        Some(seconds) => match Period::new(seconds) {
+            Some(period) => period,
+            None => Period::default(),
+        },
+        None => Period::default(),
     }
 }
 

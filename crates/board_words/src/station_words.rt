@@ -2,7 +2,7 @@
 ghost use Rattle.std.specs.Prelude.{◌≡◌, None, map, option_map};
 ghost use Rattle.board_words.specs.StationWords.{declared_by, first_bad, station_word, AnswersWords};
 
-use ledger_model::{Limits, Name};
+use ledger_model::{Limits, Name, Period};
 use site_desk::Plan;
 use std::fmt;
 use std::fmt::{Display, Formatter};
@@ -26,16 +26,16 @@ impl Display for WordFault<'_> {
 }
 
 /// The plan of the stations that these words name, in their order, under the default limits. A site begins at
-/// its first mention, and has so many viewers. Names of stations that stand twice are left to the desk to
+/// its first mention, and has so many viewers and this settlement period. Names of stations that stand twice are left to the desk to
 /// refuse.
-pub fn plan_of<'a>(words: &[&'a str], viewers: u16) -> Result<Plan, WordFault<'a>>
-    ensures { AnswersWords result viewers (map (λ w. w.now) words.now) }
+pub fn plan_of<'a>(words: &[&'a str], viewers: u16, period: Period) -> Result<Plan, WordFault<'a>>
+    ensures { AnswersWords result viewers period (map (λ w. w.now) words.now) }
 {
     if let Some(word) = first_bad(words) {
         return Err(WordFault::BadStation(word));
     }
     let mut plan = Plan::new();
-    match declare_words(&mut plan, words, viewers) {
+    match declare_words(&mut plan, words, viewers, period) {
         Some(word) => Err(WordFault::PlanLimit(word)),
         None => Ok(plan),
     }
@@ -55,9 +55,14 @@ fn first_bad<'a>(words: &[&'a str]) -> Option<&'a str>
 }
 
 // Declares the stations of words that all name one, up to the first that is one too many, which it gives.
-fn declare_words<'a>(plan: &mut Plan, words: &[&'a str], viewers: u16) -> Option<&'a str>
+fn declare_words<'a>(
+    plan: &mut Plan,
+    words: &[&'a str],
+    viewers: u16,
+    period: Period,
+) -> Option<&'a str>
     requires good { first_bad (map (λ w. w.now) words.now) ≡ None }
-    ensures { declared_by viewers (map (λ w. w.now) words.now) plan.old.sites.items plan.old.stations.items ≡ (option_map (λ w. w.now) result, (plan.new.sites.items, plan.new.stations.items)) }
+    ensures { declared_by viewers period (map (λ w. w.now) words.now) plan.old.sites.items plan.old.stations.items ≡ (option_map (λ w. w.now) result, (plan.new.sites.items, plan.new.stations.items)) }
 {
     let [word, rest @ ..] = words else {
         return None;
@@ -68,8 +73,8 @@ fn declare_words<'a>(plan: &mut Plan, words: &[&'a str], viewers: u16) -> Option
     if plan.is_past(&site, &Limits::default()) {
         return Some(word);
     }
-    plan.declare(site, viewers, station, Limits::default());
-    declare_words(plan, rest, viewers)
+    plan.declare(site, viewers, period, station, Limits::default());
+    declare_words(plan, rest, viewers, period)
 }
 
 /// The site and the station of a word `SITE/STATION`.

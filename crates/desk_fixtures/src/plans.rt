@@ -2,12 +2,12 @@ ghost use Rattle.std.specs.Prelude.{ℕ, ◌<◌, length};
 ghost use Rattle.site_book.specs.Tables.{HasTable, NamedBy};
 
 use arrayvec::ArrayVec;
-use ledger_model::{Limits, Name};
+use ledger_model::{Limits, Name, Period};
 use site_book::{Naming, Tables, Viewer};
 use site_desk::{Desk, Plan, SitePlan, StationPlan};
 use std::alloc::Global;
 
-/// A plan of these sites with so many viewers each, and of stations with their site's number and default
+/// A plan of these sites with so many viewers each and the default settlement period, and of stations with their site's number and default
 /// limits. `None` where a name is none, or there are too many.
 pub fn plan_of(sites: &[&str], stations: &[(u16, &str)], viewers: u16) -> Option<Plan> {
     let mut plan = Plan {
@@ -16,7 +16,12 @@ pub fn plan_of(sites: &[&str], stations: &[(u16, &str)], viewers: u16) -> Option
     };
     for text in sites {
         let name = Name::new(text)?;
-        plan.sites.try_push(SitePlan { name, viewers }).ok()?;
+        let site = SitePlan {
+            name,
+            viewers,
+            period: Period::default(),
+        };
+        plan.sites.try_push(site).ok()?;
     }
     for (site, text) in stations {
         add_station(&mut plan, *site, text)?;

@@ -4,7 +4,6 @@ use Rattle.std.specs.Prelude.{filter, slice_get, IfOk, Result, Err, Ok}
 use Rattle.ledger_model.specs.declared.figures.Figures.{Figures}
 use Rattle.ledger_model.specs.Board.{Board, board, figures, site_board}
 use Rattle.ledger_model.specs.Content.{entries}
-use Rattle.ledger_model.specs.Quarter.{quarter_seconds}
 use Rattle.site_desk.specs.declared.plan.SitePlan.{SitePlan}
 use Rattle.site_desk.specs.declared.plan.StationPlan.{StationPlan}
 use Rattle.site_book.specs.Book.{Known}
@@ -17,20 +16,20 @@ use Rattle.desk_report.specs.Boards.{boards_at, site_named}
 use Rattle.desk_report.proofs.SiteBoards.{some_same}
 use Rattle.desk_report.specs.Closed.{AreBoards, IsClosedOf, boards_text}
 
-pub figures_alike : (xs : List StationPlan) (cells : List Cell) (site : ℕ) → length cells ≡ length xs
+pub figures_alike : (period : ℕ) (xs : List StationPlan) (cells : List Cell) (site : ℕ) → length cells ≡ length xs
     → ((k : ℕ) (s : StationPlan) (c : Cell) → slice_get xs k ≡ Some s → slice_get cells k ≡ Some c → c.site ≡ s.site)
-    → map (λ (c : Cell). figures (entries c.content)) (filter (λ (c : Cell). eqb c.site site) cells) ≡ map (λ (s : List ℕ × Board). s.1.figures) (boards_at xs cells site)
-figures_alike [] [] site count sites = refl
-figures_alike [] (c ∷ cells) site count sites = absurd (omega (arith, count))
-figures_alike (x ∷ xs) [] site count sites = absurd (omega (arith, count))
-figures_alike (x ∷ xs) (c ∷ cells) site count sites =
+    → map (λ (c : Cell). figures (entries c.content)) (filter (λ (c : Cell). eqb c.site site) cells) ≡ map (λ (s : List ℕ × Board). s.1.figures) (boards_at period xs cells site)
+figures_alike period [] [] site count sites = refl
+figures_alike period [] (c ∷ cells) site count sites = absurd (omega (arith, count))
+figures_alike period (x ∷ xs) [] site count sites = absurd (omega (arith, count))
+figures_alike period (x ∷ xs) (c ∷ cells) site count sites =
     let same : c.site ≡ x.site = sites zero x c refl refl in
     (λ i. map (λ (d : Cell). figures (entries d.content)) (cond (eqb (same i) site) (c ∷ filter (λ (d : Cell). eqb d.site site) cells) (filter (λ (d : Cell). eqb d.site site) cells)))
-    ∙ one (eqb x.site site) (figures_alike xs cells site (omega (arith, count)) (λ k s d at is. sites (suc k) s d at is))
+    ∙ one (eqb x.site site) (figures_alike period xs cells site (omega (arith, count)) (λ k s d at is. sites (suc k) s d at is))
   where
-    one : (t : Bool) → map (λ (d : Cell). figures (entries d.content)) (filter (λ (d : Cell). eqb d.site site) cells) ≡ map (λ (s : List ℕ × Board). s.1.figures) (boards_at xs cells site)
+    one : (t : Bool) → map (λ (d : Cell). figures (entries d.content)) (filter (λ (d : Cell). eqb d.site site) cells) ≡ map (λ (s : List ℕ × Board). s.1.figures) (boards_at period xs cells site)
         → map (λ (d : Cell). figures (entries d.content)) (cond t (c ∷ filter (λ (d : Cell). eqb d.site site) cells) (filter (λ (d : Cell). eqb d.site site) cells))
-        ≡ map (λ (s : List ℕ × Board). s.1.figures) (cond t ((x.name, board quarter_seconds (entries c.content)) ∷ boards_at xs cells site) (boards_at xs cells site))
+        ≡ map (λ (s : List ℕ × Board). s.1.figures) (cond t ((x.name, board period (entries c.content)) ∷ boards_at period xs cells site) (boards_at period xs cells site))
     one true e = ap (λ l. figures (entries c.content) ∷ l) e
     one false e = e
 
@@ -41,9 +40,9 @@ name_at (p ∷ sites) zero other less = refl
 name_at (p ∷ sites) (suc site) other less = name_at sites site other (omega (arith, less))
 
 -- a board under the same name and totals is the same board
-pub named_alike : (name other : List ℕ) (totals all : Figures) (boards : List (List ℕ × Board)) → name ≡ other → totals ≡ all → all ≡ (site_board boards).figures
-    → site_named name totals boards ≡ record { name = other; figures = (site_board boards).figures; quarters = (site_board boards).quarters; stations = (site_board boards).stations }
-named_alike name other totals all boards n t e = λ i. record { name = n i; figures = (t ∙ e) i; quarters = (site_board boards).quarters; stations = boards }
+pub named_alike : (name other : List ℕ) (period : ℕ) (totals all : Figures) (boards : List (List ℕ × Board)) → name ≡ other → totals ≡ all → all ≡ (site_board period boards).figures
+    → site_named name period totals boards ≡ record { name = other; period = period; figures = (site_board period boards).figures; quarters = (site_board period boards).quarters; stations = (site_board period boards).stations }
+named_alike name other period totals all boards n t e = λ i. record { name = n i; period = period; figures = (t ∙ e) i; quarters = (site_board period boards).quarters; stations = boards }
 
 -- what is told of a value
 pub value_told : {T E : Type 0} (r : Result T E) (P Q : T → Type 0) → ((x : T) → P x → Q x) → IfOk r P → IfOk r Q
@@ -51,22 +50,22 @@ value_told (Ok x) P Q f p = f x p
 value_told (Err e) P Q f p = p
 
 -- a desk that was closed is one of the stations that it was opened for
-pub closed_of : (sites : ℕ) (xs : List StationPlan) (desk : Roster) (closed : Ended) (passes : List Held) (viewers : List Known) → desk.sites ≡ sites → AreNewPlaces xs desk.stations → length closed.cells ≡ length desk.stations
+pub closed_of : (sites : List SitePlan) (xs : List StationPlan) (desk : Roster) (closed : Ended) (passes : List Held) (viewers : List Known) → desk.sites ≡ length sites → AreNewPlaces sites xs desk.stations → length closed.cells ≡ length desk.stations
     → length closed.books ≡ desk.sites → IsClosable desk.stations desk.viewers closed.cells closed.books passes viewers → IsClosedOf sites xs closed
 closed_of sites xs desk closed passes viewers planned new count books whole =
-    let stands : (k : ℕ) (s : StationPlan) (c : Cell) → slice_get xs k ≡ Some s → slice_get closed.cells k ≡ Some c → StandsAt k (new_place xs k s) c
+    let stands : (k : ℕ) (s : StationPlan) (c : Cell) → slice_get xs k ≡ Some s → slice_get closed.cells k ≡ Some c → StandsAt k (new_place sites xs k s) c
     = λ k s c at is.
     let placed = (whole.whole k c is).placed in
-    subst (λ p. StandsAt k p c) (some_same placed.place (new_place xs k s) (sym placed.there ∙ new.each k s at)) placed.stands in
+    subst (λ p. StandsAt k p c) (some_same placed.place (new_place sites xs k s) (sym placed.there ∙ new.each k s at)) placed.stands in
     record {
       books = books ∙ planned;
-      cells = record { count = count ∙ new.count; limits = λ k s c at is. (stands k s c at is).limits };
+      cells = record { count = count ∙ new.count; limits = λ k s c at is. (stands k s c at is).limits; periods = λ k s c at is. (stands k s c at is).period };
       at_sites = λ k s c at is. (stands k s c at is).site;
       summed = whole.summed;
     }
 
 -- its boards are those of contents that its passes' commands lead to
-pub boards_are : (sites : List SitePlan) (xs : List StationPlan) (places : List Place) (given : ℕ) (closed : Ended) (passes : List Held) (viewers : List Known) → IsClosedOf (length sites) xs closed
+pub boards_are : (sites : List SitePlan) (xs : List StationPlan) (places : List Place) (given : ℕ) (closed : Ended) (passes : List Held) (viewers : List Known) → IsClosedOf sites xs closed
     → IsClosable places given closed.cells closed.books passes viewers → AreBoards sites xs (boards_text sites xs closed.cells (length sites))
 boards_are sites xs places given closed passes viewers of_plan whole = record {
   cells = closed.cells;

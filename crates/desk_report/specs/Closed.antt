@@ -7,31 +7,32 @@ use Rattle.board_report.specs.Texts.{board_text}
 use Rattle.site_desk.specs.declared.plan.SitePlan.{SitePlan}
 use Rattle.site_desk.specs.declared.plan.StationPlan.{StationPlan}
 use Rattle.site_desk.specs.Cell.{Cell}
+use Rattle.site_desk.specs.Plan.{period_at}
 use Rattle.site_desk.specs.Close.{AreSummed, Ended}
 use Rattle.desk_report.specs.Boards.{AreCellsOf, boards_at}
 
--- A closed desk of so many sites and of these stations: each site has its book, each station its cell at its site, and each book's totals are the sums over its site's cells.
-pub record IsClosedOf (sites : ℕ) (stations : List StationPlan) (closed : Ended) : Type 0 where
-  pub books : length closed.books ≡ sites
-  pub cells : AreCellsOf stations closed.cells
+-- A closed desk of these sites and stations: each site has its book, each station its cell at its site, and each book's totals are the sums over its site's cells.
+pub record IsClosedOf (sites : List SitePlan) (stations : List StationPlan) (closed : Ended) : Type 0 where
+  pub books : length closed.books ≡ length sites
+  pub cells : AreCellsOf sites stations closed.cells
   pub at_sites : (k : ℕ) (s : StationPlan) (c : Cell) → slice_get stations k ≡ Some s → slice_get closed.cells k ≡ Some c → c.site ≡ s.site
   pub summed : AreSummed closed.cells closed.books
 
--- The board of the site of this number, from scratch: its stations' boards, the sums of their figures, and the sums of their quarters.
+-- The board of the site of this number, from scratch and by the site's settlement period: its stations' boards, the sums of their figures, and the sums of their quarters.
 abbrev pub closed_site : List SitePlan → List StationPlan → List Cell → ℕ → NamedBoard
 closed_site sites stations cells site =
-    let b = site_board (boards_at stations cells site) in
-    record { name = get_or (map (λ s. s.name) sites) site []; figures = b.figures; quarters = b.quarters; stations = b.stations }
+    let b = site_board (period_at sites site) (boards_at (period_at sites site) stations cells site) in
+    record { name = get_or (map (λ s. s.name) sites) site []; period = b.period; figures = b.figures; quarters = b.quarters; stations = b.stations }
 
 -- The texts of the boards of the first so many sites, in the plan's order.
 abbrev pub boards_text : List SitePlan → List StationPlan → List Cell → ℕ → List ℕ
 boards_text sites stations cells zero = []
 boards_text sites stations cells (suc site) = boards_text sites stations cells site ++ board_text (closed_site sites stations cells site)
 
--- These are the texts of the boards of all sites, in the plan's order: over cells of which each was opened for its station, with its limits at its site, and holds what accepted commands lead to from the empty content.
+-- These are the texts of the boards of all sites, in the plan's order: over cells of which each was opened for its station, with its limits at its site and by its site's settlement period, and holds what accepted commands lead to from the empty content.
 pub record AreBoards (sites : List SitePlan) (stations : List StationPlan) (text : List ℕ) : Type 0 where
   pub cells : List Cell
-  pub of_plan : AreCellsOf stations cells
+  pub of_plan : AreCellsOf sites stations cells
   pub at_sites : (k : ℕ) (s : StationPlan) (c : Cell) → slice_get stations k ≡ Some s → slice_get cells k ≡ Some c → c.site ≡ s.site
   pub reached : (k : ℕ) (c : Cell) → slice_get cells k ≡ Some c → Reached c.limits c.content.changes c.content
   pub is : text ≡ boards_text sites stations cells (length sites)

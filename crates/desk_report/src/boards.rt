@@ -3,50 +3,53 @@ ghost use Rattle.ledger_model.specs.Ranges.{most_plan_readings};
 ghost use Rattle.board_report.specs.Plans.{AreBoardsWithin};
 ghost use Rattle.board_report.specs.Texts.{board_text};
 ghost use Rattle.site_desk.specs.Parts.{limits_at};
+ghost use Rattle.site_desk.specs.Plan.{period_at};
 ghost use Rattle.desk_report.specs.Boards.{AreCellsOf, boards_at, site_named};
 
 use board_report::{site_board, write_board};
 use ledger_model::{Figures, Name};
-use site_desk::{StationCell, StationPlan};
+use site_desk::{Plan, StationCell};
 use station_ledger::StationBoard;
 use std::alloc::{AllocError, Global};
 
-/// The text of the board of the site of this number, under this name and with these totals, over the cells
-/// of its stations.
+/// The text of the board of the site of this number, under this name, by the site's settlement period and
+/// with these totals, over the cells of its stations.
 ///
-/// Condition: each station has its cell, opened with its limits, and the limits allow no more than 1,048,576
-/// readings in all, as in a desk's plan.
+/// Condition: the plan has the site, each of its stations has its cell, opened with its limits and by its
+/// site's period, and the limits allow no more than 1,048,576 readings in all, as in a desk's plan.
 pub fn site_text(
     alloc: Global,
-    stations: &[StationPlan],
+    plan: &Plan,
     cells: &[StationCell],
     site: usize,
     name: &Name,
     totals: Figures,
 ) -> Result<Vec<u8>, AllocError>
-    requires cells { AreCellsOf stations.now cells.now }
-    requires readings { sum_by (λ s. s.limits.readings) stations.now ≤ most_plan_readings }
-    ensures { IfOk result (λ text. text.items ≡ board_text (site_named name.now totals (boards_at stations.now cells.now site))) }
+    requires planned { site < length plan.now.sites.items }
+    requires cells { AreCellsOf plan.now.sites.items plan.now.stations.items cells.now }
+    requires readings { sum_by (λ s. s.limits.readings) plan.now.stations.items ≤ most_plan_readings }
+    ensures { IfOk result (λ text. text.items ≡ board_text (site_named name.now (period_at plan.now.sites.items site) totals (boards_at (period_at plan.now.sites.items site) plan.now.stations.items cells.now site))) }
 {
-    let boards = boards_of(alloc, stations, cells, site)?;
-    let board = site_board(alloc, name, totals, boards)?;
+    let period = plan.period(site);
+    let boards = boards_of(alloc, plan, cells, site)?;
+    let board = site_board(alloc, name, period, totals, boards)?;
     write_board(alloc, &board)
 }
 
 // The boards of the stations of the site of this number, each with the station's name.
 fn boards_of(
     alloc: Global,
-    stations: &[StationPlan],
+    plan: &Plan,
     cells: &[StationCell],
     site: usize,
 ) -> Result<Vec<(Name, StationBoard)>, AllocError>
-    requires { AreCellsOf stations.now cells.now }
-    ensures boards { IfOk result (λ boards. boards.items ≡ boards_at stations.now cells.now site) }
-    ensures within { IfOk result (λ boards. AreBoardsWithin (limits_at stations.now site) boards.items) }
+    requires { AreCellsOf plan.now.sites.items plan.now.stations.items cells.now }
+    ensures boards { IfOk result (λ boards. boards.items ≡ boards_at (period_at plan.now.sites.items site) plan.now.stations.items cells.now site) }
+    ensures within { IfOk result (λ boards. AreBoardsWithin (limits_at plan.now.stations.items site) boards.items) }
 {
     let mut boards = Vec::new(alloc);
-    for number in 0..stations.len() {
-        add_board(alloc, stations, cells, number, site, &mut boards)?;
+    for number in 0..plan.stations.len() {
+        add_board(alloc, plan, cells, number, site, &mut boards)?;
     }
     Ok(boards)
 }
@@ -54,19 +57,20 @@ fn boards_of(
 // Adds the board of the station of this number, where it is at the site, to those of the stations before it.
 fn add_board(
     alloc: Global,
-    stations: &[StationPlan],
+    plan: &Plan,
     cells: &[StationCell],
     number: usize,
     site: usize,
     boards: &mut Vec<(Name, StationBoard)>,
 ) -> Result<(), AllocError>
-    requires there { number < length stations.now }
-    requires cells { AreCellsOf stations.now cells.now }
-    requires boards { boards.old.items ≡ boards_at (take number stations.now) cells.now site }
-    requires within { AreBoardsWithin (limits_at (take number stations.now) site) boards.old.items }
-    ensures boards { OnOk result (boards.new.items ≡ boards_at (take (number + 1) stations.now) cells.now site) }
-    ensures within { OnOk result (AreBoardsWithin (limits_at (take (number + 1) stations.now) site) boards.new.items) }
+    requires there { number < length plan.now.stations.items }
+    requires cells { AreCellsOf plan.now.sites.items plan.now.stations.items cells.now }
+    requires boards { boards.old.items ≡ boards_at (period_at plan.now.sites.items site) (take number plan.now.stations.items) cells.now site }
+    requires within { AreBoardsWithin (limits_at (take number plan.now.stations.items) site) boards.old.items }
+    ensures boards { OnOk result (boards.new.items ≡ boards_at (period_at plan.now.sites.items site) (take (number + 1) plan.now.stations.items) cells.now site) }
+    ensures within { OnOk result (AreBoardsWithin (limits_at (take (number + 1) plan.now.stations.items) site) boards.new.items) }
 {
+    let stations = plan.stations.as_slice();
     let station = &stations[number];
     if station.site as usize != site {
         return Ok(());

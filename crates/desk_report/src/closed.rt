@@ -26,8 +26,8 @@ impl From<AllocError> for BoardsFault {
     }
 }
 
-/// The text of the board of the site of this number: the one from scratch, from the contents of its
-/// stations' ledgers, with the sums over them as its totals.
+/// The text of the board of the site of this number: the one from scratch, by the site's settlement
+/// period, from the contents of its stations' ledgers, with the sums over them as its totals.
 ///
 /// Condition: the desk that was closed was opened for this plan, and the site is one of its sites.
 pub fn closed_board<J: Naming>(
@@ -36,7 +36,7 @@ pub fn closed_board<J: Naming>(
     closed: &Closed<J>,
     site: u16,
 ) -> Result<Vec<u8>, AllocError>
-    requires closed { IsClosedOf (length plan.now.sites.items) plan.now.stations.items closed.now }
+    requires closed { IsClosedOf plan.now.sites.items plan.now.stations.items closed.now }
     requires readings { sum_by (λ s. s.limits.readings) plan.now.stations.items ≤ most_plan_readings }
     requires planned { site < length plan.now.sites.items }
     ensures { IfOk result (λ text. text.items ≡ board_text (closed_site plan.now.sites.items plan.now.stations.items closed.now.cells site)) }
@@ -44,14 +44,7 @@ pub fn closed_board<J: Naming>(
     let number = site as usize;
     let name = plan.sites.as_slice()[number].name.copied();
     let totals = closed.totals(site);
-    site_text(
-        alloc,
-        plan.stations.as_slice(),
-        closed.cells(),
-        number,
-        &name,
-        totals,
-    )
+    site_text(alloc, plan, closed.cells(), number, &name, totals)
 }
 
 /// Writes the board of each site, in the plan's order, each as [`closed_board`] makes it and out before the next
@@ -64,7 +57,7 @@ pub fn write_boards<J: Naming, W: Write>(
     closed: &Closed<J>,
     output: &mut W,
 ) -> Result<(), BoardsFault>
-    requires closed { IsClosedOf (length plan.now.sites.items) plan.now.stations.items closed.now }
+    requires closed { IsClosedOf plan.now.sites.items plan.now.stations.items closed.now }
     requires readings { sum_by (λ s. s.limits.readings) plan.now.stations.items ≤ most_plan_readings }
     ensures { OnOk result (Appends (W.contents output.old) (W.contents output.new) (boards_text plan.now.sites.items plan.now.stations.items closed.now.cells (length plan.now.sites.items))) }
 {

@@ -2,7 +2,7 @@
 //!
 //! A desk has one list of stations and one of cells, each station's cell in its place; a site's stations
 //! are those that name its number. [`site_text`] makes their boards, adds up their quarters and writes the
-//! text, `quarter` lines, stations and all. Whoever has the cells uses it: a replay, and [`closed_board`], which
+//! text, `period` lines, stations and all. Whoever has the cells uses it: a replay, and [`closed_board`], which
 //! makes the board of a site of a desk that was closed. [`write_boards`] writes those of all its sites.
 //!
 //! The crate's one contract: the text is that of the board under the name and the totals that are handed
@@ -10,7 +10,7 @@
 //! content. Of a closed desk the totals are the sums over the site's stations.
 //!
 //! ```text
-//! site_text(alloc, plan.stations.as_slice(), &cells, site, &name, book.totals())?   // board north ..
+//! site_text(alloc, &plan, &cells, site, &name, book.totals())?   // board north period=900 ..
 //! ```
 #![tactic(auto)]
 

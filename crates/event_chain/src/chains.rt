@@ -19,7 +19,7 @@ use crate::answers::{Found, Room, TxStanding};
 use crate::place_index::PlaceIndex;
 use crate::spots::{
     carrier_before, carrier_behind, enter, evse_at, first_at, first_live, first_naming, kind_at,
-    last_at, last_live, leave, locate, number_of, slot_of,
+    last_at, last_live, leave, locate, number_of, slot_of, slot_sought,
 };
 use crate::tx_ids::TxIds;
 use crate::tx_walk::TxWalk;
@@ -96,6 +96,21 @@ impl Chains {
         })
     }
 
+    /// Searches for a key once, for the calls that come next. Nothing that they answer changes.
+    pub fn seek(&mut self, key: &Key)
+        ensures { self.new ≡ self.old }
+    {
+        if let Some(row) = self.table.seek(key.tx()) {
+            self.places.seek(IndexKey::new(row.slot, key.seq()));
+        }
+    }
+
+    /// Where the transaction of the key that was sought last stood or belonged by its id, as a hint for
+    /// another map of about the same transactions.
+    pub fn near(&self) -> usize {
+        self.table.near()
+    }
+
     /// Whether there is room for an event of this transaction under a new key, with so many readings.
     pub fn room_for(&self, tx: &TxId, readings: usize) -> Room
         ensures { result ≡ room_of self.now.limits (stored self.now) tx.now readings }
@@ -127,6 +142,16 @@ impl Chains {
         ensures { option_map (λ e. e.1) result ≡ finite.get self.now.events key.now }
     {
         match slot_of(&self.table, &self.places, key) {
+            Some(slot) => Some(self.store.get(slot)),
+            None => None,
+        }
+    }
+
+    // The same of the key that was sought last.
+    fn event_sought(&self, key: &Key) -> Option<EventRef<'_>>
+        ensures { option_map (λ e. e.1) result ≡ finite.get self.now.events key.now }
+    {
+        match slot_sought(&self.table, &self.places, key) {
             Some(slot) => Some(self.store.get(slot)),
             None => None,
         }
@@ -213,7 +238,7 @@ impl Chains {
     pub fn readings(&self, key: &Key) -> Readings<'_>
         ensures { result ≡ readings_under (finite.get self.now.events key.now) }
     {
-        match self.event(key) {
+        match self.event_sought(key) {
             Some(event) => event.readings(),
             None => self.store.no_readings(),
         }

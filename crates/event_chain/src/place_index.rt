@@ -24,6 +24,11 @@ use std::marker::Model;
 pub(crate) struct PlaceIndex {
     index: KeyIndex,
     links: SlotLinks,
+    // The key that was sought last, where it stands or belongs, and where its transaction begins: they
+    // save searches, and change no answer.
+    sought: IndexKey,
+    near: Place,
+    start: Place,
 }
 
 impl Model for PlaceIndex {
@@ -95,6 +100,9 @@ impl PlaceIndex {
         Ok(PlaceIndex {
             index: KeyIndex::open(alloc, events)?,
             links: SlotLinks::open(alloc, events)?,
+            sought: IndexKey::new(0, 0),
+            near: Place::UNKNOWN,
+            start: Place::UNKNOWN,
         })
     }
 
@@ -105,9 +113,37 @@ impl PlaceIndex {
         self.index.len()
     }
 
+    // Searches for a key once, for the calls that come next.
+    pub(crate) fn seek(&mut self, key: IndexKey)
+        ensures { self.new ≡ self.old }
+    {
+        let first = IndexKey::new(key.transaction(), 0);
+        self.near = self.index.place_near(self.behind(key), key);
+        self.sought = key;
+        self.start = self.index.place_near(self.start, first);
+    }
+
     // The place where a key stands or belongs, to be handed to the calls that take one.
     pub(crate) fn place(&self, key: IndexKey) -> Place {
-        self.index.place(key)
+        self.index.place_near(self.near, key)
+    }
+
+    // A key that comes after the one that was sought last mostly stands or belongs right behind it.
+    pub(crate) fn behind(&self, key: IndexKey) -> Place {
+        if self.sought.is_before(key) {
+            return self.near.next();
+        }
+        Place::UNKNOWN
+    }
+
+    // Where the key that was sought last stands or belongs.
+    pub(crate) fn near(&self) -> Place {
+        self.near
+    }
+
+    // Where its transaction begins.
+    pub(crate) fn start(&self) -> Place {
+        self.start
     }
 
     // All events.
@@ -168,6 +204,8 @@ impl PlaceIndex {
             names,
         };
         self.index.insert(place, key, Filed { slot, marks });
+        self.near = place;
+        self.sought = key;
     }
 
     // Takes a live event's marks away; it keeps its place and its slot.
@@ -200,7 +238,7 @@ impl PlaceIndex {
         ensures naming { self.new.naming ≡ index (put_if names key slot self.old.naming.entries) self.old.naming.capacity }
     {
         self.index.keys_rise();
-        let place = self.index.place(key);
+        let place = self.place(key);
         link_live(&self.index, &mut self.links, place, key, slot);
         let marks = Marks {
             live: true,

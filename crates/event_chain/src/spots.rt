@@ -28,14 +28,34 @@ pub(crate) struct Spot {
     pub(crate) slot: u32,
 }
 
-// Finds a key; none where it is absent.
+// The slot of a key of the index; none where it is absent.
+fn slot_at(places: &PlaceIndex, near: Place, key: IndexKey) -> Option<u32>
+    ensures { result ≡ place_of key places.now.stored.entries }
+{
+    let stored = places.stored(near);
+    stored.keys_rise();
+    stored.get(key)
+}
+
+// Finds a key, also one that was not sought before; none where it is absent.
 pub(crate) fn slot_of(table: &TransactionTable, places: &PlaceIndex, key: &Key) -> Option<u32>
     ensures { result ≡ place_at table.now.rows places.now.stored.entries key.now }
 {
-    let stored = places.stored(Place::UNKNOWN);
-    stored.keys_rise();
     match table.get(key.tx()) {
-        Some(row) => stored.get(IndexKey::new(row.slot, key.seq())),
+        Some(row) => {
+            let at = IndexKey::new(row.slot, key.seq());
+            slot_at(places, places.behind(at), at)
+        }
+        None => None,
+    }
+}
+
+// Finds the key that was sought last; none where it is absent.
+pub(crate) fn slot_sought(table: &TransactionTable, places: &PlaceIndex, key: &Key) -> Option<u32>
+    ensures { result ≡ place_at table.now.rows places.now.stored.entries key.now }
+{
+    match table.get(key.tx()) {
+        Some(row) => slot_at(places, places.near(), IndexKey::new(row.slot, key.seq())),
         None => None,
     }
 }
@@ -48,7 +68,7 @@ pub(crate) fn locate(table: &TransactionTable, places: &PlaceIndex, key: &Key) -
     ensures slot { place_of result.key places.now.stored.entries ≡ Some result.slot }
     ensures number { key.now.seq < sequence_end }
 {
-    let stored = places.stored(Place::UNKNOWN);
+    let stored = places.stored(places.near());
     stored.keys_rise();
     let row = match table.get(key.tx()) {
         Some(row) => row,
@@ -89,7 +109,7 @@ fn has_place(places: &PlaceIndex, slot: u32) -> bool
     ensures some { result ≡ true → HasPlace places.now.stored.entries slot }
     ensures bare { result ≡ false → IsBare places.now.stored.entries slot }
 {
-    let stored = places.stored(Place::UNKNOWN);
+    let stored = places.stored(places.start());
     stored.keys_rise();
     first_place(&stored, slot).is_some()
 }
@@ -156,7 +176,7 @@ pub(crate) fn place_behind(index: &Lane<'_>, key: IndexKey) -> Option<(IndexKey,
 pub(crate) fn first_live(places: &PlaceIndex, row: Option<TableRow>) -> Option<(IndexKey, u32)>
     ensures { result ≡ first_under places.now.live.entries row }
 {
-    let live = places.live(Place::UNKNOWN);
+    let live = places.live(places.start());
     first_in(&live, row)
 }
 
@@ -165,7 +185,8 @@ pub(crate) fn last_live(places: &PlaceIndex, row: Option<TableRow>) -> Option<(I
     requires { ForSome row (λ r. r.slot < 4294967295) }
     ensures { result ≡ last_under places.now.live.entries row }
 {
-    let live = places.live(Place::UNKNOWN);
+    // The event that came last is mostly the one of the key that was sought.
+    let live = places.live(places.near().next());
     last_in(&live, row)
 }
 
@@ -173,7 +194,7 @@ pub(crate) fn last_live(places: &PlaceIndex, row: Option<TableRow>) -> Option<(I
 pub(crate) fn first_naming(places: &PlaceIndex, row: Option<TableRow>) -> Option<(IndexKey, u32)>
     ensures { result ≡ first_under places.now.naming.entries row }
 {
-    let naming = places.naming(Place::UNKNOWN);
+    let naming = places.naming(places.start());
     first_in(&naming, row)
 }
 

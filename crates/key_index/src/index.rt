@@ -90,6 +90,14 @@ impl KeyIndex {
         seek(&self.leaves, key)
     }
 
+    /// The same, where it may be the place given.
+    pub fn place_near(&self, near: Place, key: IndexKey) -> Place {
+        if self.leaves.is_empty() {
+            return Place { leaf: 0, entry: 0 };
+        }
+        settled(&self.leaves, near, key)
+    }
+
     /// What stands under a key; none where the key is absent.
     pub fn get(&self, place: Place, key: IndexKey) -> Option<Filed>
         ensures { result ≡ filed_at key (from key self.now.entries) }

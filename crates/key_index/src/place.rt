@@ -14,4 +14,12 @@ impl Place {
         leaf: usize::MAX,
         entry: 0,
     };
+
+    /// The place behind the entry that stands here.
+    pub fn next(self) -> Place {
+        Place {
+            leaf: self.leaf,
+            entry: self.entry.saturating_add(1),
+        }
+    }
 }

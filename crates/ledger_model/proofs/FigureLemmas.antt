@@ -23,8 +23,8 @@ figures-AreSums fs = record {
   down = figure_of_sum (λ f. f.down) refl (λ a b. refl) fs;
 }
 
-pub site-AreSums : (stations : List (List ℕ × Board)) → AreSums (site_board stations).figures (map (λ s. s.1.figures) stations)
-site-AreSums stations = figures-AreSums (map (λ s. s.1.figures) stations)
+pub site-AreSums : (period : ℕ) (stations : List (List ℕ × Board)) → AreSums (site_board period stations).figures (map (λ s. s.1.figures) stations)
+site-AreSums period stations = figures-AreSums (map (λ s. s.1.figures) stations)
 
 -- equal in each figure
 pub same_figures : (a b : Figures) → ((figure : Figures → ℕ) → figure no_figures ≡ 0 → ((c d : Figures) → figure (plus_figures c d) ≡ figure c + figure d) → figure a ≡ figure b) → a ≡ b

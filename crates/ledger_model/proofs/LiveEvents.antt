@@ -44,6 +44,7 @@ shown_of l tx = record {
 -- The board of live events, and so many voided ones.
 abbrev of_live : ℕ → ℕ → List Entry → Board
 of_live period voided l = record {
+  period = period;
   figures = record {
     events = length l;
     voided = voided;

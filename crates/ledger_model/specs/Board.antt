@@ -74,8 +74,9 @@ shown es tx = record {
   gaps = gaps (numbers_of tx es);
 }
 
--- The board of a station: its figures, its EVSEs and its quarters with their energy, and its transactions with a live event.
+-- The board of a station: its settlement period in seconds, its figures, its EVSEs and its quarters with their energy, and its transactions with a live event.
 pub record Board : Type 0 where
+  pub period : ℕ
   pub figures : Figures
   pub evses : List Flowed
   pub quarters : List Flowed
@@ -84,6 +85,7 @@ pub record Board : Type 0 where
 -- The board of a station, by settlement periods of so many seconds.
 abbrev pub board : ℕ → List Entry → Board
 board period es = record {
+  period = period;
   figures = figures es;
   evses = map (λ evse. (evse, energy_at evse es)) (evses es);
   quarters = map (λ quarter. (quarter, energy_in period quarter es)) (quarters period es);
@@ -95,17 +97,19 @@ abbrev pub energy_under : ℕ → List Flowed → Energy
 energy_under quarter [] = no_energy
 energy_under quarter (line ∷ lines) = if line.0 == quarter then plus line.1 (energy_under quarter lines) else energy_under quarter lines
 
--- The board of a site: the sums of its stations' figures and of their quarters, and its stations' boards by name in the order of declaration.
+-- The board of a site: its settlement period in seconds, the sums of its stations' figures and of their quarters, and its stations' boards by name in the order of declaration.
 pub record SiteBoard : Type 0 where
+  pub period : ℕ
   pub figures : Figures
   pub quarters : List Flowed
   pub stations : List (List ℕ × Board)
 
--- The board of a site over these stations' boards.
-abbrev pub site_board : List (List ℕ × Board) → SiteBoard
-site_board stations =
+-- The board of a site of this period over these stations' boards, which are of the same.
+abbrev pub site_board : ℕ → List (List ℕ × Board) → SiteBoard
+site_board period stations =
     let lines = flat_map (λ (s : List ℕ × Board). s.1.quarters) stations in
     record {
+      period = period;
       figures = sum_of_figures (map (λ s. s.1.figures) stations);
       quarters = map (λ quarter. (quarter, energy_under quarter lines)) (rising (map (λ line. line.0) lines));
       stations = stations;

@@ -30,7 +30,7 @@ voided e = (e.0, record { event = e.1.event; voided = true })
 abbrev pub rise : ℕ → Energy
 rise mwh = record { up = mwh; down = 0 }
 
--- The quarter that begins at 10:00 on that day; the next ones follow it.
+-- The quarter of 900 seconds that begins at 10:00 on that day; the next ones follow it.
 abbrev pub ten : ℕ
 ten = 1_969_288
 
@@ -40,6 +40,7 @@ first_run = metered Started 0 0 1_000 ∷ metered Updated 2 31 1_600 ∷ []
 
 abbrev pub first_run_board : Board
 first_run_board = record {
+  period = 900;
   figures = record { events = 2; voided = 0; transactions = 1; complete = 0; missing = 1; up = 600_000; down = 0 };
   evses = (0, rise 600_000) ∷ [];
   quarters = (ten + 2, rise 600_000) ∷ [];
@@ -48,7 +49,7 @@ first_run_board = record {
 
 -- The board of a site that has this station alone.
 abbrev pub first_run_site : SiteBoard
-first_run_site = record { figures = first_run_board.figures; quarters = first_run_board.quarters; stations = (codes "A", first_run_board) ∷ [] }
+first_run_site = record { period = 900; figures = first_run_board.figures; quarters = first_run_board.quarters; stations = (codes "A", first_run_board) ∷ [] }
 
 -- Then the one between them.
 abbrev pub late_event : List Entry
@@ -56,6 +57,7 @@ late_event = metered Started 0 0 1_000 ∷ metered Updated 1 14 1_200 ∷ metere
 
 abbrev pub late_event_board : Board
 late_event_board = record {
+  period = 900;
   figures = record { events = 3; voided = 0; transactions = 1; complete = 0; missing = 0; up = 600_000; down = 0 };
   evses = (0, rise 600_000) ∷ [];
   quarters = (ten, rise 200_000) ∷ (ten + 2, rise 400_000) ∷ [];

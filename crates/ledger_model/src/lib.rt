@@ -29,6 +29,7 @@ mod limits;
 mod listed;
 mod moment;
 mod name;
+mod period;
 mod reading;
 mod tx_id;
 
@@ -46,5 +47,6 @@ pub use limits::{
 pub use listed::Listed;
 pub use moment::{FIRST_MOMENT, FIRST_QUARTER, LAST_QUARTER, MOMENTS_END, Moment, Quarter};
 pub use name::{MAX_NAME, Name};
+pub use period::Period;
 pub use reading::{GREATEST_READING, Reading};
 pub use tx_id::{MAX_TX_ID, TxId};

@@ -11,11 +11,11 @@ pub const FIRST_MOMENT: u64 = 946_684_800_000_000_000;
 /// The first nanosecond after the last moment: 2100-01-01T00:00:00Z, counted from 1970.
 pub const MOMENTS_END: u64 = 4_102_444_800_000_000_000;
 
-/// The quarter of the first moment.
-pub const FIRST_QUARTER: u32 = 1_051_872;
+/// The quarter of the first moment, by the longest settlement period.
+pub const FIRST_QUARTER: u32 = 262_968;
 
-/// The quarter of the last moment.
-pub const LAST_QUARTER: u32 = 4_558_271;
+/// The quarter of the last moment, by the shortest settlement period.
+pub const LAST_QUARTER: u32 = 13_674_815;
 
 /// An instant of the years 2000 to 2099, in nanoseconds from 1970-01-01T00:00:00Z.
 #[derive(Clone, Copy, Debug, PartialEq, Eq, PartialOrd, Ord)]
@@ -68,7 +68,8 @@ impl Moment {
     }
 }
 
-/// A settlement period of 900 seconds, by its number from 1970-01-01T00:00:00Z.
+/// One stretch of time that a market settles as one, by its number from 1970-01-01T00:00:00Z. How
+/// long it is, the [`Period`](crate::Period) says by which it was counted.
 #[derive(Clone, Copy, Debug, PartialEq, Eq, PartialOrd, Ord)]
 pub struct Quarter {
     number: u32,
@@ -88,8 +89,8 @@ impl Model for Quarter {
 }
 
 impl Quarter {
-    /// The quarter of this number; `None` outside 1,051,872 to 4,558,271, the quarters that moments
-    /// fall into.
+    /// The quarter of this number; `None` outside 262,968 to 13,674,815, the quarters that moments
+    /// fall into by some period.
     pub fn new(number: u32) -> Option<Self>
         ensures valid { IsSome result ↔ IsQuarter number }
         ensures value { IfSome result (λ q. q ≡ number) }

@@ -1,8 +1,8 @@
 //! Examples of what the types take and keep, from OCPP 2.0.1 and this product's profile.
 use energy_flow::Level;
 use ledger_model::{
-    Command, Event, EvseId, Figures, Key, Kind, Limits, Listed, Moment, Name, Quarter, Reading,
-    Refusal, TxId,
+    Command, Event, EvseId, Figures, Key, Kind, Limits, Listed, Moment, Name, Period, Quarter,
+    Reading, Refusal, TxId,
 };
 use std::alloc::{AllocError, Global};
 use std::test::Fail;
@@ -153,11 +153,35 @@ const MOMENTS: [(u64, bool); 4] = [
 ];
 
 const QUARTERS: [(u32, bool); 4] = [
-    (1_051_871, false),
-    (1_051_872, true),
-    (4_558_271, true),
-    (4_558_272, false),
+    (262_967, false),
+    (262_968, true),
+    (13_674_815, true),
+    (13_674_816, false),
 ];
+
+const PERIODS: [(u16, bool); 9] = [
+    (0, false),
+    (299, false),
+    (300, true),
+    (600, false),
+    (900, true),
+    (1_800, true),
+    (3_600, true),
+    (7_200, false),
+    (u16::MAX, false),
+];
+
+#[test]
+fn four_periods_are_taken(rt: HostRuntime) {
+    for (seconds, is_period) in &PERIODS {
+        let period = Period::new(*seconds);
+        assert!(rt; period.is_some() == *is_period, "{seconds}");
+        if let Some(period) = period {
+            assert!(rt; period.seconds() == *seconds);
+        }
+    }
+    assert!(rt; Period::default().seconds() == 900);
+}
 
 #[test]
 fn numbers_have_their_ranges(rt: HostRuntime) {

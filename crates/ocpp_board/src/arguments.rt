@@ -11,6 +11,9 @@ use std::convert::AsStr;
 // How many times a server's totals may be shown.
 const MAX_GLANCES: u16 = 600;
 
+// The seconds that a settlement period may have.
+const PERIODS: [&str; 4] = ["300", "900", "1800", "3600"];
+
 const ABOUT: &str =
     "The transaction ledger and site board of an OCPP 2.0.1 charging station management system";
 
@@ -23,13 +26,15 @@ A script has one line for each step, and each answer is one line, or a board:
   limits <transactions> <events> <readings> <changes>
                              holds for the stations that follow; writes nothing
   station <site> <station>   declares a station; writes nothing
+  period <site> <seconds>    the settlement period of the site's boards: 300, 900, 1800 or
+                             3600 seconds, 900 where none is told; writes nothing
   now <time>                 sets the moment, as 2026-03-01T10:00:00Z; writes nothing
   msg <station> <text>       an OCPP-J message of the station; writes the reply, or `silent`
   void, restore or erase, with <station> <transaction id> <seqNo>
                              an operator's command; writes `accepted <n>` or `refused <name>`
   energy <station>           writes `energy up=<n> down=<n>`, in milliwatt-hours
   total <station>            writes the station's figures
-  board <site>               writes the board of the site, from `board <site>` to `end`
+  board <site>               writes the board of the site, from its name to `end`
 Empty lines and lines that begin with # write nothing. A line with a fault writes
 `fault <name>` and changes no plan, content or moment: LineTooLong, BadLine,
 DeclaredLate, PlanLimit, StationTwice, UnknownStation or UnknownSite.
@@ -99,6 +104,7 @@ fn serve_command<'a>(alloc: Global) -> Result<Command<'a>, AllocError> {
         .arg(port_option(alloc))?
         .arg(connections_option(alloc))?
         .arg(watch_option(alloc))?
+        .arg(period_option(alloc))?
         .arg(station_words(alloc))
 }
 
@@ -129,6 +135,15 @@ fn watch_option<'a>(alloc: Global) -> Arg<'a> {
         .help(
             "How many times to write each site's totals to standard error, one second apart, 0 to 600",
         )
+}
+
+fn period_option<'a>(alloc: Global) -> Arg<'a> {
+    Arg::new(alloc, "period")
+        .long("period")
+        .value_name("SECONDS")
+        .value_parser(PERIODS.as_slice())
+        .default_value("900")
+        .help("The settlement period of all sites' boards, in seconds")
 }
 
 fn station_words<'a>(alloc: Global) -> Arg<'a> {

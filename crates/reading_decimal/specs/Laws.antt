@@ -3,7 +3,7 @@ use Rattle.std.specs.Prelude.{◌≡◌, ◌↔◌, ℕ, ℤ, List, IsTrue, Ok}
 use Rattle.std.specs.Float.Numeral.{Parts}
 use Rattle.reading_decimal.specs.declared.decimal.Unit.{Unit as EnergyUnit}
 use Rattle.ledger_model.specs.Moment.{IsMoment}
-use Rattle.ledger_model.specs.Quarter.{IsQuarter, quarter_seconds}
+use Rattle.ledger_model.specs.Quarter.{IsPeriod, IsQuarterOf}
 use Rattle.reading_decimal.specs.Decimal.{IsMwh, is_decimal, mwh, parts}
 use Rattle.reading_decimal.specs.Grammar.{IsNumber, frac_digits, exp_digits, is_negative_exp}
 use Rattle.reading_decimal.specs.Moment.{moment_reading}
@@ -14,9 +14,9 @@ use Rattle.reading_decimal.specs.Quarter.{IsStart, quarter_start}
 abbrev pub RoundsDown : Type 0
 RoundsDown = (p : Parts) (multiplier : ℤ) (unit : EnergyUnit) → IsMwh p multiplier unit (mwh p multiplier unit)
 
--- for each quarter that moments fall into
+-- for each period, and each of its quarters that moments fall into
 abbrev pub StartsQuarters : Type 0
-StartsQuarters = (number : ℕ) → IsQuarter number → IsStart quarter_seconds number (quarter_start quarter_seconds number)
+StartsQuarters = (period number : ℕ) → IsPeriod period → IsQuarterOf period number → IsStart period number (quarter_start period number)
 
 -- for each moment
 abbrev pub ReadsBack : Type 0

@@ -4,7 +4,8 @@
 //! power of ten (SampledValueType, OCPP 2.0.1 Part 2, J02). [`mwh_of`] turns the three into whole
 //! milliwatt-hours, without a float and without rounding to nearest. An instant comes as a time with
 //! its offset (RFC 3339); [`moment_of`] reads it and [`moment_text`] writes it. [`quarter`] tells the
-//! settlement period that a moment falls into, and [`quarter_start`] where it begins.
+//! settlement period that a moment falls into, by periods of one of four lengths, and
+//! [`quarter_start`] where it begins.
 //!
 //! The crate's one contract: each call gives the very value, or the very fault, that a short
 //! definition gives for its text. The laws say what the definitions mean: a decimal is what the
@@ -32,5 +33,5 @@ mod text;
 pub use decimal::{DecimalFault, Unit, multiplier_ok, mwh_of};
 pub use laws::{reads_back, reads_numbers, rounds_down, starts_quarters};
 pub use moment::{MomentFault, moment_of};
-pub use period::{QUARTER_SECONDS, quarter, quarter_start};
+pub use period::{is_of, quarter, quarter_start};
 pub use text::moment_text;

@@ -1,27 +1,35 @@
 // Settlement periods of moments.
-ghost use Rattle.std.specs.Prelude.{◌≡◌};
-ghost use Rattle.ledger_model.specs.Quarter.{quarter_at, quarter_seconds};
+ghost use Rattle.std.specs.Prelude.{◌≡◌, ◌↔◌, IsTrue};
+ghost use Rattle.ledger_model.specs.Quarter.{IsQuarterOf, quarter_at};
 ghost use Rattle.reading_decimal.specs.Quarter.{quarter_start};
 
-use ledger_model::{Moment, Quarter};
-
-/// The seconds of a settlement period.
-pub const QUARTER_SECONDS: u64 = 900;
+use ledger_model::{FIRST_MOMENT, MOMENTS_END, Moment, Period, Quarter};
 
 const NANOS_PER_SECOND: u64 = 1_000_000_000;
 
-/// The settlement period that a moment falls into, counted from 1970-01-01T00:00:00Z.
-pub fn quarter(moment: Moment) -> Quarter
-    ensures { result ≡ quarter_at quarter_seconds moment }
+/// The quarter that a moment falls into, by periods of this length, counted from
+/// 1970-01-01T00:00:00Z.
+pub fn quarter(moment: Moment, period: Period) -> Quarter
+    ensures value { result ≡ quarter_at period moment }
+    ensures own { IsQuarterOf period result }
 {
-    let number = moment.nanos() / NANOS_PER_SECOND / QUARTER_SECONDS;
+    let number = moment.nanos() / NANOS_PER_SECOND / u64::from(period.seconds());
     Quarter::new(number as u32).unwrap()
 }
 
-/// The first moment of a settlement period.
-pub fn quarter_start(quarter: Quarter) -> Moment
-    ensures { result ≡ quarter_start quarter_seconds quarter }
+/// Tells whether a quarter is one of this period's: whether it begins at a moment.
+pub fn is_of(quarter: Quarter, period: Period) -> bool
+    ensures { IsTrue result ↔ IsQuarterOf period quarter }
 {
-    let seconds = u64::from(quarter.number()) * QUARTER_SECONDS;
+    let seconds = u64::from(quarter.number()) * u64::from(period.seconds());
+    (FIRST_MOMENT / NANOS_PER_SECOND..MOMENTS_END / NANOS_PER_SECOND).contains(&seconds)
+}
+
+/// The first moment of a quarter of this period.
+pub fn quarter_start(quarter: Quarter, period: Period) -> Moment
+    requires { IsQuarterOf period quarter }
+    ensures { result ≡ quarter_start period quarter }
+{
+    let seconds = u64::from(quarter.number()) * u64::from(period.seconds());
     Moment::new(seconds * NANOS_PER_SECOND).unwrap()
 }

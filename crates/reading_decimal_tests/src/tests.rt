@@ -1,6 +1,7 @@
 // The tables of tokens and texts with what each stands for.
+use ledger_model::{Period, Quarter};
 use reading_decimal::{
-    DecimalFault, MomentFault, Unit, moment_of, moment_text, multiplier_ok, mwh_of, quarter,
+    DecimalFault, MomentFault, Unit, is_of, moment_of, moment_text, multiplier_ok, mwh_of, quarter,
     quarter_start,
 };
 use std::test::Fail;
@@ -152,26 +153,135 @@ fn moment_limits(rt: HostRuntime) {
     }
 }
 
+// A time, a period's seconds, the quarter that the time falls into, and where that begins.
+const QUARTERS: [(&str, u16, u32, &str); 15] = [
+    (
+        "2026-03-01T10:31:00Z",
+        300,
+        5_907_870,
+        "2026-03-01T10:30:00Z",
+    ),
+    (
+        "2026-03-01T10:31:00Z",
+        900,
+        1_969_290,
+        "2026-03-01T10:30:00Z",
+    ),
+    (
+        "2026-03-01T10:31:00Z",
+        1_800,
+        984_645,
+        "2026-03-01T10:30:00Z",
+    ),
+    (
+        "2026-03-01T10:31:00Z",
+        3_600,
+        492_322,
+        "2026-03-01T10:00:00Z",
+    ),
+    (
+        "2026-03-01T10:44:59.999999999Z",
+        900,
+        1_969_290,
+        "2026-03-01T10:30:00Z",
+    ),
+    (
+        "2026-03-01T10:45:00Z",
+        900,
+        1_969_291,
+        "2026-03-01T10:45:00Z",
+    ),
+    (
+        "2026-03-01T10:45:00Z",
+        1_800,
+        984_645,
+        "2026-03-01T10:30:00Z",
+    ),
+    (
+        "2000-01-01T00:00:00Z",
+        300,
+        3_155_616,
+        "2000-01-01T00:00:00Z",
+    ),
+    (
+        "2000-01-01T00:00:00Z",
+        900,
+        1_051_872,
+        "2000-01-01T00:00:00Z",
+    ),
+    (
+        "2000-01-01T00:00:00Z",
+        1_800,
+        525_936,
+        "2000-01-01T00:00:00Z",
+    ),
+    (
+        "2000-01-01T00:00:00Z",
+        3_600,
+        262_968,
+        "2000-01-01T00:00:00Z",
+    ),
+    (
+        "2099-12-31T23:59:59Z",
+        300,
+        13_674_815,
+        "2099-12-31T23:55:00Z",
+    ),
+    (
+        "2099-12-31T23:59:59Z",
+        900,
+        4_558_271,
+        "2099-12-31T23:45:00Z",
+    ),
+    (
+        "2099-12-31T23:59:59Z",
+        1_800,
+        2_279_135,
+        "2099-12-31T23:30:00Z",
+    ),
+    (
+        "2099-12-31T23:59:59Z",
+        3_600,
+        1_139_567,
+        "2099-12-31T23:00:00Z",
+    ),
+];
+
 #[test]
 fn quarters(rt: HostRuntime) -> Result<(), Fail> {
-    for (text, number, start) in [
-        ("2026-03-01T10:31:00Z", 1_969_290, "2026-03-01T10:30:00Z"),
-        (
-            "2026-03-01T10:44:59.999999999Z",
-            1_969_290,
-            "2026-03-01T10:30:00Z",
-        ),
-        ("2026-03-01T10:45:00Z", 1_969_291, "2026-03-01T10:45:00Z"),
-        ("2000-01-01T00:00:00Z", 1_051_872, "2000-01-01T00:00:00Z"),
-        ("2099-12-31T23:59:59Z", 4_558_271, "2099-12-31T23:45:00Z"),
-    ] {
-        let period = quarter(moment_of(text)?);
-        assert_eq!(rt; period.number(), number, "at {text}");
+    for (text, seconds, number, start) in &QUARTERS {
+        let period = Period::new(*seconds).ok_or("no period")?;
+        let quarter = quarter(moment_of(text)?, period);
+        assert_eq!(rt; quarter.number(), *number, "at {text}");
         assert_eq!(rt;
-            moment_text(quarter_start(period)).as_str(),
-            start,
+            moment_text(quarter_start(quarter, period)).as_str(),
+            *start,
             "at {text}"
         );
+    }
+    Ok(())
+}
+
+// A number, a period's seconds, and whether the period has a quarter of that number.
+const OWN: [(u32, u16, bool); 10] = [
+    (3_155_615, 300, false),
+    (3_155_616, 300, true),
+    (13_674_815, 300, true),
+    (1_051_871, 900, false),
+    (4_558_271, 900, true),
+    (4_558_272, 900, false),
+    (262_968, 3_600, true),
+    (1_139_567, 3_600, true),
+    (1_139_568, 3_600, false),
+    (13_674_815, 3_600, false),
+];
+
+#[test]
+fn quarters_of_a_period(rt: HostRuntime) -> Result<(), Fail> {
+    for (number, seconds, is) in &OWN {
+        let period = Period::new(*seconds).ok_or("no period")?;
+        let quarter = Quarter::new(*number).ok_or("no quarter")?;
+        assert!(rt; is_of(quarter, period) == *is, "{number} of {seconds}");
     }
     Ok(())
 }

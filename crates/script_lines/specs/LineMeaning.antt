@@ -18,12 +18,13 @@ use Rattle.script_lines.specs.declared.script_line.Operation.{Operation}
 use Rattle.script_lines.specs.declared.script_line.Operation.TheVariants as operation
 use Rattle.script_lines.specs.Lines.{Line}
 
--- what a line says: nothing, a fault, the limits of the stations that follow, a station's declaration, a moment, a message of a station, a command on a station, or a question for a station's energy or figures or for a site's board
+-- what a line says: nothing, a fault, the limits of the stations that follow, a station's declaration, the settlement period of a site, a moment, a message of a station, a command on a station, or a question for a station's energy or figures or for a site's board
 pub data LineMeaning : Type 0 where
   nothing : LineMeaning
   fails : LineFault → LineMeaning
   sets_limits : ℕ → ℕ → ℕ → ℕ → LineMeaning
   declares : List ℕ → List ℕ → LineMeaning
+  sets_period : List ℕ → ℕ → LineMeaning
   tells : ℕ → LineMeaning
   sends : List ℕ → List ℕ → LineMeaning
   commands : List ℕ → Command → LineMeaning
@@ -71,6 +72,16 @@ limited (Some words) = limited_next words.0 (parted words.1)
 abbrev pub declared_names : Option (List ℕ × List ℕ) → LineMeaning
 declared_names None = fails BadLine
 declared_names (Some words) = if is_name words.0 && is_name words.1 then declares words.0 words.1 else fails BadLine
+
+-- so many seconds are the settlement period of a site
+abbrev pub period_of : List ℕ → Option ℕ → LineMeaning
+period_of site None = fails BadLine
+period_of site (Some seconds) = if is_name site then sets_period site seconds else fails BadLine
+
+-- `<site> <seconds>`
+abbrev pub declared_period : Option (List ℕ × List ℕ) → LineMeaning
+declared_period None = fails BadLine
+declared_period (Some words) = period_of words.0 (number words.1)
 
 -- `<time>`, read as one word
 abbrev pub told_moment : Result ℕ MomentFault → LineMeaning
@@ -135,8 +146,9 @@ by_first_word (Some words) =
     if bytes_eq words.0 (codes "msg") then sent (parted words.1)
     else (if bytes_eq words.0 (codes "station") then declared_names (parted words.1)
     else (if bytes_eq words.0 (codes "limits") then limited (parted words.1)
+    else (if bytes_eq words.0 (codes "period") then declared_period (parted words.1)
     else (if bytes_eq words.0 (codes "now") then told words.1 (parted words.1)
-    else by_other_word words.0 words.1)))
+    else by_other_word words.0 words.1))))
 
 -- the words of a line that is no comment
 abbrev pub by_words : List ℕ → LineMeaning

@@ -18,7 +18,8 @@ pub enum LineFault {
     BadLine,
     /// A declaration after the ledgers were opened.
     DeclaredLate,
-    /// Limits out of range, or more stations, readings or sites than a plan may have.
+    /// Limits out of range, a settlement period that is none of the four, or more stations, readings or
+    /// sites than a plan may have.
     PlanLimit,
     /// The station of this name is declared already, on whichever site.
     StationTwice,
@@ -80,6 +81,8 @@ pub enum ScriptLine<'a> {
     Limits(u64, u64, u64, u64),
     /// `station <site> <station>`: one more station of the plan.
     Declares(Name, Name),
+    /// `period <site> <seconds>`: the settlement period of a site's boards.
+    SetsPeriod(Name, u64),
     /// `now <time>`: the moment from here on.
     Tells(Moment),
     /// `msg <station> <text>`: a message of a station.
@@ -127,6 +130,8 @@ fn by_first_word(text: &str) -> ScriptLine<'_>
         declared_names(rest)
     } else if word == "limits" {
         limited(rest)
+    } else if word == "period" {
+        declared_period(rest)
     } else if word == "now" {
         told(rest)
     } else {
@@ -236,6 +241,18 @@ fn declared_names(rest: &str) -> ScriptLine<'_>
     };
     match (Name::new(site), Name::new(name)) {
         (Some(site), Some(name)) => ScriptLine::Declares(site, name),
+        _ => ScriptLine::Fails(LineFault::BadLine),
+    }
+}
+
+fn declared_period(rest: &str) -> ScriptLine<'_>
+    ensures { meaning_of result ≡ spec.declared_period (spec.parted rest.now) }
+{
+    let Some((site, seconds)) = parted(rest) else {
+        return ScriptLine::Fails(LineFault::BadLine);
+    };
+    match (Name::new(site), number(seconds)) {
+        (Some(site), Some(seconds)) => ScriptLine::SetsPeriod(site, seconds),
         _ => ScriptLine::Fails(LineFault::BadLine),
     }
 }

@@ -15,7 +15,7 @@ use Rattle.script_lines.specs.declared.script_line.LineFault.TheVariants.{BadLin
 use Rattle.script_lines.specs.declared.script_line.Operation.{Operation}
 use Rattle.script_lines.specs.declared.script_line.Operation.TheVariants as operation
 use Rattle.script_lines.specs.Lines.{Line}
-use Rattle.script_lines.specs.LineMeaning.{LineMeaning, nothing, fails, sets_limits, declares, tells, sends, commands, asks_energy, asks_total, asks_board, by_bytes, by_first_word, by_other_word, by_words, command_of, declared_names, four_numbers, limited, limited_last, limited_next, line_meaning, number, operated, operated_at, operated_key, operated_last, parted, sent, told, told_moment}
+use Rattle.script_lines.specs.LineMeaning.{LineMeaning, nothing, fails, sets_limits, declares, sets_period, tells, sends, commands, asks_energy, asks_total, asks_board, by_bytes, by_first_word, by_other_word, by_words, command_of, declared_names, declared_period, period_of, four_numbers, limited, limited_last, limited_next, line_meaning, number, operated, operated_at, operated_key, operated_last, parted, sent, told, told_moment}
 
 -- a command that the line asks is admissible
 abbrev pub IsFine : LineMeaning → Type 0
@@ -23,6 +23,7 @@ IsFine nothing = Unit {0}
 IsFine (fails _) = Unit {0}
 IsFine (sets_limits _ _ _ _) = Unit {0}
 IsFine (declares _ _) = Unit {0}
+IsFine (sets_period _ _) = Unit {0}
 IsFine (tells _) = Unit {0}
 IsFine (sends _ _) = Unit {0}
 IsFine (commands name command) = IsAdmissible command
@@ -56,6 +57,14 @@ fine_limited (Some words) = fine_limited_next words.0 (parted words.1)
 fine_declared : (words : Option (List ℕ × List ℕ)) → IsFine (declared_names words)
 fine_declared None = tt
 fine_declared (Some words) = either (is_name words.0 && is_name words.1) (declares words.0 words.1) (fails BadLine) tt tt
+
+fine_seconds : (site : List ℕ) (seconds : Option ℕ) → IsFine (period_of site seconds)
+fine_seconds site None = tt
+fine_seconds site (Some seconds) = either (is_name site) (sets_period site seconds) (fails BadLine) tt tt
+
+fine_period : (words : Option (List ℕ × List ℕ)) → IsFine (declared_period words)
+fine_period None = tt
+fine_period (Some words) = fine_seconds words.0 (number words.1)
 
 fine_moment : (r : Result ℕ MomentFault) → IsFine (told_moment r)
 fine_moment (Ok _) = tt
@@ -108,7 +117,8 @@ fine_words (Some words) =
     either (bytes_eq words.0 (codes "msg")) _ _ (fine_sent (parted words.1))
     (either (bytes_eq words.0 (codes "station")) _ _ (fine_declared (parted words.1))
     (either (bytes_eq words.0 (codes "limits")) _ _ (fine_limited (parted words.1))
-    (either (bytes_eq words.0 (codes "now")) _ _ (fine_told words.1 (parted words.1)) (fine_other words.0 words.1))))
+    (either (bytes_eq words.0 (codes "period")) _ _ (fine_period (parted words.1))
+    (either (bytes_eq words.0 (codes "now")) _ _ (fine_told words.1 (parted words.1)) (fine_other words.0 words.1)))))
 
 fine_bytes : (bytes : List ℕ) → IsFine (by_bytes bytes)
 fine_bytes [] = tt

@@ -11,7 +11,6 @@ use Rattle.std.proofs.lemmas.Slice.Eq.{bytes_eq-Decides}
 use Rattle.ledger_model.specs.Board.{Board, board, figures, site_board, sum_of_figures}
 use Rattle.ledger_model.specs.Content.{entries}
 use Rattle.ledger_model.specs.Posts.{row_after}
-use Rattle.ledger_model.specs.Quarter.{quarter_seconds}
 use Rattle.ledger_model.specs.World.{Station, World}
 use Rattle.board_report.specs.Named.{NamedBoard}
 use Rattle.site_book.specs.Book.{Book}
@@ -38,9 +37,9 @@ count_is site ys = sym (length-filter (λ (s : StationPlan). eqb s.site site) ys
 row_is : (xs : List StationPlan) (site n : ℕ) → row_at xs site n ≡ length (limits_at (take n xs) site)
 row_is xs site n = count_is site (take n xs)
 
-module _ (d : Drafted) (cells : List Cell) (books : List Book) (passes : List Held) (r : IsRunning d.sites d.stations cells books passes) (site : ℕ) (b : Book) (book : slice_get books site ≡ Some b) where
+module _ (d : Drafted) (cells : List Cell) (books : List Book) (passes : List Held) (r : IsRunning d.sites d.stations cells books passes) (period site : ℕ) (b : Book) (book : slice_get books site ≡ Some b) where
   abbrev Rows : ℕ → Type 0
-  Rows n = map (λ row. row_after row b.posts) (range_with_len 0 (length (limits_at (take n d.stations) site))) ≡ map (λ (s : List ℕ × Board). s.1.figures) (boards_at (take n d.stations) cells site)
+  Rows n = map (λ row. row_after row b.posts) (range_with_len 0 (length (limits_at (take n d.stations) site))) ≡ map (λ (s : List ℕ × Board). s.1.figures) (boards_at period (take n d.stations) cells site)
 
   rows_step : (n : ℕ) → n < length d.stations → Rows n → Rows (n + 1)
   rows_step n less rows =
@@ -58,12 +57,12 @@ module _ (d : Drafted) (cells : List Cell) (books : List Book) (passes : List He
       ap (λ k. map (λ row. row_after row b.posts) (range_with_len 0 k)) count
       ∙ map-range_with_len_more (λ row. row_after row b.posts) 0 m m (omega arith)
       ∙ (λ i. rows i ++ shown i ∷ [])
-      ∙ sym (map-append (λ (x : List ℕ × Board). x.1.figures) (boards_at (take n d.stations) cells site) ((s.0.name, board quarter_seconds (entries c.0.content)) ∷ []))
-      ∙ ap (map (λ (x : List ℕ × Board). x.1.figures)) (sym (boards_more_yes d.stations cells site n s.0 c.0 s.1 c.1 e)))
+      ∙ sym (map-append (λ (x : List ℕ × Board). x.1.figures) (boards_at period (take n d.stations) cells site) ((s.0.name, board period (entries c.0.content)) ∷ []))
+      ∙ ap (map (λ (x : List ℕ × Board). x.1.figures)) (sym (boards_more_yes period d.stations cells site n s.0 c.0 s.1 c.1 e)))
       (λ (e : s.0.site ≢ site).
       ap (λ l. map (λ row. row_after row b.posts) (range_with_len 0 (length l))) (limits_more_no d.stations site n s.0 less read e)
       ∙ rows
-      ∙ ap (map (λ (x : List ℕ × Board). x.1.figures)) (sym (boards_more_no d.stations cells site n s.0 c.0 s.1 c.1 e)))
+      ∙ ap (map (λ (x : List ℕ × Board). x.1.figures)) (sym (boards_more_no period d.stations cells site n s.0 c.0 s.1 c.1 e)))
       (cases_eq s.0.site site)
 
   all_rows : (n : ℕ) → n ≤ length d.stations → Rows n
@@ -71,12 +70,12 @@ module _ (d : Drafted) (cells : List Cell) (books : List Book) (passes : List He
   all_rows (suc n) most = let same : n + 1 ≡ suc n = omega arith in subst Rows same (rows_step n (omega (arith, most)) (all_rows n (omega (arith, most))))
 
   -- the sums over a book's rows are those over the boards of its stations
-  pub totals_are : sum_of_figures (map (λ row. row_after row b.posts) (range_with_len 0 (length b.limits))) ≡ (site_board (boards_at d.stations cells site)).figures
+  pub totals_are : sum_of_figures (map (λ row. row_after row b.posts) (range_with_len 0 (length b.limits))) ≡ (site_board period (boards_at period d.stations cells site)).figures
   totals_are =
       let all : take (length d.stations) d.stations ≡ d.stations = take_all (length d.stations) d.stations (omega arith) in
       ap (λ l. sum_of_figures (map (λ row. row_after row b.posts) (range_with_len 0 (length l)))) (r.books_are site b book ∙ ap (λ xs. limits_at xs site) (sym all))
       ∙ ap sum_of_figures (all_rows (length d.stations) (omega arith))
-      ∙ ap (λ xs. sum_of_figures (map (λ (s : List ℕ × Board). s.1.figures) (boards_at xs cells site))) all
+      ∙ ap (λ xs. sum_of_figures (map (λ (s : List ℕ × Board). s.1.figures) (boards_at period xs cells site))) all
 
 -- ---- the stations of a site
 
@@ -113,12 +112,12 @@ found_alike sites name site k once less lk named = ⊎_elim
     no_match false is never = refl
 
 -- the boards of a site's stations, found by its name
-shown_alike : (sites : List SitePlan) (stations : List StationPlan) (cells : List Cell) (name : List ℕ) (site : ℕ) → All (λ s. bytes_eq name (site_name sites s.site) ≡ eqb s.site site) stations
-    → map shown_station (stations_of name (filled (planned_world sites stations) cells)) ≡ boards_at stations cells site
-shown_alike sites [] cells name site all = refl
-shown_alike sites (s ∷ stations) [] name site all = refl
-shown_alike sites (s ∷ stations) (c ∷ cells) name site all =
-    ap (λ t. map shown_station (cond t (first ∷ rest) rest)) (all 0 s (omega arith)) ∙ one (eqb s.site site) (shown_alike sites stations cells name site (λ k d lt. all (suc k) d (omega (arith, lt))))
+shown_alike : (period : ℕ) (sites : List SitePlan) (stations : List StationPlan) (cells : List Cell) (name : List ℕ) (site : ℕ) → All (λ s. bytes_eq name (site_name sites s.site) ≡ eqb s.site site) stations
+    → map (shown_station period) (stations_of name (filled (planned_world sites stations) cells)) ≡ boards_at period stations cells site
+shown_alike period sites [] cells name site all = refl
+shown_alike period sites (s ∷ stations) [] name site all = refl
+shown_alike period sites (s ∷ stations) (c ∷ cells) name site all =
+    ap (λ t. map (shown_station period) (cond t (first ∷ rest) rest)) (all 0 s (omega arith)) ∙ one (eqb s.site site) (shown_alike period sites stations cells name site (λ k d lt. all (suc k) d (omega (arith, lt))))
   where
     first : Station
     first = record { site = site_name sites s.site; name = s.name; limits = s.limits; content = c.content }
@@ -126,22 +125,23 @@ shown_alike sites (s ∷ stations) (c ∷ cells) name site all =
     rest : World
     rest = stations_of name (filled (planned_world sites stations) cells)
 
-    one : (t : Bool) → map shown_station rest ≡ boards_at stations cells site
-        → map shown_station (cond t (first ∷ rest) rest) ≡ cond t ((s.name, board quarter_seconds (entries c.content)) ∷ boards_at stations cells site) (boards_at stations cells site)
-    one true e = ap (λ l. (s.name, board quarter_seconds (entries c.content)) ∷ l) e
+    one : (t : Bool) → map (shown_station period) rest ≡ boards_at period stations cells site
+        → map (shown_station period) (cond t (first ∷ rest) rest) ≡ cond t ((s.name, board period (entries c.content)) ∷ boards_at period stations cells site) (boards_at period stations cells site)
+    one true e = ap (λ l. (s.name, board period (entries c.content)) ∷ l) e
     one false e = e
 
-pub site_shown : (d : Drafted) (cells : List Cell) (name : List ℕ) (site : ℕ) (plan : IsPlan d.sites d.stations) → position (λ s. bytes_eq name s.name) d.sites ≡ Some site
-    → map shown_station (stations_of name (filled (planned_world d.sites d.stations) cells)) ≡ boards_at d.stations cells site
-site_shown d cells name site plan e =
+pub site_shown : (period : ℕ) (d : Drafted) (cells : List Cell) (name : List ℕ) (site : ℕ) (plan : IsPlan d.sites d.stations) → position (λ s. bytes_eq name s.name) d.sites ≡ Some site
+    → map (shown_station period) (stations_of name (filled (planned_world d.sites d.stations) cells)) ≡ boards_at period d.stations cells site
+site_shown period d cells name site plan e =
     let there = some_placed {X = SitePlan} (λ s. s.name) name d.sites site e in
-    shown_alike d.sites d.stations cells name site
+    shown_alike period d.sites d.stations cells name site
     (λ k s lt. found_alike d.sites name site (get_or d.stations k s).site plan.sites_once there.less (plan.placed k s lt) there.named)
 
 -- ---- the board
 
-pub board_is : (name : List ℕ) (b : NamedBoard) (stations : World) (boards : List (List ℕ × Board)) → map shown_station stations ≡ boards → b.name ≡ name → b.figures ≡ (site_board boards).figures → b.quarters ≡ (site_board boards).quarters → b.stations ≡ boards
-    → b ≡ shown_site name stations
-board_is name b stations boards shown names figures_are quarters_are stations_are =
-    ◌∙◌ {A = NamedBoard} (λ i. record { name = names i; figures = figures_are i; quarters = quarters_are i; stations = stations_are i })
-    (λ i. record { name = name; figures = (site_board (sym shown i)).figures; quarters = (site_board (sym shown i)).quarters; stations = sym shown i })
+pub board_is : (name : List ℕ) (by period : ℕ) (b : NamedBoard) (stations : World) (boards : List (List ℕ × Board)) → map (shown_station period) stations ≡ boards → by ≡ period → b.name ≡ name → b.period ≡ period → b.figures ≡ (site_board period boards).figures → b.quarters ≡ (site_board period boards).quarters → b.stations ≡ boards
+    → b ≡ shown_site name by stations
+board_is name by period b stations boards shown same names period_is figures_are quarters_are stations_are =
+    ◌∙◌ {A = NamedBoard} (λ i. record { name = names i; period = period_is i; figures = figures_are i; quarters = quarters_are i; stations = stations_are i })
+    (◌∙◌ {A = NamedBoard} (λ i. record { name = name; period = period; figures = (site_board period (sym shown i)).figures; quarters = (site_board period (sym shown i)).quarters; stations = sym shown i })
+    (ap (λ p. shown_site name p stations) (sym same)))

@@ -3,6 +3,7 @@ pub mod AnsweredLines
 pub mod SecondPhase
 pub mod Places
 pub mod Drafting
+pub mod SettledBy
 pub mod Answered
 pub mod Settling
 pub mod Enlisted

@@ -10,6 +10,7 @@ use Rattle.site_desk.specs.declared.plan.SitePlan.{SitePlan}
 use Rattle.site_desk.specs.declared.plan.StationPlan.{StationPlan}
 use Rattle.site_desk.specs.Cell.{Cell, Held, Knows, new_cell, new_pass}
 use Rattle.site_desk.specs.Parts.{AreApart, AreNewBooks, AreNewCells, AreTied, limits_at, new_book, row_at}
+use Rattle.site_desk.specs.Plan.{period_at}
 use Rattle.site_desk.specs.Settle.{Holds, Tied}
 use Rattle.desk_report.proofs.SiteBoards.{some_same, stands}
 use Rattle.script_replay.specs.Drafts.{IsPlan, planned_world, site_name}
@@ -18,8 +19,8 @@ use Rattle.script_replay.specs.Script.{new_station}
 use Rattle.script_replay.proofs.Enlisted.{first_given}
 
 -- new cells have given no pass
-pub none_given : (stations : List StationPlan) (cells : List Cell) → AreNewCells stations cells → All (λ c. c.counts ≡ []) cells
-none_given stations cells new k d less =
+pub none_given : (sites : List SitePlan) (stations : List StationPlan) (cells : List Cell) → AreNewCells sites stations cells → All (λ c. c.counts ≡ []) cells
+none_given sites stations cells new k d less =
     let s = stands stations k (omega (arith, less, new.count)) in
     ap (λ (c : Cell). c.counts) (get_or_from_slice_get cells k _ d (new.each k s.0 s.1))
 
@@ -30,18 +31,18 @@ mapped_from f (x ∷ xs) zero y at = (x, (refl, some_same (f x) y at))
 mapped_from f (x ∷ xs) (suc k) y at = mapped_from f xs k y at
 
 module _ (sites : List SitePlan) (stations : List StationPlan) (old : List Cell) (books : List Book) (cells : List Cell) (passes : List Held)
-    (plan : IsPlan sites stations) (new : AreNewCells stations old) (made : AreNewBooks stations (length sites) books) (tied : AreTied old books) (apart : AreApart old)
+    (plan : IsPlan sites stations) (new : AreNewCells sites stations old) (made : AreNewBooks stations (length sites) books) (tied : AreTied old books) (apart : AreApart old)
     (cells_are : cells ≡ map first_given old) (passes_are : passes ≡ map (λ (c : Cell). new_pass c.station 0) old) where
   -- what a cell was before it gave its pass
   was : (k : ℕ) (c : Cell) → slice_get cells k ≡ Some c → (o : Cell) × ((slice_get old k ≡ Some o) × (first_given o ≡ c))
   was k c at = mapped_from first_given old k c (ap (λ l. slice_get l k) (sym cells_are) ∙ at)
 
-  placed_new : (k : ℕ) (s : StationPlan) (c : Cell) → slice_get stations k ≡ Some s → slice_get cells k ≡ Some c → IsPlaced stations k s c
+  placed_new : (k : ℕ) (s : StationPlan) (c : Cell) → slice_get stations k ≡ Some s → slice_get cells k ≡ Some c → IsPlaced sites stations k s c
   placed_new k s c planned at =
       let o = was k c at in
-      let is : o.0 ≡ new_cell k s.site (row_at stations s.site k) s.limits = some_same o.0 (new_cell k s.site (row_at stations s.site k) s.limits) (sym o.1.0 ∙ new.each k s planned) in
-      let c_is : first_given (new_cell k s.site (row_at stations s.site k) s.limits) ≡ c = ap first_given (sym is) ∙ o.1.1 in
-      subst (IsPlaced stations k s) c_is (record { site = refl; row = refl; limits = refl })
+      let is : o.0 ≡ new_cell k s.site (row_at stations s.site k) s.limits (period_at sites s.site) = some_same o.0 (new_cell k s.site (row_at stations s.site k) s.limits (period_at sites s.site)) (sym o.1.0 ∙ new.each k s planned) in
+      let c_is : first_given (new_cell k s.site (row_at stations s.site k) s.limits (period_at sites s.site)) ≡ c = ap first_given (sym is) ∙ o.1.1 in
+      subst (IsPlaced sites stations k s) c_is (record { site = refl; row = refl; limits = refl; period = refl })
 
   books_new : (site : ℕ) (b : Book) → slice_get books site ≡ Some b → b.limits ≡ limits_at stations site
   books_new site b at =
@@ -89,7 +90,7 @@ module _ (sites : List SitePlan) (stations : List StationPlan) (old : List Cell)
   empty_new k c at =
       let o = was k c at in
       let s = stands stations k (omega (arith, slice_get_within old k o.0 o.1.0, new.count)) in
-      let is : o.0 ≡ new_cell k s.0.site (row_at stations s.0.site k) s.0.limits = some_same o.0 (new_cell k s.0.site (row_at stations s.0.site k) s.0.limits) (sym o.1.0 ∙ new.each k s.0 s.1) in
+      let is : o.0 ≡ new_cell k s.0.site (row_at stations s.0.site k) s.0.limits (period_at sites s.0.site) = some_same o.0 (new_cell k s.0.site (row_at stations s.0.site k) s.0.limits (period_at sites s.0.site)) (sym o.1.0 ∙ new.each k s.0 s.1) in
       ap (λ (x : Cell). x.content) (sym o.1.1) ∙ ap (λ (x : Cell). x.content) is
 
   filled_new : (ss : List StationPlan) (cs : List Cell) → length cs ≡ length ss → ((k : ℕ) (c : Cell) → slice_get cs k ≡ Some c → c.content ≡ empty_content) → filled (planned_world sites ss) cs ≡ planned_world sites ss

@@ -19,9 +19,9 @@ use Rattle.transaction_event.proofs.AdmissibleRequests.{each_delivery_is_admissi
 use Rattle.script_replay.specs.Laws.{script_after, StationsAreReached, EnergyIsFromScratch, TotalsAreFromScratch, BoardsAreFromScratch}
 use Rattle.script_lines.specs.Lines.{Line}
 use Rattle.script_lines.specs.Texts.{fault_line}
-use Rattle.script_replay.specs.Script.{Script, start, are_limits, by_meaning, commanded_to, declared_to, is_past_plan, joined_by, limited_to, line_step, new_station, sent_to, station_named, step_by, energy_answer, total_answer, is_among, shown_site, stations_of}
+use Rattle.script_replay.specs.Script.{Script, are_limits, by_meaning, commanded_to, declared_to, energy_answer, is_among, is_past_plan, is_period, joined_by, limited_to, line_step, new_station, period_named, period_to, sent_to, settled_by, shown_site, site_number, start, station_named, stations_of, step_by, total_answer}
 use Rattle.board_report.specs.Texts.{board_text}
-use Rattle.script_lines.specs.LineMeaning.{LineMeaning, nothing, fails, sets_limits, declares, tells, sends, commands, asks_energy, asks_total, asks_board, line_meaning}
+use Rattle.script_lines.specs.LineMeaning.{LineMeaning, nothing, fails, sets_limits, declares, sets_period, tells, sends, commands, asks_energy, asks_total, asks_board, line_meaning}
 use Rattle.script_lines.specs.declared.script_line.LineFault.TheVariants.{DeclaredLate, PlanLimit, UnknownSite}
 use Rattle.script_replay.proofs.AdmissibleLines.{IsFine, fine_line}
 
@@ -149,6 +149,14 @@ kept_limited : (is : Bool) (s : Script) (t e r c : ℕ) → Kept s.world → Kep
 kept_limited true s t e r c kept = kept
 kept_limited false s t e r c kept = kept
 
+kept_settled : (o : Option ℕ) (s : Script) (seconds : ℕ) → Kept s.world → Kept (settled_by o s seconds).0.world
+kept_settled None s seconds kept = kept
+kept_settled (Some number) s seconds kept = kept
+
+kept_period : (is : Bool) (s : Script) (o : Option ℕ) (seconds : ℕ) → Kept s.world → Kept (cond is (settled_by o s seconds) (s, fault_line PlanLimit)).0.world
+kept_period true s o seconds kept = kept_settled o s seconds kept
+kept_period false s o seconds kept = kept
+
 kept_meaning : (meaning : Meaning) (station : Station) (s : Script) → ((id : List ℕ) (request : Request) → meaning ≡ Event id request → IsAdmissible (Deliver request.key request.event))
     → Kept s.world → Kept (by_meaning meaning station s).0.world
 kept_meaning (Event id request) station s is kept = kept_world s.world station.name (Deliver request.key request.event) (is id request refl) kept
@@ -168,6 +176,7 @@ kept_step s nothing fine kept = kept
 kept_step s (fails _) fine kept = kept
 kept_step s (sets_limits t e r c) fine kept = kept_late s.opened s (limited_to s t e r c) kept (kept_limited (are_limits t e r c) s t e r c kept)
 kept_step s (declares site name) fine kept = kept_late s.opened s (declared_to s site name) kept (kept_declared (is_past_plan s site) s site name kept)
+kept_step s (sets_period site seconds) fine kept = kept_late s.opened s (period_to s site seconds) kept (kept_period (is_period seconds) s (site_number site s.sites) seconds kept)
 kept_step s (tells _) fine kept = kept
 kept_step s (sends name text) fine kept = kept_sent (station_named name s.world) s text kept
 kept_step s (commands name command) fine kept = kept_commanded (station_named name s.world) s command fine kept
@@ -203,7 +212,7 @@ boards_are_from_scratch lines line site says there =
     ap (λ meaning. (step_by s meaning).1) says ∙ shown (is_among site s.sites) there
   where
     shown : (b : Bool) → b ≡ true
-        → cond b (board_text (shown_site site (stations_of site (script_after start lines).world))) (fault_line UnknownSite) ≡ board_text (shown_site site (stations_of site (script_after start lines).world))
+        → cond b (board_text (shown_site site (period_named (script_after start lines) site) (stations_of site (script_after start lines).world))) (fault_line UnknownSite) ≡ board_text (shown_site site (period_named (script_after start lines) site) (stations_of site (script_after start lines).world))
     shown true is = refl
     shown false is = cc is
 

@@ -13,9 +13,9 @@ use Rattle.transaction_event.specs.Message.{Meaning, Event, Ready, Silence, mess
 use Rattle.script_lines.specs.declared.script_line.LineFault.TheVariants.{DeclaredLate, PlanLimit}
 use Rattle.script_replay.specs.Laws.{script_after, asked_by, asked_of, commanded_by, emptied, happened, sent_by, IsNoOperation, OrderChangesNoBoard, UnacceptedChangesNothing, WorldsAreRuns}
 use Rattle.script_lines.specs.Lines.{Line}
-use Rattle.script_lines.specs.LineMeaning.{LineMeaning, nothing, fails, sets_limits, declares, tells, sends, commands, asks_energy, asks_total, asks_board, line_meaning}
+use Rattle.script_lines.specs.LineMeaning.{LineMeaning, nothing, fails, sets_limits, declares, sets_period, tells, sends, commands, asks_energy, asks_total, asks_board, line_meaning}
 use Rattle.script_lines.specs.Texts.{fault_line}
-use Rattle.script_replay.specs.Script.{Script, start, are_limits, board_answer, by_meaning, commanded_to, declared_to, is_past_plan, joined_by, limited_to, line_step, sent_to, station_named, step_by}
+use Rattle.script_replay.specs.Script.{Script, start, are_limits, board_answer, by_meaning, commanded_to, declared_to, is_past_plan, is_period, joined_by, limited_to, line_step, period_to, sent_to, settled_by, site_number, station_named, step_by}
 use Rattle.script_replay.proofs.ReachedStations.{kept_from_start, same_world}
 
 -- ---- stations without events
@@ -68,6 +68,14 @@ run_declared : (past : Bool) (s : Script) (site name : List ℕ) (hs : List Happ
 run_declared true s site name hs closed ran = still s s hs refl (λ f. f) ran
 run_declared false s site name hs closed ran = run_joined (station_named name s.world) s site name hs closed ran
 
+run_settled : (o : Option ℕ) (s : Script) (seconds : ℕ) (hs : List Happens) → IsRun s hs → IsRun (settled_by o s seconds).0 (hs ++ [])
+run_settled None s seconds hs ran = still s s hs refl (λ f. f) ran
+run_settled (Some number) s seconds hs ran = still s (settled_by (Some number) s seconds).0 hs refl (λ f. f) ran
+
+run_period : (is : Bool) (s : Script) (o : Option ℕ) (seconds : ℕ) (hs : List Happens) → IsRun s hs → IsRun (cond is (settled_by o s seconds) (s, fault_line PlanLimit)).0 (hs ++ [])
+run_period true s o seconds hs ran = run_settled o s seconds hs ran
+run_period false s o seconds hs ran = still s s hs refl (λ f. f) ran
+
 run_late : (late : Bool) (s : Script) (after : Script × List ℕ) (hs : List Happens) → s.opened ≡ late → IsRun s hs → (s.opened ≡ false → IsRun after.0 (hs ++ [])) → IsRun (cond late (s, fault_line DeclaredLate) after).0 (hs ++ [])
 run_late true s after hs e ran then = still s s hs refl (λ f. f) ran
 run_late false s after hs e ran then = then e
@@ -90,6 +98,7 @@ run_step s nothing hs ran = still s s hs refl (λ f. f) ran
 run_step s (fails _) hs ran = still s s hs refl (λ f. f) ran
 run_step s (sets_limits t e r c) hs ran = run_late s.opened s (limited_to s t e r c) hs refl ran (λ f. run_limited (are_limits t e r c) s t e r c hs ran)
 run_step s (declares site name) hs ran = run_late s.opened s (declared_to s site name) hs refl ran (λ f. run_declared (is_past_plan s site) s site name hs f ran)
+run_step s (sets_period site seconds) hs ran = run_late s.opened s (period_to s site seconds) hs refl ran (λ f. run_period (is_period seconds) s (site_number site s.sites) seconds hs ran)
 run_step s (tells nanos) hs ran = still s (record s { moment = nanos }) hs refl (λ f. f) ran
 run_step s (sends name text) hs ran = run_sent (station_named name s.world) s text hs ran
 run_step s (commands name command) hs ran = run_commanded (station_named name s.world) s command hs ran
@@ -110,13 +119,13 @@ worlds_are_runs lines = (run_lines start lines [] (refl, λ f. refl)).0
 
 -- a line that asks a command takes the step of just that
 abbrev Asks : Script → Script → List ℕ → Command → Type 0
-Asks s t name command = (t.world ≡ world_after s.world (name, command)) × (t.sites ≡ s.sites)
+Asks s t name command = (t.world ≡ world_after s.world (name, command)) × ((t.sites ≡ s.sites) × (t.periods ≡ s.periods))
 
-one_asked : (s : Script) (t : Script) (a b : Happens) → a ∷ [] ≡ b ∷ [] → t.world ≡ world_after s.world a → t.sites ≡ s.sites → Asks s t b.0 b.1
-one_asked s t a b e world sites = let same : a ≡ b = cc e in (world ∙ ap (world_after s.world) same, sites)
+one_asked : (s : Script) (t : Script) (a b : Happens) → a ∷ [] ≡ b ∷ [] → t.world ≡ world_after s.world a → t.sites ≡ s.sites → t.periods ≡ s.periods → Asks s t b.0 b.1
+one_asked s t a b e world sites periods = let same : a ≡ b = cc e in (world ∙ ap (world_after s.world) same, (sites, periods))
 
 asks_meaning : (meaning : Meaning) (station : Station) (s : Script) (name : List ℕ) (command : Command) → asked_by meaning station ≡ (name, command) ∷ [] → Asks s (by_meaning meaning station s).0 name command
-asks_meaning (Event id request) station s name command e = one_asked s (by_meaning (Event id request) station s).0 (station.name, Deliver request.key request.event) (name, command) e refl refl
+asks_meaning (Event id request) station s name command e = one_asked s (by_meaning (Event id request) station s).0 (station.name, Deliver request.key request.event) (name, command) e refl refl refl
 asks_meaning (Ready reply) station s name command e = cc e
 asks_meaning Silence station s name command e = cc e
 
@@ -126,13 +135,14 @@ asks_sent (Some station) s text name command e = asks_meaning (message text s.mo
 
 asks_commanded : (station : Option Station) (s : Script) (asked : Command) (name : List ℕ) (command : Command) → commanded_by station asked ≡ (name, command) ∷ [] → Asks s (commanded_to station s asked).0 name command
 asks_commanded None s asked name command e = cc e
-asks_commanded (Some station) s asked name command e = one_asked s (commanded_to (Some station) s asked).0 (station.name, asked) (name, command) e refl refl
+asks_commanded (Some station) s asked name command e = one_asked s (commanded_to (Some station) s asked).0 (station.name, asked) (name, command) e refl refl refl
 
 asks_step : (s : Script) (meaning : LineMeaning) (name : List ℕ) (command : Command) → asked_of s meaning ≡ (name, command) ∷ [] → Asks s (step_by s meaning).0 name command
 asks_step s nothing name command e = cc e
 asks_step s (fails _) name command e = cc e
 asks_step s (sets_limits _ _ _ _) name command e = cc e
 asks_step s (declares _ _) name command e = cc e
+asks_step s (sets_period _ _) name command e = cc e
 asks_step s (tells _) name command e = cc e
 asks_step s (sends at text) name command e = asks_sent (station_named at s.world) s text name command e
 asks_step s (commands at asked) name command e = asks_commanded (station_named at s.world) s asked name command e
@@ -162,6 +172,7 @@ delivers_line s nothing is = All-nil (λ h. IsDelivery h.1)
 delivers_line s (fails _) is = All-nil (λ h. IsDelivery h.1)
 delivers_line s (sets_limits _ _ _ _) is = All-nil (λ h. IsDelivery h.1)
 delivers_line s (declares _ _) is = All-nil (λ h. IsDelivery h.1)
+delivers_line s (sets_period _ _) is = All-nil (λ h. IsDelivery h.1)
 delivers_line s (tells _) is = All-nil (λ h. IsDelivery h.1)
 delivers_line s (sends name text) is = delivers_sent (station_named name s.world) text s.moment
 delivers_line s (commands _ _) is = absurd is
@@ -187,4 +198,4 @@ order_changes_no_board one other same line site says =
     let world : a.world ≡ b.world =
     worlds_are_runs one ∙ reordered_runs (emptied a.world) (happened start one) (happened start other) reordered
     ∙ ap (λ w. run w (happened start other)) same.stations ∙ sym (worlds_are_runs other) in
-    ap (λ m. (step_by a m).1) says ∙ (λ i. board_answer (record a { sites = same.sites i; world = world i }) site) ∙ sym (ap (λ m. (step_by b m).1) says)
+    ap (λ m. (step_by a m).1) says ∙ (λ i. board_answer (record a { sites = same.sites i; periods = same.periods i; world = world i }) site) ∙ sym (ap (λ m. (step_by b m).1) says)

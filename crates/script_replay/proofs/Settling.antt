@@ -85,19 +85,20 @@ module _ (sites : List SitePlan) (stations : List StationPlan) (cells : List Cel
     tied_then : AreTied (set cells k c') (set books c.site b')
     tied_then = tied_step cells books k c c' b b' p command a at book cell_is book_is answer_is are_tied r.apart
 
-    kept_place : (s : StationPlan) → IsPlaced stations k s c → IsPlaced stations k s c'
+    kept_place : (s : StationPlan) → IsPlaced sites stations k s c → IsPlaced sites stations k s c'
     kept_place s place = record {
       site = ap (λ (x : Cell). x.site) cell_is ∙ place.site;
       row = ap (λ (x : Cell). x.row) cell_is ∙ place.row;
       limits = ap (λ (x : Cell). x.limits) cell_is ∙ place.limits;
+      period = ap (λ (x : Cell). x.period) cell_is ∙ place.period;
     }
 
-    placed_then : (j : ℕ) (s : StationPlan) (d : Cell) → slice_get stations j ≡ Some s → slice_get (set cells k c') j ≡ Some d → IsPlaced stations j s d
+    placed_then : (j : ℕ) (s : StationPlan) (d : Cell) → slice_get stations j ≡ Some s → slice_get (set cells k c') j ≡ Some d → IsPlaced sites stations j s d
     placed_then j s d planned is = ⊎_elim
         (λ (e : j ≡ k).
         let same : c' ≡ d = some_same c' d (sym (get_here cells k c c' at) ∙ ap (slice_get (set cells k c')) (sym e) ∙ is) in
         let here_planned : slice_get stations k ≡ Some s = ap (slice_get stations) (sym e) ∙ planned in
-        subst (λ (n : ℕ). IsPlaced stations n s d) (sym e) (subst (IsPlaced stations k s) same (kept_place s (r.placed k s c here_planned at))))
+        subst (λ (n : ℕ). IsPlaced sites stations n s d) (sym e) (subst (IsPlaced sites stations k s) same (kept_place s (r.placed k s c here_planned at))))
         (λ (other : j ≢ k). r.placed j s d planned (sym (get_else cells k j c' other) ∙ is))
         (cases_eq j k)
 

@@ -7,7 +7,6 @@ use Rattle.ledger_model.specs.BoardLaws.{AreSums, sum_of_energies}
 use Rattle.ledger_model.specs.Content.{empty_content, entries}
 use Rattle.ledger_model.specs.Energy.{energy, energy_in}
 use Rattle.ledger_model.specs.Laws.{IsAccepted}
-use Rattle.ledger_model.specs.Quarter.{quarter_seconds}
 use Rattle.ledger_model.specs.Step.{Reached, answer}
 use Rattle.ledger_model.specs.World.{Station, World, Happens, run}
 use Rattle.ledger_model.specs.WorldLaws.{accepted_deliveries, commands_on}
@@ -16,8 +15,8 @@ use Rattle.transaction_event.specs.Message.{Meaning, Event, Ready, Silence, mess
 use Rattle.script_lines.specs.declared.script_line.LineFault.{LineFault}
 use Rattle.script_lines.specs.Lines.{Line, lines_of}
 use Rattle.script_lines.specs.Texts.{ended_line, fault_line}
-use Rattle.script_replay.specs.Script.{Script, start, line_step, script_text, station_named, stations_of, is_among, energy_line, shown_site}
-use Rattle.script_lines.specs.LineMeaning.{LineMeaning, nothing, fails, sets_limits, declares, tells, sends, commands, asks_energy, asks_total, asks_board, line_meaning}
+use Rattle.script_replay.specs.Script.{Script, start, line_step, script_text, station_named, stations_of, is_among, energy_line, period_named, shown_site}
+use Rattle.script_lines.specs.LineMeaning.{LineMeaning, nothing, fails, sets_limits, declares, sets_period, tells, sends, commands, asks_energy, asks_total, asks_board, line_meaning}
 
 -- where a script stands after these lines
 abbrev pub script_after : Script → List Line → Script
@@ -50,20 +49,20 @@ TotalsAreFromScratch = (lines : List Line) (line : Line) (name : List ℕ) (stat
     → station_named name (script_after start lines).world ≡ Some station
     → (line_step (script_after start lines) line).1 ≡ ended_line (total_text (figures (entries station.content)))
 
--- after any lines, the answer to a question for a site's board is the board of its stations, each computed from all its events
+-- after any lines, the answer to a question for a site's board is the board of its stations by its settlement period, each computed from all its events
 abbrev pub BoardsAreFromScratch : Type 0
 BoardsAreFromScratch = (lines : List Line) (line : Line) (site : List ℕ) → line_meaning line ≡ asks_board site
     → is_among site (script_after start lines).sites ≡ true
-    → (line_step (script_after start lines) line).1 ≡ board_text (shown_site site (stations_of site (script_after start lines).world))
+    → (line_step (script_after start lines) line).1 ≡ board_text (shown_site site (period_named (script_after start lines) site) (stations_of site (script_after start lines).world))
 
--- the figures of a site are the sums over these stations, and so is the energy of each quarter that it shows
-pub record AreSitesSums (site : List ℕ) (stations : World) : Type 0 where
-  pub figures_are : AreSums (shown_site site stations).figures (map (λ s. figures (entries s.content)) stations)
-  pub quarters_are : All (λ line. line.1 ≡ sum_of_energies (map (λ s. energy_in quarter_seconds line.0 (entries s.content)) stations)) (shown_site site stations).quarters
+-- the figures of a site are the sums over these stations, and so, whatever the settlement period, is the energy of each quarter that it shows
+pub record AreSitesSums (site : List ℕ) (period : ℕ) (stations : World) : Type 0 where
+  pub figures_are : AreSums (shown_site site period stations).figures (map (λ s. figures (entries s.content)) stations)
+  pub quarters_are : All (λ line. line.1 ≡ sum_of_energies (map (λ s. energy_in period line.0 (entries s.content)) stations)) (shown_site site period stations).quarters
 
 -- the board of each site shows the sums over its stations
 abbrev pub SitesAreSums : Type 0
-SitesAreSums = (site : List ℕ) (stations : World) → AreSitesSums site stations
+SitesAreSums = (site : List ℕ) (period : ℕ) (stations : World) → AreSitesSums site period stations
 
 -- the command that a message of this meaning asks of the station
 abbrev pub asked_by : Meaning → Station → List Happens
@@ -87,6 +86,7 @@ asked_of s nothing = []
 asked_of s (fails _) = []
 asked_of s (sets_limits _ _ _ _) = []
 asked_of s (declares _ _) = []
+asked_of s (sets_period _ _) = []
 asked_of s (tells _) = []
 asked_of s (sends name text) = sent_by (station_named name s.world) text s.moment
 asked_of s (commands name command) = commanded_by (station_named name s.world) command
@@ -112,7 +112,7 @@ abbrev pub UnacceptedChangesNothing : Type 0
 UnacceptedChangesNothing = (lines : List Line) (line : Line) (name : List ℕ) (station : Station) (command : Command)
     → asked_of (script_after start lines) (line_meaning line) ≡ (name, command) ∷ []
     → station_named name (script_after start lines).world ≡ Some station → ¬ (IsAccepted (answer station.limits station.content command))
-    → ((line_step (script_after start lines) line).0.world ≡ (script_after start lines).world) × ((line_step (script_after start lines) line).0.sites ≡ (script_after start lines).sites)
+    → ((line_step (script_after start lines) line).0.world ≡ (script_after start lines).world) × (((line_step (script_after start lines) line).0.sites ≡ (script_after start lines).sites) × ((line_step (script_after start lines) line).0.periods ≡ (script_after start lines).periods))
 
 -- no line voids, restores or erases
 abbrev pub IsNoOperation : LineMeaning → Type 0
@@ -122,6 +122,7 @@ IsNoOperation _ = ⊤
 -- two scripts of the same declarations and no void, restoration or erasure, whose accepted deliveries are, station by station, the same in another order
 pub record AreSameDeliveries (one other : List Line) : Type 0 where
   pub sites : (script_after start one).sites ≡ (script_after start other).sites
+  pub periods : (script_after start one).periods ≡ (script_after start other).periods
   pub stations : emptied (script_after start one).world ≡ emptied (script_after start other).world
   pub one_delivers : All (λ line. IsNoOperation (line_meaning line)) one
   pub other_delivers : All (λ line. IsNoOperation (line_meaning line)) other

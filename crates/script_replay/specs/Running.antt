@@ -9,6 +9,7 @@ use Rattle.site_desk.specs.declared.plan.SitePlan.{SitePlan}
 use Rattle.site_desk.specs.declared.plan.StationPlan.{StationPlan}
 use Rattle.site_desk.specs.Cell.{Cell, Held, Knows}
 use Rattle.site_desk.specs.Parts.{AreApart, limits_at, row_at}
+use Rattle.site_desk.specs.Plan.{period_at}
 use Rattle.site_desk.specs.Settle.{Holds, Tied}
 use Rattle.script_replay.specs.Drafts.{Drafted, IsPlan, planned_world}
 use Rattle.script_replay.specs.Script.{Script}
@@ -21,17 +22,18 @@ filled (s ∷ ss) (c ∷ cells) = record s { content = c.content } ∷ filled ss
 
 -- A script whose ledgers are opened.
 abbrev pub running : Drafted → List Cell → Script
-running d cells = record { limits = d.limits; sites = map (λ s. s.name) d.sites; world = filled (planned_world d.sites d.stations) cells; opened = true; moment = d.moment }
+running d cells = record { limits = d.limits; sites = map (λ s. s.name) d.sites; periods = map (λ s. s.period) d.sites; world = filled (planned_world d.sites d.stations) cells; opened = true; moment = d.moment }
 
 -- How many posts were made in all.
 abbrev pub posts_in : List Book → ℕ
 posts_in books = sum_by (λ b. length b.posts) books
 
--- A cell is that of the station of this number.
-pub record IsPlaced (stations : List StationPlan) (number : ℕ) (s : StationPlan) (c : Cell) : Type 0 where
+-- A cell is that of the station of this number, by its site's settlement period.
+pub record IsPlaced (sites : List SitePlan) (stations : List StationPlan) (number : ℕ) (s : StationPlan) (c : Cell) : Type 0 where
   pub site : c.site ≡ s.site
   pub row : c.row ≡ row_at stations s.site number
   pub limits : c.limits ≡ s.limits
+  pub period : c.period ≡ period_at sites s.site
 
 -- A cell's row stands in its site's book, and shows the figures of its content.
 pub record IsShown (c : Cell) (b : Book) : Type 0 where
@@ -44,7 +46,7 @@ pub record IsRunning (sites : List SitePlan) (stations : List StationPlan) (cell
   pub all_cells : length cells ≡ length stations
   pub all_books : length books ≡ length sites
   pub all_passes : length passes ≡ length stations
-  pub placed : (k : ℕ) (s : StationPlan) (c : Cell) → slice_get stations k ≡ Some s → slice_get cells k ≡ Some c → IsPlaced stations k s c
+  pub placed : (k : ℕ) (s : StationPlan) (c : Cell) → slice_get stations k ≡ Some s → slice_get cells k ≡ Some c → IsPlaced sites stations k s c
   pub books_are : (site : ℕ) (b : Book) → slice_get books site ≡ Some b → b.limits ≡ limits_at stations site
   pub known : (k : ℕ) (c : Cell) (p : Held) → slice_get cells k ≡ Some c → slice_get passes k ≡ Some p → Knows c p
   pub shown : (k : ℕ) (c : Cell) (b : Book) → slice_get cells k ≡ Some c → slice_get books c.site ≡ Some b → IsShown c b

@@ -1,12 +1,14 @@
-ghost use Rattle.std.specs.Prelude.{◌≡◌, false, None, [], IfOk, OnOk};
+ghost use Rattle.std.specs.Prelude.{◌≡◌, ◌<◌, false, None, [], length, IfOk, IfSome, OnOk};
+ghost use Rattle.site_desk.specs.Plan.{sites_by};
+ghost use Rattle.std.specs.Option.{is_some};
 ghost use Rattle.std.specs.List.{position};
 ghost use Rattle.std.specs.Str.{bytes_eq};
 ghost use Rattle.script_lines.specs.Lines.{line_bytes};
 ghost use Rattle.script_replay.specs.Drafts.{planned, DraftAnswers, IsPlan};
-ghost use Rattle.script_replay.specs.Script.{start, declared_to, is_past_plan, joined_by, limited_to};
+ghost use Rattle.script_replay.specs.Script.{start, declared_to, is_past_plan, is_period, joined_by, limited_to, period_to};
 
 use crate::machine::LineOutcome;
-use ledger_model::{Limits, Moment, Name};
+use ledger_model::{Limits, Moment, Name, Period};
 use script_lines::{LineFault, ScriptLine, put_fault, read_line};
 use site_desk::Plan;
 use std::alloc::AllocError;
@@ -95,6 +97,7 @@ impl Draft {
                 self.limit(transactions, events, readings, changes, reply)?;
             }
             ScriptLine::Declares(site, name) => self.declare(site, name, reply)?,
+            ScriptLine::SetsPeriod(site, seconds) => self.settle_by(&site, seconds, reply)?,
             ScriptLine::Tells(moment) => self.tell(moment),
             ScriptLine::Sends(_, _)
             | ScriptLine::Commands(_, _)
@@ -128,6 +131,35 @@ impl Draft {
         }
     }
 
+    // Gives a site another settlement period, or puts the fault that it is none, or that there is no
+    // such site, into the reply.
+    fn settle_by(
+        &mut self,
+        site: &Name,
+        seconds: u64,
+        reply: &mut Vec<u8>,
+    ) -> Result<(), AllocError>
+        requires { reply.old.items ≡ [] }
+        ensures { OnOk result (period_to (planned self.old) site.now seconds ≡ (planned self.new, reply.new.items)) }
+    {
+        let Some(period) = period_of(seconds) else {
+            return put_fault(reply, LineFault::PlanLimit);
+        };
+        let Some(number) = self.site(site) else {
+            return put_fault(reply, LineFault::UnknownSite);
+        };
+        self.set_period(number, period);
+        Ok(())
+    }
+
+    // Gives the site of this number another settlement period.
+    fn set_period(&mut self, site: usize, period: Period)
+        requires { site < length self.old.sites }
+        ensures { self.new ≡ record self.old { sites = sites_by site period self.old.sites } }
+    {
+        self.plan.set_period(site, period);
+    }
+
     // Adds a station, or puts the fault that keeps it out into the reply.
     fn declare(&mut self, site: Name, name: Name, reply: &mut Vec<u8>) -> Result<(), AllocError>
         requires { reply.old.items ≡ [] }
@@ -156,6 +188,18 @@ impl Draft {
         requires new { position (λ s. bytes_eq name s.name) self.old.stations ≡ None }
         ensures { planned self.new ≡ (joined_by None (planned self.old) site name).0 }
     {
-        self.plan.declare(site, 0, name, self.limits);
+        self.plan
+            .declare(site, 0, Period::default(), name, self.limits);
+    }
+}
+
+// The settlement period of so many seconds, if it is one.
+fn period_of(seconds: u64) -> Option<Period>
+    ensures is { is_some result ≡ is_period seconds }
+    ensures value { IfSome result (λ p. p ≡ seconds) }
+{
+    match u16::try_from(seconds) {
+        Ok(seconds) => Period::new(seconds),
+        Err(_) => None,
     }
 }

@@ -10,7 +10,7 @@ ghost use Rattle.script_replay.specs.Drafts.{planned};
 ghost use Rattle.script_lines.specs.Lines.{line_bytes};
 ghost use Rattle.script_replay.specs.Received.{ReceivesText, TakesMessage};
 ghost use Rattle.script_replay.specs.Running.{running, posts_in, IsRunning, Settles};
-ghost use Rattle.script_replay.specs.Script.{board_answer, commanded_to, energy_answer, line_step, script_text, sent_to, shown_site, station_named, stations_of, total_answer};
+ghost use Rattle.script_replay.specs.Script.{board_answer, commanded_to, energy_answer, line_step, period_named, script_text, sent_to, shown_site, station_named, stations_of, total_answer};
 ghost use Rattle.transaction_event.specs.MessageMeaning.{HasShortId};
 
 use crate::draft::Draft;
@@ -90,9 +90,9 @@ impl<J: Naming> Ledgers<J> {
         match read_line(line) {
             ScriptLine::Nothing => Ok(()),
             ScriptLine::Fails(fault) => put_fault(reply, fault),
-            ScriptLine::Limits(_, _, _, _) | ScriptLine::Declares(_, _) => {
-                put_fault(reply, LineFault::DeclaredLate)
-            }
+            ScriptLine::Limits(_, _, _, _)
+            | ScriptLine::Declares(_, _)
+            | ScriptLine::SetsPeriod(_, _) => put_fault(reply, LineFault::DeclaredLate),
             ScriptLine::Tells(moment) => {
                 self.draft.tell(moment);
                 Ok(())
@@ -283,11 +283,17 @@ impl<J: Naming> Ledgers<J> {
     // The text of the board of the site of this name and number. Its totals are the book's.
     fn board_text(&self, name: &Name, site: usize) -> Result<Vec<u8>, AllocError>
         requires { position (λ s. bytes_eq name.now s.name) self.now.draft.sites ≡ Some site }
-        ensures { IfOk result (λ text. text.items ≡ board_text (shown_site name.now (stations_of name.now (running self.now.draft self.now.cells.items).world))) }
+        ensures { IfOk result (λ text. text.items ≡ board_text (shown_site name.now (period_named (running self.now.draft self.now.cells.items) name.now) (stations_of name.now (running self.now.draft self.now.cells.items).world))) }
     {
-        let stations = self.draft.plan().stations.as_slice();
         let totals = self.books[site].totals();
-        site_text(self.alloc, stations, &self.cells, site, name, totals)
+        site_text(
+            self.alloc,
+            self.draft.plan(),
+            &self.cells,
+            site,
+            name,
+            totals,
+        )
     }
 }
 

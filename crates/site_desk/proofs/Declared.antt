@@ -1,12 +1,12 @@
 -- One station more in a plan.
-use Rattle.std.proofs.Common.{◌≡◌, ℕ, ◌+◌, ◌<◌, ◌||◌, ◌&&◌, Bool, true, false, not, nat_le, nat_lt, List, Option, None, Some, length, refl, arith}
+use Rattle.std.proofs.Common.{◌≡◌, ℕ, zero, suc, ◌+◌, ◌<◌, ◌||◌, ◌&&◌, Bool, true, false, not, nat_le, nat_lt, List, [], ◌∷◌, ◌++◌, Option, None, Some, length, take, drop, slice_index_or, slice_set, refl, ap, sym, ◌∙◌, arith}
 use Rattle.std.specs.Prelude.{sum_by}
 use Rattle.std.proofs.lemmas.Bool.Decides.{nat_tests}
 use Rattle.ledger_model.specs.Limits.{Bounds}
 use Rattle.ledger_model.specs.Ranges.{most_sites, most_stations, most_plan_readings}
 use Rattle.site_desk.specs.declared.plan.SitePlan.{SitePlan}
 use Rattle.site_desk.specs.declared.plan.StationPlan.{StationPlan}
-use Rattle.site_desk.specs.Plan.{is_past}
+use Rattle.site_desk.specs.Plan.{is_past, sites_by}
 
 second : (a b : Bool) → (a || b) ≡ false → b ≡ false
 second true b e = cc e
@@ -21,3 +21,27 @@ begins None sites stations limits e none =
     below (length sites) (second (nat_lt most_plan_readings (sum_by (λ s. s.limits.readings) stations + limits.readings)) (nat_le most_sites (length sites))
     (second (nat_le most_stations (length stations)) (nat_lt most_plan_readings (sum_by (λ s. s.limits.readings) stations + limits.readings) || nat_le most_sites (length sites)) none))
 begins (Some n) sites stations limits e none = cc e
+
+-- one site of another period: each element is written back where it stood
+by_length : (site period : ℕ) (sites : List SitePlan) → length (sites_by site period sites) ≡ length sites
+by_length site period [] = refl
+by_length zero period (s ∷ sites) = refl
+by_length (suc site) period (s ∷ sites) = ap suc (by_length site period sites)
+
+by_set : (site period : ℕ) (d : SitePlan) (sites : List SitePlan) → site < length sites
+    → slice_set sites site (record { name = (slice_index_or sites site d).name; viewers = (slice_index_or sites site d).viewers; period = period }) ≡ sites_by site period sites
+by_set site period d [] less = absurd (omega arith)
+by_set zero period d (s ∷ sites) less = refl
+by_set (suc site) period d (s ∷ sites) less = ap (λ ss. s ∷ ss) (by_set site period d sites (omega arith))
+
+all_back : (xs ws : List SitePlan) → length ws ≡ length xs → take (length xs) (ws ++ drop (length ws) xs) ≡ ws
+all_back [] [] same = refl
+all_back [] (w ∷ ws) same = absurd (omega (arith, same))
+all_back (x ∷ xs) [] same = absurd (omega (arith, same))
+all_back (x ∷ xs) (w ∷ ws) same = ap (λ vs. w ∷ vs) (all_back xs ws (omega (arith, same)))
+
+pub period_set : (site period : ℕ) (d : SitePlan) (sites : List SitePlan) → site < length sites
+    → take (length sites) (slice_set sites site (record { name = (slice_index_or sites site d).name; viewers = (slice_index_or sites site d).viewers; period = period }) ++ drop (length (slice_set sites site (record { name = (slice_index_or sites site d).name; viewers = (slice_index_or sites site d).viewers; period = period }))) sites) ≡ sites_by site period sites
+period_set site period d sites less =
+    let set = by_set site period d sites less in
+    (λ i. take (length sites) (set i ++ drop (length (set i)) sites)) ∙ all_back sites (sites_by site period sites) (by_length site period sites)

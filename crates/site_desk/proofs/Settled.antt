@@ -16,11 +16,11 @@ use Rattle.site_desk.specs.Cell.{Cell, Held, Knows}
 use Rattle.site_desk.specs.Settle.{Tied, cell_after, counts_after, pass_after, posts_after}
 
 -- a cell after an accepted command, by its parts
-pub cell_changed : (c : Cell) (p : Held) (command : Command) (l : Ledger) (n v : ℕ) → l ≡ record { limits = c.limits; content = (step c.limits c.content command).0 } → answer c.limits c.content command ≡ Accepted n → v ≡ p.changes
-    → ◌≡◌ {A = Cell} (record { station = c.station; site = c.site; row = c.row; limits = l.limits; content = l.content; counts = set c.counts p.slot (v + 1) }) (cell_after c p command)
+pub cell_changed : (c : Cell) (p : Held) (command : Command) (l : Ledger) (n v : ℕ) → l ≡ record { limits = c.limits; period = c.period; content = (step c.limits c.content command).0 } → answer c.limits c.content command ≡ Accepted n → v ≡ p.changes
+    → ◌≡◌ {A = Cell} (record { station = c.station; site = c.site; row = c.row; limits = l.limits; period = l.period; content = l.content; counts = set c.counts p.slot (v + 1) }) (cell_after c p command)
 cell_changed c p command l n v left is count =
     let counts : set c.counts p.slot (v + 1) ≡ counts_after c.counts p (answer c.limits c.content command) = ap (λ k. set c.counts p.slot (k + 1)) count ∙ ap (counts_after c.counts p) (sym is) in
-    λ i. record { station = c.station; site = c.site; row = c.row; limits = (left i).limits; content = (left i).content; counts = counts i }
+    λ i. record { station = c.station; site = c.site; row = c.row; limits = (left i).limits; period = (left i).period; content = (left i).content; counts = counts i }
 
 -- the book after an accepted command's post
 pub book_posted : (b b' : Book) (c : Cell) (a : Answer) (n row : ℕ) (f : Figures) → b' ≡ record b { posts = b.posts ++ (row, f) ∷ [] } → row ≡ c.row → f ≡ figures (entries c.content) → a ≡ Accepted n

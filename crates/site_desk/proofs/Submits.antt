@@ -8,7 +8,6 @@ use Rattle.ledger_model.specs.declared.command.Command.{Command}
 use Rattle.ledger_model.specs.Board.{Board, board, figures}
 use Rattle.ledger_model.specs.Content.{Content, entries}
 use Rattle.ledger_model.specs.Limits.{Bounds}
-use Rattle.ledger_model.specs.Quarter.{quarter_seconds}
 use Rattle.ledger_model.specs.Step.{Reached, answer, step}
 use Rattle.std.proofs.lemmas.Option.{get_or_from_slice_get}
 use Rattle.site_book.specs.Book.{Book, Known, known}
@@ -67,12 +66,14 @@ module _ (at : Place) (number : ℕ) (c : Cell) (b : Book) (p : Held) (command :
   submitted (Refused ChangesExhausted) c' b' p' told is cells passes books told_is = record { pass = passes; untold = told_is }
 
 -- the board of a ledger
-pub board_shown : {E : Type 0} (r : Result Board E) (limits : Bounds) (content c : Content) → IfOk r (λ b. b ≡ board quarter_seconds (entries content)) → content ≡ c → Reached limits c.changes c → IfOk r (IsBoardWithin limits)
-board_shown (Ok b) limits content c shown is reached = record { content = c; reached = reached; shown = shown ∙ ap (λ d. board quarter_seconds (entries d)) is }
-board_shown (Err e) limits content c shown is reached = tt
+pub board_shown : {E : Type 0} (r : Result Board E) (limits : Bounds) (by period : ℕ) (content c : Content) → IfOk r (λ b. b ≡ board by (entries content)) → by ≡ period → content ≡ c → Reached limits c.changes c → IfOk r (IsBoardWithin limits period)
+board_shown (Ok b) limits by period content c shown same is reached = record { content = c; reached = reached; shown = shown ∙ (λ i. board (same i) (entries (is i))) }
+board_shown (Err e) limits by period content c shown same is reached = tt
 
 -- the board of a cell that stands at the place of the station of this name
-pub board_named : (places : List Place) (name : List ℕ) (k : ℕ) (at : Place) (c : Cell) (b : Board) → IsNamed places name k → at ≡ get_or places k at → StandsAt k at c → IsBoardWithin c.limits b → IsBoardOfName places name b
+pub board_named : (places : List Place) (name : List ℕ) (k : ℕ) (at : Place) (c : Cell) (b : Board) → IsNamed places name k → at ≡ get_or places k at → StandsAt k at c → IsBoardWithin c.limits c.period b → IsBoardOfName places name b
 board_named places name k at c b named is stands within =
     let place : at ≡ named.place = is ∙ get_or_from_slice_get places k named.place at named.there in
-    record { number = k; named = named; board = subst (λ l. IsBoardWithin l b) (stands.limits ∙ ap (λ (p : Place). p.limits) place) within }
+    let limits = stands.limits ∙ ap (λ (p : Place). p.limits) place in
+    let period = stands.period ∙ ap (λ (p : Place). p.period) place in
+    record { number = k; named = named; board = subst (λ l. IsBoardWithin l named.place.period b) limits (subst (λ s. IsBoardWithin c.limits s b) period within) }

@@ -16,7 +16,7 @@ use Rattle.site_desk.specs.declared.plan.SitePlan.{SitePlan}
 use Rattle.site_desk.specs.declared.plan.StationPlan.{StationPlan}
 use Rattle.site_desk.specs.Cell.{Cell, Held, new_cell}
 use Rattle.site_desk.specs.Parts.{AreApart, AreNewBooks, AreNewCells, AreTied, IsTied, limits_at, new_book, row_at}
-use Rattle.site_desk.specs.Plan.{plan_fault}
+use Rattle.site_desk.specs.Plan.{period_at, plan_fault}
 use Rattle.site_desk.specs.Settle.{Tied, cell_after, posts_after}
 use Rattle.site_desk.proofs.NewParts.{planned_sites}
 use Rattle.site_desk.proofs.Settled.{tied_after, tied_beside}
@@ -61,13 +61,13 @@ rows_apart (x ∷ xs) site (suc j) (suc k) s t at as_ here there same =
     ap suc (rows_apart xs site j k s t at as_ here there less)
 
 -- the station of a cell
-station_of : (stations : List StationPlan) (cells : List Cell) (k : ℕ) (c : Cell) → AreNewCells stations cells → slice_get cells k ≡ Some c
-    → (s : StationPlan) × ((slice_get stations k ≡ Some s) × (new_cell k s.site (row_at stations s.site k) s.limits ≡ c))
-station_of stations cells k c new at =
+station_of : (sites : List SitePlan) (stations : List StationPlan) (cells : List Cell) (k : ℕ) (c : Cell) → AreNewCells sites stations cells → slice_get cells k ≡ Some c
+    → (s : StationPlan) × ((slice_get stations k ≡ Some s) × (new_cell k s.site (row_at stations s.site k) s.limits (period_at sites s.site) ≡ c))
+station_of sites stations cells k c new at =
     let less : k < length cells = slice_get_within cells k c at in
     let found = found_at stations k (omega (arith, less, new.count)) in
     let cell = new.each k found.0 found.1 in
-    let same : Some (new_cell k found.0.site (row_at stations found.0.site k) found.0.limits) ≡ Some c = sym cell ∙ at in
+    let same : Some (new_cell k found.0.site (row_at stations found.0.site k) found.0.limits (period_at sites found.0.site)) ≡ Some c = sym cell ∙ at in
     (found.0, (found.1, some_same _ _ same))
   where
     found_at : (xs : List StationPlan) (k : ℕ) → k < length xs → (s : StationPlan) × (slice_get xs k ≡ Some s)
@@ -79,10 +79,10 @@ station_of stations cells k c new at =
     some_same a b h = cc
 
 -- new cells are tied, and no two have one row
-pub new_tied : (sites : List SitePlan) (stations : List StationPlan) (cells : List Cell) (books : List Book) → plan_fault sites stations ≡ None → AreNewCells stations cells → AreNewBooks stations (length sites) books → AreTied cells books
+pub new_tied : (sites : List SitePlan) (stations : List StationPlan) (cells : List Cell) (books : List Book) → plan_fault sites stations ≡ None → AreNewCells sites stations cells → AreNewBooks stations (length sites) books → AreTied cells books
 new_tied sites stations cells books h new made k c at =
-    let s = station_of stations cells k c new at in
-    let first : IsTied books (new_cell k s.0.site (row_at stations s.0.site k) s.0.limits) = record {
+    let s = station_of sites stations cells k c new at in
+    let first : IsTied books (new_cell k s.0.site (row_at stations s.0.site k) s.0.limits (period_at sites s.0.site)) = record {
       book = new_book stations s.0.site;
       there = made.each s.0.site (planned_sites sites stations k s.0 h s.1.0);
       held = limits_row stations k s.0 s.1.0;
@@ -90,11 +90,11 @@ new_tied sites stations cells books h new made k c at =
     } in
     subst (IsTied books) s.1.1 first
 
-pub new_apart : (stations : List StationPlan) (cells : List Cell) → AreNewCells stations cells → AreApart cells
-new_apart stations cells new j k c d at as_ sites rows =
-    let s = station_of stations cells j c new at in
-    let t = station_of stations cells k d new as_ in
-    let site : s.0.site ≡ t.0.site = ap (λ x. x.site) s.1.1 ∙ sites ∙ sym (ap (λ x. x.site) t.1.1) in
+pub new_apart : (sites : List SitePlan) (stations : List StationPlan) (cells : List Cell) → AreNewCells sites stations cells → AreApart cells
+new_apart sites stations cells new j k c d at as_ same_site rows =
+    let s = station_of sites stations cells j c new at in
+    let t = station_of sites stations cells k d new as_ in
+    let site : s.0.site ≡ t.0.site = ap (λ x. x.site) s.1.1 ∙ same_site ∙ sym (ap (λ x. x.site) t.1.1) in
     let row : row_at stations s.0.site j ≡ row_at stations t.0.site k = ap (λ x. x.row) s.1.1 ∙ rows ∙ sym (ap (λ x. x.row) t.1.1) in
     rows_apart stations t.0.site j k s.0 t.0 s.1.0 t.1.0 site refl (ap (λ n. row_at stations n j) (sym site) ∙ row)
 

@@ -9,12 +9,13 @@ use Rattle.station_ledger.specs.Ledger.{bounds_code, content_code}
 abbrev pub most_passes : ℕ
 most_passes = 65_536
 
--- A station's cell: the station's number in the plan, its site's number, its row in the site's book, its limits, its content, and how many changes each of its passes made.
+-- A station's cell: the station's number in the plan, its site's number, its row in the site's book, its limits, its settlement period in seconds, its content, and how many changes each of its passes made.
 pub record Cell : Type 0 where
   pub station : ℕ
   pub site : ℕ
   pub row : ℕ
   pub limits : Bounds
+  pub period : ℕ
   pub content : Content
   pub counts : List ℕ
 
@@ -27,14 +28,14 @@ pub record Held : Type 0 where
 -- A cell is kept as the tuple of its parts.
 abbrev pub cell_code : Coded Cell
 cell_code =
-    code_by (ℕ × (ℕ × (ℕ × (Bounds × (Content × List ℕ))))) (coded× coded_ℕ (coded× coded_ℕ (coded× coded_ℕ (coded× bounds_code (coded× content_code (coded_list coded_ℕ))))))
-    (λ c. (c.station, (c.site, (c.row, (c.limits, (c.content, c.counts))))))
-    (λ p. record { station = p.0; site = p.1.0; row = p.1.1.0; limits = p.1.1.1.0; content = p.1.1.1.1.0; counts = p.1.1.1.1.1 })
+    code_by (ℕ × (ℕ × (ℕ × (Bounds × (ℕ × (Content × List ℕ)))))) (coded× coded_ℕ (coded× coded_ℕ (coded× coded_ℕ (coded× bounds_code (coded× coded_ℕ (coded× content_code (coded_list coded_ℕ)))))))
+    (λ c. (c.station, (c.site, (c.row, (c.limits, (c.period, (c.content, c.counts)))))))
+    (λ p. record { station = p.0; site = p.1.0; row = p.1.1.0; limits = p.1.1.1.0; period = p.1.1.1.1.0; content = p.1.1.1.1.1.0; counts = p.1.1.1.1.1.1 })
     (λ _. refl)
 
 -- The cell of a station without events, to which no pass was given.
-abbrev pub new_cell : ℕ → ℕ → ℕ → Bounds → Cell
-new_cell station site row limits = record { station = station; site = site; row = row; limits = limits; content = empty_content; counts = [] }
+abbrev pub new_cell : ℕ → ℕ → ℕ → Bounds → ℕ → Cell
+new_cell station site row limits period = record { station = station; site = site; row = row; limits = limits; period = period; content = empty_content; counts = [] }
 
 -- A pass that made no change yet.
 abbrev pub new_pass : ℕ → ℕ → Held

@@ -1,8 +1,9 @@
-use Rattle.std.specs.Prelude.{ℕ, Bool, false, not, ◌+◌, ◌&&◌, ◌||◌, nat_le, nat_lt, List, [], ◌∷◌, ◌++◌, map, length, sum_by, Option, None, Some, if◌then◌else◌, codes}
+use Rattle.std.specs.Prelude.{ℕ, zero, suc, slice_get, Bool, false, not, ◌+◌, ◌&&◌, ◌||◌, nat_le, nat_lt, List, [], ◌∷◌, ◌++◌, map, length, sum_by, Option, None, Some, if◌then◌else◌, codes}
 use Rattle.std.specs.List.{list_all, list_any}
 use Rattle.std.specs.Option.{is_some}
 use Rattle.std.specs.Str.{bytes_eq}
 use Rattle.ledger_model.specs.Limits.{Bounds}
+use Rattle.ledger_model.specs.Quarter.{default_period}
 use Rattle.ledger_model.specs.Ranges.{most_sites, most_stations, most_plan_readings}
 use Rattle.site_desk.specs.declared.plan.SitePlan.{SitePlan}
 use Rattle.site_desk.specs.declared.plan.StationPlan.{StationPlan}
@@ -42,10 +43,25 @@ abbrev pub site_number : Option ℕ → List SitePlan → ℕ
 site_number (Some number) sites = number
 site_number None sites = length sites
 
--- The sites once one of this name is mentioned: it begins at its first mention, with so many viewers.
-abbrev pub sites_with : Option ℕ → List ℕ → ℕ → List SitePlan → List SitePlan
-sites_with (Some number) name viewers sites = sites
-sites_with None name viewers sites = sites ++ record { name = name; viewers = viewers } ∷ []
+-- The sites once one of this name is mentioned: it begins at its first mention, with so many viewers and this settlement period.
+abbrev pub sites_with : Option ℕ → List ℕ → ℕ → ℕ → List SitePlan → List SitePlan
+sites_with (Some number) name viewers period sites = sites
+sites_with None name viewers period sites = sites ++ record { name = name; viewers = viewers; period = period } ∷ []
+
+-- The settlement period of a site, if there is the site.
+abbrev pub period_or_default : Option SitePlan → ℕ
+period_or_default None = default_period
+period_or_default (Some s) = s.period
+
+-- The settlement period of the site of this number, in seconds.
+abbrev pub period_at : List SitePlan → ℕ → ℕ
+period_at sites site = period_or_default (slice_get sites site)
+
+-- The sites once that of this number has this settlement period.
+abbrev pub sites_by : ℕ → ℕ → List SitePlan → List SitePlan
+sites_by site period [] = []
+sites_by zero period (s ∷ sites) = record s { period = period } ∷ sites
+sites_by (suc site) period (s ∷ sites) = s ∷ sites_by site period sites
 
 -- One station more with these limits, of a site that was found at this place or begins, is more than a plan may have: of stations, of readings, or of sites.
 abbrev pub is_past : Option ℕ → List SitePlan → List StationPlan → Bounds → Bool

@@ -1,8 +1,10 @@
 use Rattle.std.specs.Prelude.{◌≡◌, ℕ, ◌<◌, ◌≤◌, List, length, Some, slice_get}
+use Rattle.site_desk.specs.declared.plan.SitePlan.{SitePlan}
 use Rattle.site_desk.specs.declared.plan.StationPlan.{StationPlan}
 use Rattle.site_desk.specs.declared.roster.Place.{Place}
 use Rattle.site_desk.specs.Cell.{Cell}
 use Rattle.site_desk.specs.Parts.{row_at}
+use Rattle.site_desk.specs.Plan.{period_at}
 
 -- A desk: where each of its stations stands, how many sites it has, and how many viewers were given out.
 pub record Roster : Type 0 where
@@ -11,13 +13,13 @@ pub record Roster : Type 0 where
   pub viewers : ℕ
 
 -- The place of a station of a plan, by its number.
-abbrev pub new_place : List StationPlan → ℕ → StationPlan → Place
-new_place stations k s = record { name = s.name; site = s.site; row = row_at stations s.site k; limits = s.limits }
+abbrev pub new_place : List SitePlan → List StationPlan → ℕ → StationPlan → Place
+new_place sites stations k s = record { name = s.name; site = s.site; row = row_at stations s.site k; limits = s.limits; period = period_at sites s.site }
 
 -- The places of a plan's stations, in the plan's order.
-pub record AreNewPlaces (stations : List StationPlan) (places : List Place) : Type 0 where
+pub record AreNewPlaces (sites : List SitePlan) (stations : List StationPlan) (places : List Place) : Type 0 where
   pub count : length places ≡ length stations
-  pub each : (k : ℕ) (s : StationPlan) → slice_get stations k ≡ Some s → slice_get places k ≡ Some (new_place stations k s)
+  pub each : (k : ℕ) (s : StationPlan) → slice_get stations k ≡ Some s → slice_get places k ≡ Some (new_place sites stations k s)
 
 -- The station of this number has this name.
 pub record IsNamed (places : List Place) (name : List ℕ) (k : ℕ) : Type 0 where
@@ -31,6 +33,7 @@ pub record StandsAt (k : ℕ) (at : Place) (c : Cell) : Type 0 where
   pub site : c.site ≡ at.site
   pub row : c.row ≡ at.row
   pub limits : c.limits ≡ at.limits
+  pub period : c.period ≡ at.period
 
 -- What a desk keeps: a cell for each station, and a book for each site that a station is at; both are no more than a plan may have.
 pub record IsDesk (places : List Place) (cells books : ℕ) : Type 0 where

@@ -7,7 +7,6 @@ use Rattle.ledger_model.specs.Board.{Board, board, figures}
 use Rattle.ledger_model.specs.Content.{Content, entries}
 use Rattle.ledger_model.specs.Limits.{Bounds}
 use Rattle.ledger_model.specs.Posts.{Post}
-use Rattle.ledger_model.specs.Quarter.{quarter_seconds}
 use Rattle.ledger_model.specs.Step.{Reached, answer, step}
 use Rattle.site_book.specs.Book.{Known, known}
 use Rattle.site_desk.specs.declared.roster.Place.{Place}
@@ -51,14 +50,14 @@ Submitted at p command (Refused NoSuchEvent) p' told = IsAnswered at p command (
 Submitted at p command (Refused AlreadyVoided) p' told = IsAnswered at p command (Refused AlreadyVoided) p' told
 Submitted at p command (Refused NotVoided) p' told = IsAnswered at p command (Refused NotVoided) p' told
 
--- The board is that of some content that accepted commands leave within these limits.
-pub record IsBoardWithin (limits : Bounds) (b : Board) : Type 0 where
+-- The board is that of some content that accepted commands leave within these limits, by this settlement period.
+pub record IsBoardWithin (limits : Bounds) (period : ℕ) (b : Board) : Type 0 where
   pub content : Content
   pub reached : Reached limits content.changes content
-  pub shown : b ≡ board quarter_seconds (entries content)
+  pub shown : b ≡ board period (entries content)
 
--- The board is one of the station of this name: some content makes it that accepted commands leave within the limits of the station's place.
+-- The board is one of the station of this name: some content makes it that accepted commands leave within the limits of the station's place, by that place's period.
 pub record IsBoardOfName (places : List Place) (name : List ℕ) (b : Board) : Type 0 where
   pub number : ℕ
   pub named : IsNamed places name number
-  pub board : IsBoardWithin named.place.limits b
+  pub board : IsBoardWithin named.place.limits named.place.period b

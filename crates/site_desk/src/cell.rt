@@ -6,7 +6,7 @@ ghost use Rattle.site_desk.specs.Settle.{cell_after, pass_after};
 use crate::fault::TooManyPasses;
 use crate::pass::Pass;
 use energy_flow::Work;
-use ledger_model::{Answer, Command, Limits};
+use ledger_model::{Answer, Command, Limits, Period};
 use station_ledger::StationLedger;
 use std::alloc::{AllocError, Global};
 use std::marker::Model;
@@ -34,7 +34,7 @@ impl Model for StationCell {
 
     ghost coded = { cell_code };
 
-    ghost view = { λ c. record { station = c.station; site = c.site; row = c.row; limits = c.ledger.limits; content = c.ledger.content; counts = c.counts.items } };
+    ghost view = { λ c. record { station = c.station; site = c.site; row = c.row; limits = c.ledger.limits; period = c.ledger.period; content = c.ledger.content; counts = c.counts.items } };
 
     ghost invariant = { λ c. IsCell c.ledger.limits c.ledger.content c.counts.items (vec_capacity c.counts) };
 }
@@ -47,10 +47,11 @@ impl StationCell {
         site: u16,
         row: u16,
         limits: Limits,
+        period: Period,
     ) -> Result<Self, AllocError>
-        ensures { IfOk result (λ c. c ≡ new_cell station site row limits) }
+        ensures { IfOk result (λ c. c ≡ new_cell station site row limits period) }
     {
-        let ledger = StationLedger::open(alloc, limits)?;
+        let ledger = StationLedger::open(alloc, limits, period)?;
         let counts = Vec::with_capacity(alloc, MAX_PASSES)?;
         counts_commands(&ledger);
         Ok(StationCell {
@@ -93,6 +94,7 @@ impl StationCell {
     /// Its ledger.
     pub fn ledger(&self) -> &StationLedger
         ensures limits { result.now.limits ≡ self.now.limits }
+        ensures period { result.now.period ≡ self.now.period }
         ensures content { result.now.content ≡ self.now.content }
         ensures reached { Reached self.now.limits self.now.content.changes self.now.content }
         ensures counted { sum self.now.counts ≡ self.now.content.changes }

@@ -71,7 +71,7 @@ impl<J: Naming> Closed<J> {
     /// Condition: it has the station ([`Closed::stations`] tells).
     pub fn ledger(&self, station: u16) -> &StationLedger
         requires { station < length self.now.cells }
-        ensures { (c : Cell) → slice_get self.now.cells station ≡ Some c → result.now ≡ record { limits = c.limits; content = c.content } }
+        ensures { (c : Cell) → slice_get self.now.cells station ≡ Some c → result.now ≡ record { limits = c.limits; period = c.period; content = c.content } }
     {
         self.cells[station as usize].ledger()
     }

@@ -75,7 +75,7 @@ impl<J: Naming> Desk<J> {
         requires there { (site : ℕ) → site < length plan.now.sites.items → HasTable tables site }
         ensures limits { (result ≡ Err DeskFault.PlanLimit) ↔ (plan_fault plan.now.sites.items plan.now.stations.items ≡ Some DeskFault.PlanLimit) }
         ensures twice { (result ≡ Err DeskFault.StationTwice) ↔ (plan_fault plan.now.sites.items plan.now.stations.items ≡ Some DeskFault.StationTwice) }
-        ensures stations { IfOk result (λ r. AreNewPlaces plan.now.stations.items r.0.stations) }
+        ensures stations { IfOk result (λ r. AreNewPlaces plan.now.sites.items plan.now.stations.items r.0.stations) }
         ensures sites { IfOk result (λ r. r.0.sites ≡ length plan.now.sites.items) }
         ensures viewers { IfOk result (λ r. r.1.items ≡ new_viewers 0 plan.now.sites.items) }
         ensures given { IfOk result (λ r. r.0.viewers ≡ length r.1.items) }
@@ -233,7 +233,7 @@ fn lock_parts<J: Naming>(
     requires faultless { plan_fault plan.now.sites.items plan.now.stations.items ≡ None }
     requires cells { length parts.cells ≡ length plan.now.stations.items }
     requires books { length parts.books ≡ length plan.now.sites.items }
-    ensures stations { IfOk result (λ r. AreNewPlaces plan.now.stations.items r.0.stations) }
+    ensures stations { IfOk result (λ r. AreNewPlaces plan.now.sites.items plan.now.stations.items r.0.stations) }
     ensures sites { IfOk result (λ r. r.0.sites ≡ length plan.now.sites.items) }
     ensures viewers { IfOk result (λ r. r.1.items ≡ parts.viewers) }
     ensures given { IfOk result (λ r. r.0.viewers ≡ length r.1.items) }
@@ -245,7 +245,7 @@ fn lock_parts<J: Naming>(
     } = parts;
     let (mut free_cells, mut free_books) = (cells.into_vec(), books.into_vec());
     let viewers = viewers.into_vec();
-    let places = open_places(alloc, plan.stations.as_slice())?;
+    let places = open_places(alloc, plan.sites.as_slice(), plan.stations.as_slice())?;
     let spare = Spare::open(alloc)?;
     let mut cells = Vec::with_capacity(alloc, plan.stations.len())?;
     let mut books = Vec::with_capacity(alloc, plan.sites.len())?;

@@ -7,7 +7,7 @@ ghost use Rattle.site_desk.specs.Plan.{plan_fault};
 
 use crate::cell::StationCell;
 use crate::fault::DeskFault;
-use crate::plan::{Plan, SitePlan, StationPlan};
+use crate::plan::{Plan, SitePlan, StationPlan, period_of};
 use arrayvec::ArrayVec;
 use ledger_model::{Limits, Listed, MAX_STATIONS};
 use site_book::{Naming, SiteBook, Tables, Viewer};
@@ -34,7 +34,7 @@ impl<J: Naming> Parts<J> {
         ensures limits { (result ≡ Err DeskFault.PlanLimit) ↔ (plan_fault plan.now.sites.items plan.now.stations.items ≡ Some DeskFault.PlanLimit) }
         ensures twice { (result ≡ Err DeskFault.StationTwice) ↔ (plan_fault plan.now.sites.items plan.now.stations.items ≡ Some DeskFault.StationTwice) }
         ensures faultless { OnOk result (plan_fault plan.now.sites.items plan.now.stations.items ≡ None) }
-        ensures cells { IfOk result (λ p. AreNewCells plan.now.stations.items p.cells) }
+        ensures cells { IfOk result (λ p. AreNewCells plan.now.sites.items plan.now.stations.items p.cells) }
         ensures books { IfOk result (λ p. AreNewBooks plan.now.stations.items (length plan.now.sites.items) p.books) }
         ensures viewers { IfOk result (λ p. p.viewers ≡ new_viewers 0 plan.now.sites.items) }
         ensures tied { IfOk result (λ p. AreTied p.cells p.books) }
@@ -55,7 +55,7 @@ fn open_parts<J: Naming>(alloc: Global, tables: Tables, plan: &Plan) -> Result<P
     requires named { NamedBy J.table tables }
     requires there { (site : ℕ) → site < length plan.now.sites.items → HasTable tables site }
     requires faultless { plan_fault plan.now.sites.items plan.now.stations.items ≡ None }
-    ensures cells { IfOk result (λ p. AreNewCells plan.now.stations.items p.cells) }
+    ensures cells { IfOk result (λ p. AreNewCells plan.now.sites.items plan.now.stations.items p.cells) }
     ensures books { IfOk result (λ p. AreNewBooks plan.now.stations.items (length plan.now.sites.items) p.books) }
     ensures viewers { IfOk result (λ p. p.viewers ≡ new_viewers 0 plan.now.sites.items) }
     ensures tied { IfOk result (λ p. AreTied p.cells p.books) }
@@ -63,7 +63,7 @@ fn open_parts<J: Naming>(alloc: Global, tables: Tables, plan: &Plan) -> Result<P
 {
     let sites = plan.sites.as_slice();
     let stations = plan.stations.as_slice();
-    let cells = open_cells(alloc, stations)?;
+    let cells = open_cells(alloc, sites, stations)?;
     let (books, viewers) = open_books(alloc, tables, sites, stations)?;
     Ok(Parts {
         cells: Listed::of(cells),
@@ -72,16 +72,21 @@ fn open_parts<J: Naming>(alloc: Global, tables: Tables, plan: &Plan) -> Result<P
     })
 }
 
-// A cell for each station.
-fn open_cells(alloc: Global, stations: &[StationPlan]) -> Result<Vec<StationCell>, AllocError>
+// A cell for each station, by its site's settlement period.
+fn open_cells(
+    alloc: Global,
+    sites: &[SitePlan],
+    stations: &[StationPlan],
+) -> Result<Vec<StationCell>, AllocError>
     requires { length stations.now ≤ 64 }
-    ensures { IfOk result (λ cells. AreNewCells stations.now cells.items) }
+    ensures { IfOk result (λ cells. AreNewCells sites.now stations.now cells.items) }
 {
     let mut cells = Vec::with_capacity(alloc, stations.len())?;
     for k in 0..stations.len() {
         let station = &stations[k];
         let row = row_of(stations, station.site, k);
-        cells.push(StationCell::open(alloc, k as u16, station.site, row, station.limits)?)?;
+        let period = period_of(sites, station.site);
+        cells.push(StationCell::open(alloc, k as u16, station.site, row, station.limits, period)?)?;
     }
     Ok(cells)
 }

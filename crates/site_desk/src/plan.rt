@@ -3,20 +3,21 @@ ghost use Rattle.std.specs.List.{list_all, list_any, position};
 ghost use Rattle.std.specs.Option.{is_some};
 ghost use Rattle.std.specs.Str.{bytes_eq};
 ghost use Rattle.ledger_model.specs.Ranges.{most_sites};
-ghost use Rattle.site_desk.specs.Plan.{blank_name, has_twice, is_past, is_within_limits, most_viewers, plan_fault, site_number, sites_with};
+ghost use Rattle.site_desk.specs.Plan.{blank_name, has_twice, is_past, is_within_limits, most_viewers, period_at, plan_fault, site_number, sites_by, sites_with};
 
 use crate::fault::DeskFault;
 use arrayvec::ArrayVec;
-use ledger_model::{Limits, MAX_PLAN_READINGS, MAX_SITES, MAX_STATIONS, Name};
+use ledger_model::{Limits, MAX_PLAN_READINGS, MAX_SITES, MAX_STATIONS, Name, Period};
 
 /// How many viewers a site may have.
 pub const MAX_VIEWERS: u16 = 64;
 
-/// A site: its name, and how many viewers it has, at most 64.
+/// A site: its name, how many viewers it has, at most 64, and the settlement period of its boards.
 #[derive(Debug, Drop)]
 pub struct SitePlan {
     pub name: Name,
     pub viewers: u16,
+    pub period: Period,
 }
 
 /// A station: the number of its site in the plan, its name, and its limits.
@@ -82,22 +83,23 @@ impl Plan {
     }
 
     /// Adds a station of this name with these limits, behind those that stand. Its site begins at its first
-    /// mention, with so many viewers. A name that stands already is left to [`Plan::fault`].
+    /// mention, with so many viewers and this settlement period. A name that stands already is left to
+    /// [`Plan::fault`].
     ///
     /// Condition: that is not more than a plan may have (test [`Plan::is_past`]).
-    pub fn declare(&mut self, site: Name, viewers: u16, name: Name, limits: Limits)
+    pub fn declare(&mut self, site: Name, viewers: u16, period: Period, name: Name, limits: Limits)
         requires room { is_past (position (λ s. bytes_eq site s.name) self.old.sites.items) self.old.sites.items self.old.stations.items limits ≡ false }
-        ensures sites { self.new.sites.items ≡ sites_with (position (λ s. bytes_eq site s.name) self.old.sites.items) site viewers self.old.sites.items }
+        ensures sites { self.new.sites.items ≡ sites_with (position (λ s. bytes_eq site s.name) self.old.sites.items) site viewers period self.old.sites.items }
         ensures stations { self.new.stations.items ≡ self.old.stations.items ++ record { site = site_number (position (λ s. bytes_eq site s.name) self.old.sites.items) self.old.sites.items; name = name; limits = limits } ∷ [] }
     {
-        let site = self.mention(site, viewers);
+        let site = self.mention(site, viewers, period);
         self.stations.push(StationPlan { site, name, limits });
     }
 
     // The number of the site of this name, which begins at its first mention.
-    fn mention(&mut self, name: Name, viewers: u16) -> u16
+    fn mention(&mut self, name: Name, viewers: u16, period: Period) -> u16
         requires room { position (λ s. bytes_eq name s.name) self.old.sites.items ≡ None → length self.old.sites.items < most_sites }
-        ensures sites { self.new.sites.items ≡ sites_with (position (λ s. bytes_eq name s.name) self.old.sites.items) name viewers self.old.sites.items }
+        ensures sites { self.new.sites.items ≡ sites_with (position (λ s. bytes_eq name s.name) self.old.sites.items) name viewers period self.old.sites.items }
         ensures stations { self.new.stations.items ≡ self.old.stations.items }
         ensures number { result ≡ site_number (position (λ s. bytes_eq name s.name) self.old.sites.items) self.old.sites.items }
     {
@@ -105,10 +107,35 @@ impl Plan {
             Some(number) => number as u16,
             None => {
                 let number = self.sites.len() as u16;
-                self.sites.push(SitePlan { name, viewers });
+                self.sites.push(SitePlan {
+                    name,
+                    viewers,
+                    period,
+                });
                 number
             }
         }
+    }
+
+    /// The settlement period of the site of this number.
+    ///
+    /// Condition: the plan has the site ([`Plan::site`] tells).
+    pub fn period(&self, site: usize) -> Period
+        requires { site < length self.now.sites.items }
+        ensures { result ≡ period_at self.now.sites.items site }
+    {
+        self.sites.as_slice()[site].period
+    }
+
+    /// Gives the site of this number another settlement period.
+    ///
+    /// Condition: the plan has the site ([`Plan::site`] tells).
+    pub fn set_period(&mut self, site: usize, period: Period)
+        requires { site < length self.old.sites.items }
+        ensures sites { self.new.sites.items ≡ sites_by site period self.old.sites.items }
+        ensures stations { self.new.stations.items ≡ self.old.stations.items }
+    {
+        self.sites.as_mut_slice()[site].period = period;
     }
 
     /// The first of the plan's stations whose name stands again behind it.
@@ -136,15 +163,17 @@ impl Plan {
 
 impl Default for SitePlan {
     ghost use Rattle.std.specs.Prelude.{◌≡◌};
+    ghost use Rattle.ledger_model.specs.Quarter.{default_period};
     ghost use Rattle.site_desk.specs.Plan.{blank_name};
 
-    ghost is_default = { λ s. s ≡ record { name = blank_name; viewers = 0 } };
+    ghost is_default = { λ s. s ≡ record { name = blank_name; viewers = 0; period = default_period } };
 
-    /// A site named `-`, without viewers.
+    /// A site named `-`, without viewers, by the default settlement period.
     fn default() -> Self {
         SitePlan {
             name: blank(),
             viewers: 0,
+            period: Period::default(),
         }
     }
 }
@@ -163,6 +192,16 @@ impl Default for StationPlan {
             name: blank(),
             limits: Limits::default(),
         }
+    }
+}
+
+// The settlement period of the site of this number, and the default one where there is no such site.
+pub(crate) fn period_of(sites: &[SitePlan], site: u16) -> Period
+    ensures { result ≡ period_at sites.now site }
+{
+    match sites.get(usize::from(site)) {
+        Some(site) => site.period,
+        None => Period::default(),
     }
 }
 

@@ -5,23 +5,29 @@ ghost use Rattle.std.specs.Str.{bytes_eq};
 ghost use Rattle.site_desk.specs.Roster.{AreNewPlaces, IsNamed};
 
 use crate::parts::row_of;
-use crate::plan::StationPlan;
-use ledger_model::{Limits, Name};
+use crate::plan::{SitePlan, StationPlan, period_of};
+use ledger_model::{Limits, Name, Period};
 use std::alloc::{AllocError, Global};
 
-// Where a station stands: its name, its site's number, its row in the site's book, and its limits.
+// Where a station stands: its name, its site's number, its row in the site's book, its limits, and its
+// settlement period.
 #[derive(Drop)]
 pub struct Place {
     pub(crate) name: Name,
     pub(crate) site: u16,
     pub(crate) row: u16,
     pub(crate) limits: Limits,
+    pub(crate) period: Period,
 }
 
 // The place of each station of a plan.
-pub(crate) fn open_places(alloc: Global, stations: &[StationPlan]) -> Result<Vec<Place>, AllocError>
+pub(crate) fn open_places(
+    alloc: Global,
+    sites: &[SitePlan],
+    stations: &[StationPlan],
+) -> Result<Vec<Place>, AllocError>
     requires { length stations.now ≤ 64 }
-    ensures { IfOk result (λ places. AreNewPlaces stations.now places.items) }
+    ensures { IfOk result (λ places. AreNewPlaces sites.now stations.now places.items) }
 {
     let mut places = Vec::with_capacity(alloc, stations.len())?;
     for k in 0..stations.len() {
@@ -31,6 +37,7 @@ pub(crate) fn open_places(alloc: Global, stations: &[StationPlan]) -> Result<Vec
             site: station.site,
             row: row_of(stations, station.site, k),
             limits: station.limits,
+            period: period_of(sites, station.site),
         })?;
     }
     Ok(places)

@@ -19,6 +19,7 @@ pub(crate) fn stands_at(cell: &StationCell, number: usize, place: &Place) -> boo
         && cell.site() == place.site
         && cell.row() == place.row
         && *cell.ledger().limits() == place.limits
+        && cell.ledger().period() == place.period
 }
 
 // Tells whether the cell is that of the station of this number and place, and the book its site's.
@@ -53,7 +54,7 @@ pub(crate) fn try_settle<J: Naming>(
 
 // The board of a cell's station.
 pub(crate) fn board_of(cell: &StationCell, alloc: Global) -> Result<StationBoard, AllocError>
-    ensures { IfOk result (IsBoardWithin cell.now.limits) }
+    ensures { IfOk result (IsBoardWithin cell.now.limits cell.now.period) }
 {
     cell.ledger().board(alloc)
 }

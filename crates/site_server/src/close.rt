@@ -22,7 +22,7 @@ pub(crate) fn close<J: Naming, W: Write>(
     output: &mut W,
 ) -> Result<(), ServiceFault>
     requires sites { desk.sites ≡ length plan.now.sites.items }
-    requires opened { AreNewPlaces plan.now.stations.items desk.stations }
+    requires opened { AreNewPlaces plan.now.sites.items plan.now.stations.items desk.stations }
     requires readings { sum_by (λ s. s.limits.readings) plan.now.stations.items ≤ most_plan_readings }
     ensures { OnOk result ((boards : List ℕ) × Appends (W.contents output.old) (W.contents output.new) boards
         × AreBoards plan.now.sites.items plan.now.stations.items boards) }

@@ -119,7 +119,7 @@ pub fn open_desk<J: Naming>(
     requires named { NamedBy J.table tables }
     requires there { (site : ℕ) → site < length plan.now.sites.items → HasTable tables site }
     ensures sites { IfOk result (λ r. r.0.sites ≡ length plan.now.sites.items) }
-    ensures opened { IfOk result (λ r. AreNewPlaces plan.now.stations.items r.0.stations) }
+    ensures opened { IfOk result (λ r. AreNewPlaces plan.now.sites.items plan.now.stations.items r.0.stations) }
     ensures readings { OnOk result (sum_by (λ s. s.limits.readings) plan.now.stations.items ≤ most_plan_readings) }
 {
     let (desk, numbered) = Desk::open(alloc, tables, plan)?;

@@ -12,7 +12,7 @@ use crate::serve::serve_many;
 use crate::service::{address_of, listen, open_desk};
 use arrayvec::ArrayString;
 use itoa::Buffer;
-use ledger_model::{Limits, Name};
+use ledger_model::{Limits, Name, Period};
 use site_book::{Naming, Tables};
 use site_desk::{Desk, NoGate, Pass, Plan};
 use station_link::{SimFault, SimStation};
@@ -57,7 +57,8 @@ pub fn simulate<
     simulate_under::<Brand, R, W>(rt, alloc, tables, &plan, stations, events, output)
 }
 
-// The plan of a site `sim` with so many stations `CS-1`, `CS-2` and so on, under the default limits.
+// The plan of a site `sim` with so many stations `CS-1`, `CS-2` and so on, under the default limits and
+// by the default settlement period.
 fn simulated_plan(stations: u16) -> Plan
     requires { stations ≤ 64 }
     ensures sites { result.sites.items ≡ simulated_sites stations }
@@ -67,7 +68,13 @@ fn simulated_plan(stations: u16) -> Plan
     let site = site_name();
     for before in 0..stations {
         let station = station_name(before + 1);
-        plan.declare(site.copied(), 0, station, Limits::default());
+        plan.declare(
+            site.copied(),
+            0,
+            Period::default(),
+            station,
+            Limits::default(),
+        );
     }
     plan
 }

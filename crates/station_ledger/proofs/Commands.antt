@@ -124,10 +124,10 @@ own_pairs tx l = followed (flat_map (λ e. e.1.event.readings) (own_events tx l)
 at_over : ℕ → List Entry → List (List ℕ)
 at_over n l = filter (λ tx. first_or_none (filter_map (λ e. e.1.event.evse) (own_events tx l)) == n) (transactions_of l)
 
-pub summed_same : (limits : Bounds) (es new : List Entry) (kept : Mapped Standing) (evses : List EvseSum) (quarters : Table) (total : Energy) (f g : Figures) → live new ≡ live es
-    → g.events ≡ f.events → g.transactions ≡ f.transactions → g.complete ≡ f.complete → g.missing ≡ f.missing → AreSummed limits es kept evses quarters total f → AreSummed limits new kept evses quarters total g
+pub summed_same : (limits : Bounds) (es new : List Entry) (kept : Mapped Standing) (evses : List EvseSum) (period : ℕ) (quarters : Table) (total : Energy) (f g : Figures) → live new ≡ live es
+    → g.events ≡ f.events → g.transactions ≡ f.transactions → g.complete ≡ f.complete → g.missing ≡ f.missing → AreSummed limits es kept evses period quarters total f → AreSummed limits new kept evses period quarters total g
 unfolding own_pairs at_over
-summed_same limits es new kept evses quarters total f g same events transactions complete missing_same s = record {
+summed_same limits es new kept evses period quarters total f g same events transactions complete missing_same s = record {
   standing = record {
     each = λ tx. s.standing.each tx ∙ sym (kept_same tx es new (ap (own_events tx) same));
     rising = s.standing.rising;
@@ -139,7 +139,7 @@ summed_same limits es new kept evses quarters total f g same events transactions
     each = λ n le. s.at_evses.each n le ∙ ap (λ l. record { transactions = length (at_over n l); flow = energy_over (flat_map (λ tx. own_pairs tx l) (at_over n l)) }) (sym same);
   };
   by_quarter = record {
-    rows = s.by_quarter.rows ∙ ap (λ l. rows_of (quartered (flat_map (λ tx. own_pairs tx l) (transactions_of l)))) (sym same);
+    rows = s.by_quarter.rows ∙ ap (λ l. rows_of (quartered period (flat_map (λ tx. own_pairs tx l) (transactions_of l)))) (sym same);
     room = s.by_quarter.room;
   };
   total_is = s.total_is ∙ ap (λ l. energy_over (flat_map (λ tx. own_pairs tx l) (transactions_of l))) (sym same);

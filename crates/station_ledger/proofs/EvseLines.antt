@@ -9,7 +9,6 @@ use Rattle.ledger_model.specs.Board.{Flowed, board}
 use Rattle.ledger_model.specs.BoardLaws.{AreRising, IsIn}
 use Rattle.ledger_model.specs.Content.{Entry, live, transactions_of}
 use Rattle.ledger_model.specs.Evse.{evse_of, evses, energy_at, transactions_at}
-use Rattle.ledger_model.specs.Quarter.{quarter_seconds}
 use Rattle.ledger_model.specs.Ranges.{greatest_evse}
 use Rattle.ledger_model.proofs.EnergyLemmas.{evses_rise, evses_shown}
 use Rattle.station_ledger.specs.declared.totals.EvseSum.{EvseSum}
@@ -170,5 +169,5 @@ module _ (sums : List EvseSum) (es : List Entry) (in_range : AreNumbered es) (ar
       all_below sums (greatest_evse + 1) k (omega arith) (omega (arith, count k le, some_of (λ tx. evse_of tx es) k (transactions_of (live es)) ((evses_shown es k).0 h))))
 
   -- the lines of all numbers are those of the board
-  pub all_lines : map (line_at sums) (shown_below (greatest_evse + 1) sums) ≡ (board quarter_seconds es).evses
+  pub all_lines : map (line_at sums) (shown_below (greatest_evse + 1) sums) ≡ map (λ evse. (evse, energy_at evse es)) (evses es)
   all_lines = ap (map (line_at sums)) same_evses ∙ lines_alike (λ k. (sum_at sums k).flow) (λ k. energy_at k es) (evses es) (λ k h. ap (λ (s : EvseSum). s.flow) (are.each k (few k h)))

@@ -13,4 +13,5 @@ pub mod Judged
 pub mod Numbered
 pub mod EvseLines
 pub mod TransactionLines
+pub mod Timely
 pub mod BoardLines

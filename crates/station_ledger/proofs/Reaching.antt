@@ -16,6 +16,7 @@ use Rattle.ledger_model.specs.Ranges.{most_event_readings, most_events, most_rea
 use Rattle.ledger_model.specs.Step.{Reached, answer, content_after, events_after, step}
 use Rattle.ledger_model.proofs.Callers.{AreEntries, AreKept-reached, figures_within, is_counted}
 use Rattle.station_ledger.specs.Sums.{AreAllowed}
+use Rattle.station_ledger.proofs.Timely.{pairs_in_time}
 
 -- what stands under a key has few readings
 few_readings_at : (key : KeyName) (s : Stored) (es : List Entry) → AreEntries es → find key_cmp key es ≡ Some s → length s.event.readings ≤ most_event_readings
@@ -35,6 +36,7 @@ module _ (limits : Bounds) (transactions : limits.transactions ≤ most_transact
       record {
         figures_within = figures_within limits n c reached;
         readings_within = kept.readings;
+        in_time = pairs_in_time (entries c) kept.in_range;
         few_in_each = λ key s found. few_readings_at key s (entries c) kept.in_range found;
         most_transactions_within = transactions;
         most_events_within = events;

@@ -5,7 +5,6 @@ use Rattle.std.proofs.lemmas.List.Sums.{sum_by-append}
 use Rattle.energy_flow.specs.Flow.{Energy, CanPlus, CanMinus}
 use Rattle.ledger_model.specs.Board.{Flowed}
 use Rattle.ledger_model.specs.Energy.{Pair, difference, energy_over, quarter_of}
-use Rattle.ledger_model.specs.Quarter.{quarter_seconds}
 use Rattle.ledger_model.proofs.Callers.{sum_by-map}
 use Rattle.ledger_model.specs.Ranges.{greatest_reading, most_readings}
 use Rattle.quarter_table.specs.Table.{Table}
@@ -17,10 +16,10 @@ use Rattle.quarter_table.proofs.Several.{made_with, made_without}
 use Rattle.station_ledger.specs.Quarters.{IsDifference, AreRows, HasRoom, quartered}
 
 -- what pairs add up to is what their differences do
-pub total_quartered : (ps : List Pair) → total (quartered ps) ≡ energy_over ps
-total_quartered ps =
-    let up = sum_by-map (λ (f : Flowed). f.1.up) (λ p. (quarter_of quarter_seconds p, difference p)) ps in
-    let down = sum_by-map (λ (f : Flowed). f.1.down) (λ p. (quarter_of quarter_seconds p, difference p)) ps in
+pub total_quartered : (period : ℕ) (ps : List Pair) → total (quartered period ps) ≡ energy_over ps
+total_quartered period ps =
+    let up = sum_by-map (λ (f : Flowed). f.1.up) (λ p. (quarter_of period p, difference p)) ps in
+    let down = sum_by-map (λ (f : Flowed). f.1.down) (λ p. (quarter_of period p, difference p)) ps in
     λ i. record { up = up i; down = down i }
 
 module _ (t : Table) (more : ℕ) (has : HasRoom more t) where
@@ -55,17 +54,17 @@ module _ (q : ℕ) (flow : Energy) (others : List Flowed) (t : Table) (is : t.ro
   last = subst (λ rows. (row_at q rows).pairs ≡ 1 → (row_at q rows).flow ≡ flow) (sym is) (last_pair [] q flow others)
 
 -- the rows with several pairs more
-pub rows_more : (ps : List Pair) (others : List Flowed) (more less : ℕ) (t new : Table) → AreRows others more t → length ps + less ≡ more
+pub rows_more : (period : ℕ) (ps : List Pair) (others : List Flowed) (more less : ℕ) (t new : Table) → AreRows others more t → length ps + less ≡ more
     → (energy_over ps).up ≤ greatest_reading * length ps → (energy_over ps).down ≤ greatest_reading * length ps
-    → new.rows ≡ rows_with (quartered ps) t.rows → new.capacity ≡ t.capacity → AreRows (quartered ps ++ others) less new
-rows_more ps others more less t new was n up down rows same =
-    let long : length (quartered ps) ≡ length ps = length-map {B = Flowed} ps (λ p. (quarter_of quarter_seconds p, difference p)) in
-    let ups = sum_by-append (λ (f : Flowed). f.1.up) (quartered ps) others in
-    let downs = sum_by-append (λ (f : Flowed). f.1.down) (quartered ps) others in
-    let own = total_quartered ps in
+    → new.rows ≡ rows_with (quartered period ps) t.rows → new.capacity ≡ t.capacity → AreRows (quartered period ps ++ others) less new
+rows_more period ps others more less t new was n up down rows same =
+    let long : length (quartered period ps) ≡ length ps = length-map {B = Flowed} ps (λ p. (quarter_of period p, difference p)) in
+    let ups = sum_by-append (λ (f : Flowed). f.1.up) (quartered period ps) others in
+    let downs = sum_by-append (λ (f : Flowed). f.1.down) (quartered period ps) others in
+    let own = total_quartered period ps in
     record {
-      rows = rows ∙ ap (rows_with (quartered ps)) was.rows ∙ made_with (quartered ps) others;
-      room = omega (arith, was.room, length-append (quartered ps) others, same, n, long);
+      rows = rows ∙ ap (rows_with (quartered period ps)) was.rows ∙ made_with (quartered period ps) others;
+      room = omega (arith, was.room, length-append (quartered period ps) others, same, n, long);
       up = omega (arith, was.up, ups, up, n, ap (λ (e : Energy). e.up) own);
       down = omega (arith, was.down, downs, down, n, ap (λ (e : Energy). e.down) own);
       few = omega (arith, was.few, same);

@@ -9,7 +9,6 @@ use Rattle.ledger_model.specs.Content.{Entry}
 use Rattle.ledger_model.specs.Deltas.{IsOneMore, pairs_kept, pairs_less, pairs_more}
 use Rattle.ledger_model.specs.Energy.{Pair, difference, energy, energy_of, energy_over, pairs, pairs_of, quarter_of}
 use Rattle.ledger_model.specs.Limits.{Bounds}
-use Rattle.ledger_model.specs.Quarter.{quarter_seconds}
 use Rattle.ledger_model.specs.Ranges.{greatest_reading, most_readings}
 use Rattle.ledger_model.proofs.Callers.{pairs_less_kept, pairs_more_kept, transaction_sums}
 use Rattle.quarter_table.specs.Table.{Table}
@@ -106,40 +105,40 @@ module _ (limits : Bounds) (tx : List ℕ) (es new : List Entry) (gone came kept
           let down : (flow.down + more.down) - less.down ≡ (energy new).down = omega (arith, ap (λ (e : Energy). e.down) all_is, less_down, more_down, down_sums) in
           λ i. record { up = up i; down = down i }
 
-  quartered-append : (ps qs : List Pair) → quartered (ps ++ qs) ≡ quartered ps ++ quartered qs
-  quartered-append ps qs = map-append (λ p. (quarter_of quarter_seconds p, difference p)) ps qs
+  quartered-append : (period : ℕ) (ps qs : List Pair) → quartered period (ps ++ qs) ≡ quartered period ps ++ quartered period qs
+  quartered-append period ps qs = map-append (λ p. (quarter_of period p, difference p)) ps qs
 
-  long : (ps : List Pair) → length (quartered ps) ≡ length ps
-  long ps = length-map {B = Flowed} ps (λ p. (quarter_of quarter_seconds p, difference p))
+  long : (period : ℕ) (ps : List Pair) → length (quartered period ps) ≡ length ps
+  long period ps = length-map {B = Flowed} ps (λ p. (quarter_of period p, difference p))
 
-  module _ (t : Table) (rows : AreQuarterRows limits es t) where
-    old_rows : t.rows ≡ rows_of (quartered gone ++ quartered kept)
-    old_rows = rows.rows ∙ pairs_alike quarter_seconds (pairs es) (gone ++ kept) traded.old_sum ∙ ap rows_of (quartered-append gone kept)
+  module _ (period : ℕ) (t : Table) (rows : AreQuarterRows limits es period t) where
+    old_rows : t.rows ≡ rows_of (quartered period gone ++ quartered period kept)
+    old_rows = rows.rows ∙ pairs_alike period (pairs es) (gone ++ kept) traded.old_sum ∙ ap rows_of (quartered-append period gone kept)
 
-    pub holds : HoldsPairs gone t
-    holds = (quartered kept, old_rows)
+    pub holds : HoldsPairs period gone t
+    holds = (quartered period kept, old_rows)
 
-    module _ (t1 : Table) (taken : t1.rows ≡ rows_without (quartered gone) t.rows) (same : t1.capacity ≡ t.capacity) where
-      left_rows : t1.rows ≡ rows_of (quartered kept)
-      left_rows = rows_less (quartered gone) (quartered kept) t t1 old_rows taken
+    module _ (t1 : Table) (taken : t1.rows ≡ rows_without (quartered period gone) t.rows) (same : t1.capacity ≡ t.capacity) where
+      left_rows : t1.rows ≡ rows_of (quartered period kept)
+      left_rows = rows_less (quartered period gone) (quartered period kept) t t1 old_rows taken
 
       pub room : length came ≤ most_readings → HasRoom (length came) t1
       room few =
           let count = sym (ones (pairs new)) ∙ traded.new_sum (λ p. 1) ∙ ones (came ++ kept) ∙ length-append came kept in
           let ups = let f = λ (p : Pair). (difference p).up in traded.old_sum f ∙ sum_by-append f gone kept in
           let downs = let f = λ (p : Pair). (difference p).down in traded.old_sum f ∙ sum_by-append f gone kept in (
-            quartered kept,
+            quartered period kept,
             record {
               rows = left_rows;
-              room = omega (arith, long kept, count, few_pairs new, after.readings_within, same, rows.room);
-              up = omega (arith, ap (λ (e : Energy). e.up) (total_quartered kept), ups, before.figures_within.up, before.most_readings_within, few);
-              down = omega (arith, ap (λ (e : Energy). e.down) (total_quartered kept), downs, before.figures_within.down, before.most_readings_within, few);
+              room = omega (arith, long period kept, count, few_pairs new, after.readings_within, same, rows.room);
+              up = omega (arith, ap (λ (e : Energy). e.up) (total_quartered period kept), ups, before.figures_within.up, before.most_readings_within, few);
+              down = omega (arith, ap (λ (e : Energy). e.down) (total_quartered period kept), downs, before.figures_within.down, before.most_readings_within, few);
               few = omega (arith, same, rows.room, before.most_readings_within);
             },
           )
 
-      pub filled : (t2 : Table) → t2.rows ≡ rows_with (quartered came) t1.rows → t2.capacity ≡ t1.capacity → AreQuarterRows limits new t2
+      pub filled : (t2 : Table) → t2.rows ≡ rows_with (quartered period came) t1.rows → t2.capacity ≡ t1.capacity → AreQuarterRows limits new period t2
       filled t2 put kept_capacity = record {
-        rows = put ∙ ap (rows_with (quartered came)) left_rows ∙ made_with (quartered came) (quartered kept) ∙ ap rows_of (sym (quartered-append came kept)) ∙ sym (pairs_alike quarter_seconds (pairs new) (came ++ kept) traded.new_sum);
+        rows = put ∙ ap (rows_with (quartered period came)) left_rows ∙ made_with (quartered period came) (quartered period kept) ∙ ap rows_of (sym (quartered-append period came kept)) ∙ sym (pairs_alike period (pairs new) (came ++ kept) traded.new_sum);
         room = kept_capacity ∙ same ∙ rows.room;
       }

@@ -1,5 +1,5 @@
 -- Pairs along readings, one reading after the other.
-use Rattle.std.proofs.Common.{◌≡◌, ◌+◌, ◌*◌, ◌≤◌, List, [], ◌∷◌, ◌++◌, length, Option, Some, refl, sym, ap, ◌∙◌, arith, length-append}
+use Rattle.std.proofs.Common.{◌≡◌, ℕ, ◌+◌, ◌*◌, ◌≤◌, List, [], ◌∷◌, ◌++◌, length, Option, Some, refl, sym, ap, ◌∙◌, arith, length-append}
 use Rattle.std.proofs.lemmas.List.{map-append, append_assoc}
 use Rattle.std.proofs.lemmas.List.Sums.{sum_by-append}
 use Rattle.energy_flow.specs.Flow.{Energy, plus}
@@ -7,7 +7,6 @@ use Rattle.ledger_model.specs.Board.{Flowed}
 use Rattle.ledger_model.specs.Deltas.{across, pairs_between}
 use Rattle.ledger_model.specs.Energy.{Pair, difference, energy_over, quarter_of}
 use Rattle.ledger_model.specs.Event.{MeterReading}
-use Rattle.ledger_model.specs.Quarter.{quarter_seconds}
 use Rattle.ledger_model.specs.Ranges.{greatest_reading}
 use Rattle.quarter_table.specs.declared.row.QuarterRow.{QuarterRow}
 use Rattle.quarter_table.specs.Rows.{row_at, set_row, with_pair, without_pair}
@@ -23,8 +22,8 @@ energy_over-append ps qs =
     let down = sum_by-append (λ p. (difference p).down) ps qs in
     λ i. record { up = up i; down = down i }
 
-quartered-append : (ps qs : List Pair) → quartered (ps ++ qs) ≡ quartered ps ++ quartered qs
-quartered-append ps qs = map-append (λ p. (quarter_of quarter_seconds p, difference p)) ps qs
+quartered-append : (period : ℕ) (ps qs : List Pair) → quartered period (ps ++ qs) ≡ quartered period ps ++ quartered period qs
+quartered-append period ps qs = map-append (λ p. (quarter_of period p, difference p)) ps qs
 
 rows_with-append : (fs gs : List Flowed) (rows : List QuarterRow) → rows_with (fs ++ gs) rows ≡ rows_with gs (rows_with fs rows)
 rows_with-append [] gs rows = refl
@@ -57,23 +56,23 @@ module _ (last : Option MeterReading) (r : MeterReading) (left rest : List Meter
       omega (arith, ap (λ (e : Energy). e.down) all, ap (λ (e : Energy). e.down) is, ap (λ (e : Energy). e.down) put) in
       (λ i. record { up = up i; down = down i }) ∙ was
 
-  pub split_with : (rows new : List QuarterRow) → new ≡ rows_with (quartered one) rows → rows_with (quartered more) new ≡ rows_with (quartered (pairs_between last left behind)) rows
-  split_with rows new is = ap (rows_with (quartered more)) is ∙ sym (rows_with-append (quartered one) (quartered more) rows) ∙ ap (λ fs. rows_with fs rows) (sym (ap quartered split ∙ quartered-append one more))
+  pub split_with : (period : ℕ) (rows new : List QuarterRow) → new ≡ rows_with (quartered period one) rows → rows_with (quartered period more) new ≡ rows_with (quartered period (pairs_between last left behind)) rows
+  split_with period rows new is = ap (rows_with (quartered period more)) is ∙ sym (rows_with-append (quartered period one) (quartered period more) rows) ∙ ap (λ fs. rows_with fs rows) (sym (ap (quartered period) split ∙ quartered-append period one more))
 
-  pub split_without : (rows new : List QuarterRow) → new ≡ rows_without (quartered one) rows → rows_without (quartered more) new ≡ rows_without (quartered (pairs_between last left behind)) rows
-  split_without rows new is = ap (rows_without (quartered more)) is ∙ sym (rows_without-append (quartered one) (quartered more) rows) ∙ ap (λ fs. rows_without fs rows) (sym (ap quartered split ∙ quartered-append one more))
+  pub split_without : (period : ℕ) (rows new : List QuarterRow) → new ≡ rows_without (quartered period one) rows → rows_without (quartered period more) new ≡ rows_without (quartered period (pairs_between last left behind)) rows
+  split_without period rows new is = ap (rows_without (quartered period more)) is ∙ sym (rows_without-append (quartered period one) (quartered period more) rows) ∙ ap (λ fs. rows_without fs rows) (sym (ap (quartered period) split ∙ quartered-append period one more))
 
   pub room_first : (t : Table) → HasRoom (length (pairs_between last left behind)) t → HasRoom (length one) t
   room_first t has = (has.0, record { rows = has.1.rows; room = omega (arith, has.1.room, split_length); up = omega (arith, has.1.up, split_length); down = omega (arith, has.1.down, split_length); few = has.1.few })
 
-  pub room_rest : (t new : Table) → HasRoom (length (pairs_between last left behind)) t → (energy_over one).up ≤ greatest_reading * length one → (energy_over one).down ≤ greatest_reading * length one → new.rows ≡ rows_with (quartered one) t.rows → new.capacity ≡ t.capacity → HasRoom (length more) new
-  room_rest t new has up down rows same = (quartered one ++ has.0, rows_more one has.0 (length (pairs_between last left behind)) (length more) t new has.1 (sym split_length) up down rows same)
+  pub room_rest : (period : ℕ) (t new : Table) → HasRoom (length (pairs_between last left behind)) t → (energy_over one).up ≤ greatest_reading * length one → (energy_over one).down ≤ greatest_reading * length one → new.rows ≡ rows_with (quartered period one) t.rows → new.capacity ≡ t.capacity → HasRoom (length more) new
+  room_rest period t new has up down rows same = (quartered period one ++ has.0, rows_more period one has.0 (length (pairs_between last left behind)) (length more) t new has.1 (sym split_length) up down rows same)
 
-  regrouped : (others : List Flowed) → rows_of (quartered (pairs_between last left behind) ++ others) ≡ rows_of (quartered one ++ (quartered more ++ others))
-  regrouped others = ap (λ fs. rows_of (fs ++ others)) (ap quartered split ∙ quartered-append one more) ∙ ap rows_of (append_assoc (quartered one) (quartered more) others)
+  regrouped : (period : ℕ) (others : List Flowed) → rows_of (quartered period (pairs_between last left behind) ++ others) ≡ rows_of (quartered period one ++ (quartered period more ++ others))
+  regrouped period others = ap (λ fs. rows_of (fs ++ others)) (ap (quartered period) split ∙ quartered-append period one more) ∙ ap rows_of (append_assoc (quartered period one) (quartered period more) others)
 
-  pub holds_first : (t : Table) → HoldsPairs (pairs_between last left behind) t → HoldsPairs one t
-  holds_first t has = (quartered more ++ has.0, has.1 ∙ regrouped has.0)
+  pub holds_first : (period : ℕ) (t : Table) → HoldsPairs period (pairs_between last left behind) t → HoldsPairs period one t
+  holds_first period t has = (quartered period more ++ has.0, has.1 ∙ regrouped period has.0)
 
-  pub holds_rest : (t new : Table) → HoldsPairs (pairs_between last left behind) t → new.rows ≡ rows_without (quartered one) t.rows → HoldsPairs more new
-  holds_rest t new has rows = (has.0, rows_less (quartered one) (quartered more ++ has.0) t new (has.1 ∙ regrouped has.0) rows)
+  pub holds_rest : (period : ℕ) (t new : Table) → HoldsPairs period (pairs_between last left behind) t → new.rows ≡ rows_without (quartered period one) t.rows → HoldsPairs period more new
+  holds_rest period t new has rows = (has.0, rows_less (quartered period one) (quartered period more ++ has.0) t new (has.1 ∙ regrouped period has.0) rows)

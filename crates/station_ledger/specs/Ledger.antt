@@ -8,9 +8,10 @@ use Rattle.ledger_model.specs.Key.{key_cmp, key_code}
 use Rattle.ledger_model.specs.Limits.{Bounds}
 use Rattle.ledger_model.specs.Content.{Content, Stored, Entry}
 
--- A station's ledger: its limits, and what it holds.
+-- A station's ledger: its limits, its settlement period in seconds, and what it holds.
 pub record Ledger : Type 0 where
   pub limits : Bounds
+  pub period : ℕ
   pub content : Content
 
 -- A stored event is kept as the pair of its parts.
@@ -33,9 +34,9 @@ content_code = code_by (FinMap key_cmp Stored × ℕ) (coded× (finite.code key_
 abbrev pub bounds_code : Coded Bounds
 bounds_code = code_by (ℕ × (ℕ × (ℕ × ℕ))) (coded× coded_ℕ (coded× coded_ℕ (coded× coded_ℕ coded_ℕ))) (λ b. (b.transactions, (b.events, (b.readings, b.changes)))) (λ p. record { transactions = p.0; events = p.1.0; readings = p.1.1.0; changes = p.1.1.1 }) (λ _. refl)
 
--- A ledger is kept as the pair of its parts.
+-- A ledger is kept as the tuple of its parts.
 abbrev pub ledger_code : Coded Ledger
-ledger_code = code_by (Bounds × Content) (coded× bounds_code content_code) (λ l. (l.limits, l.content)) (λ p. record { limits = p.0; content = p.1 }) (λ _. refl)
+ledger_code = code_by (Bounds × (ℕ × Content)) (coded× bounds_code (coded× coded_ℕ content_code)) (λ l. (l.limits, (l.period, l.content))) (λ p. record { limits = p.0; period = p.1.0; content = p.1.1 }) (λ _. refl)
 
 -- The content of entries in the order of their keys, after so many changes.
 abbrev pub content_of : List Entry → ℕ → Content

@@ -2,6 +2,7 @@
 use Rattle.std.specs.Prelude.{ℕ, ◌*◌, ◌<◌, ◌≤◌, List, All}
 use Rattle.energy_flow.specs.Flow.{Energy}
 use Rattle.ledger_model.specs.Board.{Flowed}
+use Rattle.ledger_model.specs.Quarter.{IsQuarterOf}
 use Rattle.ledger_model.specs.Ranges.{greatest_reading, most_readings, sequence_end}
 
 -- Energy that the readings of one station can show.
@@ -15,7 +16,8 @@ pub record IsShown (first last : ℕ) (flow : Energy) : Type 0 where
   pub last_number : last < sequence_end
   pub flow_in_range : IsStationFlow flow
 
--- No line has more energy than the readings of one station can show.
-pub record AreStationLines (evses quarters : List Flowed) : Type 0 where
+-- No line has more energy than the readings of one station can show, and each quarter is one of the period's.
+pub record AreStationLines (period : ℕ) (evses quarters : List Flowed) : Type 0 where
   pub evse_flows : All (λ line. IsStationFlow line.1) evses
   pub quarter_flows : All (λ line. IsStationFlow line.1) quarters
+  pub own_quarters : All (λ line. IsQuarterOf period line.0) quarters

@@ -8,7 +8,6 @@ use Rattle.ledger_model.specs.Board.{Flowed}
 use Rattle.ledger_model.specs.Energy.{Pair}
 use Rattle.ledger_model.specs.Event.{MeterReading}
 use Rattle.ledger_model.specs.Key.{KeyName}
-use Rattle.ledger_model.specs.Quarter.{quarter_seconds}
 use Rattle.ledger_model.specs.Ranges.{greatest_reading, most_readings}
 use Rattle.quarter_table.specs.Table.{Table}
 use Rattle.quarter_table.specs.Pairs.{rows_of, flows_of, total}
@@ -18,9 +17,9 @@ pub record IsDifference (flow : Energy) : Type 0 where
   pub up : flow.up ≤ greatest_reading
   pub down : flow.down ≤ greatest_reading
 
--- Pairs by their quarters and their differences.
-abbrev pub quartered : List Pair → List Flowed
-quartered ps = flows_of quarter_seconds ps
+-- Pairs by their quarters, of periods of so many seconds, and their differences.
+abbrev pub quartered : ℕ → List Pair → List Flowed
+quartered period ps = flows_of period ps
 
 -- A table of these pairs, with room for so many more; what all of them add up to stays far below 2^64.
 pub record AreRows (pairs : List Flowed) (more : ℕ) (t : Table) : Type 0 where
@@ -35,8 +34,8 @@ abbrev pub HasRoom : ℕ → Table → Type 0
 HasRoom more t = (pairs : List Flowed) × AreRows pairs more t
 
 -- A table of pairs, these among them.
-abbrev pub HoldsPairs : List Pair → Table → Type 0
-HoldsPairs ps t = (others : List Flowed) × (t.rows ≡ rows_of (quartered ps ++ others))
+abbrev pub HoldsPairs : ℕ → List Pair → Table → Type 0
+HoldsPairs period ps t = (others : List Flowed) × (t.rows ≡ rows_of (quartered period ps ++ others))
 
 -- The readings of the event of a key.
 abbrev pub readings_at : Chained → KeyName → List MeterReading

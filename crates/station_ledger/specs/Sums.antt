@@ -1,5 +1,5 @@
 -- What is kept of a station's live events, so that no figure needs a walk.
-use Rattle.std.specs.Prelude.{◌≡◌, ℕ, ◌+◌, ◌≤◌, not, List, Option, None, Some, length, count_by, sum_by}
+use Rattle.std.specs.Prelude.{◌≡◌, ℕ, ◌+◌, ◌≤◌, not, List, Option, None, Some, All, length, count_by, sum_by}
 use Rattle.std.specs.List.{filter}
 use Rattle.std.specs.Ordering.{eq_by_cmp}
 use Rattle.std.specs.FinMap as finite
@@ -19,6 +19,7 @@ use Rattle.event_chain.specs.Chains.{Chained, stored}
 use Rattle.event_chain.specs.Room.{readings_under}
 use Rattle.ledger_model.specs.Gaps.{numbers_of, missing}
 use Rattle.ledger_model.specs.Limits.{Bounds}
+use Rattle.ledger_model.specs.Moment.{IsMoment}
 use Rattle.ledger_model.specs.Ranges.{greatest_evse, most_event_readings, most_events, most_readings, most_transactions}
 use Rattle.quarter_table.specs.Table.{Table}
 use Rattle.quarter_table.specs.Pairs.{rows_of}
@@ -41,9 +42,9 @@ pub record AreEvseSums (es : List Entry) (evses : List EvseSum) : Type 0 where
   pub all : length evses ≡ greatest_evse + 1
   pub each : (n : ℕ) → n ≤ greatest_evse → sum_at evses n ≡ evse_sum n es
 
--- The rows of the quarters.
-pub record AreQuarterRows (limits : Bounds) (es : List Entry) (quarters : Table) : Type 0 where
-  pub rows : quarters.rows ≡ rows_of (quartered (pairs es))
+-- The rows of the quarters, by periods of so many seconds.
+pub record AreQuarterRows (limits : Bounds) (es : List Entry) (period : ℕ) (quarters : Table) : Type 0 where
+  pub rows : quarters.rows ≡ rows_of (quartered period (pairs es))
   pub room : quarters.capacity ≡ limits.readings
 
 -- The figures but for the energy and the voided events.
@@ -54,10 +55,10 @@ pub record AreCounts (es : List Entry) (f : Figures) : Type 0 where
   pub missing_are : f.missing ≡ sum_by (λ tx. missing (numbers_of tx es)) (transactions_of (live es))
 
 -- All sums of these events within these limits, but for the count of voided ones.
-pub record AreSummed (limits : Bounds) (es : List Entry) (kept : Mapped Standing) (evses : List EvseSum) (quarters : Table) (total : Energy) (f : Figures) : Type 0 where
+pub record AreSummed (limits : Bounds) (es : List Entry) (kept : Mapped Standing) (evses : List EvseSum) (period : ℕ) (quarters : Table) (total : Energy) (f : Figures) : Type 0 where
   pub standing : AreStanding limits es kept
   pub at_evses : AreEvseSums es evses
-  pub by_quarter : AreQuarterRows limits es quarters
+  pub by_quarter : AreQuarterRows limits es period quarters
   pub total_is : total ≡ energy es
   pub counts : AreCounts es f
 
@@ -84,10 +85,11 @@ pub record IsToGo (es : List Entry) (chains : Chained) (key : KeyName) (before b
   pub behind_is : behind ≡ first_reading (own_readings key.tx (behind_key key es))
   pub few : length event.event.readings ≤ most_event_readings
 
--- Events such as the limits allow.
+-- Events such as the limits allow, with each reading at a moment.
 pub record AreAllowed (limits : Bounds) (es : List Entry) : Type 0 where
   pub figures_within : AreWithin limits (figures es)
   pub readings_within : readings_stored es ≤ limits.readings
+  pub in_time : All (λ p. IsMoment p.1.moment) (pairs es)
   pub few_in_each : (key : KeyName) (s : Stored) → find key_cmp key es ≡ Some s → length s.event.readings ≤ most_event_readings
   pub most_transactions_within : limits.transactions ≤ most_transactions
   pub most_events_within : limits.events ≤ most_events

@@ -1,9 +1,10 @@
 ghost use Rattle.std.specs.Prelude.{◌≡◌, ◌<◌, All};
+ghost use Rattle.ledger_model.specs.Quarter.{IsQuarterOf};
 ghost use Rattle.ledger_model.specs.Ranges.{sequence_end};
 ghost use Rattle.station_ledger.specs.Lines.{IsStationFlow};
 
 use energy_flow::Flow;
-use ledger_model::{EvseId, Figures, Listed, Quarter, TxId};
+use ledger_model::{EvseId, Figures, Listed, Period, Quarter, TxId};
 use std::marker::Model;
 
 /// An EVSE of a station, 0 where none was named, with the energy of its transactions.
@@ -189,10 +190,11 @@ impl TxLine {
     }
 }
 
-/// The board of a station: its figures; its EVSEs and its quarters with their energy, rising; and its
+/// The board of a station: its settlement period; its figures; its EVSEs and its quarters with their energy, rising; and its
 /// transactions with a live event, by the bytes of their ids.
 #[derive(Debug, Drop)]
 pub struct StationBoard {
+    pub(crate) period: Period,
     pub(crate) figures: Figures,
     pub(crate) evses: Listed<EvseLine>,
     pub(crate) quarters: Listed<QuarterLine>,
@@ -205,12 +207,19 @@ impl Model for StationBoard {
 
     ghost Value = { Board };
 
-    ghost view = { λ b. record { figures = b.figures; evses = b.evses; quarters = b.quarters; transactions = b.transactions } };
+    ghost view = { λ b. record { period = b.period; figures = b.figures; evses = b.evses; quarters = b.quarters; transactions = b.transactions } };
 
-    ghost invariant = { λ b. AreStationLines b.evses b.quarters };
+    ghost invariant = { λ b. AreStationLines b.period b.evses b.quarters };
 }
 
 impl StationBoard {
+    /// The settlement period that its quarters are counted by.
+    pub fn period(&self) -> Period
+        ensures { result ≡ self.now.period }
+    {
+        self.period
+    }
+
     /// The seven figures.
     pub fn figures(&self) -> Figures
         ensures { result ≡ self.now.figures }
@@ -227,11 +236,12 @@ impl StationBoard {
         self.evses.as_slice()
     }
 
-    /// The quarters that have a pair of readings, rising. None has more energy than the readings of
-    /// one station can show.
+    /// The quarters that have a pair of readings, rising, each one of the board's period. None has
+    /// more energy than the readings of one station can show.
     pub fn quarters(&self) -> &[QuarterLine]
         ensures value { result.now ≡ self.now.quarters }
         ensures range { All (λ line. IsStationFlow line.1) result.now }
+        ensures own { All (λ line. IsQuarterOf self.now.period line.0) result.now }
     {
         self.quarters.as_slice()
     }

@@ -6,7 +6,6 @@ ghost use Rattle.ledger_model.specs.Energy.{energy};
 ghost use Rattle.ledger_model.specs.Evse.{energy_at};
 ghost use Rattle.ledger_model.specs.Figures.{AreWithin};
 ghost use Rattle.ledger_model.specs.Board.{board, figures};
-ghost use Rattle.ledger_model.specs.Quarter.{quarter_seconds};
 ghost use Rattle.ledger_model.specs.Step.{Reached, answer, answer_to_deliver, answer_to_void, answer_to_voided, accepted_within_limit, step};
 ghost use Rattle.station_ledger.specs.New.{answer_to_new};
 ghost use Rattle.station_ledger.specs.Spent.{IsSpent, most_spent};
@@ -17,7 +16,7 @@ use crate::moves::carry_out;
 use crate::sums::Sums;
 use energy_flow::{Flow, Work};
 use event_chain::{Chains, Found, Room};
-use ledger_model::{Answer, Command, Event, EvseId, Figures, Key, Limits, Refusal, TxId};
+use ledger_model::{Answer, Command, Event, EvseId, Figures, Key, Limits, Period, Refusal, TxId};
 use std::alloc::{AllocError, Global};
 use std::marker::Model;
 
@@ -39,23 +38,24 @@ impl Model for StationLedger {
 
     ghost coded = { ledger_code };
 
-    ghost view = { λ l. record { limits = l.limits; content = content_in l.chains l.changes } };
+    ghost view = { λ l. record { limits = l.limits; period = l.sums.period; content = content_in l.chains l.changes } };
 
-    ghost invariant = { λ l. IsKept l.limits l.chains l.changes l.sums.kept l.sums.evses.items l.sums.quarters l.sums.energy l.sums.figures };
+    ghost invariant = { λ l. IsKept l.limits l.chains l.changes l.sums.kept l.sums.evses.items l.sums.period l.sums.quarters l.sums.energy l.sums.figures };
 }
 
 impl StationLedger {
-    /// A ledger without events, within these limits. It and [`StationLedger::board`] alone can run out
-    /// of memory.
-    pub fn open(alloc: Global, limits: Limits) -> Result<Self, AllocError>
+    /// A ledger without events, within these limits, whose board is by this settlement period. It and
+    /// [`StationLedger::board`] alone can run out of memory.
+    pub fn open(alloc: Global, limits: Limits, period: Period) -> Result<Self, AllocError>
         ensures limits { IfOk result (λ l. l.limits ≡ limits) }
+        ensures period { IfOk result (λ l. l.period ≡ period) }
         ensures empty { IfOk result (λ l. l.content ≡ empty_content) }
     {
         limits.keep_ranges();
         Ok(StationLedger {
             limits,
             chains: Chains::open(alloc, &limits)?,
-            sums: Sums::open(alloc, &limits)?,
+            sums: Sums::open(alloc, &limits, period)?,
             changes: 0,
         })
     }
@@ -183,7 +183,7 @@ impl StationLedger {
     /// The board: the figures; the EVSEs and the quarters with their energy; and the transactions with
     /// a live event, with their gaps. It alone of the calls on an open ledger takes memory.
     pub fn board(&self, alloc: Global) -> Result<StationBoard, AllocError>
-        ensures board { IfOk result (λ b. b ≡ board quarter_seconds (entries self.now.content)) }
+        ensures board { IfOk result (λ b. b ≡ board self.now.period (entries self.now.content)) }
         ensures within { IfOk result (λ b. AreWithin self.now.limits b.figures) }
     {
         board_of(alloc, &self.chains, &self.sums, self.figures())
@@ -202,5 +202,12 @@ impl StationLedger {
         ensures { result.now ≡ self.now.limits }
     {
         &self.limits
+    }
+
+    /// The settlement period that the ledger was opened with.
+    pub fn period(&self) -> Period
+        ensures { result ≡ self.now.period }
+    {
+        self.sums.period
     }
 }

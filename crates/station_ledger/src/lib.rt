@@ -1,7 +1,8 @@
 //! One station's transaction ledger, its figures and its board.
 //!
 //! A [`StationLedger`] keeps the transaction events of one station, each under its key and each voided
-//! or not, within the limits that it was opened with. [`StationLedger::apply`] takes one command and
+//! or not, within the limits that it was opened with, and counts energy by the settlement period that
+//! it was opened with. [`StationLedger::apply`] takes one command and
 //! answers it: the change is accepted and counted, the very event is there already, or one of eight
 //! refusals tells the first rule that stands against it. A repeat and a refusal change nothing.
 //! [`StationLedger::energy`] adds up what the register rose and fell by between each counted reading
@@ -23,7 +24,7 @@
 //! figure is computed anew, and no call but `open` and `board` asks for memory.
 //!
 //! ```text
-//! let mut ledger = StationLedger::open(alloc, limits)?;
+//! let mut ledger = StationLedger::open(alloc, limits, period)?;
 //! ledger.apply(Command::Deliver(key, event), &mut work); // Accepted(1)
 //! ledger.energy().up(); // milliwatt-hours
 //! for line in ledger.board(alloc)?.transactions() { .. } // line.tx(), line.missing(), line.gaps()

@@ -2,10 +2,10 @@
 ghost use Rattle.std.specs.Prelude.{◌≡◌, ◌+◌, List, IfOk, length, map};
 ghost use Rattle.event_chain.specs.Chains.{stored};
 ghost use Rattle.ledger_model.specs.Board.{board, figures as figures_of, shown};
+ghost use Rattle.ledger_model.specs.Evse.{energy_at, evses as evses_of};
 ghost use Rattle.ledger_model.specs.Content.{Entry, live, transactions_of};
 ghost use Rattle.ledger_model.specs.Energy.{energy_of};
 ghost use Rattle.ledger_model.specs.Gaps.{gaps, numbers_of};
-ghost use Rattle.ledger_model.specs.Quarter.{quarter_seconds};
 ghost use Rattle.ledger_model.specs.Ranges.{greatest_evse};
 ghost use Rattle.quarter_table.specs.Pairs.{line_of};
 ghost use Rattle.station_ledger.specs.Numbered.{AreNumbered};
@@ -40,7 +40,7 @@ pub(crate) fn quarter_lines(
 // The lines of the EVSEs that have a transaction with a live event, rising.
 pub(crate) fn evse_lines(alloc: Global, evses: &[EvseSum]) -> Result<Vec<EvseLine>, AllocError>
     requires { length evses.now ≡ greatest_evse + 1 }
-    ensures { IfOk result (λ lines. (es : List Entry) → AreNumbered es → AreEvseSums es evses.now → lines.items ≡ (board quarter_seconds es).evses) }
+    ensures { IfOk result (λ lines. (es : List Entry) → AreNumbered es → AreEvseSums es evses.now → lines.items ≡ map (λ evse. (evse, energy_at evse es)) (evses_of es)) }
 {
     let mut lines = Vec::new(alloc);
     for number in 0..GREATEST_EVSE + 1 {
@@ -116,14 +116,16 @@ pub(crate) fn board_of(
 ) -> Result<StationBoard, AllocError>
     requires within { AreAllowed chains.now.limits (stored chains.now) }
     requires numbered { AreNumbered (stored chains.now) }
-    requires summed { AreSummed chains.now.limits (stored chains.now) sums.now.kept sums.now.evses.items sums.now.quarters sums.now.energy sums.now.figures }
+    requires summed { AreSummed chains.now.limits (stored chains.now) sums.now.kept sums.now.evses.items sums.now.period sums.now.quarters sums.now.energy sums.now.figures }
     requires figures { figures ≡ figures_of (stored chains.now) }
-    ensures { IfOk result (λ b. b ≡ board quarter_seconds (stored chains.now)) }
+    ensures { IfOk result (λ b. b ≡ board sums.now.period (stored chains.now)) }
 {
+    sums.period.keep_range();
     let transactions = transaction_lines(alloc, chains, &sums.kept)?;
     let evses = evse_lines(alloc, &sums.evses)?;
     let quarters = quarter_lines(alloc, &sums.quarters)?;
     Ok(StationBoard {
+        period: sums.period,
         figures,
         evses: Listed::of(evses),
         quarters: Listed::of(quarters),

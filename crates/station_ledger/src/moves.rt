@@ -31,10 +31,11 @@ pub(crate) fn deliver(
     requires room { room_of chains.old.limits (stored chains.old) key.tx (length event.now.readings) ≡ Fits }
     requires before { AreAllowed chains.old.limits (stored chains.old) }
     requires after { AreAllowed chains.old.limits (finite.entries (events_after chains.old.events (Deliver key event.now))) }
-    requires summed { AreSummed chains.old.limits (stored chains.old) sums.old.kept sums.old.evses.items sums.old.quarters sums.old.energy sums.old.figures }
+    requires summed { AreSummed chains.old.limits (stored chains.old) sums.old.kept sums.old.evses.items sums.old.period sums.old.quarters sums.old.energy sums.old.figures }
     ensures limits { chains.new.limits ≡ chains.old.limits }
     ensures events { chains.new.events ≡ events_after chains.old.events (Deliver key event.now) }
-    ensures summed { AreSummed chains.new.limits (stored chains.new) sums.new.kept sums.new.evses.items sums.new.quarters sums.new.energy sums.new.figures }
+    ensures summed { AreSummed chains.new.limits (stored chains.new) sums.new.kept sums.new.evses.items sums.new.period sums.new.quarters sums.new.energy sums.new.figures }
+    ensures period { sums.new.period ≡ sums.old.period }
     ensures voided { sums.new.figures.voided ≡ sums.old.figures.voided }
     ensures work { work.new ≤ work.old + length event.now.readings + 2 }
     ensures grows { work.old ≤ work.new }
@@ -51,10 +52,11 @@ pub(crate) fn restore(chains: &mut Chains, sums: &mut Sums, key: &Key, work: &mu
     requires counted { 0 < sums.old.figures.voided }
     requires before { AreAllowed chains.old.limits (stored chains.old) }
     requires after { AreAllowed chains.old.limits (finite.entries (events_after chains.old.events (Restore key.now))) }
-    requires summed { AreSummed chains.old.limits (stored chains.old) sums.old.kept sums.old.evses.items sums.old.quarters sums.old.energy sums.old.figures }
+    requires summed { AreSummed chains.old.limits (stored chains.old) sums.old.kept sums.old.evses.items sums.old.period sums.old.quarters sums.old.energy sums.old.figures }
     ensures limits { chains.new.limits ≡ chains.old.limits }
     ensures events { chains.new.events ≡ events_after chains.old.events (Restore key.now) }
-    ensures summed { AreSummed chains.new.limits (stored chains.new) sums.new.kept sums.new.evses.items sums.new.quarters sums.new.energy sums.new.figures }
+    ensures summed { AreSummed chains.new.limits (stored chains.new) sums.new.kept sums.new.evses.items sums.new.period sums.new.quarters sums.new.energy sums.new.figures }
+    ensures period { sums.new.period ≡ sums.old.period }
     ensures voided { sums.new.figures.voided + 1 ≡ sums.old.figures.voided }
     ensures work { work.new ≤ work.old + length (readings_at chains.old key.now) + 2 }
     ensures grows { work.old ≤ work.new }
@@ -71,10 +73,11 @@ pub(crate) fn void(chains: &mut Chains, sums: &mut Sums, key: &Key, work: &mut W
     requires few { sums.old.figures.voided ≤ most_events }
     requires before { AreAllowed chains.old.limits (stored chains.old) }
     requires after { AreAllowed chains.old.limits (finite.entries (events_after chains.old.events (Void key.now))) }
-    requires summed { AreSummed chains.old.limits (stored chains.old) sums.old.kept sums.old.evses.items sums.old.quarters sums.old.energy sums.old.figures }
+    requires summed { AreSummed chains.old.limits (stored chains.old) sums.old.kept sums.old.evses.items sums.old.period sums.old.quarters sums.old.energy sums.old.figures }
     ensures limits { chains.new.limits ≡ chains.old.limits }
     ensures events { chains.new.events ≡ events_after chains.old.events (Void key.now) }
-    ensures summed { AreSummed chains.new.limits (stored chains.new) sums.new.kept sums.new.evses.items sums.new.quarters sums.new.energy sums.new.figures }
+    ensures summed { AreSummed chains.new.limits (stored chains.new) sums.new.kept sums.new.evses.items sums.new.period sums.new.quarters sums.new.energy sums.new.figures }
+    ensures period { sums.new.period ≡ sums.old.period }
     ensures voided { sums.new.figures.voided ≡ sums.old.figures.voided + 1 }
     ensures work { work.new ≤ work.old + length (readings_at chains.old key.now) + 2 }
     ensures grows { work.old ≤ work.new }
@@ -91,18 +94,51 @@ pub(crate) fn erase(chains: &mut Chains, sums: &mut Sums, key: &Key)
     requires counted { 0 < sums.old.figures.voided }
     requires before { AreAllowed chains.old.limits (stored chains.old) }
     requires after { AreAllowed chains.old.limits (finite.entries (events_after chains.old.events (Erase key.now))) }
-    requires summed { AreSummed chains.old.limits (stored chains.old) sums.old.kept sums.old.evses.items sums.old.quarters sums.old.energy sums.old.figures }
+    requires summed { AreSummed chains.old.limits (stored chains.old) sums.old.kept sums.old.evses.items sums.old.period sums.old.quarters sums.old.energy sums.old.figures }
     ensures limits { chains.new.limits ≡ chains.old.limits }
     ensures events { chains.new.events ≡ events_after chains.old.events (Erase key.now) }
-    ensures summed { AreSummed chains.new.limits (stored chains.new) sums.new.kept sums.new.evses.items sums.new.quarters sums.new.energy sums.new.figures }
+    ensures summed { AreSummed chains.new.limits (stored chains.new) sums.new.kept sums.new.evses.items sums.new.period sums.new.quarters sums.new.energy sums.new.figures }
+    ensures period { sums.new.period ≡ sums.old.period }
     ensures voided { sums.new.figures.voided + 1 ≡ sums.old.figures.voided }
 {
     chains.remove(key);
     sums.figures.voided -= 1;
 }
 
+// Searches for a key once, for what is done there.
+fn seek(chains: &mut Chains, sums: &mut Sums, key: &Key)
+    ensures chains { chains.new ≡ chains.old }
+    ensures sums { sums.new ≡ sums.old }
+{
+    chains.seek(key);
+    sums.kept.look_near(chains.near());
+}
+
 // Carries out a command that may be accepted.
 #[tactic(auto, unfolding(crate::specs::Spent::most_spent))]
+fn carry(chains: &mut Chains, sums: &mut Sums, command: Command, work: &mut Work)
+    requires ready { IsReady chains.old command }
+    requires before { AreAllowed chains.old.limits (stored chains.old) }
+    requires after { AreAllowed chains.old.limits (finite.entries (events_after chains.old.events command)) }
+    requires summed { AreSummed chains.old.limits (stored chains.old) sums.old.kept sums.old.evses.items sums.old.period sums.old.quarters sums.old.energy sums.old.figures }
+    requires voided { sums.old.figures.voided ≡ voided_in chains.old }
+    ensures limits { chains.new.limits ≡ chains.old.limits }
+    ensures events { chains.new.events ≡ events_after chains.old.events command }
+    ensures summed { AreSummed chains.new.limits (stored chains.new) sums.new.kept sums.new.evses.items sums.new.period sums.new.quarters sums.new.energy sums.new.figures }
+    ensures period { sums.new.period ≡ sums.old.period }
+    ensures voided { sums.new.figures.voided ≡ voided_in chains.new }
+    ensures work { work.new ≤ work.old + most_spent chains.old.events command }
+    ensures grows { work.old ≤ work.new }
+{
+    match command {
+        Command::Deliver(key, event) => deliver(chains, sums, key, &event, work),
+        Command::Void(key) => void(chains, sums, &key, work),
+        Command::Restore(key) => restore(chains, sums, &key, work),
+        Command::Erase(key) => erase(chains, sums, &key),
+    }
+}
+
+// Finds the place of a command's key, and carries it out there.
 pub(crate) fn carry_out(chains: &mut Chains, sums: &mut Sums, command: Command, work: &mut Work)
     requires ready { IsReady chains.old command }
     requires before { AreAllowed chains.old.limits (stored chains.old) }
@@ -116,10 +152,6 @@ pub(crate) fn carry_out(chains: &mut Chains, sums: &mut Sums, command: Command, 
     ensures work { work.new ≤ work.old + most_spent chains.old.events command }
     ensures grows { work.old ≤ work.new }
 {
-    match command {
-        Command::Deliver(key, event) => deliver(chains, sums, key, &event, work),
-        Command::Void(key) => void(chains, sums, &key, work),
-        Command::Restore(key) => restore(chains, sums, &key, work),
-        Command::Erase(key) => erase(chains, sums, &key),
-    }
+    seek(chains, sums, command.key());
+    carry(chains, sums, command, work);
 }

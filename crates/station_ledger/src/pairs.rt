@@ -2,7 +2,6 @@
 ghost use Rattle.std.specs.Prelude.{◌≡◌, ◌+◌, ◌≤◌, ◌*◌, length};
 ghost use Rattle.ledger_model.specs.Deltas.{across, pairs_between};
 ghost use Rattle.ledger_model.specs.Energy.{difference, energy_over, quarter_of};
-ghost use Rattle.ledger_model.specs.Quarter.{quarter_seconds};
 ghost use Rattle.ledger_model.specs.Ranges.{greatest_reading, most_readings};
 ghost use Rattle.quarter_table.specs.Pairs.{rows_with, rows_without};
 ghost use Rattle.quarter_table.specs.Rows.{row_at, set_row, with_pair, without_pair};
@@ -10,7 +9,7 @@ ghost use Rattle.station_ledger.specs.Quarters.{quartered, readings_at, HasRoom,
 
 use energy_flow::{Flow, Work, difference};
 use event_chain::Chains;
-use ledger_model::{Key, Reading};
+use ledger_model::{Key, Period, Reading};
 use quarter_table::QuarterTable;
 use reading_decimal::quarter;
 
@@ -22,38 +21,51 @@ pub(crate) struct Sides {
 }
 
 // Adds the pair of two readings to the quarter of the later one, and answers its difference.
-fn add_pair(quarters: &mut QuarterTable, earlier: Reading, later: Reading, work: &mut Work) -> Flow
+fn add_pair(
+    quarters: &mut QuarterTable,
+    period: Period,
+    earlier: Reading,
+    later: Reading,
+    work: &mut Work,
+) -> Flow
     requires { HasRoom 1 quarters.old }
     ensures flow { result ≡ difference (earlier, later) }
     ensures small { IsDifference result }
-    ensures rows { quarters.new.rows ≡ rows_with (quartered (across (Some earlier) (Some later))) quarters.old.rows }
+    ensures rows { quarters.new.rows ≡ rows_with (quartered period (across (Some earlier) (Some later))) quarters.old.rows }
     ensures capacity { quarters.new.capacity ≡ quarters.old.capacity }
     ensures work { work.new ≤ work.old + 1 }
     ensures grows { work.old ≤ work.new }
 {
     let flow = difference(earlier.level(), later.level(), work);
-    quarters.add(quarter(later.moment()), flow);
+    quarters.add(quarter(later.moment(), period), flow);
     flow
 }
 
 // Takes the pair of two readings out of the quarter of the later one, and answers its difference.
-fn take_pair(quarters: &mut QuarterTable, earlier: Reading, later: Reading, work: &mut Work) -> Flow
-    requires { HoldsPairs (across (Some earlier) (Some later)) quarters.old }
+fn take_pair(
+    quarters: &mut QuarterTable,
+    period: Period,
+    earlier: Reading,
+    later: Reading,
+    work: &mut Work,
+) -> Flow
+    requires { HoldsPairs period (across (Some earlier) (Some later)) quarters.old }
     ensures flow { result ≡ difference (earlier, later) }
     ensures small { IsDifference result }
-    ensures rows { quarters.new.rows ≡ rows_without (quartered (across (Some earlier) (Some later))) quarters.old.rows }
+    ensures rows { quarters.new.rows ≡ rows_without (quartered period (across (Some earlier) (Some later))) quarters.old.rows }
     ensures capacity { quarters.new.capacity ≡ quarters.old.capacity }
     ensures work { work.new ≤ work.old + 1 }
     ensures grows { work.old ≤ work.new }
 {
     let flow = difference(earlier.level(), later.level(), work);
-    quarters.remove(quarter(later.moment()), flow);
+    quarters.remove(quarter(later.moment(), period), flow);
     flow
 }
 
 // Adds the pair of two readings where there are both, and answers its difference.
 pub(crate) fn add_across(
     quarters: &mut QuarterTable,
+    period: Period,
     before: Option<Reading>,
     behind: Option<Reading>,
     work: &mut Work,
@@ -62,13 +74,13 @@ pub(crate) fn add_across(
     ensures flow { result ≡ energy_over (across before behind) }
     ensures up { result.up ≤ greatest_reading * length (across before behind) }
     ensures down { result.down ≤ greatest_reading * length (across before behind) }
-    ensures rows { quarters.new.rows ≡ rows_with (quartered (across before behind)) quarters.old.rows }
+    ensures rows { quarters.new.rows ≡ rows_with (quartered period (across before behind)) quarters.old.rows }
     ensures capacity { quarters.new.capacity ≡ quarters.old.capacity }
     ensures work { work.new ≤ work.old + length (across before behind) }
     ensures grows { work.old ≤ work.new }
 {
     match (before, behind) {
-        (Some(earlier), Some(later)) => add_pair(quarters, earlier, later, work),
+        (Some(earlier), Some(later)) => add_pair(quarters, period, earlier, later, work),
         _ => Flow::zero(),
     }
 }
@@ -76,21 +88,22 @@ pub(crate) fn add_across(
 // Takes the pair of two readings out where there are both, and answers its difference.
 pub(crate) fn take_across(
     quarters: &mut QuarterTable,
+    period: Period,
     before: Option<Reading>,
     behind: Option<Reading>,
     work: &mut Work,
 ) -> Flow
-    requires { HoldsPairs (across before behind) quarters.old }
+    requires { HoldsPairs period (across before behind) quarters.old }
     ensures flow { result ≡ energy_over (across before behind) }
     ensures up { result.up ≤ greatest_reading * length (across before behind) }
     ensures down { result.down ≤ greatest_reading * length (across before behind) }
-    ensures rows { quarters.new.rows ≡ rows_without (quartered (across before behind)) quarters.old.rows }
+    ensures rows { quarters.new.rows ≡ rows_without (quartered period (across before behind)) quarters.old.rows }
     ensures capacity { quarters.new.capacity ≡ quarters.old.capacity }
     ensures work { work.new ≤ work.old + length (across before behind) }
     ensures grows { work.old ≤ work.new }
 {
     match (before, behind) {
-        (Some(earlier), Some(later)) => take_pair(quarters, earlier, later, work),
+        (Some(earlier), Some(later)) => take_pair(quarters, period, earlier, later, work),
         _ => Flow::zero(),
     }
 }
@@ -99,6 +112,7 @@ pub(crate) fn take_across(
 // side, and answers what they add up to.
 pub(crate) fn add_pairs(
     quarters: &mut QuarterTable,
+    period: Period,
     before: Option<Reading>,
     chains: &Chains,
     key: &Key,
@@ -109,7 +123,7 @@ pub(crate) fn add_pairs(
     ensures flow { result ≡ energy_over (pairs_between before (readings_at chains.now key.now) behind) }
     ensures up { result.up ≤ greatest_reading * length (pairs_between before (readings_at chains.now key.now) behind) }
     ensures down { result.down ≤ greatest_reading * length (pairs_between before (readings_at chains.now key.now) behind) }
-    ensures rows { quarters.new.rows ≡ rows_with (quartered (pairs_between before (readings_at chains.now key.now) behind)) quarters.old.rows }
+    ensures rows { quarters.new.rows ≡ rows_with (quartered period (pairs_between before (readings_at chains.now key.now) behind)) quarters.old.rows }
     ensures capacity { quarters.new.capacity ≡ quarters.old.capacity }
     ensures work { work.new ≤ work.old + length (pairs_between before (readings_at chains.now key.now) behind) }
     ensures grows { work.old ≤ work.new }
@@ -118,29 +132,30 @@ pub(crate) fn add_pairs(
     let mut last = before;
     let mut left = chains.readings(key);
     while let Some(reading) = left.next() {
-        let flow = add_across(quarters, last, Some(reading), work);
+        let flow = add_across(quarters, period, last, Some(reading), work);
         total = total.plus(flow);
         last = Some(reading);
     }
-    let flow = add_across(quarters, last, behind, work);
+    let flow = add_across(quarters, period, last, behind, work);
     total.plus(flow)
 }
 
 // Takes those pairs out, and answers what they add up to.
 pub(crate) fn take_pairs(
     quarters: &mut QuarterTable,
+    period: Period,
     before: Option<Reading>,
     chains: &Chains,
     key: &Key,
     behind: Option<Reading>,
     work: &mut Work,
 ) -> Flow
-    requires holds { HoldsPairs (pairs_between before (readings_at chains.now key.now) behind) quarters.old }
+    requires holds { HoldsPairs period (pairs_between before (readings_at chains.now key.now) behind) quarters.old }
     requires few { length (pairs_between before (readings_at chains.now key.now) behind) ≤ most_readings }
     ensures flow { result ≡ energy_over (pairs_between before (readings_at chains.now key.now) behind) }
     ensures up { result.up ≤ greatest_reading * length (pairs_between before (readings_at chains.now key.now) behind) }
     ensures down { result.down ≤ greatest_reading * length (pairs_between before (readings_at chains.now key.now) behind) }
-    ensures rows { quarters.new.rows ≡ rows_without (quartered (pairs_between before (readings_at chains.now key.now) behind)) quarters.old.rows }
+    ensures rows { quarters.new.rows ≡ rows_without (quartered period (pairs_between before (readings_at chains.now key.now) behind)) quarters.old.rows }
     ensures capacity { quarters.new.capacity ≡ quarters.old.capacity }
     ensures work { work.new ≤ work.old + length (pairs_between before (readings_at chains.now key.now) behind) }
     ensures grows { work.old ≤ work.new }
@@ -149,10 +164,10 @@ pub(crate) fn take_pairs(
     let mut last = before;
     let mut left = chains.readings(key);
     while let Some(reading) = left.next() {
-        let flow = take_across(quarters, last, Some(reading), work);
+        let flow = take_across(quarters, period, last, Some(reading), work);
         total = total.plus(flow);
         last = Some(reading);
     }
-    let flow = take_across(quarters, last, behind, work);
+    let flow = take_across(quarters, period, last, behind, work);
     total.plus(flow)
 }

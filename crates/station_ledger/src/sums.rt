@@ -16,7 +16,7 @@ use crate::standing::{Standing, standing_of};
 use crate::totals::{Change, EvseSum, move_at_evses, move_in_figures};
 use energy_flow::{Flow, Work};
 use event_chain::Chains;
-use ledger_model::{Figures, GREATEST_EVSE, Key, Limits, TxId};
+use ledger_model::{Figures, GREATEST_EVSE, Key, Limits, Period, TxId};
 use quarter_table::QuarterTable;
 use std::alloc::{AllocError, Global};
 use transaction_map::TransactionMap;
@@ -26,6 +26,7 @@ use transaction_map::TransactionMap;
 pub(crate) struct Sums {
     pub(crate) kept: TransactionMap<Standing>,
     pub(crate) evses: Vec<EvseSum>,
+    pub(crate) period: Period,
     pub(crate) quarters: QuarterTable,
     pub(crate) energy: Flow,
     pub(crate) figures: Figures,
@@ -48,14 +49,16 @@ fn no_sums(alloc: Global) -> Result<Vec<EvseSum>, AllocError>
 }
 
 impl Sums {
-    // The sums of no events, with room for those of these limits.
-    pub(crate) fn open(alloc: Global, limits: &Limits) -> Result<Self, AllocError>
-        ensures summed { IfOk result (λ s. AreSummed limits.now [] s.kept s.evses.items s.quarters s.energy s.figures) }
+    // The sums of no events by this period, with room for those of these limits.
+    pub(crate) fn open(alloc: Global, limits: &Limits, period: Period) -> Result<Self, AllocError>
+        ensures period { IfOk result (λ s. s.period ≡ period) }
+        ensures summed { IfOk result (λ s. AreSummed limits.now [] s.kept s.evses.items s.period s.quarters s.energy s.figures) }
         ensures voided { IfOk result (λ s. s.figures.voided ≡ 0) }
     {
         Ok(Sums {
             kept: TransactionMap::open(alloc, limits.transactions())?,
             evses: no_sums(alloc)?,
+            period,
             quarters: QuarterTable::reserve(alloc, limits.readings())?,
             energy: Flow::zero(),
             figures: Figures::zero(),
@@ -101,6 +104,7 @@ fn replace_standing(sums: &mut Sums, tx: &TxId, change: &Change)
     ensures all { length sums.new.evses.items ≡ greatest_evse + 1 }
     ensures evses { (n : ℕ) → sum_at sums.new.evses.items n ≡ without_one n change.now.was (with_one n change.now.is (sum_at sums.old.evses.items n)) }
     ensures figures { sums.new.figures ≡ without_figures change.now.was (with_figures change.now.is sums.old.figures) }
+    ensures period { sums.new.period ≡ sums.old.period }
     ensures quarters { sums.new.quarters ≡ sums.old.quarters }
     ensures energy { sums.new.energy ≡ sums.old.energy }
 {
@@ -112,17 +116,20 @@ fn replace_standing(sums: &mut Sums, tx: &TxId, change: &Change)
 // Takes into all sums a live event that the chains have more.
 pub(crate) fn add_event(chains: &Chains, sums: &mut Sums, key: &Key, place: &Sides, work: &mut Work)
     requires within { AreAllowed chains.now.limits (stored chains.now) }
-    requires to_come { (es : List Entry) × (AreAllowed chains.now.limits es × (IsToCome es chains.now key.now place.now.before place.now.behind × AreSummed chains.now.limits es sums.old.kept sums.old.evses.items sums.old.quarters sums.old.energy sums.old.figures)) }
-    ensures summed { (es : List Entry) → AreAllowed chains.now.limits es → IsToCome es chains.now key.now place.now.before place.now.behind → AreSummed chains.now.limits es sums.old.kept sums.old.evses.items sums.old.quarters sums.old.energy sums.old.figures → AreSummed chains.now.limits (stored chains.now) sums.new.kept sums.new.evses.items sums.new.quarters sums.new.energy sums.new.figures }
+    requires to_come { (es : List Entry) × (AreAllowed chains.now.limits es × (IsToCome es chains.now key.now place.now.before place.now.behind × AreSummed chains.now.limits es sums.old.kept sums.old.evses.items sums.old.period sums.old.quarters sums.old.energy sums.old.figures)) }
+    ensures summed { (es : List Entry) → AreAllowed chains.now.limits es → IsToCome es chains.now key.now place.now.before place.now.behind → AreSummed chains.now.limits es sums.old.kept sums.old.evses.items sums.old.period sums.old.quarters sums.old.energy sums.old.figures → AreSummed chains.now.limits (stored chains.now) sums.new.kept sums.new.evses.items sums.new.period sums.new.quarters sums.new.energy sums.new.figures }
+    ensures period { sums.new.period ≡ sums.old.period }
     ensures voided { sums.new.figures.voided ≡ sums.old.figures.voided }
     ensures work { work.new ≤ work.old + length (readings_at chains.now key.now) + 2 }
     ensures grows { work.old ≤ work.new }
 {
     let tx = key.tx();
     let was = sums.kept.get(tx);
-    let less = take_across(&mut sums.quarters, place.before, place.behind, work);
+    let period = sums.period;
+    let less = take_across(&mut sums.quarters, period, place.before, place.behind, work);
     let more = add_pairs(
         &mut sums.quarters,
+        period,
         place.before,
         chains,
         key,
@@ -144,23 +151,26 @@ pub(crate) fn take_event(
     work: &mut Work,
 )
     requires within { AreAllowed chains.now.limits (stored chains.now) }
-    requires to_go { (es : List Entry) × (AreAllowed chains.now.limits es × (IsToGo es chains.now key.now place.now.before place.now.behind × AreSummed chains.now.limits es sums.old.kept sums.old.evses.items sums.old.quarters sums.old.energy sums.old.figures)) }
-    ensures summed { (es : List Entry) → AreAllowed chains.now.limits es → IsToGo es chains.now key.now place.now.before place.now.behind → AreSummed chains.now.limits es sums.old.kept sums.old.evses.items sums.old.quarters sums.old.energy sums.old.figures → AreSummed chains.now.limits (stored chains.now) sums.new.kept sums.new.evses.items sums.new.quarters sums.new.energy sums.new.figures }
+    requires to_go { (es : List Entry) × (AreAllowed chains.now.limits es × (IsToGo es chains.now key.now place.now.before place.now.behind × AreSummed chains.now.limits es sums.old.kept sums.old.evses.items sums.old.period sums.old.quarters sums.old.energy sums.old.figures)) }
+    ensures summed { (es : List Entry) → AreAllowed chains.now.limits es → IsToGo es chains.now key.now place.now.before place.now.behind → AreSummed chains.now.limits es sums.old.kept sums.old.evses.items sums.old.period sums.old.quarters sums.old.energy sums.old.figures → AreSummed chains.now.limits (stored chains.now) sums.new.kept sums.new.evses.items sums.new.period sums.new.quarters sums.new.energy sums.new.figures }
+    ensures period { sums.new.period ≡ sums.old.period }
     ensures voided { sums.new.figures.voided ≡ sums.old.figures.voided }
     ensures work { work.new ≤ work.old + length (readings_at chains.now key.now) + 2 }
     ensures grows { work.old ≤ work.new }
 {
     let tx = key.tx();
     let was = sums.kept.get(tx);
+    let period = sums.period;
     let less = take_pairs(
         &mut sums.quarters,
+        period,
         place.before,
         chains,
         key,
         place.behind,
         work,
     );
-    let more = add_across(&mut sums.quarters, place.before, place.behind, work);
+    let more = add_across(&mut sums.quarters, period, place.before, place.behind, work);
     sums.energy = sums.energy.plus(more).minus(less);
     let flow = traded(&was, more, less);
     let is = standing_of(chains, tx, flow);

@@ -4,7 +4,7 @@ mod drawn;
 mod scratch;
 
 use energy_flow::Work;
-use ledger_model::{Command, Event, Figures, Key, Kind, Limits, Moment, Reading, TxId};
+use ledger_model::{Command, Event, Figures, Key, Kind, Limits, Moment, Period, Reading, TxId};
 use station_ledger::StationLedger;
 use std::alloc::{AllocError, Global};
 use std::test::Fail;
@@ -53,7 +53,7 @@ fn command(alloc: Global, asked: Asked) -> Option<Command> {
 
 fn opened(alloc: Global) -> Result<StationLedger, Fail> {
     let limits = Limits::new(4, 8, 8, 9).ok_or("no limits")?;
-    Ok(StationLedger::open(alloc, limits)?)
+    Ok(StationLedger::open(alloc, limits, Period::default())?)
 }
 
 const MIDDLE: Asked = Asked::Deliver("T1", 1, 14, Some(1_200));

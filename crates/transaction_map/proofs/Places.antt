@@ -14,7 +14,7 @@ use Rattle.transaction_map.proofs.Keys.{searchable}
 
 module _ {X : Type 0} where
   -- An id that was found stands there.
-  at_from_found : (key : List ℕ) (es : List (List ℕ × X)) (i : ℕ) (d : List ℕ × X) → AreRising es → i < length es → id_cmp (get_or es i d).0 key ≡ Equal → IsAt key es i
+  pub at_from_found : (key : List ℕ) (es : List (List ℕ × X)) (i : ℕ) (d : List ℕ × X) → AreRising es → i < length es → id_cmp (get_or es i d).0 key ≡ Equal → IsAt key es i
   at_from_found key [] i d h lt e = absurd (omega arith)
   at_from_found key (x ∷ es) zero d h lt e = turned x.0 key Equal e
   at_from_found key (x ∷ es) (suc i) d h lt e =

@@ -5,7 +5,8 @@
 //!
 //! The crate's one contract: a map is a list of ids, each with a value, by rising id.
 //! [`TransactionMap::get`] finds the value of one, [`TransactionMap::put`] writes it or puts it in,
-//! and [`TransactionMap::remove`] takes it out; all else stays.
+//! and [`TransactionMap::remove`] takes it out; all else stays. After [`TransactionMap::seek`] these
+//! calls find the transaction without a search.
 //!
 //! ```text
 //! let mut map = TransactionMap::open(rt.alloc(), 4)?;

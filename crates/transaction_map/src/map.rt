@@ -8,6 +8,7 @@ ghost use Rattle.transaction_map.specs.Map.{id_cmp, AreRising};
 use crate::named::NamedValue;
 use ledger_model::TxId;
 use std::alloc::{AllocError, Global};
+use std::cmp::Ordering;
 use std::marker::Model;
 
 /// Values by transaction id, in one sorted run reserved by `open`. Contracts see the rows by rising
@@ -16,6 +17,8 @@ use std::marker::Model;
 pub struct TransactionMap<V> {
     rows: Vec<NamedValue<V>>,
     capacity: u32,
+    // Where the row that was sought last stood or belonged: it saves a search, and changes no answer.
+    near: usize,
 }
 
 impl<V> Model for TransactionMap<V> {
@@ -39,6 +42,20 @@ fn place<V: Copy>(rows: &[NamedValue<V>], tx: &TxId) -> Result<usize, usize>
     rows.binary_search_by(|row| row.cmp_id(tx))
 }
 
+// The same, where there is a hint of it.
+fn place_near<V: Copy>(rows: &[NamedValue<V>], near: usize, tx: &TxId) -> Result<usize, usize>
+    requires { AreRising rows.now }
+    ensures at { IfOk result (λ i. IsAt tx.now rows.now i) }
+    ensures gap { IfErr result (λ i. IsGap tx.now rows.now i) }
+{
+    if near < rows.len() {
+        if let Ordering::Equal = rows[near].cmp_id(tx) {
+            return Ok(near);
+        }
+    }
+    place(rows, tx)
+}
+
 impl<V: Copy> TransactionMap<V> {
     /// A map without transactions, with room for so many.
     pub fn open(alloc: Global, capacity: u32) -> Result<Self, AllocError>
@@ -46,7 +63,42 @@ impl<V: Copy> TransactionMap<V> {
         ensures capacity { IfOk result (λ m. m.capacity ≡ capacity) }
     {
         let rows = Vec::with_capacity(alloc, capacity as usize)?;
-        Ok(TransactionMap { rows, capacity })
+        Ok(TransactionMap {
+            rows,
+            capacity,
+            near: 0,
+        })
+    }
+
+    /// The value of a transaction, which is searched once for the calls that come next; none where it is
+    /// absent. Nothing that they answer changes.
+    pub fn seek(&mut self, tx: &TxId) -> Option<V>
+        ensures value { result ≡ find id_cmp tx.now self.old.rows }
+        ensures same { self.new ≡ self.old }
+    {
+        match place_near(&self.rows, self.near, tx) {
+            Ok(at) => {
+                self.near = at;
+                Some(self.rows[at].value())
+            }
+            Err(at) => {
+                self.near = at;
+                None
+            }
+        }
+    }
+
+    /// Where the transaction that was sought last stood or belonged, for [`TransactionMap::look_near`]
+    /// of a map that has about the same transactions.
+    pub fn near(&self) -> usize {
+        self.near
+    }
+
+    /// Looks at this place first, before it searches. Nothing that it answers changes.
+    pub fn look_near(&mut self, near: usize)
+        ensures { self.new ≡ self.old }
+    {
+        self.near = near;
     }
 
     /// How many transactions it holds.
@@ -69,7 +121,7 @@ impl<V: Copy> TransactionMap<V> {
     pub fn get(&self, tx: &TxId) -> Option<V>
         ensures { result ≡ find id_cmp tx.now self.now.rows }
     {
-        match place(&self.rows, tx) {
+        match place_near(&self.rows, self.near, tx) {
             Ok(at) => Some(self.rows[at].value()),
             Err(_) => None,
         }
@@ -91,7 +143,7 @@ impl<V: Copy> TransactionMap<V> {
         ensures rows { self.new.rows ≡ put_row id_cmp tx.now value self.old.rows }
         ensures capacity { self.new.capacity ≡ self.old.capacity }
     {
-        put_in(&mut self.rows, tx, value);
+        put_in(&mut self.rows, self.near, tx, value);
     }
 
     /// Takes out the value of a transaction, and answers it; nothing where it is absent.
@@ -100,18 +152,18 @@ impl<V: Copy> TransactionMap<V> {
         ensures rows { self.new.rows ≡ filter (λ r. not (eq_by_cmp id_cmp tx.now r.0)) self.old.rows }
         ensures capacity { self.new.capacity ≡ self.old.capacity }
     {
-        take_out(&mut self.rows, tx)
+        take_out(&mut self.rows, self.near, tx)
     }
 }
 
 // Writes the row of an id, or puts it in where the id is new.
-fn put_in<V: Copy>(rows: &mut Vec<NamedValue<V>>, tx: &TxId, value: V)
+fn put_in<V: Copy>(rows: &mut Vec<NamedValue<V>>, near: usize, tx: &TxId, value: V)
     requires rising { AreRising rows.old.items }
     requires room { find id_cmp tx.now rows.old.items ≡ None → vec_len rows.old < vec_capacity rows.old }
     ensures items { rows.new.items ≡ put_row id_cmp tx.now value rows.old.items }
     ensures capacity { vec_capacity rows.new ≡ vec_capacity rows.old }
 {
-    match place(rows, tx) {
+    match place_near(rows, near, tx) {
         Ok(at) => rows[at].set(value),
         Err(at) => {
             // There is room, so this takes no memory and succeeds.
@@ -121,13 +173,13 @@ fn put_in<V: Copy>(rows: &mut Vec<NamedValue<V>>, tx: &TxId, value: V)
 }
 
 // Takes out the row of an id, and answers its value.
-fn take_out<V: Copy>(rows: &mut Vec<NamedValue<V>>, tx: &TxId) -> Option<V>
+fn take_out<V: Copy>(rows: &mut Vec<NamedValue<V>>, near: usize, tx: &TxId) -> Option<V>
     requires rising { AreRising rows.old.items }
     ensures value { result ≡ find id_cmp tx.now rows.old.items }
     ensures items { rows.new.items ≡ filter (λ r. not (eq_by_cmp id_cmp tx.now r.0)) rows.old.items }
     ensures capacity { vec_capacity rows.new ≡ vec_capacity rows.old }
 {
-    match place(rows, tx) {
+    match place_near(rows, near, tx) {
         Ok(at) => Some(rows.remove(at).value()),
         Err(_) => None,
     }

@@ -70,6 +70,21 @@ impl TransactionTable {
         self.rows.capacity()
     }
 
+    /// What is kept of a transaction, which is searched once for the calls that come next; none where it
+    /// is absent. Nothing that they answer changes.
+    pub fn seek(&mut self, tx: &TxId) -> Option<TableRow>
+        ensures value { result ≡ row_of tx.now self.old.rows }
+        ensures same { self.new ≡ self.old }
+    {
+        self.rows.seek(tx)
+    }
+
+    /// Where the transaction that was sought last stood or belonged, as a hint for another map of about
+    /// the same transactions.
+    pub fn near(&self) -> usize {
+        self.rows.near()
+    }
+
     /// What is kept of a transaction; none where it is absent.
     pub fn get(&self, tx: &TxId) -> Option<TableRow>
         ensures { result ≡ row_of tx.now self.now.rows }

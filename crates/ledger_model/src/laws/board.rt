@@ -12,7 +12,7 @@ ghost use Rattle.ledger_model.specs.Content.{Content, Entry, entries, has_transa
 ghost use Rattle.ledger_model.specs.Energy.{energy, energy_in, energy_of, pairs, quarter_of, quarters};
 ghost use Rattle.ledger_model.specs.Evse.{energy_at, evse_of, evses, first_or_none};
 ghost use Rattle.ledger_model.specs.Gaps.{Gap, gaps, missing, numbers_of};
-ghost use Rattle.ledger_model.specs.Quarter.{quarter_seconds};
+ghost use Rattle.ledger_model.specs.Quarter.{default_period};
 ghost use Rattle.ledger_model.specs.Posts.{Post, row_after, totals_after};
 ghost use Rattle.ledger_model.specs.declared.figures.Figures.{Figures};
 
@@ -67,7 +67,7 @@ pub fn site_quarters_are_sums()
 /// Each figure of a site is the sum of that figure over its stations.
 pub fn site_figures_are_sums()
     ensures sums { (fs : List Figures) → AreSums (sum_of_figures fs) fs }
-    ensures site { (stations : List (List ℕ × Board)) → AreSums (site_board stations).figures (map (λ s. s.1.figures) stations) }
+    ensures site { (period : ℕ) (stations : List (List ℕ × Board)) → AreSums (site_board period stations).figures (map (λ s. s.1.figures) stations) }
 {}
 
 /// One post more gives its row the posted figures and leaves every other row; with the row's old
@@ -80,20 +80,20 @@ pub fn totals_after_a_post()
     ensures rows { (n : ℕ) (ps : List Post) → All (λ p. p.0 < n) ps → totals_after ps ≡ sum_of_figures (map (λ row. row_after row ps) (range_with_len 0 n)) }
 {}
 
-/// Boards, figures and quarters of a few short transactions, by quarters.
+/// Boards, figures and quarters of a few short transactions, by periods of 900 seconds.
 pub fn board_examples()
-    ensures first_run { board quarter_seconds first_run ≡ first_run_board }
-    ensures first_run_site { site_board ((codes "A", board quarter_seconds first_run) ∷ []) ≡ first_run_site }
-    ensures late_event { board quarter_seconds late_event ≡ late_event_board }
-    ensures void_and_restore { board quarter_seconds void_and_restore ≡ void_and_restore_board }
-    ensures quarter_boundary { (board quarter_seconds quarter_boundary).quarters ≡ (ten + 1, rise 100_000) ∷ [] }
-    ensures readings_again_at_end { (board quarter_seconds readings_again_at_end).quarters ≡ (ten, record { up = 400_000; down = 600_000 }) ∷ (ten + 2, rise 800_000) ∷ (ten + 3, rise 100_000) ∷ [] }
+    ensures first_run { board default_period first_run ≡ first_run_board }
+    ensures first_run_site { site_board default_period ((codes "A", board default_period first_run) ∷ []) ≡ first_run_site }
+    ensures late_event { board default_period late_event ≡ late_event_board }
+    ensures void_and_restore { board default_period void_and_restore ≡ void_and_restore_board }
+    ensures quarter_boundary { (board default_period quarter_boundary).quarters ≡ (ten + 1, rise 100_000) ∷ [] }
+    ensures readings_again_at_end { (board default_period readings_again_at_end).quarters ≡ (ten, record { up = 400_000; down = 600_000 }) ∷ (ten + 2, rise 800_000) ∷ (ten + 3, rise 100_000) ∷ [] }
     ensures readings_again_figures { figures readings_again_at_end ≡ record { events = 4; voided = 0; transactions = 1; complete = 1; missing = 0; up = 1_300_000; down = 600_000 } }
-    ensures evse_moves { (board quarter_seconds evse_moves).evses ≡ (2, rise 250_000) ∷ [] }
+    ensures evse_moves { (board default_period evse_moves).evses ≡ (2, rise 250_000) ∷ [] }
     ensures evse_moves_figures { figures evse_moves ≡ record { events = 3; voided = 0; transactions = 1; complete = 1; missing = 0; up = 250_000; down = 0 } }
-    ensures evse_voided { (board quarter_seconds evse_voided).evses ≡ (0, rise 250_000) ∷ [] }
+    ensures evse_voided { (board default_period evse_voided).evses ≡ (0, rise 250_000) ∷ [] }
     ensures evse_voided_figures { figures evse_voided ≡ record { events = 2; voided = 1; transactions = 1; complete = 0; missing = 1; up = 250_000; down = 0 } }
-    ensures start_voided { (board quarter_seconds start_voided).evses ≡ (2, rise 150_000) ∷ [] }
+    ensures start_voided { (board default_period start_voided).evses ≡ (2, rise 150_000) ∷ [] }
     ensures start_voided_figures { figures start_voided ≡ record { events = 2; voided = 1; transactions = 1; complete = 0; missing = 0; up = 150_000; down = 0 } }
     ensures widest_gap { gaps (numbers_of (codes "t1") widest_gap) ≡ (1, 2_147_483_646) ∷ [] }
     ensures widest_gap_figures { figures widest_gap ≡ record { events = 2; voided = 0; transactions = 1; complete = 0; missing = 2_147_483_646; up = 0; down = 10_000_000_000_000 } }

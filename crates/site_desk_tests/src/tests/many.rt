@@ -4,7 +4,7 @@ ghost use Rattle.site_book.specs.Tables.{HasTable, NamedBy};
 use super::{Asked, delivery_of, has, has_totals, is_tied, key_of, pass_of};
 use desk_fixtures::{opened, plan_of};
 use energy_flow::Work;
-use ledger_model::{Answer, Command, Figures, Kind, Limits, Name};
+use ledger_model::{Answer, Command, Figures, Kind, Limits, Name, Period};
 use site_book::{Naming, Tables, Viewer};
 use site_desk::{Closed, Desk, NoGate, Pass, Plan};
 use station_ledger::{StationBoard, StationLedger, TxLine};
@@ -91,7 +91,7 @@ fn send_all<J: Naming, R: Wait + Clock>(
 // The ledger that a station's commands leave.
 fn replay<R: Threads>(rt: &R, alloc: Global, station: u16) -> Option<StationLedger> {
     let mut work = Work::open(rt);
-    let mut ledger = StationLedger::open(alloc, Limits::default()).ok()?;
+    let mut ledger = StationLedger::open(alloc, Limits::default(), Period::default()).ok()?;
     let mut state = station as u64;
     for _ in 0..COMMANDS {
         state = next(state);

@@ -14,7 +14,7 @@ use std::time::{Clock, Duration};
 
 // The board of the two sites where A and C each told one event.
 const BOARDS: &str = "\
-board north
+board north period=900
 total events=1 voided=0 transactions=1 complete=0 missing=0 up=0 down=0
 station A
 total events=1 voided=0 transactions=1 complete=0 missing=0 up=0 down=0
@@ -23,7 +23,7 @@ tx t1 evse=0 events=1 first=0 last=0 complete=no missing=0 up=0 down=0
 station B
 total events=0 voided=0 transactions=0 complete=0 missing=0 up=0 down=0
 end
-board south
+board south period=900
 total events=1 voided=0 transactions=1 complete=0 missing=0 up=0 down=0
 station C
 total events=1 voided=0 transactions=1 complete=0 missing=0 up=0 down=0

@@ -2,7 +2,7 @@
 use super::drawn::{Asked, Draws, id};
 use super::scratch::{Line, Scratch, Sums};
 use energy_flow::{Flow, Work};
-use ledger_model::{Answer, EvseId, Figures, Limits};
+use ledger_model::{Answer, EvseId, Figures, Limits, Period};
 use station_ledger::{EvseLine, StationBoard, StationLedger, TxLine};
 use std::alloc::Global;
 use std::test::Fail;
@@ -138,7 +138,7 @@ impl Pair {
         let (transactions, events, readings, changes) = limits;
         let bounds = Limits::new(transactions, events, readings, changes).ok_or("no limits")?;
         Ok(Pair {
-            ledger: StationLedger::open(alloc, bounds)?,
+            ledger: StationLedger::open(alloc, bounds, Period::default())?,
             scratch: Scratch::open(alloc, limits),
         })
     }

@@ -94,14 +94,6 @@ impl Write for Memory<'_> {
 // The first byte of a frame: the last one of its message, or not, and its kind (RFC 6455 section 5.2).
 pub(super) const TEXT: u8 = 0x81;
 
-pub(super) const TEXT_BEGINS: u8 = 0x01;
-
-pub(super) const GOES_ON: u8 = 0x00;
-
-pub(super) const GOES_ON_LAST: u8 = 0x80;
-
-pub(super) const BINARY: u8 = 0x82;
-
 pub(super) const CLOSE: u8 = 0x88;
 
 pub(super) const PING: u8 = 0x89;

@@ -1,7 +1,10 @@
-use Rattle.std.proofs.Common.{◌≡◌, take}
-use Rattle.board_report.specs.Sums.{station_quarters}
+use Rattle.std.proofs.Common.{◌≡◌, ℕ, take}
+use Rattle.board_report.specs.Sums.{station_quarters, AreOfPeriod, AreQuartersOf}
 use Rattle.board_report.proofs.sums.station_quarters.Given as goal
 
 -- the lines of the stations so far
 abbrev pub invariant-loop-station : goal.invariant-loop-station
-invariant-loop-station l = l.lines.items ≡ station_quarters (take l.station-index l.stations)
+invariant-loop-station l = record {
+  lines : l.lines.items ≡ station_quarters (take l.station-index l.stations);
+  own : (period : ℕ) → AreOfPeriod period l.stations → AreQuartersOf period l.lines.items;
+}

@@ -5,4 +5,4 @@ use Rattle.board_report.proofs.write.put_quarters.Given as goal
 
 -- the lines so far
 abbrev pub invariant-loop-quarter : goal.invariant-loop-quarter
-invariant-loop-quarter l = l.text.items ≡ l.fn.text.items ++ flat_map quarter_line (take l.quarter-index l.quarters)
+invariant-loop-quarter l = l.text.items ≡ l.fn.text.items ++ flat_map (quarter_line l.period) (take l.quarter-index l.quarters)

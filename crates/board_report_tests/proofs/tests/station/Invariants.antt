@@ -1,7 +1,8 @@
 use Rattle.std.proofs.Common.{◌≡◌}
 use Rattle.ledger_model.specs.Limits.{default_limits}
+use Rattle.ledger_model.specs.Quarter.{default_period}
 use Rattle.board_report_tests.proofs.tests.station.Given as goal
 
--- the limits stay
+-- the limits and the period stay
 abbrev pub invariant-loop-one : goal.invariant-loop-one
-invariant-loop-one g l = l.ledger.limits ≡ default_limits
+invariant-loop-one g l = (l.ledger.limits ≡ default_limits) × (l.ledger.period ≡ default_period)

@@ -1,7 +1,11 @@
-use Rattle.std.proofs.Common.{◌∷◌, [], ◌++◌, sym, subst, arith}
+use Rattle.std.proofs.Common.{◌≡◌, ℕ, List, ◌∷◌, [], ◌++◌, sym, subst, arith}
+use Rattle.std.proofs.lemmas.List.Elements.{All-append, All-cons, All-nil}
 use Rattle.std.proofs.lemmas.List.Sums.{sum_by-append}
+use Rattle.ledger_model.specs.Board.{Board}
 use Rattle.ledger_model.specs.Limits.{Bounds, default_limits}
+use Rattle.ledger_model.specs.Quarter.{default_period}
 use Rattle.board_report.specs.Plans.{AreBoardsWithin}
+use Rattle.board_report.specs.Sums.{AreOfPeriod}
 use Rattle.board_report.proofs.PlanLemmas.{plans_fit, AreBoardsWithin-more}
 use Rattle.board_report_tests.proofs.tests.stations.Goals as goal
 
@@ -9,16 +13,23 @@ use Rattle.board_report_tests.proofs.tests.stations.Goals as goal
 pub loop-name-preserved : goal.loop-name-preserved
 loop-name-preserved g c =
     let k = c.loop-name.invariant in
-    let plan = k.0 ++ default_limits ∷ [] in (
+    let plan = k.0 ++ default_limits ∷ [] in
+    let one : List ℕ × Board → Type 0 = λ s. s.1.period ≡ default_period in (
       plan,
       (
         omega (arith, k.1.0, sum_by-append (λ (limits : Bounds). limits.readings) k.0 (default_limits ∷ [])),
-        subst (AreBoardsWithin plan) (sym c.in_ok-push.ensures.items) (AreBoardsWithin-more k.0 c.loop-name.boards.items default_limits _ k.1.1 c.in_ok-station.ensures),
+        (
+          subst (AreBoardsWithin plan) (sym c.in_ok-push.ensures.items) (AreBoardsWithin-more k.0 c.loop-name.boards.items default_limits _ k.1.1.0 c.in_ok-station.ensures.within),
+          subst (AreOfPeriod default_period) (sym c.in_ok-push.ensures.items) (All-append one c.loop-name.boards.items (_ ∷ []) k.1.1.1 (All-cons one _ [] c.in_ok-station.ensures.period (All-nil one))),
+        ),
       ),
     )
 
 -- at most 64 stations
-pub returns : goal.returns
-returns g c =
+pub returns-clause-fit : goal.returns-clause-fit
+returns-clause-fit g c =
     let k = c.loop-name.invariant in
-    plans_fit k.0 c.loop-name.boards.items (omega (arith, k.1.0, c.loop-name-test.false, c.loop-name.auto.name-index-end, c.if-told-gt64.false)) k.1.1
+    plans_fit k.0 c.loop-name.boards.items (omega (arith, k.1.0, c.loop-name-test.false, c.loop-name.auto.name-index-end, c.if-told-gt64.false)) k.1.1.0
+
+pub returns-clause-periods : goal.returns-clause-periods
+returns-clause-periods g c = c.loop-name.invariant.1.1.1

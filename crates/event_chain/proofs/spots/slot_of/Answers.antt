@@ -2,14 +2,12 @@ use Rattle.std.proofs.Common.{◌<◌, ◌^◌, ap, sym, ◌∙◌, arith}
 use Rattle.key_index.specs.Key.{rank}
 use Rattle.transaction_table.specs.Table.{row_of}
 use Rattle.event_chain.specs.Flat.{place_of}
-use Rattle.event_chain.specs.Edits.{place_at}
-use Rattle.event_chain.specs.Placed.{Index}
-use Rattle.event_chain.proofs.Places.{found_at, place_at_row}
+use Rattle.event_chain.proofs.Places.{place_at_row}
 use Rattle.event_chain.proofs.spots.slot_of.Goals as goal
 
 pub returns-in-Some : goal.returns-in-Some
 returns-in-Some c =
-    let es = c.stored-stored.result.entries in let rows = c.args.table.now.rows in let row = c.in-Some.row in let key = c.args.key.now in
+    let es = c.args.places.now.stored.entries in let rows = c.args.table.now.rows in let row = c.in-Some.row in let key = c.args.key.now in
     let lt : key.seq < 2 ^ 31 = omega (arith, c.seq.ensures.value, c.seq.ensures.range) in
-    c.get-in-Some.ensures ∙ found_at c.new.result es c.keys_rise.ensures.rising ∙ ap (λ r. place_of r es) (c.new.ensures ∙ ap (rank row.slot) c.seq.ensures.value)
-    ∙ sym (place_at_row rows es key row (sym (c.in-Some.ensures ∙ ap (λ t. row_of t rows) c.tx.ensures)) lt) ∙ ap (λ (x : Index). place_at rows x.entries key) c.stored-stored.ensures
+    c.slot_at.ensures ∙ ap (λ r. place_of r es) (c.new-at.ensures ∙ ap (rank row.slot) c.seq.ensures.value)
+    ∙ sym (place_at_row rows es key row (sym (c.in-Some.ensures ∙ ap (λ t. row_of t rows) c.tx.ensures)) lt)

@@ -4,4 +4,4 @@ use Rattle.site_desk.proofs.parts.open_cells.Given as goal
 
 -- the cells of the stations so far
 abbrev pub invariant-loop-k : goal.invariant-loop-k
-invariant-loop-k l = AreNewCells (take l.k l.stations) l.cells.items
+invariant-loop-k l = AreNewCells l.sites (take l.k l.stations) l.cells.items

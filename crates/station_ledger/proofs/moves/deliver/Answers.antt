@@ -12,7 +12,7 @@ add_event-requires-clause-to_come c =
     let old = c.args.chains.now in let new = c.insert.new.self in let same = sym c.insert.ensures.limits in
     let h = delivered old new c.copied-at.result c.neighbours-before.result.0 c.neighbours-before.result.1 c.neighbours-before.ensures.before c.neighbours-before.ensures.behind c.args.event.now (c.insert.ensures.events ∙ ap (λ k. events_after c.args.chains.now.events (Deliver k c.args.event.now)) (sym c.copied-at.ensures)) (ap (finite.get c.args.chains.now.events) c.copied-at.ensures ∙ c.requires.absent) (few_delivered old.limits old c.args.key c.args.event.now c.requires.after) in
     let before = subst (λ l. AreAllowed l (stored old)) same c.requires.before in
-    let summed = subst (λ l. AreSummed l (stored old) c.args.sums.now.kept c.args.sums.now.evses.items c.args.sums.now.quarters c.args.sums.now.energy c.args.sums.now.figures) same c.requires.summed in
+    let summed = subst (λ l. AreSummed l (stored old) c.args.sums.now.kept c.args.sums.now.evses.items c.args.sums.now.period c.args.sums.now.quarters c.args.sums.now.energy c.args.sums.now.figures) same c.requires.summed in
     (stored old, (before, (h, summed)))
 
 pub returns-clause-summed : goal.returns-clause-summed
@@ -20,7 +20,7 @@ returns-clause-summed c =
     let old = c.args.chains.now in let new = c.insert.new.self in let same = sym c.insert.ensures.limits in
     let h = delivered old new c.copied-at.result c.neighbours-before.result.0 c.neighbours-before.result.1 c.neighbours-before.ensures.before c.neighbours-before.ensures.behind c.args.event.now (c.insert.ensures.events ∙ ap (λ k. events_after c.args.chains.now.events (Deliver k c.args.event.now)) (sym c.copied-at.ensures)) (ap (finite.get c.args.chains.now.events) c.copied-at.ensures ∙ c.requires.absent) (few_delivered old.limits old c.args.key c.args.event.now c.requires.after) in
     let before = subst (λ l. AreAllowed l (stored old)) same c.requires.before in
-    let summed = subst (λ l. AreSummed l (stored old) c.args.sums.now.kept c.args.sums.now.evses.items c.args.sums.now.quarters c.args.sums.now.energy c.args.sums.now.figures) same c.requires.summed in
+    let summed = subst (λ l. AreSummed l (stored old) c.args.sums.now.kept c.args.sums.now.evses.items c.args.sums.now.period c.args.sums.now.quarters c.args.sums.now.energy c.args.sums.now.figures) same c.requires.summed in
     c.add_event.ensures.summed (stored old) before h summed
 
 pub returns-clause-work : goal.returns-clause-work

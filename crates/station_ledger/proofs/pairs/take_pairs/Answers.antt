@@ -11,11 +11,11 @@ loop-reading-preserved c =
     let steps = c.in-Some.ensures.steps in
     let n = split_length last r left rest behind steps in
     record {
-      holds = holds_rest last r left rest behind steps c.loop-reading.quarters c.take_across-flow.new.quarters i.holds e.rows;
+      holds = holds_rest last r left rest behind steps c.args.period c.loop-reading.quarters c.take_across-flow.new.quarters i.holds e.rows;
       flow = split_energy last r left rest behind steps c.loop-reading.total c.take_across-flow.result _ c.plus-total.result i.flow e.flow c.plus-total.ensures;
       up = omega (arith, i.up, e.up, n, ap (λ (f : Energy). f.up) c.plus-total.ensures);
       down = omega (arith, i.down, e.down, n, ap (λ (f : Energy). f.down) c.plus-total.ensures);
-      rows = split_without last r left rest behind steps c.loop-reading.quarters.rows c.take_across-flow.new.quarters.rows e.rows ∙ i.rows;
+      rows = split_without last r left rest behind steps c.args.period c.loop-reading.quarters.rows c.take_across-flow.new.quarters.rows e.rows ∙ i.rows;
       capacity = e.capacity ∙ i.capacity;
       work = omega (arith, i.work, e.work, n);
       grows = omega (arith, i.grows, e.grows);

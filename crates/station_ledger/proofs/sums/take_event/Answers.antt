@@ -16,7 +16,7 @@ pub take_pairs-less-requires-clause-holds : goal.take_pairs-less-requires-clause
 take_pairs-less-requires-clause-holds c =
     let es = c.requires.to_go.0 in let h = c.requires.to_go.1.1.0 in let s = c.requires.to_go.1.1.1 in
     let ch = going c.args.chains.now.limits c.tx-tx.result.now es c.args.chains.now c.args.key.now c.args.place.now.before c.args.place.now.behind c.tx-tx.ensures c.requires.to_go.1.0 c.requires.within h in
-    holds c.args.chains.now.limits c.tx-tx.result.now es (stored c.args.chains.now) (pairs_between c.args.place.now.before (readings_at c.args.chains.now c.args.key.now) c.args.place.now.behind) (across c.args.place.now.before c.args.place.now.behind) ch.kept ch.traded ch.before ch.after c.args.sums.now.quarters s.by_quarter
+    holds c.args.chains.now.limits c.tx-tx.result.now es (stored c.args.chains.now) (pairs_between c.args.place.now.before (readings_at c.args.chains.now c.args.key.now) c.args.place.now.behind) (across c.args.place.now.before c.args.place.now.behind) ch.kept ch.traded ch.before ch.after c.args.sums.now.period c.args.sums.now.quarters s.by_quarter
 
 pub take_pairs-less-requires-clause-few : goal.take_pairs-less-requires-clause-few
 take_pairs-less-requires-clause-few c =
@@ -28,7 +28,7 @@ pub add_across-more-requires : goal.add_across-more-requires
 add_across-more-requires c =
     let es = c.requires.to_go.0 in let h = c.requires.to_go.1.1.0 in let s = c.requires.to_go.1.1.1 in
     let ch = going c.args.chains.now.limits c.tx-tx.result.now es c.args.chains.now c.args.key.now c.args.place.now.before c.args.place.now.behind c.tx-tx.ensures c.requires.to_go.1.0 c.requires.within h in
-    room c.args.chains.now.limits c.tx-tx.result.now es (stored c.args.chains.now) (pairs_between c.args.place.now.before (readings_at c.args.chains.now c.args.key.now) c.args.place.now.behind) (across c.args.place.now.before c.args.place.now.behind) ch.kept ch.traded ch.before ch.after c.args.sums.now.quarters s.by_quarter c.take_pairs-less.new.quarters c.take_pairs-less.ensures.rows c.take_pairs-less.ensures.capacity ch.few_came
+    room c.args.chains.now.limits c.tx-tx.result.now es (stored c.args.chains.now) (pairs_between c.args.place.now.before (readings_at c.args.chains.now c.args.key.now) c.args.place.now.behind) (across c.args.place.now.before c.args.place.now.behind) ch.kept ch.traded ch.before ch.after c.args.sums.now.period c.args.sums.now.quarters s.by_quarter c.take_pairs-less.new.quarters c.take_pairs-less.ensures.rows c.take_pairs-less.ensures.capacity ch.few_came
 
 pub plus-requires : goal.plus-requires
 plus-requires c =
@@ -96,7 +96,7 @@ returns-clause-summed c = λ es allowed h s.
     record {
       standing = stands c.args.chains.now.limits c.tx-tx.result.now es (stored c.args.chains.now) ch.moved ch.before ch.after c.get-was.result c.standing_of-is.result is c.args.sums.now.kept s.standing c.get-was.ensures c.replace_standing.new.sums.kept c.replace_standing.ensures.kept c.replace_standing.ensures.capacity;
       at_evses = sums_stand c.args.chains.now.limits c.tx-tx.result.now es (stored c.args.chains.now) ch.moved ch.before ch.after c.get-was.result c.standing_of-is.result is was c.args.sums.now.evses.items s.at_evses c.replace_standing.new.sums.evses.items c.replace_standing.ensures.all c.replace_standing.ensures.evses;
-      by_quarter = subst (AreQuarterRows c.args.chains.now.limits (stored c.args.chains.now)) (sym c.replace_standing.ensures.quarters) (filled c.args.chains.now.limits c.tx-tx.result.now es (stored c.args.chains.now) (pairs_between c.args.place.now.before (readings_at c.args.chains.now c.args.key.now) c.args.place.now.behind) (across c.args.place.now.before c.args.place.now.behind) ch.kept ch.traded ch.before ch.after c.args.sums.now.quarters s.by_quarter c.take_pairs-less.new.quarters c.take_pairs-less.ensures.rows c.take_pairs-less.ensures.capacity c.add_across-more.new.quarters c.add_across-more.ensures.rows c.add_across-more.ensures.capacity);
+      by_quarter = subst (λ p. AreQuarterRows c.args.chains.now.limits (stored c.args.chains.now) p c.replace_standing.new.sums.quarters) (sym c.replace_standing.ensures.period) (subst (AreQuarterRows c.args.chains.now.limits (stored c.args.chains.now) c.args.sums.now.period) (sym c.replace_standing.ensures.quarters) (filled c.args.chains.now.limits c.tx-tx.result.now es (stored c.args.chains.now) (pairs_between c.args.place.now.before (readings_at c.args.chains.now c.args.key.now) c.args.place.now.behind) (across c.args.place.now.before c.args.place.now.behind) ch.kept ch.traded ch.before ch.after c.args.sums.now.period c.args.sums.now.quarters s.by_quarter c.take_pairs-less.new.quarters c.take_pairs-less.ensures.rows c.take_pairs-less.ensures.capacity c.add_across-more.new.quarters c.add_across-more.ensures.rows c.add_across-more.ensures.capacity));
       total_is = c.replace_standing.ensures.energy ∙ c.minus-sums.ensures ∙ ap (λ e. minus e c.take_pairs-less.result) c.plus.ensures ∙ all_left c.args.chains.now.limits c.tx-tx.result.now es (stored c.args.chains.now) (pairs_between c.args.place.now.before (readings_at c.args.chains.now c.args.key.now) c.args.place.now.behind) (across c.args.place.now.before c.args.place.now.behind) ch.kept ch.traded ch.before ch.after c.args.sums.now.energy c.take_pairs-less.result c.add_across-more.result c.take_pairs-less.ensures.flow c.add_across-more.ensures.flow (omega (arith, c.add_across-more.ensures.up, ch.few_came)) (omega (arith, c.add_across-more.ensures.down, ch.few_came)) s.total_is;
       counts = counts_stand c.args.chains.now.limits c.tx-tx.result.now es (stored c.args.chains.now) ch.moved ch.before ch.after c.get-was.result c.standing_of-is.result is was c.args.sums.now.figures s.counts c.replace_standing.new.sums.figures c.replace_standing.ensures.figures;
     }

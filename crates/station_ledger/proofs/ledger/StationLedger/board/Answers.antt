@@ -1,8 +1,11 @@
-use Rattle.std.proofs.Common.{sym, subst}
+use Rattle.std.proofs.Common.{◌≡◌, IfOk, sym, subst}
+use Rattle.ledger_model.specs.Board.{board}
+use Rattle.ledger_model.specs.Content.{entries}
 use Rattle.ledger_model.specs.Limits.{Bounds}
 use Rattle.ledger_model.proofs.Callers.{AreKept-reached}
 use Rattle.event_chain.specs.Chains.{stored}
 use Rattle.station_ledger.specs.Kept.{content_in}
+use Rattle.station_ledger.specs.Ledger.{Ledger}
 use Rattle.station_ledger.specs.Sums.{AreAllowed, AreSummed}
 use Rattle.station_ledger.proofs.Numbered.{numbered}
 use Rattle.station_ledger.proofs.Reaching.{allowed}
@@ -21,4 +24,7 @@ board_of-requires-clause-numbered c =
 pub board_of-requires-clause-summed : goal.board_of-requires-clause-summed
 board_of-requires-clause-summed c =
     let l = c.self.inside in let k = c.self.invariant in
-    subst (λ (b : Bounds). AreSummed b (stored l.chains) l.sums.kept l.sums.evses.items l.sums.quarters l.sums.energy l.sums.figures) (sym k.limits_are) k.summed
+    subst (λ (b : Bounds). AreSummed b (stored l.chains) l.sums.kept l.sums.evses.items l.sums.period l.sums.quarters l.sums.energy l.sums.figures) (sym k.limits_are) k.summed
+
+pub returns-clause-board : goal.returns-clause-board
+returns-clause-board c = subst (λ (x : Ledger). IfOk c.board_of.result (λ b. b ≡ board x.period (entries x.content))) c.self.view_is c.board_of.ensures

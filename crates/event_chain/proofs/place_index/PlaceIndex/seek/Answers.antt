@@ -1,0 +1,1 @@
+-- what is kept shows the same

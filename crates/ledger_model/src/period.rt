@@ -1,0 +1,63 @@
+ghost use Rattle.std.specs.Prelude.{◌≡◌, ◌↔◌, IsSome, IfSome};
+ghost use Rattle.ledger_model.specs.Quarter.{IsPeriod};
+
+use std::marker::Model;
+
+/// How long a market's settlement period is: 300, 900, 1,800 or 3,600 seconds.
+#[derive(Clone, Copy, Debug, PartialEq, Eq)]
+pub struct Period {
+    seconds: u16,
+}
+
+impl Model for Period {
+    ghost use Rattle.std.specs.Prelude.{ℕ};
+    ghost use Rattle.ledger_model.specs.Quarter.{IsPeriod};
+
+    ghost Value = { ℕ };
+
+    ghost view = { λ p. p.seconds };
+
+    ghost invariant = { λ p. IsPeriod p.seconds };
+
+    ghost inverse = { λ n. record { seconds = n } };
+}
+
+impl Period {
+    /// The period of so many seconds; `None` for any other number than 300, 900, 1,800 and 3,600.
+    pub fn new(seconds: u16) -> Option<Self>
+        ensures valid { IsSome result ↔ IsPeriod seconds }
+        ensures value { IfSome result (λ p. p ≡ seconds) }
+    {
+        match seconds {
+            300 | 900 | 1_800 | 3_600 => Some(Period { seconds }),
+            _ => None,
+        }
+    }
+
+    /// It is one of the four. It does nothing: a caller names the fact by it.
+    pub fn keep_range(self)
+        ensures { IsPeriod self }
+    {
+        let _ = self.seconds;
+    }
+
+    /// How many seconds it has.
+    pub fn seconds(self) -> u16
+        ensures value { result ≡ self }
+        ensures range { IsPeriod result }
+    {
+        self.seconds
+    }
+}
+
+impl Default for Period {
+    ghost use Rattle.std.specs.Prelude.{◌≡◌};
+    ghost use Rattle.ledger_model.specs.Quarter.{default_period};
+
+    ghost is_default = { λ p. p ≡ default_period };
+
+    /// The period of a site for which none is declared: 900 seconds.
+    fn default() -> Self {
+        Period { seconds: 900 }
+    }
+}

@@ -1,0 +1,63 @@
+-- Each reading of events in range is at a moment, and so the quarter of each pair begins at one.
+use Rattle.std.proofs.Common.{◌≡◌, ℕ, zero, suc, ◌/◌, not, List, [], ◌∷◌, ◌++◌, map, filter, sym, subst, arith, ⊎_elim}
+use Rattle.std.specs.List.{All, flat_map}
+use Rattle.std.specs.Str.{bytes_eq}
+use Rattle.std.proofs.lemmas.List.Elements.{All-nil, All-cons, All-append}
+use Rattle.ledger_model.specs.BoardLaws.{IsIn}
+use Rattle.ledger_model.specs.Content.{Entry, live, live_of, transactions_of}
+use Rattle.ledger_model.specs.Energy.{Pair, followed, pairs, pairs_of, quarter_of, readings_of}
+use Rattle.ledger_model.specs.Event.{MeterReading, IsMeterReading}
+use Rattle.ledger_model.specs.Moment.{IsMoment}
+use Rattle.ledger_model.specs.Quarter.{IsPeriod, IsQuarterOf, quarter_at}
+use Rattle.ledger_model.proofs.Bounds.{AreEntries-filter}
+use Rattle.ledger_model.proofs.Callers.{AreEntries}
+
+-- readings at moments
+abbrev AreTimely : List MeterReading → Type 0
+AreTimely [] = Unit {0}
+AreTimely (r ∷ rs) = IsMoment r.moment × AreTimely rs
+
+timely-append : (rs ss : List MeterReading) → AreTimely rs → AreTimely ss → AreTimely (rs ++ ss)
+timely-append [] ss h k = k
+timely-append (r ∷ rs) ss h k = (h.0, timely-append rs ss h.1 k)
+
+timely-all : (rs : List MeterReading) → All IsMeterReading rs → AreTimely rs
+timely-all [] h = tt
+timely-all (r ∷ rs) h = ((h 0 r (omega arith)).moment, timely-all rs (λ k d lt. h (suc k) d (omega arith)))
+
+timely-entries : (es : List Entry) → AreEntries es → AreTimely (flat_map (λ e. e.1.event.readings) es)
+timely-entries [] h = tt
+timely-entries (e ∷ es) h = timely-append e.1.event.readings (flat_map (λ f. f.1.event.readings) es) (timely-all e.1.event.readings h.0.event.readings) (timely-entries es h.1)
+
+later_timely : (rs : List MeterReading) → AreTimely rs → All (λ (p : Pair). IsMoment p.1.moment) (followed rs)
+later_timely [] h = All-nil (λ (p : Pair). IsMoment p.1.moment)
+later_timely (r ∷ []) h = All-nil (λ (p : Pair). IsMoment p.1.moment)
+later_timely (r ∷ s ∷ rs) h = All-cons (λ (p : Pair). IsMoment p.1.moment) (r, s) (followed (s ∷ rs)) h.1.0 (later_timely (s ∷ rs) h.1)
+
+of_each : (es : List Entry) (txs : List (List ℕ)) → AreEntries (live es) → All (λ (p : Pair). IsMoment p.1.moment) (flat_map (λ tx. pairs_of tx es) txs)
+of_each es [] h = All-nil (λ (p : Pair). IsMoment p.1.moment)
+of_each es (tx ∷ txs) h = All-append (λ (p : Pair). IsMoment p.1.moment) (pairs_of tx es) (flat_map (λ t. pairs_of t es) txs)
+    (later_timely (readings_of tx es) (timely-entries (live_of tx es) (AreEntries-filter (λ e. bytes_eq tx e.0.tx) (live es) h)))
+    (of_each es txs h)
+
+-- each pair's later reading is at a moment
+pub pairs_in_time : (es : List Entry) → AreEntries es → All (λ (p : Pair). IsMoment p.1.moment) (pairs es)
+pairs_in_time es h = of_each es (transactions_of (live es)) (AreEntries-filter (λ e. not e.1.voided) es h)
+
+-- the quarter of a moment begins at one
+own_quarter : (period moment : ℕ) → IsPeriod period → IsMoment moment → IsQuarterOf period (quarter_at period moment)
+own_quarter period moment is at =
+    ⊎_elim {C = IsQuarterOf period (quarter_at period moment)} (λ (e : period ≡ 300). short 300 e (omega (arith, at.0), omega (arith, at.1)))
+    (λ more. ⊎_elim {C = IsQuarterOf period (quarter_at period moment)} (λ (e : period ≡ 900). short 900 e (omega (arith, at.0), omega (arith, at.1)))
+    (λ most. ⊎_elim {C = IsQuarterOf period (quarter_at period moment)} (λ (e : period ≡ 1_800). short 1_800 e (omega (arith, at.0), omega (arith, at.1)))
+    (λ (e : period ≡ 3_600). short 3_600 e (omega (arith, at.0), omega (arith, at.1))) most) more) is
+  where
+    short : (n : ℕ) → period ≡ n → IsQuarterOf n (quarter_at n moment) → IsQuarterOf period (quarter_at period moment)
+    short n e h = subst (λ s. IsQuarterOf s (quarter_at s moment)) (sym e) h
+
+-- each quarter of such pairs is one of the period's
+pub in_period : (period : ℕ) (ps : List Pair) (q : ℕ) → IsPeriod period → All (λ (p : Pair). IsMoment p.1.moment) ps → IsIn q (map (quarter_of period) ps) → IsQuarterOf period q
+in_period period [] q is at h = absurd h
+in_period period (p ∷ ps) q is at h =
+    ⊎_elim {C = IsQuarterOf period q} (λ (e : q ≡ quarter_of period p). subst (IsQuarterOf period) (sym e) (own_quarter period p.1.moment is (at 0 p (omega arith))))
+    (λ (there : IsIn q (map (quarter_of period) ps)). in_period period ps q is (λ k d lt. at (suc k) d (omega arith)) there) h

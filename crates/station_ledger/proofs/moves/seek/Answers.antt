@@ -1,0 +1,1 @@
+-- the search changes nothing that the chains and the sums show
