@@ -143,11 +143,12 @@ pub(crate) fn carry_out(chains: &mut Chains, sums: &mut Sums, command: Command, 
     requires ready { IsReady chains.old command }
     requires before { AreAllowed chains.old.limits (stored chains.old) }
     requires after { AreAllowed chains.old.limits (finite.entries (events_after chains.old.events command)) }
-    requires summed { AreSummed chains.old.limits (stored chains.old) sums.old.kept sums.old.evses.items sums.old.quarters sums.old.energy sums.old.figures }
+    requires summed { AreSummed chains.old.limits (stored chains.old) sums.old.kept sums.old.evses.items sums.old.period sums.old.quarters sums.old.energy sums.old.figures }
     requires voided { sums.old.figures.voided ≡ voided_in chains.old }
     ensures limits { chains.new.limits ≡ chains.old.limits }
     ensures events { chains.new.events ≡ events_after chains.old.events command }
-    ensures summed { AreSummed chains.new.limits (stored chains.new) sums.new.kept sums.new.evses.items sums.new.quarters sums.new.energy sums.new.figures }
+    ensures summed { AreSummed chains.new.limits (stored chains.new) sums.new.kept sums.new.evses.items sums.new.period sums.new.quarters sums.new.energy sums.new.figures }
+    ensures period { sums.new.period ≡ sums.old.period }
     ensures voided { sums.new.figures.voided ≡ voided_in chains.new }
     ensures work { work.new ≤ work.old + most_spent chains.old.events command }
     ensures grows { work.old ≤ work.new }
