@@ -8,7 +8,7 @@ use Rattle.board_words.specs.declared.asked.Asked.TheVariants.{Replay, Serve, Si
 use Rattle.ledger_model.specs.Quarter.{IsPeriod, default_period}
 use Rattle.board_words.specs.StationWords.{AnswersWords}
 use Rattle.site_server.specs.declared.service.Service.{Service}
-use Rattle.station_link.specs.Sim.{IsSimulated}
+use Rattle.simulated_station.specs.Sim.{IsSimulated}
 
 -- A server is asked for 1 to 64 connections, a simulation for 1 to 64 stations and 2 to 64 events.
 abbrev pub IsAskable : Asked → Type 0

@@ -1,4 +1,3 @@
 pub mod Answer
 pub mod Session
 pub mod Request
-pub mod Sim

@@ -1,10 +1,11 @@
-//! Sessions of charging stations over WebSocket, and simulated stations to try them with.
+//! Sessions of charging stations over WebSocket.
 //!
 //! [`serve_connection`] takes one connection of a station: it answers the opening handshake (RFC 6455),
 //! lets in the station that the path names ([`admit`]), and answers each text message in turn until the
 //! session ends ([`serve_session`]).
-//! The stream is anything that reads and writes. [`answer_text`] answers one text of a station. A
-//! [`SimStation`] is the other side: a station that sends one transaction and keeps the replies.
+//! The stream is anything that reads and writes. [`answer_text`] answers one text of a station. The other
+//! side, a station that sends one transaction and keeps the replies, is the [`SimStation`] of
+//! `simulated_station`.
 //!
 //! The crate's one contract is that of `answer_text`: what is answered is what the text means at the moment,
 //! a ready reply or silence; where it means an event, the reply to an answer that the desk can give to that
@@ -24,11 +25,10 @@ mod ending;
 mod moment;
 mod request;
 mod session;
-mod sim;
 
 pub use answer::{Answered, answer_text};
 pub use ending::Why;
 pub use moment::MomentSource;
 pub use request::{Seen, admit};
 pub use session::{MAX_MESSAGES, SessionEnd, serve_connection, serve_session};
-pub use sim::{SimFault, SimStation};
+pub use simulated_station::{SimFault, SimStation};

@@ -1,8 +1,7 @@
 //! Stations that are simulated: each sends one transaction and keeps the replies.
 ghost use Rattle.std.specs.Prelude.{◌≡◌, ◌≤◌, ◌+◌, IfOk, length};
-ghost use Rattle.station_link.specs.Sim.{IsSimulated};
+ghost use Rattle.simulated_station.specs.Sim.{IsSimulated};
 
-use crate::session::MAX_MESSAGES;
 use http::{HeaderName, HeaderValue};
 use ledger_model::Moment;
 use reading_decimal::moment_text;
@@ -28,6 +27,9 @@ const RISE: u64 = 100;
 
 // How many bytes one read of the stream asks for.
 const READ_BYTES: usize = 4_096;
+
+// How many messages it reads while it waits for a reply, or for the server's end.
+const MAX_READS: u64 = 1_000_000;
 
 /// Why a simulated station has not all its replies.
 #[derive(Clone, Copy, Debug, PartialEq, Eq)]
@@ -63,7 +65,7 @@ pub struct SimStation {
 }
 
 impl Model for SimStation {
-    ghost use Rattle.station_link.specs.Sim.{IsSimulated, Simulated};
+    ghost use Rattle.simulated_station.specs.Sim.{IsSimulated, Simulated};
 
     ghost Value = { Simulated };
 
@@ -199,7 +201,7 @@ fn ask<S: Read + Write + Drop, K: MaskKeys + Drop>(
         Err(Error::OutOfMemory) => return Err(SimFault::OutOfMemory),
         Err(_) => return Err(SimFault::WriteFault),
     }
-    for _ in 0..MAX_MESSAGES {
+    for _ in 0..MAX_READS {
         match socket.read() {
             Ok(Message::Text(reply)) => return Ok(String::from_str(alloc, reply.as_str())?),
             Ok(Message::Ping(_bytes) | Message::Pong(_bytes)) => {}
@@ -217,7 +219,7 @@ fn leave<S: Read + Write + Drop, K: MaskKeys + Drop>(socket: &mut WebSocket<S, K
     if socket.close(None).is_err() {
         return;
     }
-    for _ in 0..MAX_MESSAGES {
+    for _ in 0..MAX_READS {
         if socket.read().is_err() {
             return;
         }
