@@ -99,7 +99,8 @@ fn station(
 
 // Whether there is a command, and the ledger accepts it.
 fn is_taken(ledger: &mut StationLedger, command: Option<Command>, work: &mut Work) -> bool
-    ensures { ledger.new.limits ≡ ledger.old.limits }
+    ensures limits { ledger.new.limits ≡ ledger.old.limits }
+    ensures period { ledger.new.period ≡ ledger.old.period }
 {
     match command {
         Some(command) => matches!(ledger.apply(command, work), Answer::Accepted(_)),

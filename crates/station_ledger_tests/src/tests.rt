@@ -4,7 +4,7 @@ mod drawn;
 mod scratch;
 
 use energy_flow::Work;
-use ledger_model::{Command, Event, Figures, Key, Kind, Limits, Moment, Period, Reading, TxId};
+use ledger_model::{Command, Event, Key, Kind, Limits, Moment, Period, Reading, TxId};
 use station_ledger::StationLedger;
 use std::alloc::{AllocError, Global};
 use std::test::Fail;
@@ -92,29 +92,38 @@ fn takes(
     true
 }
 
+// Tells whether each command of a ledger takes its differences.
+fn takes_differences(alloc: Global, work: &mut Work) -> Result<bool, Fail> {
+    let mut ledger = opened(alloc)?;
+    Ok(takes(&mut ledger, alloc, DIFFERENCES, work))
+}
+
 #[test]
 fn differences_of_a_late_event(rt: HostRuntime) -> Result<(), Fail> {
     let mut work = Work::open(&rt);
-    let mut ledger = opened(rt.alloc())?;
-    assert!(rt; takes(&mut ledger, rt.alloc(), DIFFERENCES, &mut work));
+    assert!(rt; takes_differences(rt.alloc(), &mut work)?);
     Ok(())
 }
 
-// The figures of the ledger's board, which is asked for once more where it found no memory.
-fn board_figures(ledger: &StationLedger, alloc: Global) -> Result<Figures, AllocError> {
+// What the ledger's board shows after the commands; it is asked for once more where it found no memory.
+fn shown(ledger: &mut StationLedger, alloc: Global, work: &mut Work) -> Result<u64, AllocError> {
+    takes(ledger, alloc, DIFFERENCES, work);
     let board = match ledger.board(alloc) {
         Ok(board) => board,
         Err(_) => ledger.board(alloc)?,
     };
-    Ok(board.figures())
+    Ok(board.figures().up)
+}
+
+fn shown_by_new(alloc: Global, work: &mut Work) -> Result<u64, Fail> {
+    let mut ledger = opened(alloc)?;
+    Ok(shown(&mut ledger, alloc, work)?)
 }
 
 // Run with each allocation refused in turn: a board that finds no memory leaves the ledger as it was.
 #[test]
 fn a_board_without_memory_changes_nothing(rt: HostRuntime) -> Result<(), Fail> {
     let mut work = Work::open(&rt);
-    let mut ledger = opened(rt.alloc())?;
-    takes(&mut ledger, rt.alloc(), DIFFERENCES, &mut work);
-    assert!(rt; board_figures(&ledger, rt.alloc())?.up == 600_000);
+    assert!(rt; shown_by_new(rt.alloc(), &mut work)? == 600_000);
     Ok(())
 }

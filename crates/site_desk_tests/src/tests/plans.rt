@@ -5,11 +5,10 @@ use super::{
     FIRST, deliver, figures, has, has_figures, has_totals, is_tied, key_of, pass_of, tells,
 };
 use desk_fixtures::{opened, plan_of};
-use ledger_model::{Answer, Command, Kind, Limits, Name};
+use ledger_model::{Answer, Command, Kind, Name};
 use site_book::{Naming, Tables, Viewer};
 use site_desk::{
-    BoardFault, CloseFault, Closed, Desk, DeskFault, EnlistFault, MAX_PASSES, NoGate, Pass, Plan,
-    StationPlan,
+    BoardFault, CloseFault, Closed, Desk, EnlistFault, MAX_PASSES, NoGate, Pass, Plan,
 };
 use std::alloc::Global;
 use std::marker::Brand;
@@ -18,79 +17,6 @@ use std::sync::Wait;
 use std::test::Fail;
 use std::thread::Threads;
 use std::time::Clock;
-
-const NAMES: [&str; 64] = [
-    "00", "01", "02", "03", "04", "05", "06", "07", "08", "09", "10", "11", "12", "13", "14", "15",
-    "16", "17", "18", "19", "20", "21", "22", "23", "24", "25", "26", "27", "28", "29", "30", "31",
-    "32", "33", "34", "35", "36", "37", "38", "39", "40", "41", "42", "43", "44", "45", "46", "47",
-    "48", "49", "50", "51", "52", "53", "54", "55", "56", "57", "58", "59", "60", "61", "62", "63",
-];
-
-// A plan of one site with so many stations, each of which may keep so many readings.
-fn wide_plan(stations: usize, readings: u64) -> Option<Plan> {
-    let mut plan = plan_of(&["north"], &[], 1)?;
-    for text in NAMES.iter().take(stations) {
-        let station = StationPlan {
-            site: 0,
-            name: Name::new(text)?,
-            limits: Limits::new(1, 1, readings, 9)?,
-        };
-        plan.stations.try_push(station).ok()?;
-    }
-    Some(plan)
-}
-
-// The fault of a plan that is opened, if it has one.
-fn fault_of(rt: &HostRuntime, plan: Option<Plan>) -> Result<Option<DeskFault>, Fail> {
-    let plan = plan.ok_or("no plan")?;
-    let tables = Tables::make(rt.alloc(), plan.sites.len() as u16)?;
-    Ok(fault_of_open::<Brand>(rt.alloc(), tables, &plan))
-}
-
-fn fault_of_open<J: Naming>(alloc: Global, tables: Tables, plan: &Plan) -> Option<DeskFault>
-    requires named { NamedBy J.table tables }
-    requires there { (site : ℕ) → site < length plan.now.sites.items → HasTable tables site }
-{
-    Desk::<J>::open(alloc, tables, plan).err()
-}
-
-#[test]
-fn plans_are_opened_or_refused(rt: HostRuntime) -> Result<(), Fail> {
-    let twice = plan_of(&["north", "south"], &[(0, "A"), (1, "A")], 1);
-    assert!(rt; fault_of(&rt, twice)? == Some(DeskFault::StationTwice));
-    assert!(rt; fault_of(&rt, wide_plan(64, 16_384))?.is_none());
-    Ok(())
-}
-
-#[test]
-fn plans_beyond_limits_are_refused(rt: HostRuntime) -> Result<(), Fail> {
-    for plan in [
-        wide_plan(17, 65_536),
-        plan_of(&["north"], &[(1, "A"), (0, "A")], 1),
-        plan_of(&["north", "north"], &[], 1),
-        plan_of(&["north"], &[], 65),
-    ] {
-        assert!(rt; fault_of(&rt, plan)? == Some(DeskFault::PlanLimit));
-    }
-    Ok(())
-}
-
-// All passes of station A but one, after which there is no other.
-fn all_passes<J: Naming, R: Wait + Threads>(
-    rt: &R,
-    alloc: Global,
-    desk: &Desk<J>,
-) -> Option<Vec<Pass>> {
-    let station = Name::new("A")?;
-    let mut passes = Vec::new(alloc);
-    for _ in 1..MAX_PASSES {
-        passes.push(desk.enlist(rt, &station).ok()?).ok()?;
-    }
-    match desk.enlist(rt, &station).err()? {
-        EnlistFault::TooManyPasses => Some(passes),
-        _ => None,
-    }
-}
 
 // A desk that was not closed, which handed all back.
 #[derive(Drop)]
@@ -116,17 +42,16 @@ fn not_closed<J: Naming>(back: Back<J>, fault: CloseFault) -> Option<Back<J>> {
     })
 }
 
-// Closing without a pass, and then without the viewer, hands all back; then it succeeds.
+// Closing without the pass, and then without the viewer, hands all back; then it succeeds.
 fn closes_with_all<J: Naming>(
     alloc: Global,
     desk: Desk<J>,
-    passes: Vec<Pass>,
     pass: Pass,
     viewers: Vec<Viewer<J>>,
 ) -> Option<Closed<J>> {
     let whole = Back {
         desk,
-        passes,
+        passes: Vec::new(alloc),
         viewers,
     };
     let mut back = not_closed(whole, CloseFault::PassMissing)?;
@@ -174,7 +99,7 @@ fn knows_no_z<J: Naming, R: Wait + Threads>(rt: &R, alloc: Global, desk: &Desk<J
     Some(none == BoardFault::UnknownStation && unknown == EnlistFault::UnknownStation)
 }
 
-// Posts, boards and all passes of a station.
+// Posts, boards and passes of a station.
 fn posts_and_passes<J: Naming, R: Abort + Threads + Wait + Clock>(
     rt: &R,
     alloc: Global,
@@ -188,9 +113,8 @@ fn posts_and_passes<J: Naming, R: Abort + Threads + Wait + Clock>(
     let pass = three_events(rt, alloc, &desk).ok_or("an event was refused")?;
     assert!(rt; shows_board(rt, alloc, &desk) == Some(true));
     assert!(rt; knows_no_z(rt, alloc, &desk) == Some(true));
-    let passes = all_passes(rt, alloc, &desk).ok_or("not all passes")?;
     assert!(rt; viewers.len() == 1);
-    let closed = closes_with_all(alloc, desk, passes, pass, viewers);
+    let closed = closes_with_all(alloc, desk, pass, viewers);
     assert!(rt; has(&closed.ok_or("not closed")?, 1, 1));
     Ok(())
 }

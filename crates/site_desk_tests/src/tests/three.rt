@@ -1,6 +1,7 @@
 ghost use Rattle.std.specs.Prelude.{◌≡◌, ℕ, ◌<◌, ◌≤◌, IfOk, length};
 ghost use Rattle.board_report.specs.Plans.{IsBoardWithin};
-ghost use Rattle.board_report.specs.Sums.{station_quarters, QuartersFit};
+ghost use Rattle.board_report.specs.Sums.{station_quarters, AreOfPeriod, QuartersFit};
+ghost use Rattle.ledger_model.specs.Quarter.{default_period};
 ghost use Rattle.ledger_model.specs.Ranges.{most_readings};
 ghost use Rattle.site_book.specs.Tables.{HasTable, NamedBy};
 
@@ -8,9 +9,9 @@ use super::{
     Asked, FIRST, deliver, delivery_of, figures, has, has_figures, has_totals, is_tied, key_of,
     pass_of, tells,
 };
-use board_report::{site_board, write_board};
+use board_report::{SiteBoard, site_board, write_board};
 use desk_fixtures::{opened, plan_of};
-use ledger_model::{Answer, Command, Figures, Kind, Name, Refusal};
+use ledger_model::{Answer, Command, Figures, Kind, Name, Period, Refusal};
 use site_book::{Naming, Tables, Viewer};
 use site_desk::{Closed, Desk, NoGate, Pass, Plan};
 use station_ledger::{StationBoard, StationLedger};
@@ -259,31 +260,42 @@ fn board_within(alloc: Global, ledger: &StationLedger) -> Result<StationBoard, A
     ledger.board(alloc)
 }
 
-// The boards of both stations by name, whose sums fit.
+// The boards of both stations by name, where both are by the default period; their sums fit.
 fn boards_of<J: Naming>(
     alloc: Global,
     closed: &Closed<J>,
     first: Name,
     second: Name,
-) -> Result<Vec<(Name, StationBoard)>, AllocError>
+) -> Result<Vec<(Name, StationBoard)>, Fail>
     requires { length closed.now.cells ≡ 2 }
-    ensures { IfOk result (λ boards. QuartersFit (station_quarters boards.items)) }
+    ensures fit { IfOk result (λ boards. QuartersFit (station_quarters boards.items)) }
+    ensures periods { IfOk result (λ boards. AreOfPeriod default_period boards.items) }
 {
     let a = board_within(alloc, closed.ledger(0))?;
     let b = board_within(alloc, closed.ledger(1))?;
+    if a.period() != Period::default() || b.period() != Period::default() {
+        return Err("another period")?;
+    }
     Ok(vec![in alloc; (first, a), (second, b)]?)
 }
 
-// Tells whether the threads leave the board of their script.
-fn is_board_of_script<J: Naming>(alloc: Global, closed: &Closed<J>) -> Option<bool> {
+// The board of the site over both stations.
+fn board_of<J: Naming>(alloc: Global, closed: &Closed<J>) -> Result<SiteBoard, Fail> {
     if closed.stations() != 2 || closed.sites() != 1 {
-        return None;
+        return Err("not two stations of one site")?;
     }
-    let (first, second) = (Name::new("A")?, Name::new("B")?);
-    let stations = boards_of(alloc, closed, first, second).ok()?;
-    let board = site_board(alloc, &Name::new("north")?, closed.totals(0), stations).ok()?;
-    let text = write_board(alloc, &board).ok()?;
-    Some(text.as_slice() == BOARD.as_bytes())
+    let first = Name::new("A").ok_or("no name")?;
+    let second = Name::new("B").ok_or("no name")?;
+    let stations = boards_of(alloc, closed, first, second)?;
+    let name = Name::new("north").ok_or("no name")?;
+    let totals = closed.totals(0);
+    Ok(site_board(alloc, &name, Period::default(), totals, stations)?)
+}
+
+// Tells whether the threads leave the board of their script.
+fn is_board_of_script<J: Naming>(alloc: Global, closed: &Closed<J>) -> Result<bool, Fail> {
+    let board = board_of(alloc, closed)?;
+    Ok(write_board(alloc, &board)?.as_slice() == BOARD.as_bytes())
 }
 
 // Two stations and an operator at once.
@@ -321,7 +333,7 @@ fn after_all<J: Naming, R: Abort + Wait + Clock>(
     assert!(rt; has_figures(&closed, 0, first()) && has_figures(&closed, 1, second()));
     let both = figures([6, 0, 2, 0, 0, 650_000, 1_500_000]);
     assert!(rt; has_totals(&closed, 0, both));
-    assert!(rt; is_board_of_script(alloc, &closed) == Some(true));
+    assert!(rt; is_board_of_script(alloc, &closed)?);
     Ok(())
 }
 

@@ -226,8 +226,19 @@ fn run(
     work: &mut Work,
 ) -> Result<(), Fail> {
     let mut pair = Pair::open(alloc, limits)?;
+    run_on(&mut pair, alloc, draws, seen, work)
+}
+
+// The same on a ledger and its list.
+fn run_on(
+    pair: &mut Pair,
+    alloc: Global,
+    draws: &mut Draws,
+    seen: &mut [bool; 10],
+    work: &mut Work,
+) -> Result<(), Fail> {
     for _ in 0..50 {
-        steps(&mut pair, alloc, draws, seen, work)?;
+        steps(pair, alloc, draws, seen, work)?;
     }
     Ok(())
 }

@@ -18,10 +18,8 @@ loop-name-preserved g c =
       plan,
       (
         omega (arith, k.1.0, sum_by-append (λ (limits : Bounds). limits.readings) k.0 (default_limits ∷ [])),
-        (
-          subst (AreBoardsWithin plan) (sym c.in_ok-push.ensures.items) (AreBoardsWithin-more k.0 c.loop-name.boards.items default_limits _ k.1.1.0 c.in_ok-station.ensures.within),
-          subst (AreOfPeriod default_period) (sym c.in_ok-push.ensures.items) (All-append one c.loop-name.boards.items (_ ∷ []) k.1.1.1 (All-cons one _ [] c.in_ok-station.ensures.period (All-nil one))),
-        ),
+        subst (AreBoardsWithin plan) (sym c.in_ok-push.ensures.items) (AreBoardsWithin-more k.0 c.loop-name.boards.items default_limits _ k.1.1 c.in_ok-station.ensures.within),
+        subst (AreOfPeriod default_period) (sym c.in_ok-push.ensures.items) (All-append one c.loop-name.boards.items (_ ∷ []) k.1.2 (All-cons one _ [] c.in_ok-station.ensures.period (All-nil one))),
       ),
     )
 
@@ -29,7 +27,7 @@ loop-name-preserved g c =
 pub returns-clause-fit : goal.returns-clause-fit
 returns-clause-fit g c =
     let k = c.loop-name.invariant in
-    plans_fit k.0 c.loop-name.boards.items (omega (arith, k.1.0, c.loop-name-test.false, c.loop-name.auto.name-index-end, c.if-told-gt64.false)) k.1.1.0
+    plans_fit k.0 c.loop-name.boards.items (omega (arith, k.1.0, c.loop-name-test.false, c.loop-name.auto.name-index-end, c.if-told-gt64.false)) k.1.1
 
 pub returns-clause-periods : goal.returns-clause-periods
-returns-clause-periods g c = c.loop-name.invariant.1.1.1
+returns-clause-periods g c = c.loop-name.invariant.1.2

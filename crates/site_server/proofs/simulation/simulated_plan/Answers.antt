@@ -13,7 +13,7 @@ pub declare-requires : goal.declare-requires
 declare-requires c =
     let k = c.loop-before.invariant in
     let few : c.loop-before.before < 64 = omega (arith, c.loop-before-test.true, c.loop-before.auto.before-end, c.requires) in
-    let limits : c.default-2.result ≡ default_limits = search rules in
+    let limits : c.default-in-loop-before.result ≡ default_limits = search rules in
     record {
       room = (λ i. is_past (position (λ (s : SitePlan). bytes_eq c.copied.result s.name) (k.1 i)) (k.1 i) (k.2 i) (limits i)) ∙ has_room c.copied.result c.loop-before.before few;
     }
@@ -24,7 +24,7 @@ loop-before-preserved c =
     let n = c.loop-before.before in
     let next : suc n ≡ n + 1 = omega arith in
     let site : c.copied.result ≡ codes "sim" = c.copied.ensures ∙ k.0 in
-    let limits : c.default-2.result ≡ default_limits = search rules in
+    let limits : c.default-in-loop-before.result ≡ default_limits = search rules in
     let period : c.default.result ≡ default_period = search rules in
     let name : c.station_name-station.result ≡ simulated_name (suc n) = c.station_name-station.ensures ∙ ap simulated_name (sym next) in
     let number = (λ i. site_number (position (λ (s : SitePlan). bytes_eq c.copied.result s.name) (k.1 i)) (k.1 i)) ∙ number_next c.copied.result n site in (

@@ -9,8 +9,8 @@ use Rattle.board_report.proofs.PlanLemmas.{plans_fit}
 use Rattle.site_desk_tests.proofs.tests.three.boards_of.Goals as goal
 
 -- two stations store no more readings than a plan may
-pub returns : goal.returns
-returns g c =
+pub returns-clause-fit : goal.returns-clause-fit
+returns-clause-fit g c =
     let first = c.ledger.result.now.limits in
     let second = c.ledger-2.result.now.limits in
     let few : sum_by (λ (limits : Bounds). limits.readings) (first ∷ second ∷ []) ≤ most_plan_readings = omega (
