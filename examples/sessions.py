@@ -41,7 +41,7 @@ FIRST = event(0, "Started", "2026-03-01T10:00:00Z", 1000)
 SECOND = event(1, "Updated", "2026-03-01T10:14:00Z", 1200)
 NOT_JSON = b'[4,"-1","RpcFrameworkError","NotJson",{}]'
 TOO_LONG = b'[4,"-1","RpcFrameworkError","TextTooLong",{}]'
-BOARD = """board north
+BOARD = """board north period=900
 total events=2 voided=0 transactions=1 complete=0 missing=0 up=200000 down=0
 """
 
@@ -129,6 +129,24 @@ def sessions() -> list[Session]:
     return found
 
 
+def request(path: str, offer: str) -> bytes:
+    """A client's request (RFC 6455 section 4.1) of this path, with this line."""
+    return (
+        f"GET {path} HTTP/1.1\r\nHost: h\r\nConnection: Upgrade\r\nUpgrade: websocket\r\n"
+        f"Sec-WebSocket-Version: 13\r\nSec-WebSocket-Key: dGhlIHNhbXBsZSBub25jZQ==\r\n{offer}\r\n"
+    ).encode()
+
+
+def lets_in(head: bytes) -> bool:
+    """Whether a request is answered by a session."""
+    return head.startswith(b"HTTP/1.1 101 ")
+
+
+def takes_up_subprotocol(head: bytes) -> bool:
+    """Whether the answer to a request takes up the subprotocol of OCPP 2.0.1."""
+    return b"sec-websocket-protocol: ocpp2.0.1" in head.lower().split(b"\r\n")
+
+
 def read_until(stream: socket.socket, read: bytearray, end: bytes) -> None:
     """Reads until this is among what came, or the server ends it."""
     while end not in read and (part := stream.recv(65_536)):
@@ -140,11 +158,7 @@ def played(port: int, session: Session) -> str:
     wanted = b"".join(frame._replace(is_masked=False).bytes() for frame in session.answered)
     read = bytearray()
     with socket.create_connection(("127.0.0.1", port), LONGEST_WAIT) as stream:
-        request = (
-            f"GET {session.path} HTTP/1.1\r\nHost: h\r\nConnection: Upgrade\r\nUpgrade: websocket\r\n"
-            f"Sec-WebSocket-Version: 13\r\nSec-WebSocket-Key: dGhlIHNhbXBsZSBub25jZQ==\r\n{session.offer}\r\n"
-        )
-        stream.sendall(request.encode())
+        stream.sendall(request(session.path, session.offer))
         read_until(stream, read, b"\r\n\r\n")
         try:
             for frame in session.sent:
@@ -162,9 +176,9 @@ def played(port: int, session: Session) -> str:
         except OSError:
             pass  # The same; what it wrote before is compared.
     head, _, frames = bytes(read).partition(b"\r\n\r\n")
-    if not head.startswith(b"HTTP/1.1 101 "):
+    if not lets_in(head):
         return f"the handshake is answered by {head[:80]!r}"
-    has_subprotocol = b"\r\nsec-websocket-protocol: ocpp2.0.1" in head.lower()
+    has_subprotocol = takes_up_subprotocol(head)
     if has_subprotocol != (session.offer == OFFER):
         return "the subprotocol is " + ("taken up" if has_subprotocol else "not taken up")
     if NOW.sub(rb"\1", frames) != NOW.sub(rb"\1", wanted):

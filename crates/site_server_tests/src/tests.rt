@@ -1,79 +1,73 @@
 mod client;
-mod closing;
 mod no_thread;
+mod plans;
 mod refused;
 mod sessions_in_turn;
 mod sims;
-mod watching;
+
+ghost use Rattle.std.specs.Prelude.{ℕ, ◌<◌, length};
+ghost use Rattle.site_book.specs.Tables.{HasTable, NamedBy};
 
 use desk_fixtures::plan_of;
-use site_book::Naming;
-use site_desk::{Closed, Plan};
-use std::io::Write;
-use std::net::{Ipv4Addr, Net, SocketAddr, SocketAddrV4, TcpListener, TcpStream};
-use std::sync::{Mutex, Wait};
+use site_book::{Naming, Tables, Viewer};
+use site_desk::{Desk, Pass, Plan};
+use site_server::open_desk;
+use std::alloc::Global;
+use std::marker::Brand;
+use std::net::{Ipv4Addr, Net, TcpListener, TcpStream};
+use std::process::Abort;
+use std::sync::Wait;
 use std::test::Fail;
-use std::time::{Clock, Duration};
-use std::{io, thread};
+use std::thread::Threads;
+use std::time::Clock;
 
-// Transaction T1's first event, and one fourteen minutes later.
-const FIRST: &str =
-    "[2,\"1\",\"TransactionEvent\",{\"eventType\":\"Started\",\"timestamp\":\"2026-03-01T10:00:00Z\",\"triggerReason\":\"MeterValuePeriodic\",\"seqNo\":0,\"transactionInfo\":{\"transactionId\":\"T1\"},\"meterValue\":[{\"timestamp\":\"2026-03-01T10:00:00Z\",\"sampledValue\":[{\"value\":1000}]}]}]";
-
-const REPLY: &str = "[3,\"1\",{}]";
-
-// Site north has stations A and B, site south has C; each site has a viewer.
+// Site north has the stations A and B, and a viewer.
 fn plan() -> Option<Plan> {
-    plan_of(&["north", "south"], &[(0, "A"), (0, "B"), (1, "C")], 1)
+    plan_of(&["north"], &[(0, "A"), (0, "B")], 1)
 }
 
-// A listener on a port that the system chooses, and its address.
-fn listen<R: Net<Listener = TcpListener, Stream = TcpStream>>(
-    rt: &R,
-) -> Result<(TcpListener, SocketAddr), Fail> {
-    let listener = TcpListener::bind(rt, (Ipv4Addr::LOCALHOST, 0))?;
-    let address = listener.local_addr()?;
-    Ok((listener, address))
+// What is played against a listener and the desk of the plan, under the naming that its types carry. It gives
+// the passes that came back and the viewers; `None` where something was not as it should be.
+trait Scene {
+    fn play<
+        J: Naming + Send + Sync,
+        R: Threads + Wait + Clock + Sync + Net<Listener = TcpListener, Stream = TcpStream>,
+    >(
+        rt: &R,
+        alloc: Global,
+        desk: &Desk<J>,
+        listener: &TcpListener,
+        viewers: Vec<Viewer<J>>,
+    ) -> Option<(Vec<Pass>, Vec<Viewer<J>>)>;
 }
 
-// How many changes a station made; `None` where the desk had no such station.
-fn changes_of<J: Naming>(closed: &Closed<J>, station: u16) -> Option<u64> {
-    if (station as usize) < closed.stations() {
-        Some(closed.changes(station))
+// Plays a scene, after which A and B have to have made so many changes.
+fn play<
+    P: Scene,
+    R: Abort + Threads + Wait + Clock + Sync + Net<Listener = TcpListener, Stream = TcpStream>,
+>(rt: &R, alloc: Global, changes: (u64, u64)) -> Result<(), Fail> {
+    let plan = plan().ok_or("no plan")?;
+    let tables = Tables::make(alloc, plan.sites.len() as u16)?;
+    assert!(rt; changes_after::<P, Brand, R>(rt, alloc, tables, &plan) == Some(changes));
+    Ok(())
+}
+
+// How many changes A and B made when the desk is closed behind a scene.
+fn changes_after<
+    P: Scene,
+    J: Naming + Send + Sync,
+    R: Threads + Wait + Clock + Sync + Net<Listener = TcpListener, Stream = TcpStream>,
+>(rt: &R, alloc: Global, tables: Tables, plan: &Plan) -> Option<(u64, u64)>
+    requires named { NamedBy J.table tables }
+    requires there { (site : ℕ) → site < length plan.now.sites.items → HasTable tables site }
+{
+    let (desk, viewers) = open_desk::<J>(alloc, tables, plan).ok()?;
+    let listener = TcpListener::bind(rt, (Ipv4Addr::LOCALHOST, 0)).ok()?;
+    let (passes, viewers) = P::play(rt, alloc, &desk, &listener, viewers)?;
+    let closed = desk.close(passes, viewers).ok()?;
+    if closed.stations() == 2 {
+        Some((closed.changes(0), closed.changes(1)))
     } else {
         None
     }
-}
-
-// What was written so far, which others look at.
-#[derive(Drop)]
-struct Shown<'a, R: Wait> {
-    rt: &'a R,
-    bytes: &'a Mutex<Vec<u8>>,
-}
-
-impl<'a, R: Wait> Write for Shown<'a, R> {
-    fn write(&mut self, buf: &[u8]) -> io::Result<usize> {
-        self.bytes.lock(self.rt).extend_from_slice(buf)?;
-        Ok(buf.len())
-    }
-
-    fn flush(&mut self) -> io::Result<()> {
-        Ok(())
-    }
-}
-
-// The address that the server tells in its first line.
-fn address_in<R: Wait + Clock>(rt: &R, bytes: &Mutex<Vec<u8>>) -> Option<SocketAddr> {
-    for _ in 0..10_000 {
-        if let Some(line) = str::from_utf8(&bytes.lock(rt)).ok()?.strip_suffix('\n') {
-            let port = line
-                .strip_prefix("listening 127.0.0.1:")?
-                .parse::<u16>()
-                .ok()?;
-            return Some(SocketAddr::V4(SocketAddrV4::new(Ipv4Addr::LOCALHOST, port)));
-        }
-        thread::sleep(rt, Duration::from_millis(1));
-    }
-    None
 }

@@ -52,7 +52,7 @@ impl MomentSource for TenOClock {
 
 // What is played on the desk of the plan, under the naming that its types carry.
 trait Scene {
-    fn play<J: Naming, R: Abort + Threads + Wait + Clock>(
+    fn play<J: Naming + Send + Sync, R: Abort + Threads + Wait + Clock + Sync>(
         rt: &R,
         alloc: Global,
         desk: Desk<J>,
@@ -64,13 +64,16 @@ fn plan() -> Option<Plan> {
     plan_of(&["north"], &[(0, "A"), (0, "B")], 0)
 }
 
-fn play<P: Scene, R: Abort + Threads + Wait + Clock>(rt: &R, alloc: Global) -> Result<(), Fail> {
+fn play<P: Scene, R: Abort + Threads + Wait + Clock + Sync>(
+    rt: &R,
+    alloc: Global,
+) -> Result<(), Fail> {
     let plan = plan().ok_or("no plan")?;
     let tables = Tables::make(alloc, plan.sites.len() as u16)?;
     play_on::<P, Brand, R>(rt, alloc, tables, &plan)
 }
 
-fn play_on<P: Scene, J: Naming, R: Abort + Threads + Wait + Clock>(
+fn play_on<P: Scene, J: Naming + Send + Sync, R: Abort + Threads + Wait + Clock + Sync>(
     rt: &R,
     alloc: Global,
     tables: Tables,
@@ -97,21 +100,14 @@ impl Served {
         Some(self.pass.as_ref()?.changes())
     }
 
-    // Tells whether it ended so, after so many changes, and these frames were answered.
+    // Tells whether it ended so, after so many changes.
+    fn has_pass(&self, why: Why, changes: u64) -> bool {
+        self.why == why && self.changes() == Some(changes)
+    }
+
+    // Tells whether it did, and these frames were answered.
     fn is(&self, why: Why, changes: u64, frames: &[u8]) -> bool {
-        self.why == why && self.changes() == Some(changes) && self.frames() == frames
-    }
-
-    // Tells whether it ended so without a pass.
-    fn lacks_pass(&self, why: Why) -> bool {
-        self.why == why && self.pass.is_none()
-    }
-
-    // Tells whether the answer to the handshake takes up the subprotocol.
-    fn takes_up_subprotocol(&self) -> bool {
-        let line = b"\r\nsec-websocket-protocol: ocpp2.0.1\r\n".as_slice();
-        let mut lines = self.written.as_slice().windows(line.len());
-        lines.any(|bytes| bytes == line)
+        self.has_pass(why, changes) && self.frames() == frames
     }
 
     // The frames behind the answer to the handshake; all that was written where there is no such answer.
@@ -167,21 +163,18 @@ fn serve<J: Naming, R: Threads + Wait + Clock, G: Gate>(
     }
 }
 
-// The passes of these sessions.
-fn passes_of(alloc: Global, served: Vec<Served>) -> Option<Vec<Pass>> {
-    let mut passes = Vec::new(alloc);
-    for session in served {
-        passes.push(session.pass?).ok()?;
-    }
-    Some(passes)
-}
-
 // How many changes A and B made when the desk is closed with these passes.
 fn changes_at_close<J: Naming>(
     alloc: Global,
     desk: Desk<J>,
-    passes: Vec<Pass>,
+    given: [Option<Pass>; 3],
 ) -> Option<(u64, u64)> {
+    let mut passes = Vec::new(alloc);
+    for pass in given {
+        if let Some(pass) = pass {
+            passes.push(pass).ok()?;
+        }
+    }
     let closed = desk.close(passes, Vec::new(alloc)).ok()?;
     if closed.stations() == 2 {
         Some((closed.changes(0), closed.changes(1)))

@@ -1,88 +1,59 @@
-use super::{FIRST, REPLY};
-use http::{HeaderName, HeaderValue, Request};
 use std::alloc::Global;
 use std::io::{Read, Write};
 use std::net::{Net, SocketAddr, TcpListener, TcpStream};
-use std::random::RandomSource;
-use tungstenite::handshake::client;
-use tungstenite::{HandshakeError, MaskKeys, Message, RandomKeys, WebSocket};
 
-// A station's session with a server, at a path.
-pub(super) type Session<'a, R> = WebSocket<TcpStream, RandomKeys<&'a R>>;
+// The requests of A's session and of B's.
+pub(super) const A: &[u8] =
+    b"GET /ocpp/A HTTP/1.1\r\nHost: h\r\nConnection: Upgrade\r\nUpgrade: websocket\r\nSec-WebSocket-Version: 13\r\nSec-WebSocket-Key: dGhlIHNhbXBsZSBub25jZQ==\r\nSec-WebSocket-Protocol: ocpp2.0.1\r\n\r\n";
 
-// The request of a session at a path.
-fn request_of(alloc: Global, uri: &str) -> Option<Request<()>> {
-    let mut request = client::request_of(alloc, uri).ok()?;
-    let name = HeaderName::from_static("sec-websocket-protocol");
-    let value = HeaderValue::from_static("ocpp2.0.1");
-    request.headers_mut().insert(name, value).ok()?;
-    Some(request)
-}
+pub(super) const B: &[u8] =
+    b"GET /ocpp/B HTTP/1.1\r\nHost: h\r\nConnection: Upgrade\r\nUpgrade: websocket\r\nSec-WebSocket-Version: 13\r\nSec-WebSocket-Key: dGhlIHNhbXBsZSBub25jZQ==\r\nSec-WebSocket-Protocol: ocpp2.0.1\r\n\r\n";
 
-pub(super) fn open<'a, R: RandomSource + Net<Listener = TcpListener, Stream = TcpStream>>(
-    rt: &'a R,
-    alloc: Global,
-    address: SocketAddr,
-    uri: &str,
-) -> Result<Session<'a, R>, &'static str> {
-    let Ok(stream) = TcpStream::connect(rt, address) else {
-        return Err("no connection");
-    };
-    let Some(request) = request_of(alloc, uri) else {
-        return Err("no request");
-    };
-    let mut nonce = [0; 16];
-    if rt.fill_bytes(&mut nonce).is_err() {
-        return Err("no random bytes");
-    }
-    let handshake = match client::start(alloc, nonce, RandomKeys::new(rt), request, stream, None) {
-        Ok(handshake) => handshake,
-        Err(_error) => return Err("no start"),
-    };
-    match handshake.handshake() {
-        Ok((socket, _response)) => Ok(socket),
-        Err(HandshakeError::Failure(_error)) => Err("no handshake"),
-        Err(HandshakeError::Interrupted(_handshake)) => Err("half a handshake"),
-    }
-}
+// A text message with transaction T1's first event, masked with zeros (RFC 6455 section 5.2), and its reply.
+const EVENT: &[u8] =
+    b"\x81\xfe\x01\x01\0\0\0\0[2,\"1\",\"TransactionEvent\",{\"eventType\":\"Started\",\"timestamp\":\"2026-03-01T10:00:00Z\",\"triggerReason\":\"MeterValuePeriodic\",\"seqNo\":0,\"transactionInfo\":{\"transactionId\":\"T1\"},\"meterValue\":[{\"timestamp\":\"2026-03-01T10:00:00Z\",\"sampledValue\":[{\"value\":1000}]}]}]";
 
-// Tells whether the text of the first event is answered.
-pub(super) fn is_answered<S: Read + Write + Drop, K: MaskKeys + Drop>(
-    alloc: Global,
-    socket: &mut WebSocket<S, K>,
-) -> bool {
-    let Ok(message) = Message::text(alloc, FIRST) else {
-        return false;
-    };
-    if socket.send(message).is_err() {
-        return false;
-    }
-    match socket.read() {
-        Ok(Message::Text(reply)) => reply.as_str() == REPLY,
-        Ok(_message) => false,
-        Err(_error) => false,
-    }
-}
+const REPLY: &[u8] = b"\x81\x0a[3,\"1\",{}]";
 
-// Closes the session, and waits for the server's end of it.
-pub(super) fn leave<S: Read + Write + Drop, K: MaskKeys + Drop>(socket: &mut WebSocket<S, K>) {
-    let _ = socket.close(None);
-    for _ in 0..8 {
-        if socket.read().is_err() {
-            return;
+// A close frame with code 1000, and the server's.
+const CLOSE: &[u8] = b"\x88\x82\0\0\0\0\x03\xe8";
+
+const CLOSED: &[u8] = b"\x88\x02\x03\xe8";
+
+// Sends bytes, and tells whether what comes then ends so before the stream does.
+fn is_answered(alloc: Global, stream: &mut TcpStream, sent: &[u8], end: &[u8]) -> Option<bool> {
+    stream.write_all(sent).ok()?;
+    let mut read = Vec::new(alloc);
+    let mut byte = [0];
+    for _ in 0..1_024 {
+        if stream.read(&mut byte).ok()? == 0 {
+            return Some(false);
+        }
+        read.push(byte[0]).ok()?;
+        if read.as_slice().ends_with(end) {
+            return Some(true);
         }
     }
+    Some(false)
 }
 
-// A whole session: the first event, and the close. It tells whether the event was answered.
-pub(super) fn sends_one<R: RandomSource + Net<Listener = TcpListener, Stream = TcpStream>>(
+// A whole session with a request: the first event, and the close. `None` where the stream fails; else it tells
+// whether all was answered.
+pub(super) fn sends_one<R: Net<Listener = TcpListener, Stream = TcpStream>>(
     rt: &R,
     alloc: Global,
     address: SocketAddr,
-    uri: &str,
-) -> Result<bool, &'static str> {
-    let mut socket = open(rt, alloc, address, uri)?;
-    let is_so = is_answered(alloc, &mut socket);
-    leave(&mut socket);
-    Ok(is_so)
+    request: &[u8],
+) -> Option<bool> {
+    let mut stream = TcpStream::connect(rt, address).ok()?;
+    for (sent, end) in [
+        (request, b"\r\n\r\n".as_slice()),
+        (EVENT, REPLY),
+        (CLOSE, CLOSED),
+    ] {
+        if !is_answered(alloc, &mut stream, sent, end)? {
+            return Some(false);
+        }
+    }
+    Some(true)
 }

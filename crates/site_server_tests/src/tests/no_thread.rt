@@ -1,18 +1,11 @@
 // Threads that can't start, since none does with so large a stack.
-ghost use Rattle.std.specs.Prelude.{ℕ, ◌<◌, length};
-ghost use Rattle.site_book.specs.Tables.{HasTable, NamedBy};
-
-use super::listen;
-use desk_fixtures::plan_of;
-use site_book::{Naming, Tables};
-use site_desk::{NoGate, Plan};
-use site_server::{Service, open_desk, serve_on, serve_watched};
-use station_link::SimStation;
+use super::client::{A, sends_one};
+use super::{Scene, play};
+use site_book::{Naming, Viewer};
+use site_desk::{Desk, NoGate, Pass};
+use site_server::{Service, serve_on, serve_watched};
 use std::alloc::Global;
-use std::marker::Brand;
-use std::net::{Net, SocketAddr, TcpListener, TcpStream};
-use std::process::Abort;
-use std::random::RandomSource;
+use std::net::{Net, TcpListener, TcpStream};
 use std::sync::Wait;
 use std::test::Fail;
 use std::thread;
@@ -22,98 +15,80 @@ use std::time::Clock;
 // A stack for which no thread starts.
 const TOO_LARGE: usize = usize::MAX / 2;
 
-// Site north with the station CS-1 and a viewer.
-fn plan() -> Option<Plan> {
-    plan_of(&["north"], &[(0, "CS-1")], 1)
-}
+// The connection is dropped.
+struct NoSession;
 
-// How many replies the simulated station gets; `None` where it is not let in.
-fn replies<R: RandomSource + Net<Listener = TcpListener, Stream = TcpStream>>(
-    rt: &R,
-    alloc: Global,
-    address: SocketAddr,
-) -> Option<usize> {
-    let stream = TcpStream::connect(rt, address).ok()?;
-    let replies = SimStation::new(1, 2).run(rt, alloc, stream).ok()?;
-    Some(replies.len())
-}
-
-fn no_session<
-    J: Naming + Send + Sync,
-    R: Abort
-        + Threads
-        + Wait
-        + Clock
-        + RandomSource
-        + Sync
-        + Net<Listener = TcpListener, Stream = TcpStream>,
->(rt: &R, alloc: Global, tables: Tables, plan: &Plan) -> Result<(), Fail>
-    requires named { NamedBy J.table tables }
-    requires there { (site : ℕ) → site < length plan.now.sites.items → HasTable tables site }
-{
-    let (desk, viewers) = open_desk::<J>(alloc, tables, plan).ok().ok_or("no desk")?;
-    let (listener, address) = listen(rt)?;
-    let (shared, socket) = (&desk, &listener);
-    let (passes, replies) = thread::join(
-        rt,
-        move || serve_on(rt, alloc, socket, 1, shared, &NoGate, TOO_LARGE),
-        move || replies(rt, alloc, address),
-    );
-    assert!(rt; replies.is_none(), "the connection was dropped");
-    let passes = passes?;
-    assert!(rt; passes.is_empty() && desk.close(passes, viewers).is_ok());
-    Ok(())
+impl Scene for NoSession {
+    fn play<
+        J: Naming + Send + Sync,
+        R: Threads + Wait + Clock + Sync + Net<Listener = TcpListener, Stream = TcpStream>,
+    >(
+        rt: &R,
+        alloc: Global,
+        desk: &Desk<J>,
+        listener: &TcpListener,
+        viewers: Vec<Viewer<J>>,
+    ) -> Option<(Vec<Pass>, Vec<Viewer<J>>)> {
+        let address = listener.local_addr().ok()?;
+        let (passes, sent) = thread::join(
+            rt,
+            move || serve_on(rt, alloc, listener, 1, desk, &NoGate, TOO_LARGE),
+            move || sends_one(rt, alloc, address, A),
+        );
+        if sent == Some(true) {
+            None
+        } else {
+            Some((passes.ok()?, viewers))
+        }
+    }
 }
 
 #[test]
 fn thread_that_cant_start_counts_as_ended(rt: HostRuntime) -> Result<(), Fail> {
-    let plan = plan().ok_or("no plan")?;
-    let tables = Tables::make(rt.alloc(), plan.sites.len() as u16)?;
-    no_session::<Brand, _>(&rt, rt.alloc(), tables, &plan)
+    play::<NoSession, _>(&rt, rt.alloc(), (0, 0))
 }
 
-fn no_glance<
-    J: Naming + Send + Sync,
-    R: Abort
-        + Threads
-        + Wait
-        + Clock
-        + RandomSource
-        + Sync
-        + Net<Listener = TcpListener, Stream = TcpStream>,
->(rt: &R, alloc: Global, tables: Tables, plan: &Plan) -> Result<(), Fail>
-    requires named { NamedBy J.table tables }
-    requires there { (site : ℕ) → site < length plan.now.sites.items → HasTable tables site }
-{
-    let (desk, viewers) = open_desk::<J>(alloc, tables, plan).ok().ok_or("no desk")?;
-    let (listener, address) = listen(rt)?;
-    let lines = Vec::<u8>::new(alloc);
-    let (shared, socket) = (&desk, &listener);
-    let ((passes, viewers, lines), replies) = thread::join(
-        rt,
-        move || {
-            let service = Service {
-                port: 0,
-                connections: 1,
-                glances: 1,
-            };
-            serve_watched(
-                rt, alloc, socket, service, shared, plan, viewers, lines, TOO_LARGE,
-            )
-        },
-        move || replies(rt, alloc, address),
-    );
-    assert!(rt; replies == Some(3) && lines.is_empty());
-    assert!(rt;
-        desk.close(passes?, viewers).is_ok(),
-        "all passes and viewers came back"
-    );
-    Ok(())
+// The station is served all the same.
+struct NoGlance;
+
+impl Scene for NoGlance {
+    fn play<
+        J: Naming + Send + Sync,
+        R: Threads + Wait + Clock + Sync + Net<Listener = TcpListener, Stream = TcpStream>,
+    >(
+        rt: &R,
+        alloc: Global,
+        desk: &Desk<J>,
+        listener: &TcpListener,
+        viewers: Vec<Viewer<J>>,
+    ) -> Option<(Vec<Pass>, Vec<Viewer<J>>)> {
+        let address = listener.local_addr().ok()?;
+        let plan = super::plan()?;
+        let plan = &plan;
+        let service = Service {
+            port: 0,
+            connections: 1,
+            glances: 1,
+        };
+        let lines = Vec::<u8>::new(alloc);
+        let ((passes, viewers, lines), sent) = thread::join(
+            rt,
+            move || {
+                serve_watched(
+                    rt, alloc, listener, service, desk, plan, viewers, lines, TOO_LARGE,
+                )
+            },
+            move || sends_one(rt, alloc, address, A),
+        );
+        if sent == Some(true) && lines.is_empty() {
+            Some((passes.ok()?, viewers))
+        } else {
+            None
+        }
+    }
 }
 
 #[test]
 fn no_line_where_the_thread_cant_start(rt: HostRuntime) -> Result<(), Fail> {
-    let plan = plan().ok_or("no plan")?;
-    let tables = Tables::make(rt.alloc(), plan.sites.len() as u16)?;
-    no_glance::<Brand, _>(&rt, rt.alloc(), tables, &plan)
+    play::<NoGlance, _>(&rt, rt.alloc(), (1, 0))
 }
