@@ -5,13 +5,14 @@
 
 PROGRAM `serve`s the stations A and B of site north and C of site south, once or more often a scene: connections that
 are silent, fail or are cut, after each byte of a session and of a request too, many at once, an event that is sent
-again, and the lines of a viewer. What has to come of it are the frames (RFC 6455) behind the answers to the
+again, and the lines of a viewer; then eight stations of two sites, whose drawn events a replay answers too. What has to come of it are the frames (RFC 6455) behind the answers to the
 handshakes, the boards when all connections have ended, nothing else, and status 0.
 
 Exit status: 0; 1 when a scene is not as it should be; 2 when the program can't be started.
 """
 
 import argparse
+import random
 import re
 import select
 import socket
@@ -53,8 +54,10 @@ class Differs(Exception):
 class Server:
     """A server of the three stations that serves so many connections."""
 
-    def __init__(self, program: str, connections: int, *options: str) -> None:
-        words = [program, "serve", "--connections", str(connections), *options, *STATIONS]
+    def __init__(
+        self, program: str, connections: int, *options: str, stations: tuple[str, ...] = STATIONS
+    ) -> None:
+        words = [program, "serve", "--connections", str(connections), *options, *stations]
         self.told = tempfile.TemporaryFile()
         self.process = subprocess.Popen(
             words, bufsize=0, stdin=subprocess.DEVNULL, stdout=subprocess.PIPE, stderr=self.told
@@ -77,8 +80,8 @@ class Server:
         """Whether it writes more within a moment."""
         return bool(select.select([self.out], [], [], EARLY)[0])
 
-    def ends(self, boards: str, lines: str = "") -> None:
-        """Waits for its end: it has to write these boards, and to tell lines that this expression fits."""
+    def ends(self, boards: str, lines: str = "") -> str:
+        """Waits for its end: it has to write these boards, and to tell lines that this expression fits; gives these."""
         try:
             written, _ = self.process.communicate(timeout=LONGEST_WAIT)
         except subprocess.TimeoutExpired:
@@ -89,6 +92,7 @@ class Server:
             raise Differs(f"status {self.process.returncode}, and this is told:\n{told}")
         if written.decode() != boards:
             raise Differs(f"these boards are written:\n{written.decode()}and not:\n{boards}")
+        return told
 
 
 class Client:
@@ -323,6 +327,74 @@ def request_ends_or_fails_after_each_byte(program: str) -> None:
         server.ends(boards(0, 0, 0))
 
 
+class Played(NamedTuple):
+    """What a station sends, and what it is answered."""
+
+    station: str
+    messages: list[bytes]
+    replies: list[bytes]
+
+
+def drawn_messages(station: str, count: int) -> list[bytes]:
+    """Events of two transactions in any order: some come again, some with another reading."""
+    draws = random.Random(station)
+    return [
+        drawn_event(number, draws.randrange(2), draws.randrange(64), draws.randrange(8) == 0) for number in range(count)
+    ]
+
+
+def drawn_event(number: int, transaction: int, seq_no: int, is_other: bool) -> bytes:
+    kind = {0: "Started", 63: "Ended"}.get(seq_no, "Updated")
+    at = f"2026-03-01T{10 + seq_no // 20}:{3 * seq_no % 60:02}:00Z"
+    reading = f'{{"timestamp":"{at}","sampledValue":[{{"value":{37 * seq_no % 500 + is_other}}}]}}'
+    return (
+        f'[2,"{number}","TransactionEvent",{{"eventType":"{kind}","timestamp":"{at}","triggerReason":"MeterValuePeriodic",'
+        f'"seqNo":{seq_no},"transactionInfo":{{"transactionId":"T{transaction}"}},"meterValue":[{reading}]}}]'
+    ).encode()
+
+
+def replayed(program: str, stations: tuple[str, ...], count: int) -> tuple[list[Played], str]:
+    """What each station sends, with what a replay answers one station after the other, and its boards."""
+    names = [station.partition("/")[2] for station in stations]
+    sent = {name: drawn_messages(name, count) for name in names}
+    lines = [b"station " + station.replace("/", " ").encode() for station in stations]
+    lines += [b"msg " + name.encode() + b" " + message for name in names for message in sent[name]]
+    lines += [b"board " + site.encode() for site in dict.fromkeys(station.partition("/")[0] for station in stations)]
+    script = b"\n".join(lines) + b"\n"
+    ended = subprocess.run([program, "replay"], input=script, capture_output=True, check=True, timeout=LONGEST_WAIT)
+    texts = ended.stdout.split(b"\n", count * len(names))
+    played = [Played(name, sent[name], texts[at * count:(at + 1) * count]) for at, name in enumerate(names)]
+    return played, texts[-1].decode()
+
+
+def eight_stations_on_two_sites(program: str) -> None:
+    """All at once: each answer, and the boards at the end, are those of a replay; a viewer's totals never go back."""
+    stations = tuple(f"{site}/{site}{number}" for number in range(4) for site in "ab")
+    played, wanted = replayed(program, stations, 1_000)
+    if len({reply for station in played for reply in station.replies if b"ConflictingEvent" in reply}) < 8:
+        raise Differs("the drawn events have too few conflicts")
+
+    def play(server: Server, told: Played) -> None:
+        station = Station(server, told.station)
+        for message, reply in zip(told.messages, told.replies):
+            station.sends(Frame(TEXT, message).bytes())
+            station.receives(Frame(TEXT, reply, False).bytes())
+        station.leaves()
+
+    totals = r"total events=[0-9]+ voided=0 transactions=[0-9]+ complete=[0-9]+ missing=[0-9]+ up=[0-9]+ down=[0-9]+\n"
+    with (
+        Server(program, len(stations), "--watch", "2", stations=stations) as server,
+        ThreadPoolExecutor(len(stations)) as threads,
+    ):
+        for ended in [threads.submit(play, server, told) for told in played]:
+            ended.result()
+        lines = server.ends(wanted, f"(?:live a\n{totals}live b\n{totals}){{2}}")
+    for site in "ab":
+        seen = [int(events) for events in re.findall(rf"live {site}\ntotal events=([0-9]+)", lines)]
+        if seen != sorted(seen):
+            raise Differs(f"the totals of {site} went back: {seen}")
+
+
 SCENES: tuple[Callable[[str], None], ...] = (
     boards_come_when_all_have_ended,
     event_is_sent_again_after_a_cut,
@@ -332,6 +404,7 @@ SCENES: tuple[Callable[[str], None], ...] = (
     one_live_line_a_site,
     session_ends_or_fails_after_each_byte,
     request_ends_or_fails_after_each_byte,
+    eight_stations_on_two_sites,
 )
 
 
@@ -348,7 +421,7 @@ def main() -> int:
     for scene in SCENES:
         try:
             scene(words.program)
-        except (Differs, OSError, threading.BrokenBarrierError) as how:
+        except (Differs, OSError, subprocess.SubprocessError, threading.BrokenBarrierError) as how:
             print(f"{scene.__name__}: {how}")
             differing += 1
     print(f"serving: {len(SCENES)} scenes played, {differing} differ")

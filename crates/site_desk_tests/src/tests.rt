@@ -1,5 +1,4 @@
 mod gates;
-mod many;
 mod plans;
 mod three;
 

@@ -1,7 +1,7 @@
 // A long script, whose events threads read ahead where its reader shows them.
-use script_replay::{ReplayFault, replay_stream};
+use script_replay::replay_stream;
 use std::alloc::Global;
-use std::io::{BufRead, BufReader};
+use std::io::BufReader;
 use std::test::Fail;
 use std::thread::Threads;
 
@@ -65,35 +65,35 @@ fn put_other(alloc: Global, script: &mut Vec<u8>, at: u32) -> Result<(), Fail> {
     Ok(())
 }
 
-// What a script writes, from this reader.
-fn text_of<X: AllocGlobal + Threads, R: BufRead>(
+// Whether a script that is shown so many bytes at a time is replayed to its end; what it writes comes behind the text.
+fn is_replayed<X: AllocGlobal + Threads>(
     rt: &X,
-    reader: &mut R,
-) -> Result<Vec<u8>, ReplayFault> {
-    let mut written = Vec::new(rt.alloc());
-    replay_stream(rt, reader, &mut written)?;
-    Ok(written)
+    script: &[u8],
+    capacity: usize,
+    text: &mut Vec<u8>,
+) -> Result<bool, Fail> {
+    let mut shown = BufReader::with_capacity(rt.alloc(), capacity, script)?;
+    Ok(replay_stream(rt, &mut shown, text).is_ok())
 }
 
-// Whether a script that is shown so many bytes at a time, so that threads read ahead, writes this text.
+// Whether it writes this text, where it is shown so much at a time that threads read ahead.
 fn writes<X: AllocGlobal + Threads>(
     rt: &X,
     script: &[u8],
     capacity: usize,
     text: &[u8],
 ) -> Result<bool, Fail> {
-    let mut wide = BufReader::with_capacity(rt.alloc(), capacity, script)?;
-    let again = text_of(rt, &mut wide);
-    Ok(again.is_ok_and(|written| written.as_slice() == text))
+    let mut written = Vec::new(rt.alloc());
+    let is_replayed = is_replayed(rt, script, capacity, &mut written)?;
+    Ok(is_replayed && written.as_slice() == text)
 }
 
 #[test]
 fn threads_that_read_ahead_change_nothing(rt: HostRuntime) -> Result<(), Fail> {
     let script = long_script(rt.alloc())?;
+    let mut text = Vec::new(rt.alloc());
     // So little is shown at once that no thread is started.
-    let mut narrow = BufReader::with_capacity(rt.alloc(), 4_096, script.as_slice())?;
-    let text = text_of(&rt, &mut narrow).map_err(|_| "the replay ended early")?;
-    assert!(rt; text.len() > 20_000);
+    assert!(rt; is_replayed(&rt, &script, 4_096, &mut text)? && text.len() > 20_000);
     for _ in 0..10 {
         assert!(rt; writes(&rt, &script, 100_000, &text)?);
         assert!(rt; writes(&rt, &script, 1_048_576, &text)?);
