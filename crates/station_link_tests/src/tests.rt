@@ -52,7 +52,7 @@ impl MomentSource for TenOClock {
 
 // What is played on the desk of the plan, under the naming that its types carry.
 trait Scene {
-    fn play<J: Naming + Send + Sync, R: Abort + Threads + Wait + Clock + Sync>(
+    fn play<J: Naming, R: Abort + Threads + Wait + Clock>(
         rt: &R,
         alloc: Global,
         desk: Desk<J>,
@@ -64,16 +64,13 @@ fn plan() -> Option<Plan> {
     plan_of(&["north"], &[(0, "A"), (0, "B")], 0)
 }
 
-fn play<P: Scene, R: Abort + Threads + Wait + Clock + Sync>(
-    rt: &R,
-    alloc: Global,
-) -> Result<(), Fail> {
+fn play<P: Scene, R: Abort + Threads + Wait + Clock>(rt: &R, alloc: Global) -> Result<(), Fail> {
     let plan = plan().ok_or("no plan")?;
     let tables = Tables::make(alloc, plan.sites.len() as u16)?;
     play_on::<P, Brand, R>(rt, alloc, tables, &plan)
 }
 
-fn play_on<P: Scene, J: Naming + Send + Sync, R: Abort + Threads + Wait + Clock + Sync>(
+fn play_on<P: Scene, J: Naming, R: Abort + Threads + Wait + Clock>(
     rt: &R,
     alloc: Global,
     tables: Tables,

@@ -1,14 +1,17 @@
+ghost use Rattle.std.specs.Prelude.{ℕ, ◌<◌, length};
+ghost use Rattle.site_book.specs.Tables.{HasTable, NamedBy};
+
 use super::memory::Peer;
 use super::{
-    FIRST, OFFER, SECOND, Scene, Served, changes_at_close, head, play, serve, serve_frames,
-    text_frames,
+    FIRST, OFFER, SECOND, Served, changes_at_close, head, plan, serve, serve_frames, text_frames,
 };
+use desk_fixtures::opened;
 use ledger_model::{Answer, Command, Key, Name, TxId};
-use site_book::Naming;
-use site_desk::{Desk, NoGate, Pass};
+use site_book::{Naming, Tables};
+use site_desk::{Desk, NoGate, Pass, Plan};
 use station_link::Why;
 use std::alloc::Global;
-use std::process::Abort;
+use std::marker::Brand;
 use std::sync::Wait;
 use std::test::Fail;
 use std::thread;
@@ -64,21 +67,26 @@ fn beside<J: Naming + Send + Sync, R: Threads + Wait + Clock + Sync>(
     }
 }
 
-struct BesideOperator;
-
-impl Scene for BesideOperator {
-    fn play<J: Naming + Send + Sync, R: Abort + Threads + Wait + Clock + Sync>(
-        rt: &R,
-        alloc: Global,
-        desk: Desk<J>,
-    ) -> Result<(), Fail> {
-        let passes = beside(rt, alloc, &desk).ok_or("not answered")?;
-        assert!(rt; changes_at_close(alloc, desk, passes) == Some((4, 0)));
-        Ok(())
-    }
+// How many changes A and B made then, when the desk is closed.
+fn changes_beside<J: Naming + Send + Sync, R: Threads + Wait + Clock + Sync>(
+    rt: &R,
+    alloc: Global,
+    tables: Tables,
+    plan: &Plan,
+) -> Option<(u64, u64)>
+    requires named { NamedBy J.table tables }
+    requires there { (site : ℕ) → site < length plan.now.sites.items → HasTable tables site }
+{
+    let (desk, _viewers) = opened::<J>(alloc, tables, plan)?;
+    let passes = beside(rt, alloc, &desk)?;
+    changes_at_close(alloc, desk, passes)
 }
 
 #[test]
 fn session_beside_an_operator(rt: HostRuntime) -> Result<(), Fail> {
-    play::<BesideOperator, _>(&rt, rt.alloc())
+    let plan = plan().ok_or("no plan")?;
+    let tables = Tables::make(rt.alloc(), plan.sites.len() as u16)?;
+    let changes = changes_beside::<Brand, _>(&rt, rt.alloc(), tables, &plan);
+    assert!(rt; changes == Some((4, 0)));
+    Ok(())
 }

@@ -28,7 +28,7 @@ fn is_refused<J: Naming, R: Threads + Wait + Clock>(
 struct NoPassLeft;
 
 impl Scene for NoPassLeft {
-    fn play<J: Naming + Send + Sync, R: Abort + Threads + Wait + Clock + Sync>(
+    fn play<J: Naming, R: Abort + Threads + Wait + Clock>(
         rt: &R,
         alloc: Global,
         desk: Desk<J>,

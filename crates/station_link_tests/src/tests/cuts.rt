@@ -29,7 +29,7 @@ fn sent_twice<J: Naming, R: Threads + Wait + Clock>(
 struct LostReply;
 
 impl Scene for LostReply {
-    fn play<J: Naming + Send + Sync, R: Abort + Threads + Wait + Clock + Sync>(
+    fn play<J: Naming, R: Abort + Threads + Wait + Clock>(
         rt: &R,
         alloc: Global,
         desk: Desk<J>,
@@ -88,7 +88,7 @@ fn cut_at_each<J: Naming, R: Abort + Threads + Wait + Clock>(
 struct EachByte;
 
 impl Scene for EachByte {
-    fn play<J: Naming + Send + Sync, R: Abort + Threads + Wait + Clock + Sync>(
+    fn play<J: Naming, R: Abort + Threads + Wait + Clock>(
         rt: &R,
         alloc: Global,
         desk: Desk<J>,

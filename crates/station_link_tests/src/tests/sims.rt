@@ -82,7 +82,7 @@ fn shown<J: Naming, R: Wait>(
 struct EachText;
 
 impl Scene for EachText {
-    fn play<J: Naming + Send + Sync, R: Abort + Threads + Wait + Clock + Sync>(
+    fn play<J: Naming, R: Abort + Threads + Wait + Clock>(
         rt: &R,
         alloc: Global,
         desk: Desk<J>,

@@ -61,7 +61,7 @@ fn each_kind<J: Naming, R: Threads + Wait + Clock>(
 struct EachKind;
 
 impl Scene for EachKind {
-    fn play<J: Naming + Send + Sync, R: Abort + Threads + Wait + Clock + Sync>(
+    fn play<J: Naming, R: Abort + Threads + Wait + Clock>(
         rt: &R,
         alloc: Global,
         desk: Desk<J>,
