@@ -77,15 +77,15 @@ fn watched<
     plan: &Plan,
     viewers: Vec<Viewer<J>>,
 ) -> (Served<J, Vec<u8>>, Option<bool>) {
-    let service = Service {
-        port: 0,
-        connections: 1,
-        glances: 1,
-    };
     let lines = Vec::<u8>::new(alloc);
     thread::join(
         rt,
         move || {
+            let service = Service {
+                port: 0,
+                connections: 1,
+                glances: 1,
+            };
             serve_watched(
                 rt, alloc, listener, service, desk, plan, viewers, lines, TOO_LARGE,
             )
