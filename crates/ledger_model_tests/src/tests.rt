@@ -1,8 +1,8 @@
 //! Examples of what the types take and keep, from OCPP 2.0.1 and this product's profile.
 use energy_flow::Level;
 use ledger_model::{
-    Command, Event, EvseId, Figures, Key, Kind, Limits, Listed, Moment, Name, Period, Quarter,
-    Reading, Refusal, TxId,
+    Event, EvseId, Figures, Kind, Limits, Listed, Moment, Name, Period, Quarter, Reading, Refusal,
+    TxId,
 };
 use std::alloc::{AllocError, Global};
 use std::test::Fail;
@@ -52,27 +52,6 @@ fn texts_have_their_lengths_and_characters(rt: HostRuntime) {
     }
 }
 
-fn key(text: &str, seq: u32) -> Option<Key> {
-    Key::new(TxId::new(text)?, seq)
-}
-
-fn are_in_order() -> Option<bool> {
-    let (low, high) = (key("T1", 9)?, key("t10", 2)?);
-    Some(low < high && low == key("t1", 9)? && high.tx().copied() > low.tx().copied())
-}
-
-fn keeps_its_parts() -> Option<bool> {
-    let (key, high) = (key("T1", 9)?, key("t10", 2)?);
-    Some(key.tx().text() == "t1" && key.seq() == 9 && high.copied() == high)
-}
-
-#[test]
-fn keys_come_by_id_and_then_by_number(rt: HostRuntime) {
-    assert_eq!(rt; are_in_order(), Some(true));
-    assert_eq!(rt; keeps_its_parts(), Some(true));
-    assert!(rt; key("t1", 2_147_483_647).is_some() && key("t1", 2_147_483_648).is_none());
-}
-
 // The greatest reading, and its moment.
 fn greatest() -> Option<Reading> {
     Reading::new(Moment::new(1_772_359_200_000_000_000)?, 10_000_000_000_000)
@@ -114,34 +93,6 @@ fn events_keep_what_was_handed_in(rt: HostRuntime) -> Result<(), Fail> {
     let event = event.ok_or("event")?;
     assert!(rt; is_full(&event, reading) && event.is_same(&event));
     assert_eq!(rt; event.into_readings().len(), 1_024);
-    Ok(())
-}
-
-#[test]
-fn events_are_told_apart(rt: HostRuntime) -> Result<(), Fail> {
-    let reading = greatest().ok_or("reading")?;
-    let one = event(rt.alloc(), EvseId::new(64), reading, 2)?.ok();
-    let other = event(rt.alloc(), None, reading, 2)?.ok();
-    assert!(rt; !one.ok_or("one")?.is_same(&other.ok_or("other")?));
-    Ok(())
-}
-
-#[test]
-fn readings_come_back(rt: HostRuntime) -> Result<(), Fail> {
-    let reading = greatest().ok_or("reading")?;
-    assert!(rt; event(rt.alloc(), None, reading, 1_025)?.is_err());
-    assert!(rt; event(rt.alloc(), EvseId::new(0), reading, 1)?.is_err());
-    Ok(())
-}
-
-#[test]
-fn commands_have_a_key(rt: HostRuntime) -> Result<(), Fail> {
-    let key = key("T1", 3).ok_or("key")?;
-    let event = event(rt.alloc(), None, greatest().ok_or("reading")?, 1)?.ok();
-    assert!(rt; Command::Void(key.copied()).key() == &key);
-    let deliver = Command::Deliver(key.copied(), event.ok_or("event")?);
-    deliver.keeps_ranges();
-    assert!(rt; deliver.key() == &key);
     Ok(())
 }
 

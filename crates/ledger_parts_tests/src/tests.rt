@@ -1,8 +1,4 @@
 mod arena;
 mod gaps;
 mod index;
-mod links;
-mod map;
 mod quarters;
-mod store;
-mod table;
