@@ -365,8 +365,7 @@ class Demo:
         first.psql("postgres", "-c", "set synchronous_commit = local", "-c", "create database ledger")
         second.copy(first)
         second.start(synchronous_standby_names="")
-        roles = {f"{role}_PASSWORD": self.fleet.password for role in ("GATEWAY", "WORKER", "READER")}
-        first.psql("ledger", "-f", HERE / "schema.sql", env=os.environ | roles)
+        first.psql("ledger", "-f", HERE / "schema.sql", env=os.environ | self.fleet.roles())
         await self.open()
 
         async def promoted() -> None:
