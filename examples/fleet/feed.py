@@ -8,6 +8,7 @@
 `--db` is given once for each cell. What came while the last batch went to disk is the next batch; a message is
 acknowledged to its broker once it is committed, and how far a file was taken is committed with its lines. So it may be
 killed at any time: nothing is missing, and what is appended twice is harmless. Nobody is answered: the CSMS does that.
+A file that is followed may be rotated: it is taken to its end, and then the new one of its name from its start.
 
 What is no TransactionEvent of OCPP 2.0.1 is counted and left; of what can't be read the first of each kind is told.
 Events of stations that no plan has are kept as rows of `stray`, and appended once one has them.
@@ -17,8 +18,8 @@ made of its parts as they are written there. A frame's station is the message's 
 routing key ends with behind its last point; by MQTT what the topic ends with behind its last slash.
 
 Standard error tells once a minute, and at the end, what became of the messages. The status is 0, 1 where some of a file
-could not be taken, and 2 where the words, a password or a file is wrong. A database or a broker that goes away is told
-once, and tried again and again.
+that is not followed could not be taken, and 2 where the words, a password or a file is wrong. A database or a broker
+that goes away is told once, and tried again and again.
 """
 
 import argparse
@@ -27,6 +28,7 @@ import hashlib
 import os
 import re
 import signal
+import stat
 import sys
 import time
 from collections.abc import AsyncIterator, Awaitable, Callable
@@ -68,8 +70,9 @@ WAKE = "select set_config('synchronous_commit', 'off', true), pg_notify('wake', 
 BATCH, BATCH_BYTES, AHEAD = 1000, 4_000_000, 2000
 # Seconds: for the database to answer, between tries and looks, and between two reports.
 ANSWER, AGAIN, REPORT = 10, 0.5, 60
-# Bytes at the beginning of a file by which it is known again.
-FRONT = 4096
+# Bytes at the beginning of a file by which it is known again, and looks after which one that has another name by now is
+# taken to be at its end.
+FRONT, GONE = 4096, 4
 ESCAPES = {"b": "\b", "f": "\f", "n": "\n", "r": "\r", "t": "\t", "v": "\v"}
 
 
@@ -369,27 +372,33 @@ class FileSource(Source):
             return None
         return event_of(entry.station, entry.message)
 
-    async def place_in(self, file: Any) -> int:
-        """From where on the file is to be read: the first place that a cell does not have."""
-        places = list[int]()
+    async def opened(self) -> tuple[Any, int]:
+        """The file that was taken so far, with the first place that a cell does not have: the one of this name, or one
+        beside it whose name begins so, where it was rotated meanwhile."""
+        found = list[Any]()
         for cell in self.log.cells:
-            rows = await cell.until_done(lambda: cell.within("fetch", FED, self.log.source))
-            places.append(rows[0]["place"] if rows else 0)
-            if rows and front_of(file, places[-1]) != rows[0]["front"]:
-                raise Fault(
-                    f"{self.path} is another file than the one of which {places[-1]:,} bytes were taken as "
-                    f"{self.log.source}: give it a --name of its own"
-                )
-        return min(places)
+            found += await cell.until_done(lambda: cell.within("fetch", FED, self.log.source)) or [{"place": 0}]
+        path, taken = Path(self.words.path), [row for row in found if row["place"]]
+        others = [one for one in path.parent.glob(f"{path.name}?*") if one.is_file()] if taken else []
+        for one in [path, *others]:
+            file = open(one, "rb")
+            size = os.fstat(file.fileno()).st_size
+            if all(row["place"] <= size and front_of(file, row["place"]) == row["front"] for row in taken):
+                return file, min(row["place"] for row in found)
+            file.close()
+        raise Fault(
+            f"{path} is another file than the one of which {taken[0]['place']:,} bytes were taken as "
+            f"{self.log.source}, and none beside it is that: give it a --name of its own"
+        )
 
-    def line(self, file: Any) -> bytes | None:
-        """The next line; None at the end. The last one is one without a line feed, too, where no more is waited for."""
+    def line(self, file: Any, is_over: bool) -> bytes | None:
+        """The next line; None at the end. The last one is one without a line feed, too, where nothing more comes."""
         while part := file.readline(LONGEST_LOG_LINE + 1):
             self.rest += part
             if part.endswith(b"\n") or len(self.rest) > LONGEST_LOG_LINE:
                 break
         else:
-            if self.words.follow or not self.rest:
+            if not is_over or not self.rest:
                 return None
         line, self.rest = self.rest, b""
         return line
@@ -402,31 +411,55 @@ class FileSource(Source):
         return self.take(where, lambda: self.read(line)) if line.strip() else None
 
     async def batches(self) -> AsyncIterator[Batch | None]:
-        with open(0 if self.words.path == "-" else self.words.path, "rb", closefd=self.words.path != "-") as file:
-            is_kept = self.words.path != "-" and file.seekable()
-            place = await self.place_in(file) if is_kept else 0
+        is_kept = self.words.path != "-" and stat.S_ISREG(os.stat(self.words.path).st_mode)
+        while not self.is_ending.is_set():
             if is_kept:
-                file.seek(0)
-                if place and self.words.form == "citrineos-csv" and self.form:
-                    self.form.read(text_of(file.readline()))  # It names the columns.
-                file.seek(place)
-            while not self.is_ending.is_set():
-                events, size = list[Event](), 0
-                while len(events) < BATCH and size < BATCH_BYTES:
-                    line = self.line(file) if is_kept else await asyncio.to_thread(self.line, file)
-                    if line is None:
-                        break
-                    size += len(line)
-                    if event := self.event(line, place + size):
-                        events.append(event)
-                place += size
-                if size:
-                    yield Batch(events, place if is_kept else None, front_of(file, place) if is_kept else "", nothing)
-                elif not self.words.follow:
-                    return
-                else:
-                    yield None
-                    await asyncio.sleep(AGAIN)
+                file, place = await self.opened()
+            else:
+                file, place = open(0 if self.words.path == "-" else self.words.path, "rb"), 0
+            with file:
+                async for batch in self.batches_of(file, place, is_kept):
+                    yield batch
+            if not self.words.follow:
+                return
+            self.rest = b""
+
+    async def batches_of(self, file: Any, place: int, is_kept: bool) -> AsyncIterator[Batch | None]:
+        """The batches of a file from this place on, as long as it is the one of its name."""
+        gone = 0
+        if place and self.words.form == "citrineos-csv" and self.form:
+            self.form.read(text_of(file.readline()))  # It names the columns.
+        if is_kept:
+            file.seek(place)
+        while not self.is_ending.is_set():
+            events, size, is_over = list[Event](), 0, not self.words.follow or gone == GONE
+            while len(events) < BATCH and size < BATCH_BYTES:
+                line = self.line(file, is_over) if is_kept else await asyncio.to_thread(self.line, file, is_over)
+                if line is None:
+                    break
+                size += len(line)
+                if event := self.event(line, place + size):
+                    events.append(event)
+            place += size
+            if size:
+                yield Batch(events, place if is_kept else None, front_of(file, place) if is_kept else "", nothing)
+            elif is_over:
+                if self.words.follow:
+                    told("feed.py", f"{self.path} is another file from here on, which is taken from its start")
+                    yield Batch([], 0, front_of(file, 0), nothing)
+                return
+            else:
+                gone = gone + 1 if is_kept and self.is_replaced(file, place) else 0
+                yield None
+                await asyncio.sleep(AGAIN)
+
+    def is_replaced(self, file: Any, place: int) -> bool:
+        """Whether there is another file of this name, or this one was cut short."""
+        try:
+            now = os.fstat(file.fileno())
+            return now.st_size < place or not os.path.samestat(os.stat(self.path), now)
+        except FileNotFoundError:
+            return False
 
 
 def front_of(file: Any, place: int) -> str:
@@ -676,6 +709,7 @@ async def run(words: argparse.Namespace) -> int:
         for number in (signal.SIGTERM, signal.SIGINT):
             asyncio.get_running_loop().add_signal_handler(number, source.is_ending.set)
     await log.open()
+    print("ready", flush=True)
     await log.adopt()
     looked = reported = time.monotonic()
     async for batch in source.batches():
@@ -690,7 +724,7 @@ async def run(words: argparse.Namespace) -> int:
             reported = time.monotonic()
     counts.told = ()
     counts.report()
-    return 1 if counts.wrong and words.source == "file" else 0
+    return 1 if counts.wrong and words.source == "file" and not words.follow else 0
 
 
 def arguments() -> argparse.Namespace:

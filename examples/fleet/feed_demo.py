@@ -160,6 +160,7 @@ class Demo:
     def feed(self, *more: object, **environment: str) -> subprocess.Popen[bytes]:
         return self.fleet.start(
             *(HERE / "feed.py", "--db", self.fleet.dsn("ledger_feed"), *more),
+            stdout=subprocess.PIPE,
             env=os.environ | {"SOURCE_PASSWORD": PASSWORD} | environment,
         )
 
@@ -212,8 +213,11 @@ class Demo:
             f"{time.monotonic() - began:.0f} s: each is in the log ({more} once more), and every board equals a replay "
             f"{differ or ''}{f', missing {len(missing)}' if missing else ''}",
         )
+        assert process.stdout
+        await asyncio.to_thread(process.stdout.readline)
         process.send_signal(signal.SIGTERM)
-        self.check(await asyncio.to_thread(process.wait) == 0, f"{name}: feed.py ends by a signal with status 0")
+        status = await asyncio.to_thread(process.wait)
+        self.check(status == 0, f"{name}: feed.py ends by a signal with status {status}")
 
     # Sources ----------------------------------------------------------------------------------------------------------
 
@@ -224,16 +228,22 @@ class Demo:
         words = ("file", path, "--form", "ocpp", "--follow")
 
         async def grow() -> int:
-            with open(path, "w", buffering=1) as file:
-                for number, (station, text) in enumerate(mixed):
-                    line = f"INFO:ocpp:{station}: receive message {text}\n"
-                    half = self.chance.randrange(len(line))
-                    for part in (line[:half], line[half:]):
-                        file.write(part)
-                        file.flush()
-                    if number % 40 == 0:
-                        await asyncio.sleep(0.15)
-                    await asyncio.to_thread(self.without_database, number, len(mixed))
+            file = open(path, "w")
+            for number, (station, text) in enumerate(mixed):
+                line = f"INFO:ocpp:{station}: receive message {text}\n"
+                half = self.chance.randrange(len(line))
+                for part in (line[:half], line[half:]):
+                    file.write(part)
+                    file.flush()
+                if number % 40 == 0:
+                    await asyncio.sleep(0.15)
+                if number == len(mixed) // 2:
+                    # It is rotated: what comes from here on is in another file of its name.
+                    file.close()
+                    path.rename(path.with_suffix(".log.1"))
+                    file = open(path, "w")
+                await asyncio.to_thread(self.without_database, number, len(mixed))
+            file.close()
             return len(mixed)
 
         await self.under_kills("file", lambda: self.feed(*words), grow())

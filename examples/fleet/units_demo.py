@@ -136,7 +136,7 @@ class Demo:
         self.fleet.records[-1].write_text("".join(f"msg CS-00010 {text}\n" for text in texts))
         names = ("gateway", "worker@", "feed", "page")
         parts = {name: self.run_unit(f"ocpp-board-{name}.service") for name in names}
-        for name in ("gateway", "worker@", "page"):
+        for name in names:
             line = await asyncio.to_thread(parts[name].stdout.readline)  # type: ignore[union-attr]
             self.check(line.startswith((b"listening 127.0.0.1:", b"ready")), f"{name}: {line.decode().strip()}")
         url = f"ws://127.0.0.1:{ports[0]}/ocpp"
