@@ -8,9 +8,9 @@ It needs Debian's packages rabbitmq-server, python3-aio-pika, mosquitto and pyth
 and starts nothing of theirs as a service. Events of simulated stations come with repeats, with messages that are no
 events, and with what is no message at all. Meanwhile feed.py is killed with -9 again and again, the broker ends and
 begins, and the database is killed once. Afterwards every event that was handed over must be in the log, and each board
-that of a replay from scratch. Then bad input: no JSON, no queue, wrong passwords, a broker that is not there, another
-file of the same name; each must be told in one line, with its status. The status is 1 where one of these is not as it
-must be, and 77 where packages are missing.
+that of a replay from scratch. The same with stations of two cells, a shard of which moves. Then bad input: no JSON, no
+queue, wrong passwords, a broker that is not there, another file of the same name; each must be told in one line, with
+its status. The status is 1 where one of these is not as it must be, and 77 where packages are missing.
 """
 
 import argparse
@@ -28,8 +28,8 @@ from collections.abc import Awaitable, Callable
 from pathlib import Path
 from typing import Any
 
-from database import LOST, Fault, Unreachable, asyncpg, told
-from fleet import HERE, Fleet, children, free_port
+from database import LOST, Fault, Unreachable, asyncpg, connect, told
+from fleet import HERE, Fleet, children, ended, free_port
 from load import messages
 
 try:
@@ -493,10 +493,67 @@ class Demo:
         process.terminate()
         process.wait()
 
+    async def cells(self) -> None:
+        """Stations of two cells, one shard of which moves, from one file, with kills."""
+        self.fleet.databases[0].fill(2, "second")
+        second = f"{self.fleet.dsn('ledger_feed').removesuffix('ledger')}second"
+        owners = [await self.fleet.owner(), await connect(self.fleet.dsn("owner").replace("/ledger", "/second"))]
+        shards = (self.shards, self.shards + 1, self.shards + 2)
+        self.shards += 3
+        for shard, owner in zip(shards, (owners[0], owners[0], owners[1])):
+            for number in range(2):
+                await owner.execute("select add_station($1, $2, $3)", shard, f"cell-{shard}", f"C{shard}-{number}")
+        texts = list(dict.fromkeys(messages(0, 100)))
+        names = [f"C{shard}-{number}" for shard in shards for number in range(2)]
+        lines = [f"msg {name} {text}" for text in texts for name in names]
+        path = self.fleet.folder / "cells.script"
+        path.touch()
+        words = ("--db", second, "file", path, "--form", "script", "--follow")
+
+        async def grow() -> None:
+            with open(path, "a") as file:
+                for line in lines:
+                    file.write(f"{line}\n")
+                    file.flush()
+                    await asyncio.sleep(0.01)
+
+        growing, process = asyncio.ensure_future(grow()), self.feed(*words)
+        await asyncio.sleep(1.5)
+        process.kill()
+        process = self.feed(*words)
+        await asyncio.sleep(1.5)
+        owner_dsns = [self.fleet.dsn("owner"), self.fleet.dsn("owner").replace("/ledger", "/second")]
+        command = (HERE / "move.py", "--from", owner_dsns[0], "--to", owner_dsns[1], "--shard", shards[1])
+        status, text = await ended(self.fleet.start(*command, stdout=subprocess.PIPE))
+        self.check(status == 0, f"cells: move.py: {text}")
+        await asyncio.sleep(0.5)
+        process.kill()
+        process = self.feed(*words)
+        await growing
+        query = "select shard, count(distinct line) from own_log where shard = any($1) group by 1 order by 1"
+        wanted = [[(shards[0], 2 * len(texts))], [(shard, 2 * len(texts)) for shard in shards[1:]]]
+        found: list[Any] = []
+        for _ in range(100):
+            found = [[tuple(row) for row in await owner.fetch(query, list(shards))] for owner in owners]
+            if found == wanted:
+                break
+            await asyncio.sleep(0.2)
+        strays = await owners[0].fetchval("select count(*) from stray")
+        self.check(
+            found == wanted and not strays,
+            f"cells: {len(lines)} events of stations in two cells, a shard of which moved, and 2 kills: each is in its "
+            f"cell's log {found if found != wanted else ''}",
+        )
+        process.terminate()
+        await asyncio.to_thread(process.wait)
+        for owner in owners:
+            await owner.close()
+
     async def run(self) -> None:
         await self.open()
         for name in self.words.sources:
             await getattr(self, name)()
+        await self.cells()
         await self.bad_input()
         await self.owner.close()
 

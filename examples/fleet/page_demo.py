@@ -25,7 +25,7 @@ import urllib.error
 import urllib.request
 from pathlib import Path
 from typing import Any
-from urllib.parse import urlencode
+from urllib.parse import quote, urlencode
 
 from boards import joined
 from database import LOST, Fault, Unreachable, asyncpg, told
@@ -267,10 +267,8 @@ class Demo:
         options.add_argument(f"--user-data-dir={self.fleet.folder / 'browser'}")
         self.browser = Chrome(service=Service(DRIVER), options=options)
         self.browser.set_page_load_timeout(30)
-        # The login goes with each request from here on, as it does once a person typed it.
-        login = base64.b64encode(f"operator:{PASSWORD}".encode()).decode()
-        self.browser.execute_cdp_cmd("Network.enable", {})
-        self.browser.execute_cdp_cmd("Network.setExtraHTTPHeaders", {"headers": {"Authorization": f"Basic {login}"}})
+        # As a person does who types the login once: from here on the browser sends it by itself.
+        self.browser.get(self.url.replace("//", f"//operator:{quote(PASSWORD)}@"))
 
     def width(self, pixels: int) -> None:
         size = {"width": pixels, "height": 900, "deviceScaleFactor": 1, "mobile": pixels < 600}
@@ -440,6 +438,7 @@ class Demo:
         self.check(page.poll() is None, "the page still runs")
         # One of two cells is down.
         self.start_page("--db", "postgresql://ledger_operator@127.0.0.1:1/ledger")
+        self.browser.get(self.url.replace("//", f"//operator:{quote(PASSWORD)}@"))
         text = self.go("/")
         self.check("A cell does not answer" in text and "north" in text, "one of two cells is down: the other is shown")
         self.shot("cell-down")
