@@ -67,9 +67,9 @@ select t.station, t.shard, s.moving_to is not null as is_moving from own_station
 # A wake tells nothing that the log does not, so it waits for no disk.
 WAKE = "select set_config('synchronous_commit', 'off', true), pg_notify('wake', $1)"
 # A batch has so many lines and bytes at most; a broker hands out so many before it is told of one.
-BATCH, BATCH_BYTES, AHEAD = 1000, 4_000_000, 2000
-# Seconds: for the database to answer, between tries and looks, and between two reports.
-ANSWER, AGAIN, REPORT = 10, 0.5, 60
+BATCH, BATCH_BYTES, AHEAD = 1000, 4_000_000, 1000
+# Seconds: for the database to answer, between tries, between reports, until an empty queue is looked for, to end in.
+ANSWER, AGAIN, REPORT, LOOK, LAST = 10, 0.5, 60, 30, 5
 # Bytes at the beginning of a file by which it is known again, and looks after which one that has another name by now is
 # taken to be at its end.
 FRONT, GONE = 4096, 4
@@ -183,7 +183,9 @@ class Cell:
         self.session: Any = None
         self.homes: dict[str, int] = {}
         self.moving: set[str] = set()
-        self.is_stale, self.last_told = True, ""
+        # Whether the plan changed since it was read, and how often it was read.
+        self.is_stale, self.loads = True, 0
+        self.last_told = ""
 
     async def ready(self) -> None:
         """A session, and the stations as the plan has them now."""
@@ -196,6 +198,7 @@ class Cell:
             rows = await self.within("fetch", STATIONS)
             self.homes = {row["station"]: row["shard"] for row in rows}
             self.moving = {row["station"] for row in rows if row["is_moving"]}
+            self.loads += 1
 
     def planned(self, *_words: Any) -> None:
         self.is_stale = True
@@ -254,6 +257,8 @@ class Log:
 
     def __init__(self, words: argparse.Namespace, counts: Counts) -> None:
         self.cells, self.source, self.counts = [Cell(dsn) for dsn in words.db], words.name, counts
+        # How often plans had been read when strays were looked at.
+        self.looked = 0
 
     async def open(self) -> None:
         await asyncio.gather(*(cell.until_done(nothing) for cell in self.cells))
@@ -299,8 +304,12 @@ class Log:
         return station in cell.homes and station not in cell.moving
 
     async def adopt(self) -> None:
-        """Appends the strays whose stations a plan has by now."""
-        first = self.cells[0]
+        """Appends the strays whose stations a plan has by now; where no plan is new there are none."""
+        await self.open()
+        loads = sum(cell.loads for cell in self.cells)
+        if loads == self.looked:
+            return
+        self.looked, first = loads, self.cells[0]
         waiting = {row["station"] for row in await first.until_done(lambda: first.within("fetch", STATIONS_OF_STRAYS))}
         names = [name for name in waiting if self.is_here(name)]
         while names and (rows := await first.until_done(lambda: first.within("fetch", STRAYS, names))):
@@ -576,6 +585,16 @@ class RabbitSource(BrokerSource):
             await channel.set_qos(prefetch_count=AHEAD)
             queue = await channel.get_queue(self.words.queue, ensure=True)
             await queue.consume(put)
+            self.tell_once(f"{self.where}: takes what comes to {self.words.queue}")
+            looked = time.monotonic()
+            while not lost.done() and not self.is_ending.is_set():
+                if messages := await self.some(lost):
+                    yield self.batch(messages)
+                    continue
+                yield None
+                if time.monotonic() > looked + LOOK and not lost.done():
+                    await channel.get_queue(self.words.queue, ensure=True)  # Were it deleted, nobody would tell.
+                    looked = time.monotonic()
         except aiormq.exceptions.ChannelNotFoundEntity:
             raise Fault(f"{self.where} has no queue {self.words.queue!r}") from None
         except aiormq.exceptions.ChannelAccessRefused as fault:
@@ -583,18 +602,13 @@ class RabbitSource(BrokerSource):
         except (OSError, asyncio.TimeoutError, aiormq.exceptions.AMQPError) as fault:
             self.tell_once(f"{self.where}: {fault or type(fault).__name__}; tried again and again")
             return
-        self.tell_once(f"{self.where}: takes what comes to {self.words.queue}")
-        while not lost.done() and not self.is_ending.is_set():
-            messages = await self.some(lost)
-            if not messages:
-                yield None
-                continue
-            events = [self.take(f"a message of {self.words.queue}", lambda: self.read(one)) for one in messages]
-            yield Batch(
-                [event for event in events if event], None, "", lambda: quietly(messages[-1].ack(multiple=True))
-            )
         if lost.done():
             self.tell_once(f"{self.where}: the connection ended; tried again and again")
+
+    def batch(self, messages: list[Any]) -> Batch:
+        where = f"a message of {self.words.queue}"
+        events = [self.take(where, lambda: self.read(message)) for message in messages]
+        return Batch([event for event in events if event], None, "", lambda: quietly(messages[-1].ack(multiple=True)))
 
 
 async def quietly(job: Awaitable[Any]) -> None:
@@ -705,20 +719,23 @@ async def run(words: argparse.Namespace) -> int:
     counts = Counts()
     log = Log(words, counts)
     source: Source = SOURCES[words.source](words, counts, log)
+
+    def end() -> None:
+        """Ends with what came so far; where a database does not answer, without it: it comes again."""
+        source.is_ending.set()
+        asyncio.get_running_loop().call_later(LAST, os._exit, 0)
+
     if words.source != "file" or words.path != "-":
         for number in (signal.SIGTERM, signal.SIGINT):
-            asyncio.get_running_loop().add_signal_handler(number, source.is_ending.set)
+            asyncio.get_running_loop().add_signal_handler(number, end)
     await log.open()
     print("ready", flush=True)
     await log.adopt()
-    looked = reported = time.monotonic()
+    reported = time.monotonic()
     async for batch in source.batches():
         if batch:
             await log.append(batch)
-        elif any(cell.is_stale for cell in log.cells) or time.monotonic() > looked + REPORT:
-            await log.open()
-            await log.adopt()
-            looked = time.monotonic()
+        await log.adopt()
         if time.monotonic() > reported + REPORT:
             counts.report()
             reported = time.monotonic()

@@ -39,6 +39,7 @@ from http.server import BaseHTTPRequestHandler, ThreadingHTTPServer
 from pathlib import Path
 from typing import Any, NamedTuple
 from urllib.parse import parse_qs, quote, unquote, urlencode, urlsplit
+from weakref import WeakValueDictionary
 from zoneinfo import ZoneInfo
 
 from boards import Figures, Numbers, joined
@@ -178,7 +179,8 @@ class Cell:
         self.dsn, self.name = dsn, f"page_{secrets.token_hex(6)}"
         self.session: Any = None
         self.using = asyncio.Lock()
-        self.waiting: dict[int, asyncio.Future[str]] = {}
+        # By their tokens; whoever no longer waits is gone from here.
+        self.waiting: WeakValueDictionary[int, asyncio.Future[str]] = WeakValueDictionary()
         self.token = 0
 
     async def ask(self, query: str, *values: Any) -> Any:
@@ -237,7 +239,6 @@ class Cell:
                 place = (await self.fetch(OPERATE, *values))[0]["operate"]
             except LOST as fault:
                 self.drop()
-                del self.waiting[token]
                 return (
                     f"not known: the database ended before it answered ({fault or type(fault).__name__}). The board "
                     "tells whether the line is in the log; the same line once more changes nothing that it changed"
@@ -246,8 +247,6 @@ class Cell:
             return await asyncio.wait_for(wait, ANSWERED)
         except asyncio.TimeoutError:
             return f"none yet: the line is in the log as {place}, and no worker answered in {ANSWERED} seconds"
-        finally:
-            del self.waiting[token]
 
 
 class SiteFigures:
