@@ -1,7 +1,7 @@
 """The texts of boards as numbers: each line of a station by what it is of."""
 
 import json
-from collections.abc import Iterable
+from collections.abc import Iterable, Mapping
 from datetime import datetime
 from typing import Any
 
@@ -102,3 +102,52 @@ def new_rows(text: str, base: str) -> str:
             elif kind == "tx" and ("transactions", name) not in fresh:
                 parts["gone_transactions"].append({"station": station, "transaction": name})
     return json.dumps({name: part for name, part in parts.items() if part})
+
+
+# The numbers of a total line, and of an energy, in the order in which a board has them.
+TOTAL = ("events", "voided", "transactions", "complete", "missing", "up", "down")
+FLOW = ("up", "down")
+
+
+def words_of(names: Iterable[str], numbers: Mapping[str, int]) -> str:
+    return " ".join(f"{name}={numbers.get(name, 0)}" for name in names)
+
+
+def summed(parts: Iterable[Mapping[str, int]]) -> Numbers:
+    whole: Numbers = {}
+    for part in parts:
+        for name, number in part.items():
+            whole[name] = whole.get(name, 0) + number
+    return whole
+
+
+def joined(site: str, seconds: int, texts: Iterable[str], totals: Mapping[str, Numbers], flows: Figures) -> str:
+    """One board of a site's stations that several shards have, with what archives have of them besides: numbers of a
+    station's total line by `totals`, and periods by `flows`."""
+    found: dict[str, str] = {}
+    for text in texts:
+        found |= blocks(text)
+    archived: dict[str, list[tuple[str, Numbers]]] = {}
+    for (station, _, start), numbers in flows.items():
+        archived.setdefault(station, []).append((start, numbers))
+    lines, whole, sums = list[str](), list[Numbers](), dict[str, Numbers]()
+    for station in [*found, *sorted((archived.keys() | totals.keys()) - found.keys())]:
+        own = found.get(station, "total").split("\n")
+        kinds = {kind: [line for line in own if line.startswith(f"{kind} ")] for kind in ("evse", "period", "tx")}
+        more = archived.get(station, [])
+        periods: dict[str, Numbers] = {}
+        for start, numbers in [
+            *((line.split(" ")[1], numbers_of(line.split(" ")[2:])) for line in kinds["period"]),
+            *more,
+        ]:
+            periods[start] = summed([periods.get(start, {}), numbers])
+        for start, numbers in periods.items():
+            sums[start] = summed([sums.get(start, {}), numbers])
+        live = numbers_of(own[0].split(" ")[1:])
+        whole.append(summed([live, totals.get(station, {}), *(numbers for _, numbers in more)]))
+        lines += [f"station {station}", f"total {words_of(TOTAL, whole[-1])}", *kinds["evse"]]
+        lines += [f"period {start} {words_of(FLOW, periods[start])}" for start in sorted(periods)]
+        lines += [line.replace(" gap ", "\ngap ") for line in kinds["tx"]]
+    front = [f"board {site} period={seconds}", f"total {words_of(TOTAL, summed(whole))}"]
+    front += [f"period {start} {words_of(FLOW, sums[start])}" for start in sorted(sums)]
+    return "\n".join([*front, *lines, "end\n"])

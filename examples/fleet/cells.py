@@ -198,12 +198,11 @@ class Cells:
                 raise Fault(f"{node.name} has no synchronous standby")
             await asyncio.sleep(0.2)
         await first.close()
-        roles = {f"{role}_PASSWORD": self.fleet.password for role in ("GATEWAY", "WORKER", "READER")}
         subprocess.run(
             ["psql", "-h", "127.0.0.1", "-p", str(node.port), "-U", "owner", "-qX", "-d", "ledger"]
             + ["-v", f"cell={cell + 1}", "-f", str(HERE / "schema.sql")],
             check=True,
-            env=os.environ | roles,
+            env=os.environ | self.fleet.roles(),
         )
         owner = await connect(self.dsn("owner", cell))
         self.owners.append(owner)

@@ -206,7 +206,15 @@ class Demo:
         differ = await self.fleet.compared(self.owner, shard)
         text = await self.owner.fetchval("select text from own_board where shard = $1", shard)
         head = (text or "").split("\n")[0]
-        self.check(not differ and head.endswith(" period=300"), f"plan: a period of 300 seconds: {head} {differ or ''}")
+        # Stations' readings are 300 seconds from one another.
+        query = (
+            "select distinct extract(epoch from starts)::integer % 900 as place from own_board_period where shard = $1"
+        )
+        places = sorted(row["place"] for row in await self.owner.fetch(query, shard))
+        self.check(
+            not differ and head.endswith(" period=300") and places == [0, 300, 600],
+            f"plan: a period of 300 seconds: {head}, whose rows begin {places} seconds in a quarter {differ or ''}",
+        )
 
     async def common(self) -> None:
         """The faults that share a fleet, and what is tried after them."""
@@ -365,8 +373,7 @@ class Demo:
         first.psql("postgres", "-c", "set synchronous_commit = local", "-c", "create database ledger")
         second.copy(first)
         second.start(synchronous_standby_names="")
-        roles = {f"{role}_PASSWORD": self.fleet.password for role in ("GATEWAY", "WORKER", "READER")}
-        first.psql("ledger", "-f", HERE / "schema.sql", env=os.environ | roles)
+        first.psql("ledger", "-f", HERE / "schema.sql", env=os.environ | self.fleet.roles())
         await self.open()
 
         async def promoted() -> None:

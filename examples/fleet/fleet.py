@@ -95,8 +95,7 @@ class Database:
 
     def fill(self, cell: int, name: str = "ledger") -> None:
         self.psql("postgres", "-c", f"create database {name}")
-        roles = {f"{role}_PASSWORD": self.fleet.password for role in ("GATEWAY", "WORKER", "READER")}
-        self.psql(name, "-v", f"cell={cell}", "-f", HERE / "schema.sql", env=os.environ | roles)
+        self.psql(name, "-v", f"cell={cell}", "-f", HERE / "schema.sql", env=os.environ | self.fleet.roles())
 
     def kill(self) -> None:
         """Ends the server and all its processes at once, as a machine that fails."""
@@ -161,6 +160,10 @@ class Fleet:
     def dsn(self, user: str, *ports: int) -> str:
         hosts = ",".join(f"127.0.0.1:{port}" for port in ports or [one.port for one in self.databases])
         return f"postgresql://{user}@{hosts}/ledger"
+
+    def roles(self) -> dict[str, str]:
+        """The passwords that schema.sql takes from the environment."""
+        return {f"{role}_PASSWORD": self.password for role in ("GATEWAY", "FEED", "WORKER", "READER", "OPERATOR")}
 
     def start(self, *command: object, **more: Any) -> subprocess.Popen[bytes]:
         more = dict[str, Any](stdin=subprocess.DEVNULL, stdout=self.log, stderr=self.log) | more

@@ -14,7 +14,6 @@ import asyncio
 import http
 import json
 import logging
-import re
 import secrets
 import sys
 import time
@@ -37,6 +36,7 @@ from database import (
     told,
     use_uvloop,
 )
+from message import HEAD, LONGEST, one_line, parsed
 from websocket import MOST, SUBPROTOCOL, Link, Request, Response
 from websockets.server import ServerConnection
 
@@ -56,9 +56,6 @@ NOTIFICATIONS = {
     "NotifyMonitoringReport": "N",
     "NotifyDisplayMessages": "O",
 }
-# A call up to its action. What begins so, with another action than TransactionEvent, is no event, whatever follows.
-HEAD = re.compile(r'\s*\[\s*2\s*,\s*"[^"\\]*"\s*,\s*"([^"\\]*)"\s*,')
-LONGEST = 262_144
 # Messages of one connection that may wait for answers before no more are read, which OCPP has at one.
 UNANSWERED = 16
 # A batch has so many lines and bytes at most.
@@ -80,26 +77,6 @@ select t.shard from own_station t join own_shard s using (shard) where t.station
 """
 # A wake tells nothing that the log does not, so it waits for no disk.
 WAKE = "select set_config('synchronous_commit', 'off', true), pg_notify('wake', $1)"
-
-
-def parsed(text: str) -> Any:
-    """The JSON text, with its numbers as they are written."""
-
-    def refused(constant: str) -> None:
-        raise ValueError(constant)
-
-    return json.loads(text, parse_int=str, parse_float=str, parse_constant=refused)
-
-
-def one_line(text: str) -> str:
-    """The text without line feeds: blanks where it is JSON, and else a character that keeps it from being JSON."""
-    if "\n" not in text and "\0" not in text:
-        return text
-    try:
-        parsed(text)
-    except (ValueError, RecursionError):
-        return text.replace("\n", "\x01").replace("\0", "\x01")
-    return text.replace("\n", " ")
 
 
 def empty_answer(text: str) -> str | None:

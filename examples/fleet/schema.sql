@@ -3,7 +3,8 @@
 --     psql -v cell=1 -f schema.sql
 --
 -- Needs PostgreSQL 15, a superuser and an empty database. The passwords of the roles come from the environment:
--- GATEWAY_PASSWORD, WORKER_PASSWORD and READER_PASSWORD; a role whose variable is not set gets none.
+-- GATEWAY_PASSWORD, FEED_PASSWORD, WORKER_PASSWORD, READER_PASSWORD and OPERATOR_PASSWORD; a role whose variable is not
+-- set gets none.
 --
 -- shard, site, station, log and board are tables over all cells; what lies in this one is own_shard, own_site, own_station,
 -- own_log and own_board, and `see_cell` adds another one's. Gateways and workers use the own ones alone, so that a cell
@@ -14,8 +15,10 @@
     \set cell 1
 \endif
 \getenv gateway_password GATEWAY_PASSWORD
+\getenv feed_password FEED_PASSWORD
 \getenv worker_password WORKER_PASSWORD
 \getenv reader_password READER_PASSWORD
+\getenv operator_password OPERATOR_PASSWORD
 
 begin;
 set local client_min_messages = warning;
@@ -25,7 +28,7 @@ do $$
 declare
     role_name text;
 begin
-    foreach role_name in array array['ledger_gateway', 'ledger_worker', 'ledger_reader'] loop
+    foreach role_name in array array['ledger_gateway', 'ledger_feed', 'ledger_worker', 'ledger_reader', 'ledger_operator'] loop
         if not exists (select from pg_roles where rolname = role_name) then
             execute format('create role %I login', role_name);
         end if;
@@ -34,11 +37,17 @@ end $$;
 \if :{?gateway_password}
     alter role ledger_gateway password :'gateway_password';
 \endif
+\if :{?feed_password}
+    alter role ledger_feed password :'feed_password';
+\endif
 \if :{?worker_password}
     alter role ledger_worker password :'worker_password';
 \endif
 \if :{?reader_password}
     alter role ledger_reader password :'reader_password';
+\endif
+\if :{?operator_password}
+    alter role ledger_operator password :'operator_password';
 \endif
 
 create table own_cell (
@@ -185,9 +194,10 @@ create table own_log partition of log (
         line ~ '^(msg|void|restore|erase) ' and strpos(line, E'\n') = 0 and octet_length(line) <= 262400)
 ) for values in (:cell);
 
--- An operator's line, which is behind all that came before: operate('void', 'CS-00441', 'TX-2', 3).
-create function operate(command text, station_name text, transaction_id text, sequence_number bigint) returns bigint
-    language plpgsql as $$
+-- An operator's line, which is behind all that came before: operate('void', 'CS-00441', 'TX-2', 3). Whoever listens on a
+-- channel is told its answer there, with the token.
+create function operate(command text, station_name text, transaction_id text, sequence_number bigint,
+        channel text default null, channel_token bigint default null) returns bigint language plpgsql as $$
 declare
     shard_number integer;
     place bigint;
@@ -204,12 +214,32 @@ begin
     if shard_number is null then
         raise 'no station % in this cell', station_name;
     end if;
-    insert into own_log (shard, line)
-        values (shard_number, format('%s %s %s %s', command, station_name, transaction_id, sequence_number))
+    insert into own_log (shard, gateway, token, line)
+        values (shard_number, channel, channel_token,
+            format('%s %s %s %s', command, station_name, transaction_id, sequence_number))
         returning id into place;
     perform pg_notify('wake', shard_number::text);
     return place;
 end $$;
+
+-- What feed.py took ---------------------------------------------------------------------------------------------------
+
+-- Up to which byte of a file its events are in this cell's log.
+create table fed (
+    source text primary key,
+    place bigint not null,
+    front text not null,                   -- by which the file is known again
+    at timestamptz not null default now()
+);
+-- Events of stations that no plan has. feed.py appends them once one has their station, and removes them here.
+create table stray (
+    id bigint generated always as identity primary key,
+    at timestamptz not null default now(),
+    source text not null,
+    station text not null,
+    line text not null
+);
+create index on stray (station);
 
 -- Boards -------------------------------------------------------------------------------------------------------------
 
@@ -498,6 +528,10 @@ grant usage on sequence place_in_log to ledger_gateway;
 alter table own_log enable row level security;
 create policy messages on own_log for insert to ledger_gateway with check (line like 'msg %');
 create policy lines on own_log for select to ledger_worker, ledger_reader using (true);
+-- A feed appends as a gateway does, and keeps how far it came and what has no station yet.
+grant ledger_gateway to ledger_feed;
+grant select, insert, update on fed to ledger_feed;
+grant select, insert, delete on stray to ledger_feed;
 
 grant select on own_log to ledger_worker;
 grant update (taken, xid, id) on own_shard to ledger_worker;
@@ -508,7 +542,13 @@ grant select on shard, site, station, station_twice, log, board, own_log, own_bo
     board_station, board_period, board_transaction, board_gap, energy, lacking,
     own_board_station, own_board_period, own_board_transaction, own_board_gap,
     closing, closed_period, archived_period, archived_transaction, settled_period,
-    own_closing, own_closed_period, own_archived_period, own_archived_transaction to ledger_reader;
+    own_closing, own_closed_period, own_archived_period, own_archived_transaction, fed, stray to ledger_reader;
+
+-- An operator reads what a reader reads, and inserts operators' lines.
+grant ledger_reader to ledger_operator;
+grant insert (shard, gateway, token, line) on own_log to ledger_operator;
+grant usage on sequence place_in_log to ledger_operator;
+create policy commands on own_log for insert to ledger_operator with check (line !~ '^msg ');
 
 -- Other cells --------------------------------------------------------------------------------------------------------
 

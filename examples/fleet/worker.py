@@ -97,6 +97,9 @@ SLOW = 0.02
 # Beats after which a worker looks at all shards again, whether something changed or not; for which it does so at each
 # beat where something changed, since others have to give back first; and after which it looks for those that hang.
 SWEEP, SETTLING, FENCING = 20, 5, 5
+# A board that was written is followed by a pause of so many times what that took: answers come first, and where the
+# machine is busy boards are written less often.
+PAUSE = 4
 # Shards taken at once, and seconds in which the program has to open a plan.
 TAKEN, OPENING_TIME = 16, 60
 
@@ -397,7 +400,9 @@ class Session:
                     continue
                 for site, text in zip(shard.sites, texts):
                     if self.shards.get(shard.number) is shard:
+                        began = clock()
                         await self.write(shard, site, place, text.decode())
+                        await asyncio.sleep(PAUSE * (clock() - began))
                 shard.due = clock() + self.words.boards
 
     async def write(self, shard: Shard, site: str, place: tuple[str, int], text: str) -> None:
