@@ -1,4 +1,6 @@
 mod arena;
+mod chains;
 mod gaps;
 mod index;
+mod model;
 mod quarters;

@@ -3,5 +3,6 @@ pub mod Grammar
 pub mod Laws
 pub mod Moment
 pub mod MomentText
+pub mod Integer
 pub mod Numeral
 pub mod Quarter

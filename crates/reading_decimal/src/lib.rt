@@ -5,7 +5,7 @@
 //! milliwatt-hours, without a float and without rounding to nearest. An instant comes as a time with
 //! its offset (RFC 3339); [`moment_of`] reads it and [`moment_text`] writes it. [`quarter`] tells the
 //! settlement period that a moment falls into, by periods of one of four lengths, and
-//! [`quarter_start`] where it begins.
+//! [`quarter_start`] where it begins. [`is_integer`] tells the numbers that are integers.
 //!
 //! The crate's one contract: each call gives the very value, or the very fault, that a short
 //! definition gives for its text. The laws say what the definitions mean: a decimal is what the
@@ -23,6 +23,7 @@
 #![tactic(auto)]
 
 mod decimal;
+mod integer;
 mod laws;
 mod moment;
 mod numeral;
@@ -31,6 +32,7 @@ mod scale;
 mod text;
 
 pub use decimal::{DecimalFault, Unit, multiplier_ok, mwh_of};
+pub use integer::is_integer;
 pub use laws::{reads_back, reads_numbers, rounds_down, starts_quarters};
 pub use moment::{MomentFault, moment_of};
 pub use period::{is_of, quarter, quarter_start};

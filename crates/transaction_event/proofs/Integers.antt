@@ -10,7 +10,8 @@ use Rattle.std.proofs.lemmas.Int.{ints}
 use Rattle.std.proofs.lemmas.Str.Parse.{IsNumeralModel, numerals_by_value, without_leading_plus_none, not_in_digits}
 use Rattle.transaction_event.specs.declared.fault.PayloadFault.TheVariants.{Range}
 use Rattle.transaction_event.specs.Steps.{Checked}
-use Rattle.transaction_event.specs.Integer.{is_integer, integer_within, within}
+use Rattle.reading_decimal.specs.Integer.{is_integer}
+use Rattle.transaction_event.specs.Integer.{integer_within, within}
 
 -- the test finds just the texts of digits
 digits : IsNumeralModel (λ ds. list_all is_ascii_digit ds ≡ true) (digits_value 10)

@@ -1,23 +1,14 @@
--- Integers: numbers of RFC 8259 without a point and without an exponent.
-use Rattle.std.specs.Prelude.{ℕ, Bool, ◌&&◌, ◌==◌, List, length, drop, slice_index, nat_lt, if◌then◌else◌, ℤ, Option, Some, None, option_and_then, Ok, Err}
+-- Integers of a payload.
+use Rattle.std.specs.Prelude.{ℕ, ◌&&◌, List, if◌then◌else◌, ℤ, Option, Some, None, option_and_then, Ok, Err}
 use Rattle.std.specs.Int.Signed.{le_z}
 use Rattle.std.specs.Option.{ok_or}
-use Rattle.std.specs.Char.{is_ascii_digit}
-use Rattle.std.specs.List.{list_all}
 use Rattle.std.specs.Str.Parse.{signed_digits_value}
 use Rattle.serde_json.specs.Data.{Data}
 use Rattle.marked_json.specs.Reading.{number_of}
+use Rattle.reading_decimal.specs.Integer.{is_integer}
 use Rattle.transaction_event.specs.declared.fault.PayloadFault.TheVariants.{Range, WrongType}
 use Rattle.transaction_event.specs.Steps.{Checked, checked_map, ◌>>=◌}
 use Rattle.transaction_event.specs.Member.{required, optional}
-
--- The token without a leading `-`.
-abbrev pub without_minus : List ℕ → List ℕ
-without_minus token = drop (if slice_index token 0 == 45 then 1 else 0) token
-
--- Digits alone, but for a leading `-`.
-abbrev pub is_integer : List ℕ → Bool
-is_integer token = nat_lt 0 (length (without_minus token)) && list_all is_ascii_digit (without_minus token)
 
 -- The integer that a token writes, however large; minus zero is 0.
 abbrev pub integer_of_token : List ℕ → Option ℤ

@@ -1,36 +1,12 @@
 //! Integers of a payload, by range.
 ghost use Rattle.std.specs.Prelude.{◌≡◌, ◌≤◌, ◌≤ℤ◌, length, IfOk, ◌≢◌, IfErr};
 ghost use Rattle.marked_json.specs.Reading.{node};
-ghost use Rattle.std.specs.Char.{is_ascii_digit};
-ghost use Rattle.std.specs.List.{list_all};
 ghost use Rattle.transaction_event.specs.Integer as spec;
 ghost use Rattle.transaction_event.specs.declared.fault.PayloadFault.TheVariants.{OutOfMemory};
 
 use crate::PayloadFault;
 use marked_json::Node;
-
-fn without_minus(token: &str) -> &[u8]
-    ensures { result.now ≡ spec.without_minus token.now }
-{
-    let bytes = token.as_bytes();
-    match bytes.first() {
-        Some(b'-') => &bytes[1..],
-        _ => bytes,
-    }
-}
-
-fn are_digits(bytes: &[u8]) -> bool
-    ensures { result ≡ list_all is_ascii_digit bytes.now }
-{
-    bytes.iter().all(|byte| byte.is_ascii_digit())
-}
-
-fn is_integer(token: &str) -> bool
-    ensures { result ≡ spec.is_integer token.now }
-{
-    let digits = without_minus(token);
-    !digits.is_empty() && are_digits(digits)
-}
+use reading_decimal::is_integer;
 
 fn in_range(number: i64, low: i64, high: i64) -> Result<i64, PayloadFault>
     ensures value { result ≡ spec.within low high number }

@@ -1,4 +1,4 @@
-// The tables of tokens and texts with what each stands for.
+//! The tables of tokens and texts with what each stands for.
 use ledger_model::{Period, Quarter};
 use reading_decimal::{
     DecimalFault, MomentFault, Unit, is_of, moment_of, moment_text, multiplier_ok, mwh_of, quarter,

@@ -1,0 +1,4 @@
+mod decimal;
+mod event;
+mod frame;
+mod json;

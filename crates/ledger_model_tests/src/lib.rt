@@ -1,5 +1,0 @@
-//! The tests of `ledger_model`.
-#![tactic(auto)]
-
-#[cfg(test)]
-mod tests;

@@ -1,5 +1,0 @@
-//! The tests of `marked_json`.
-#![tactic(auto)]
-
-#[cfg(test)]
-mod tests;

@@ -1,5 +1,0 @@
-//! The tests of `ocppj_frame`.
-#![tactic(auto)]
-
-#[cfg(test)]
-mod tests;

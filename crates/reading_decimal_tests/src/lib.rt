@@ -1,5 +1,0 @@
-//! The tests of `reading_decimal`.
-#![tactic(auto)]
-
-#[cfg(test)]
-mod tests;

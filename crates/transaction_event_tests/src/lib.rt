@@ -1,5 +1,0 @@
-//! The tests of `transaction_event`.
-#![tactic(auto)]
-
-#[cfg(test)]
-mod tests;
