@@ -1,5 +1,6 @@
 mod gates;
 mod plans;
+mod scenes;
 mod three;
 
 use ledger_model::{

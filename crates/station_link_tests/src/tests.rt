@@ -50,13 +50,14 @@ impl MomentSource for TenOClock {
     }
 }
 
-// What is played on the desk of the plan, under the naming that its types carry.
+// What is played on the desk of the plan, under the naming that its types carry: the passes that it leaves, where
+// the desk is to close with them.
 trait Scene {
     fn play<J: Naming, R: Abort + Threads + Wait + Clock>(
         rt: &R,
         alloc: Global,
-        desk: Desk<J>,
-    ) -> Result<(), Fail>;
+        desk: &Desk<J>,
+    ) -> Result<[Option<Pass>; 3], Fail>;
 }
 
 // Stations A and B of one site.
@@ -64,7 +65,11 @@ fn plan() -> Option<Plan> {
     plan_of(&["north"], &[(0, "A"), (0, "B")], 0)
 }
 
-fn play<P: Scene, R: Abort + Threads + Wait + Clock>(rt: &R, alloc: Global) -> Result<(), Fail> {
+// How many changes A and B made, where the desk closes with the passes of the scene.
+fn play<P: Scene, R: Abort + Threads + Wait + Clock>(
+    rt: &R,
+    alloc: Global,
+) -> Result<Option<(u64, u64)>, Fail> {
     let plan = plan().ok_or("no plan")?;
     let tables = Tables::make(alloc, plan.sites.len() as u16)?;
     play_on::<P, Brand, R>(rt, alloc, tables, &plan)
@@ -75,12 +80,13 @@ fn play_on<P: Scene, J: Naming, R: Abort + Threads + Wait + Clock>(
     alloc: Global,
     tables: Tables,
     plan: &Plan,
-) -> Result<(), Fail>
+) -> Result<Option<(u64, u64)>, Fail>
     requires named { NamedBy J.table tables }
     requires there { (site : ℕ) → site < length plan.now.sites.items → HasTable tables site }
 {
     let (desk, _viewers) = opened::<J>(alloc, tables, plan).ok_or("no desk")?;
-    P::play(rt, alloc, desk)
+    let passes = P::play(rt, alloc, &desk)?;
+    Ok(changes_at_close(alloc, desk, passes))
 }
 
 // A session that was served: how it ended, and what the server wrote.

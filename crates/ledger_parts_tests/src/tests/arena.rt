@@ -3,18 +3,20 @@ use std::alloc::Global;
 use std::rc::Rc;
 use std::test::Fail;
 
+// Whether two slots take two values and no third, and a slot that is given back takes another.
+fn goes_round(arena: &mut SlotArena<u32>) -> Option<bool> {
+    let seven = arena.take(7).ok()?;
+    arena.take(8).ok()?;
+    let is_full = arena.take(9).err()? == 9 && arena.free() == 0;
+    let is_given = arena.give(seven) == 7 && !arena.is_held(seven);
+    Some(is_full && is_given && arena.take(9).is_ok())
+}
+
 #[test]
 fn small_arena(rt: HostRuntime) -> Result<(), Fail> {
     let mut arena = SlotArena::with_capacity(rt.alloc(), 2)?;
-    assert_eq!(rt; (arena.capacity(), arena.free()), (2, 2));
-    let seven = arena.take(7).ok().ok_or("full too soon")?;
-    assert!(rt; arena.take(8).is_ok());
-    assert_eq!(rt; arena.take(9).err(), Some(9));
-    assert!(rt; arena.is_held(seven));
-    assert_eq!(rt; arena.give(seven), 7);
-    assert!(rt; !arena.is_held(seven));
-    assert!(rt; arena.take(9).is_ok());
-    assert_eq!(rt; arena.free(), 0);
+    assert!(rt; goes_round(&mut arena) == Some(true));
+    assert!(rt; (arena.capacity(), arena.free()) == (2, 0));
     Ok(())
 }
 
@@ -93,22 +95,33 @@ fn every_slot_is_filled_emptied_and_filled_again(rt: HostRuntime) -> Result<(), 
     Ok(())
 }
 
+// An arena of four slots that hold the value.
+fn four_of(alloc: Global, counted: &Rc<u32>) -> Result<SlotArena<Rc<u32>>, Fail> {
+    let mut arena = SlotArena::with_capacity(alloc, 4)?;
+    for _ in 0..4 {
+        arena.take(counted.clone()?).ok().ok_or("full too soon")?;
+    }
+    Ok(arena)
+}
+
+// Gives the slot of the first value back.
+fn give_first(arena: &mut SlotArena<Rc<u32>>) {
+    let first = SlotId::new(0);
+    if arena.is_held(first) {
+        drop(arena.give(first));
+    }
+}
+
 #[test]
 fn values_are_dropped_once(rt: HostRuntime) -> Result<(), Fail> {
     let counted = Rc::new(rt.alloc(), 0)?;
-    let mut arena = SlotArena::with_capacity(rt.alloc(), 4)?;
-    let given = arena.take(counted.clone()?).ok().ok_or("full too soon")?;
-    for _ in 0..3 {
-        assert!(rt; arena.take(counted.clone()?).is_ok());
-    }
-    assert_eq!(rt; Rc::strong_count(&counted), 5);
+    let mut arena = four_of(rt.alloc(), &counted)?;
     drop(arena.take(counted.clone()?));
-    assert_eq!(rt; Rc::strong_count(&counted), 5);
-    assert!(rt; arena.is_held(given));
-    drop(arena.give(given));
-    assert_eq!(rt; Rc::strong_count(&counted), 4);
+    assert!(rt; Rc::strong_count(&counted) == 5);
+    give_first(&mut arena);
+    assert!(rt; Rc::strong_count(&counted) == 4);
     drop(arena);
-    assert_eq!(rt; Rc::strong_count(&counted), 1);
+    assert!(rt; Rc::strong_count(&counted) == 1);
     Ok(())
 }
 

@@ -37,6 +37,22 @@ fn chains(alloc: Global, transactions: u64, events: u64, readings: u64) -> Resul
     Ok(Chains::open(alloc, &limits)?)
 }
 
+// Chains, and the event that is put in.
+#[derive(Drop)]
+struct Scene {
+    chains: Chains,
+    sent: Event,
+}
+
+// Chains for so many transactions, and as many readings as events.
+fn opened(alloc: Global, transactions: u64, events: u64) -> Result<Scene, Fail> {
+    let chains = chains(alloc, transactions, events, events)?;
+    Ok(Scene {
+        chains,
+        sent: event(alloc)?,
+    })
+}
+
 // The key of a transaction and a number below 2^31.
 fn key(tx: &str, seq: u32) -> Option<Key> {
     Key::new(TxId::new(tx)?, seq)
@@ -171,7 +187,8 @@ fn walks_over(walk: &TxWalk, numbers: &[u32]) -> bool {
     place.is_none()
 }
 
-fn puts_the_later_number_first(chains: &mut Chains, sent: &Event) -> bool {
+fn puts_the_later_number_first(scene: &mut Scene) -> bool {
+    let (chains, sent) = (&mut scene.chains, &scene.sent);
     fill(chains, "a", &[2, 0], sent)
         && is_run(chains, "a", 0, 2, 2)
         && stores(chains, 2, 2)
@@ -180,13 +197,13 @@ fn puts_the_later_number_first(chains: &mut Chains, sent: &Event) -> bool {
 
 #[test]
 fn small_arena_in_chains(rt: HostRuntime) -> Result<(), Fail> {
-    let sent = event(rt.alloc())?;
-    let mut chains = chains(rt.alloc(), 1, 2, 2)?;
-    assert!(rt; puts_the_later_number_first(&mut chains, &sent));
+    let mut scene = opened(rt.alloc(), 1, 2)?;
+    assert!(rt; puts_the_later_number_first(&mut scene));
     Ok(())
 }
 
-fn refuses_in_order(chains: &mut Chains, sent: &Event) -> bool {
+fn refuses_in_order(scene: &mut Scene) -> bool {
+    let (chains, sent) = (&mut scene.chains, &scene.sent);
     put(chains, "a", 2, sent)
         && room(chains, "a", 1) == Some(Room::Fits)
         && room(chains, "a", 2) == Some(Room::NoReading)
@@ -197,13 +214,13 @@ fn refuses_in_order(chains: &mut Chains, sent: &Event) -> bool {
 
 #[test]
 fn the_first_limit_that_is_passed_refuses(rt: HostRuntime) -> Result<(), Fail> {
-    let sent = event(rt.alloc())?;
-    let mut chains = chains(rt.alloc(), 1, 2, 2)?;
-    assert!(rt; refuses_in_order(&mut chains, &sent));
+    let mut scene = opened(rt.alloc(), 1, 2)?;
+    assert!(rt; refuses_in_order(&mut scene));
     Ok(())
 }
 
-fn voids_and_restores(chains: &mut Chains, sent: &Event) -> bool {
+fn voids_and_restores(scene: &mut Scene) -> bool {
+    let (chains, sent) = (&mut scene.chains, &scene.sent);
     fill(chains, "t", &[3, 0, 7, 1, 6, 2, 5, 4], sent)
         && void(chains, "t", 4)
         && found(chains, "t", 4) == Some(Found::Voided)
@@ -217,13 +234,13 @@ fn voids_and_restores(chains: &mut Chains, sent: &Event) -> bool {
 
 #[test]
 fn events_out_of_order(rt: HostRuntime) -> Result<(), Fail> {
-    let sent = event(rt.alloc())?;
-    let mut chains = chains(rt.alloc(), 4, 16, 16)?;
-    assert!(rt; voids_and_restores(&mut chains, &sent));
+    let mut scene = opened(rt.alloc(), 4, 16)?;
+    assert!(rt; voids_and_restores(&mut scene));
     Ok(())
 }
 
-fn gives_the_place_back(chains: &mut Chains, sent: &Event) -> bool {
+fn gives_the_place_back(scene: &mut Scene) -> bool {
+    let (chains, sent) = (&mut scene.chains, &scene.sent);
     put(chains, "a", 7, sent)
         && void(chains, "a", 7)
         && !put(chains, "b", 0, sent)
@@ -235,9 +252,8 @@ fn gives_the_place_back(chains: &mut Chains, sent: &Event) -> bool {
 
 #[test]
 fn an_emptied_transaction_gives_its_place_back(rt: HostRuntime) -> Result<(), Fail> {
-    let sent = event(rt.alloc())?;
-    let mut chains = chains(rt.alloc(), 1, 1, 1)?;
-    assert!(rt; gives_the_place_back(&mut chains, &sent));
+    let mut scene = opened(rt.alloc(), 1, 1)?;
+    assert!(rt; gives_the_place_back(&mut scene));
     Ok(())
 }
 
@@ -258,7 +274,8 @@ fn reading(chains: &Chains, tx: &str, seq: u32) -> Option<Reading> {
     chains.readings(&key(tx, seq)?).next()
 }
 
-fn answers_for_each(chains: &mut Chains, sent: &Event) -> bool {
+fn answers_for_each(scene: &mut Scene) -> bool {
+    let (chains, sent) = (&mut scene.chains, &scene.sent);
     put(chains, "b", 1, sent)
         && put(chains, "a", 0, sent)
         && lists_a_then_b(chains)
@@ -270,9 +287,8 @@ fn answers_for_each(chains: &mut Chains, sent: &Event) -> bool {
 
 #[test]
 fn each_transaction_is_answered_for(rt: HostRuntime) -> Result<(), Fail> {
-    let sent = event(rt.alloc())?;
-    let mut chains = chains(rt.alloc(), 2, 4, 4)?;
-    assert!(rt; answers_for_each(&mut chains, &sent));
+    let mut scene = opened(rt.alloc(), 2, 4)?;
+    assert!(rt; answers_for_each(&mut scene));
     Ok(())
 }
 

@@ -1,14 +1,10 @@
-ghost use Rattle.std.specs.Prelude.{ℕ, ◌<◌, length};
-ghost use Rattle.site_book.specs.Tables.{HasTable, NamedBy};
-
+use super::scenes::{Scene, plays};
 use super::{FIRST, both_of, delivery_of, pass_of, tells};
-use desk_fixtures::{HoldsA, opened, plan_of};
+use desk_fixtures::HoldsA;
 use ledger_model::{Answer, Kind};
-use site_book::{Naming, Tables};
-use site_desk::{Desk, NoGate, Pass, Plan};
+use site_book::Naming;
+use site_desk::{Desk, NoGate, Pass};
 use std::alloc::Global;
-use std::marker::Brand;
-use std::process::Abort;
 use std::sync::Wait;
 use std::test::Fail;
 use std::thread;
@@ -62,28 +58,19 @@ fn send_both<J: Naming + Send + Sync, R: Threads + Wait + Clock + Sync>(
 }
 
 // B is answered while the gate keeps A under its lock.
-fn held_station<J: Naming + Send + Sync, R: Abort + Threads + Wait + Clock + Sync>(
+pub fn held_station<J: Naming + Send + Sync, R: Threads + Wait + Clock + Sync>(
     rt: &R,
     alloc: Global,
-    tables: Tables,
-    plan: &Plan,
-) -> Result<(), Fail>
-    requires named { NamedBy J.table tables }
-    requires there { (site : ℕ) → site < length plan.now.sites.items → HasTable tables site }
-{
-    let (desk, viewers) = opened::<J>(alloc, tables, plan).ok_or("no desk")?;
+    desk: &Desk<J>,
+) -> Option<Vec<Pass>> {
     let gate = HoldsA::new();
-    let passes = send_both(rt, alloc, &desk, &gate).ok_or("refused")?;
-    assert!(rt; gate.is_kept(rt), "B was answered while A was held");
-    assert!(rt; desk.close(passes, viewers).is_ok());
-    Ok(())
+    let passes = send_both(rt, alloc, desk, &gate)?;
+    if gate.is_kept(rt) { Some(passes) } else { None }
 }
 
 #[test]
 fn gate_holds_one_station(rt: HostRuntime) -> Result<(), Fail> {
-    let plan = plan_of(&["north"], &[(0, "A"), (0, "B")], 1).ok_or("no plan")?;
-    let tables = Tables::make(rt.alloc(), plan.sites.len() as u16)?;
-    held_station::<Brand, _>(&rt, rt.alloc(), tables, &plan)
+    plays(&rt, rt.alloc(), Scene::HeldStation)
 }
 
 // Delivers so many events, with each second number from this one on; tells whether all were accepted.
@@ -104,8 +91,9 @@ fn deliver_each_second<J: Naming, R: Wait + Clock>(
     Some(pass)
 }
 
-// Two passes of one station at once.
-fn deliver_both<J: Naming + Send + Sync, R: Threads + Wait + Clock + Sync>(
+// Two passes of one station at once. A post that is made after the station's lock was given up would tear
+// the row.
+pub fn two_passes<J: Naming + Send + Sync, R: Threads + Wait + Clock + Sync>(
     rt: &R,
     alloc: Global,
     desk: &Desk<J>,
@@ -120,25 +108,7 @@ fn deliver_both<J: Naming + Send + Sync, R: Threads + Wait + Clock + Sync>(
     both_of(alloc, one, other)
 }
 
-// A post that is made after the station's lock was given up would tear the row.
-fn two_passes<J: Naming + Send + Sync, R: Abort + Threads + Wait + Clock + Sync>(
-    rt: &R,
-    alloc: Global,
-    tables: Tables,
-    plan: &Plan,
-) -> Result<(), Fail>
-    requires named { NamedBy J.table tables }
-    requires there { (site : ℕ) → site < length plan.now.sites.items → HasTable tables site }
-{
-    let (desk, viewers) = opened::<J>(alloc, tables, plan).ok_or("no desk")?;
-    let passes = deliver_both(rt, alloc, &desk).ok_or("refused")?;
-    assert!(rt; desk.close(passes, viewers).is_ok(), "the row is not torn");
-    Ok(())
-}
-
 #[test]
 fn posts_after_unlock(rt: HostRuntime) -> Result<(), Fail> {
-    let plan = plan_of(&["north"], &[(0, "A")], 1).ok_or("no plan")?;
-    let tables = Tables::make(rt.alloc(), plan.sites.len() as u16)?;
-    two_passes::<Brand, _>(&rt, rt.alloc(), tables, &plan)
+    plays(&rt, rt.alloc(), Scene::TwoPasses)
 }

@@ -1,18 +1,11 @@
-ghost use Rattle.std.specs.Prelude.{ℕ, ◌<◌, length};
-ghost use Rattle.site_book.specs.Tables.{HasTable, NamedBy};
-
+use super::scenes::{Scene, plays};
 use super::{
     FIRST, deliver, figures, has, has_figures, has_totals, is_tied, key_of, pass_of, tells,
 };
-use desk_fixtures::{opened, plan_of};
 use ledger_model::{Answer, Command, Kind, Name};
-use site_book::{Naming, Tables, Viewer};
-use site_desk::{
-    BoardFault, CloseFault, Closed, Desk, EnlistFault, MAX_PASSES, NoGate, Pass, Plan,
-};
+use site_book::{Naming, Viewer};
+use site_desk::{BoardFault, CloseFault, Closed, Desk, EnlistFault, MAX_PASSES, NoGate, Pass};
 use std::alloc::Global;
-use std::marker::Brand;
-use std::process::Abort;
 use std::sync::Wait;
 use std::test::Fail;
 use std::thread::Threads;
@@ -42,11 +35,11 @@ fn not_closed<J: Naming>(back: Back<J>, fault: CloseFault) -> Option<Back<J>> {
     })
 }
 
-// Closing without the pass, and then without the viewer, hands all back; then it succeeds.
-fn closes_with_all<J: Naming>(
+// Closing without the passes, and then without the viewers, hands all back; then it succeeds.
+pub fn closes_with_all<J: Naming>(
     alloc: Global,
     desk: Desk<J>,
-    pass: Pass,
+    passes: Vec<Pass>,
     viewers: Vec<Viewer<J>>,
 ) -> Option<Closed<J>> {
     let whole = Back {
@@ -54,11 +47,10 @@ fn closes_with_all<J: Naming>(
         passes: Vec::new(alloc),
         viewers,
     };
-    let mut back = not_closed(whole, CloseFault::PassMissing)?;
-    back.passes.push(pass).ok()?;
+    let back = not_closed(whole, CloseFault::PassMissing)?;
     let unseen = Back {
         desk: back.desk,
-        passes: back.passes,
+        passes,
         viewers: Vec::new(alloc),
     };
     let unseen = not_closed(unseen, CloseFault::ViewerMissing)?;
@@ -100,30 +92,22 @@ fn knows_no_z<J: Naming, R: Wait + Threads>(rt: &R, alloc: Global, desk: &Desk<J
 }
 
 // Posts, boards and passes of a station.
-fn posts_and_passes<J: Naming, R: Abort + Threads + Wait + Clock>(
+pub fn posts<J: Naming, R: Threads + Wait + Clock>(
     rt: &R,
     alloc: Global,
-    tables: Tables,
-    plan: &Plan,
-) -> Result<(), Fail>
-    requires named { NamedBy J.table tables }
-    requires there { (site : ℕ) → site < length plan.now.sites.items → HasTable tables site }
-{
-    let (desk, viewers) = opened::<J>(alloc, tables, plan).ok_or("no desk")?;
-    let pass = three_events(rt, alloc, &desk).ok_or("an event was refused")?;
-    assert!(rt; shows_board(rt, alloc, &desk) == Some(true));
-    assert!(rt; knows_no_z(rt, alloc, &desk) == Some(true));
-    assert!(rt; viewers.len() == 1);
-    let closed = closes_with_all(alloc, desk, pass, viewers);
-    assert!(rt; has(&closed.ok_or("not closed")?, 1, 1));
-    Ok(())
+    desk: &Desk<J>,
+) -> Option<Vec<Pass>> {
+    let pass = three_events(rt, alloc, desk)?;
+    if shows_board(rt, alloc, desk)? && knows_no_z(rt, alloc, desk)? {
+        one_of(alloc, pass)
+    } else {
+        None
+    }
 }
 
 #[test]
 fn posts_and_plans(rt: HostRuntime) -> Result<(), Fail> {
-    let plan = plan_of(&["north"], &[(0, "A")], 1).ok_or("no plan")?;
-    let tables = Tables::make(rt.alloc(), plan.sites.len() as u16)?;
-    posts_and_passes::<Brand, _>(&rt, rt.alloc(), tables, &plan)
+    plays(&rt, rt.alloc(), Scene::Posts)
 }
 
 // A pass that delivers the first event and voids it, both of which are told.
@@ -144,58 +128,58 @@ fn two_changes<J: Naming, R: Wait + Threads + Clock>(
     Some(pass)
 }
 
-// Changes, and the close of a desk that made them.
-fn changes_and_close<J: Naming, R: Abort + Threads + Wait + Clock>(
+// A pass as a list.
+fn one_of(alloc: Global, pass: Pass) -> Option<Vec<Pass>> {
+    let mut passes = Vec::new(alloc);
+    passes.push(pass).ok()?;
+    Some(passes)
+}
+
+// Changes of a desk that does what it is asked.
+pub fn changes<J: Naming, R: Wait + Threads + Clock>(
     rt: &R,
     alloc: Global,
-    tables: Tables,
-    plan: &Plan,
-) -> Result<(), Fail>
-    requires named { NamedBy J.table tables }
-    requires there { (site : ℕ) → site < length plan.now.sites.items → HasTable tables site }
-{
-    let (desk, viewers) = opened::<J>(alloc, tables, plan).ok_or("no desk")?;
-    let mut passes = Vec::new(alloc);
-    passes.push(two_changes(rt, alloc, &desk).ok_or("refused")?)?;
-    let closed = desk.close(passes, viewers).ok().ok_or("not closed")?;
+    desk: &Desk<J>,
+) -> Option<Vec<Pass>> {
+    one_of(alloc, two_changes(rt, alloc, desk)?)
+}
+
+// Tells whether the desk closed on the two changes.
+pub fn has_changes<J: Naming>(closed: &Closed<J>) -> bool {
     let voided = figures([0, 1, 0, 0, 0, 0, 0]);
-    assert!(rt; has(&closed, 1, 1) && is_tied(&closed, 0, 2));
-    assert!(rt; has_figures(&closed, 0, voided) && has_totals(&closed, 0, voided));
-    Ok(())
+    has(closed, 1, 1)
+        && is_tied(closed, 0, 2)
+        && has_figures(closed, 0, voided)
+        && has_totals(closed, 0, voided)
 }
 
 #[test]
 fn desk_refuses_all(rt: HostRuntime) -> Result<(), Fail> {
-    let plan = plan_of(&["north"], &[(0, "A")], 1).ok_or("no plan")?;
-    let tables = Tables::make(rt.alloc(), plan.sites.len() as u16)?;
-    changes_and_close::<Brand, _>(&rt, rt.alloc(), tables, &plan)
+    plays(&rt, rt.alloc(), Scene::Changes)
 }
 
 // A desk that refuses a pass although the station has one more would be refused here: no clause knows how
 // many passes the cell behind the lock gave out.
-fn each_pass<J: Naming, R: Abort + Threads + Wait>(
+pub fn each_pass<J: Naming, R: Wait + Threads>(
     rt: &R,
     alloc: Global,
-    tables: Tables,
-    plan: &Plan,
-) -> Result<(), Fail>
-    requires named { NamedBy J.table tables }
-    requires there { (site : ℕ) → site < length plan.now.sites.items → HasTable tables site }
-{
-    let (desk, _viewers) = opened::<J>(alloc, tables, plan).ok_or("no desk")?;
-    let station = Name::new("A").ok_or("no name")?;
-    for number in 0..MAX_PASSES {
-        assert!(rt; desk.enlist(rt, &station).is_ok(), "pass {number}");
+    desk: &Desk<J>,
+) -> Option<Vec<Pass>> {
+    let station = Name::new("A")?;
+    let mut passes = Vec::with_capacity(alloc, MAX_PASSES).ok()?;
+    for _ in 0..MAX_PASSES {
+        passes.push(desk.enlist(rt, &station).ok()?).ok()?;
     }
-    assert!(rt; desk.enlist(rt, &station).err() == Some(EnlistFault::TooManyPasses));
-    Ok(())
+    if desk.enlist(rt, &station).err()? == EnlistFault::TooManyPasses {
+        Some(passes)
+    } else {
+        None
+    }
 }
 
 #[test]
 fn enlist_refuses_all(rt: HostRuntime) -> Result<(), Fail> {
-    let plan = plan_of(&["north"], &[(0, "A")], 1).ok_or("no plan")?;
-    let tables = Tables::make(rt.alloc(), plan.sites.len() as u16)?;
-    each_pass::<Brand, _>(&rt, rt.alloc(), tables, &plan)
+    plays(&rt, rt.alloc(), Scene::EachPass)
 }
 
 // How many events the board of a station shows.
@@ -206,27 +190,23 @@ fn events_of<J: Naming, R: Wait>(rt: &R, alloc: Global, desk: &Desk<J>, text: &s
 
 // The board of another station under equal limits would be refused here: no clause knows what lies behind
 // which lock.
-fn second_board<J: Naming, R: Abort + Threads + Wait + Clock>(
+pub fn second_board<J: Naming, R: Threads + Wait + Clock>(
     rt: &R,
     alloc: Global,
-    tables: Tables,
-    plan: &Plan,
-) -> Result<(), Fail>
-    requires named { NamedBy J.table tables }
-    requires there { (site : ℕ) → site < length plan.now.sites.items → HasTable tables site }
-{
-    let (desk, _viewers) = opened::<J>(alloc, tables, plan).ok_or("no desk")?;
-    let mut pass = pass_of(rt, &desk, "B").ok_or("no pass")?;
-    let answer = deliver(rt, alloc, &desk, &mut pass, FIRST);
-    assert!(rt; answer == Some(Answer::Accepted(1)));
-    assert!(rt; events_of(rt, alloc, &desk, "A") == Some(0));
-    assert!(rt; events_of(rt, alloc, &desk, "B") == Some(1));
-    Ok(())
+    desk: &Desk<J>,
+) -> Option<Vec<Pass>> {
+    let mut pass = pass_of(rt, desk, "B")?;
+    let answer = deliver(rt, alloc, desk, &mut pass, FIRST)?;
+    let a = events_of(rt, alloc, desk, "A")?;
+    let b = events_of(rt, alloc, desk, "B")?;
+    if answer == Answer::Accepted(1) && (a, b) == (0, 1) {
+        one_of(alloc, pass)
+    } else {
+        None
+    }
 }
 
 #[test]
 fn board_of_first_station(rt: HostRuntime) -> Result<(), Fail> {
-    let plan = plan_of(&["north"], &[(0, "A"), (0, "B")], 1).ok_or("no plan")?;
-    let tables = Tables::make(rt.alloc(), plan.sites.len() as u16)?;
-    second_board::<Brand, _>(&rt, rt.alloc(), tables, &plan)
+    plays(&rt, rt.alloc(), Scene::SecondBoard)
 }

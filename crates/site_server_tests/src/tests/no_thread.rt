@@ -1,14 +1,10 @@
 // Threads that can't start, since none does with so large a stack.
-ghost use Rattle.std.specs.Prelude.{ℕ, ◌<◌, length};
-ghost use Rattle.site_book.specs.Tables.{HasTable, NamedBy};
-
 use super::client::{A, sends_one};
-use super::{changes_at_close, listen, plan};
-use site_book::{Naming, Tables, Viewer};
+use super::scenes::{Scene, plays};
+use site_book::{Naming, Viewer};
 use site_desk::{Desk, NoGate, Pass, Plan};
-use site_server::{Served, Service, open_desk, serve_on, serve_watched};
+use site_server::{Served, Service, serve_on, serve_watched};
 use std::alloc::Global;
-use std::marker::Brand;
 use std::net::{Net, SocketAddr, TcpListener, TcpStream};
 use std::sync::Wait;
 use std::test::Fail;
@@ -20,7 +16,7 @@ use std::time::Clock;
 const TOO_LARGE: usize = usize::MAX / 2;
 
 // The passes of a connection that is dropped, where A was not answered on it.
-fn dropped<
+pub(super) fn dropped<
     J: Naming + Send + Sync,
     R: Threads + Wait + Clock + Sync + Net<Listener = TcpListener, Stream = TcpStream>,
 >(
@@ -42,25 +38,9 @@ fn dropped<
     }
 }
 
-fn no_session<
-    J: Naming + Send + Sync,
-    R: Threads + Wait + Clock + Sync + Net<Listener = TcpListener, Stream = TcpStream>,
->(rt: &R, alloc: Global, tables: Tables, plan: &Plan) -> Option<(u64, u64)>
-    requires named { NamedBy J.table tables }
-    requires there { (site : ℕ) → site < length plan.now.sites.items → HasTable tables site }
-{
-    let (desk, viewers) = open_desk::<J>(alloc, tables, plan).ok()?;
-    let (listener, address) = listen(rt)?;
-    let passes = dropped(rt, alloc, &desk, &listener, address)?;
-    changes_at_close(desk, passes, viewers)
-}
-
 #[test]
 fn thread_that_cant_start_counts_as_ended(rt: HostRuntime) -> Result<(), Fail> {
-    let plan = plan().ok_or("no plan")?;
-    let tables = Tables::make(rt.alloc(), plan.sites.len() as u16)?;
-    let changes = no_session::<Brand, _>(&rt, rt.alloc(), tables, &plan);
-    assert!(rt; changes == Some((0, 0)));
+    assert!(rt; plays(&rt, rt.alloc(), Scene::NoSession)? == Some((0, 0)));
     Ok(())
 }
 
@@ -95,29 +75,29 @@ fn watched<
 }
 
 // The station is served all the same, and the viewers come back.
-fn no_glance<
+pub(super) fn no_glance<
     J: Naming + Send + Sync,
     R: Threads + Wait + Clock + Sync + Net<Listener = TcpListener, Stream = TcpStream>,
->(rt: &R, alloc: Global, tables: Tables, plan: &Plan) -> Option<(u64, u64)>
-    requires named { NamedBy J.table tables }
-    requires there { (site : ℕ) → site < length plan.now.sites.items → HasTable tables site }
-{
-    let (desk, viewers) = open_desk::<J>(alloc, tables, plan).ok()?;
-    let (listener, address) = listen(rt)?;
+>(
+    rt: &R,
+    alloc: Global,
+    desk: &Desk<J>,
+    listener: &TcpListener,
+    address: SocketAddr,
+    plan: &Plan,
+    viewers: Vec<Viewer<J>>,
+) -> Option<(Vec<Pass>, Vec<Viewer<J>>)> {
     let ((passes, viewers, lines), sent) = watched(
-        rt, alloc, &desk, &listener, address, plan, viewers,
+        rt, alloc, desk, listener, address, plan, viewers,
     );
     if sent != Some(true) || !lines.is_empty() {
         return None;
     }
-    changes_at_close(desk, passes.ok()?, viewers)
+    Some((passes.ok()?, viewers))
 }
 
 #[test]
 fn no_line_where_the_thread_cant_start(rt: HostRuntime) -> Result<(), Fail> {
-    let plan = plan().ok_or("no plan")?;
-    let tables = Tables::make(rt.alloc(), plan.sites.len() as u16)?;
-    let changes = no_glance::<Brand, _>(&rt, rt.alloc(), tables, &plan);
-    assert!(rt; changes == Some((1, 0)));
+    assert!(rt; plays(&rt, rt.alloc(), Scene::NoGlance)? == Some((1, 0)));
     Ok(())
 }

@@ -2,7 +2,7 @@ use super::memory::Frames;
 use super::{OFFER, Scene, play, serve_frames};
 use ledger_model::Name;
 use site_book::Naming;
-use site_desk::{Desk, MAX_PASSES, NoGate};
+use site_desk::{Desk, MAX_PASSES, NoGate, Pass};
 use station_link::Why;
 use std::alloc::{AllocError, Global};
 use std::process::Abort;
@@ -31,18 +31,19 @@ impl Scene for NoPassLeft {
     fn play<J: Naming, R: Abort + Threads + Wait + Clock>(
         rt: &R,
         alloc: Global,
-        desk: Desk<J>,
-    ) -> Result<(), Fail> {
+        desk: &Desk<J>,
+    ) -> Result<[Option<Pass>; 3], Fail> {
         let name = Name::new("B").ok_or("no name")?;
         for _ in 0..MAX_PASSES {
             assert!(rt; desk.enlist(rt, &name).is_ok());
         }
-        assert!(rt; is_refused(rt, alloc, &desk, (Why::TooManyPasses, 1011))?);
-        Ok(())
+        assert!(rt; is_refused(rt, alloc, desk, (Why::TooManyPasses, 1011))?);
+        Ok([None, None, None])
     }
 }
 
 #[test]
 fn no_pass_left(rt: HostRuntime) -> Result<(), Fail> {
-    play::<NoPassLeft, _>(&rt, rt.alloc())
+    assert!(rt; play::<NoPassLeft, _>(&rt, rt.alloc())? == None);
+    Ok(())
 }

@@ -1,9 +1,7 @@
 use super::memory::Peer;
-use super::{
-    FIRST, OFFER, SECOND, Scene, Served, changes_at_close, head, play, serve, text_frames,
-};
+use super::{FIRST, OFFER, SECOND, Scene, Served, head, play, serve, text_frames};
 use site_book::Naming;
-use site_desk::{Desk, NoGate};
+use site_desk::{Desk, NoGate, Pass};
 use station_link::Why;
 use std::alloc::{AllocError, Global};
 use std::process::Abort;
@@ -32,78 +30,84 @@ impl Scene for LostReply {
     fn play<J: Naming, R: Abort + Threads + Wait + Clock>(
         rt: &R,
         alloc: Global,
-        desk: Desk<J>,
-    ) -> Result<(), Fail> {
-        let (first, second) = sent_twice(rt, alloc, &desk)?;
+        desk: &Desk<J>,
+    ) -> Result<[Option<Pass>; 3], Fail> {
+        let (first, second) = sent_twice(rt, alloc, desk)?;
         let answers = text_frames(alloc, false, &["[3,\"1\",{}]"])?;
         assert!(rt; first.is(Why::WriteFault, 1, &[]));
         assert!(rt; second.is(Why::PeerClosed, 0, answers.bytes()));
-        let changes = changes_at_close(alloc, desk, [first.pass, second.pass, None]);
-        assert!(rt; changes == Some((1, 0)));
-        Ok(())
+        Ok([first.pass, second.pass, None])
     }
 }
 
 #[test]
 fn lost_reply(rt: HostRuntime) -> Result<(), Fail> {
-    play::<LostReply, _>(&rt, rt.alloc())
+    assert!(rt; play::<LostReply, _>(&rt, rt.alloc())? == Some((1, 0)));
+    Ok(())
 }
 
-// Tells whether a session ends as it should whose stream is cut off there: without a pass where its request is
-// not whole, or not answered.
-fn ends<J: Naming, R: Threads + Wait + Clock>(
+// Why a session ends whose stream is cut off in its request, or in its frames, or takes no answer; and whether
+// there is a pass then.
+fn served_cut<J: Naming, R: Threads + Wait + Clock>(
     rt: &R,
     alloc: Global,
     desk: &Desk<J>,
-    peer: Peer<'_>,
-) -> bool {
-    let served = serve(rt, alloc, desk, &NoGate, peer);
-    if peer.given < peer.head.len() || peer.writes == 0 {
-        served.why == Why::HandshakeFailed && served.pass.is_none() && served.written.is_empty()
-    } else if peer.fails {
-        served.why == Why::ReadFault && served.pass.is_some()
-    } else {
-        served.why == Why::PeerClosed && served.pass.is_some()
-    }
+    at: Cut,
+) -> Result<Served, AllocError> {
+    let head = head(alloc, "/ocpp/A", OFFER)?;
+    let sent = text_frames(alloc, true, &[FIRST, SECOND])?;
+    let peer = Peer::of(head.as_str().as_bytes(), sent.bytes());
+    let (given, fails, writes) = match at {
+        Cut::InRequest => (20, true, usize::MAX),
+        Cut::InFrames => (head.len().saturating_add(9), true, usize::MAX),
+        Cut::AtAnswer => (usize::MAX, false, 0),
+    };
+    let cut = Peer {
+        given,
+        fails,
+        writes,
+        ..peer
+    };
+    Ok(serve(rt, alloc, desk, &NoGate, cut))
 }
 
-// The stream is cut off after each byte of a session: it ends there, or it fails there.
-fn cut_at_each<J: Naming, R: Abort + Threads + Wait + Clock>(
+#[derive(Clone, Copy)]
+enum Cut {
+    InRequest,
+    InFrames,
+    AtAnswer,
+}
+
+// Tells whether a session that is cut there has no pass, since its request is not whole or not answered.
+fn is_no_session<J: Naming, R: Threads + Wait + Clock>(
     rt: &R,
     alloc: Global,
     desk: &Desk<J>,
-    peer: Peer<'_>,
-    fails: bool,
-) {
-    for given in 0..peer.head.len().saturating_add(peer.frames.len()) {
-        let cut = Peer {
-            given,
-            fails,
-            ..peer
-        };
-        assert!(rt; ends(rt, alloc, desk, cut), "at {given}");
-    }
+    at: Cut,
+) -> Result<bool, AllocError> {
+    let served = served_cut(rt, alloc, desk, at)?;
+    Ok(served.why == Why::HandshakeFailed && served.pass.is_none() && served.written.is_empty())
 }
 
-struct EachByte;
+struct CutOff;
 
-impl Scene for EachByte {
+impl Scene for CutOff {
     fn play<J: Naming, R: Abort + Threads + Wait + Clock>(
         rt: &R,
         alloc: Global,
-        desk: Desk<J>,
-    ) -> Result<(), Fail> {
-        let head = head(alloc, "/ocpp/A", OFFER)?;
-        let sent = text_frames(alloc, true, &[FIRST, SECOND])?;
-        let peer = Peer::of(head.as_str().as_bytes(), sent.bytes());
-        cut_at_each(rt, alloc, &desk, peer, false);
-        cut_at_each(rt, alloc, &desk, peer, true);
-        assert!(rt; ends(rt, alloc, &desk, Peer { writes: 0, ..peer }));
-        Ok(())
+        desk: &Desk<J>,
+    ) -> Result<[Option<Pass>; 3], Fail> {
+        assert!(rt; is_no_session(rt, alloc, desk, Cut::InRequest)?);
+        assert!(rt; is_no_session(rt, alloc, desk, Cut::AtAnswer)?);
+        let served = served_cut(rt, alloc, desk, Cut::InFrames)?;
+        assert!(rt; served.has_pass(Why::ReadFault, 0));
+        Ok([served.pass, None, None])
     }
 }
 
+// What a session leaves that is cut off after each byte is played by a client (`examples/serving.py`).
 #[test]
-fn stream_ends_or_fails_after_each_byte(rt: HostRuntime) -> Result<(), Fail> {
-    play::<EachByte, _>(&rt, rt.alloc())
+fn stream_fails(rt: HostRuntime) -> Result<(), Fail> {
+    assert!(rt; play::<CutOff, _>(&rt, rt.alloc())? == Some((0, 0)));
+    Ok(())
 }

@@ -2,7 +2,7 @@ use super::memory::{Frames, PING, PONG, TEXT};
 use super::{FIRST, OFFER, SECOND, Scene, Served, play, serve_frames};
 use ledger_model::Name;
 use site_book::Naming;
-use site_desk::{Desk, Gate};
+use site_desk::{Desk, Gate, Pass};
 use station_link::Why;
 use std::alloc::{AllocError, Global};
 use std::process::Abort;
@@ -64,20 +64,21 @@ impl Scene for EachKind {
     fn play<J: Naming, R: Abort + Threads + Wait + Clock>(
         rt: &R,
         alloc: Global,
-        desk: Desk<J>,
-    ) -> Result<(), Fail> {
+        desk: &Desk<J>,
+    ) -> Result<[Option<Pass>; 3], Fail> {
         let gate = Counts {
             held: Mutex::new(0),
             calls: Mutex::new(0),
         };
-        let served = each_kind(rt, alloc, &desk, &gate)?;
+        let served = each_kind(rt, alloc, desk, &gate)?;
         assert!(rt; served.has_pass(Why::PeerClosed, 2));
         assert!(rt; (*gate.held.lock(rt), *gate.calls.lock(rt)) == (2, 4));
-        Ok(())
+        Ok([served.pass, None, None])
     }
 }
 
 #[test]
 fn each_kind_of_message(rt: HostRuntime) -> Result<(), Fail> {
-    play::<EachKind, _>(&rt, rt.alloc())
+    assert!(rt; play::<EachKind, _>(&rt, rt.alloc())? == Some((2, 0)));
+    Ok(())
 }
