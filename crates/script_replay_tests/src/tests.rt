@@ -1,7 +1,5 @@
-// The loops over readers and writers that fail, on machines that echo and on a whole script.
-mod echo;
+// Readers and writers that fail, flushes, and threads that read ahead.
 mod events_ahead;
-mod loops;
 mod reading_ahead;
 mod stops;
 mod streams;

@@ -55,6 +55,17 @@ fn front(bytes: &[u8], count: usize) -> &[u8] {
     &bytes[..bytes.len().min(count)]
 }
 
+#[test]
+fn stream_gives_up(rt: HostRuntime) -> Result<(), Fail> {
+    let (script, text) = script_and_text(rt.alloc())?;
+    let mut reader = script.as_slice();
+    let mut written = Vec::new(rt.alloc());
+    let result = replay_stream(&rt, &mut reader, &mut written);
+    assert!(rt; result == Ok(()) && reader.is_empty());
+    assert!(rt; written.as_slice() == text.as_slice());
+    Ok(())
+}
+
 // A reader that shows `step` bytes at a time and fails after `count`: the text of the complete lines stands.
 fn stops_reading<X: AllocGlobal + Threads>(
     rt: &X,
