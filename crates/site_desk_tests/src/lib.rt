@@ -1,4 +1,4 @@
-//! The tests of `site_desk`.
+//! The tests of `site_book` and `site_desk`.
 #![tactic(auto)]
 
 #[cfg(test)]

@@ -1,3 +1,4 @@
+mod book;
 mod gates;
 mod plans;
 mod scenes;

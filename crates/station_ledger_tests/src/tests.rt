@@ -1,6 +1,7 @@
 //! What no row shows of a ledger: how many differences a change takes, a board without memory, and drawn commands.
 mod against;
 mod drawn;
+mod report;
 mod scratch;
 
 use energy_flow::Work;

@@ -1,7 +1,7 @@
 use Rattle.std.proofs.Common.{◌≡◌}
 use Rattle.ledger_model.specs.Limits.{default_limits}
 use Rattle.ledger_model.specs.Quarter.{default_period}
-use Rattle.board_report_tests.proofs.tests.station.Given as goal
+use Rattle.station_ledger_tests.proofs.tests.report.station.Given as goal
 
 -- the limits and the period stay
 abbrev pub invariant-loop-one : goal.invariant-loop-one

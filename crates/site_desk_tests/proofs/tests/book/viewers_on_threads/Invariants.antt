@@ -1,5 +1,5 @@
 use Rattle.site_book.specs.Tables.{names_of}
-use Rattle.site_book_tests.proofs.tests.viewers_on_threads.Given as goal
+use Rattle.site_desk_tests.proofs.tests.book.viewers_on_threads.Given as goal
 
 -- the tables that were just made
 abbrev pub ghosts-two_watch : goal.ghosts-two_watch

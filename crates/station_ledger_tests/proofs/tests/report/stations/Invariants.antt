@@ -4,7 +4,7 @@ use Rattle.ledger_model.specs.Limits.{Bounds}
 use Rattle.ledger_model.specs.Quarter.{default_period}
 use Rattle.board_report.specs.Plans.{AreBoardsWithin}
 use Rattle.board_report.specs.Sums.{AreOfPeriod}
-use Rattle.board_report_tests.proofs.tests.stations.Given as goal
+use Rattle.station_ledger_tests.proofs.tests.report.stations.Given as goal
 
 -- the boards so far are those of a plan of default limits, by the default period
 abbrev pub invariant-loop-name : goal.invariant-loop-name

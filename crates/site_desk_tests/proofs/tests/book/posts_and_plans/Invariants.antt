@@ -1,5 +1,5 @@
 use Rattle.site_book.specs.Tables.{names_of}
-use Rattle.site_book_tests.proofs.tests.posts_and_plans.Given as goal
+use Rattle.site_desk_tests.proofs.tests.book.posts_and_plans.Given as goal
 
 -- the tables that were just made
 abbrev pub ghosts-two_rows : goal.ghosts-two_rows

@@ -7,7 +7,7 @@ use Rattle.ledger_model.specs.Quarter.{default_period}
 use Rattle.board_report.specs.Plans.{AreBoardsWithin}
 use Rattle.board_report.specs.Sums.{AreOfPeriod}
 use Rattle.board_report.proofs.PlanLemmas.{plans_fit, AreBoardsWithin-more}
-use Rattle.board_report_tests.proofs.tests.stations.Goals as goal
+use Rattle.station_ledger_tests.proofs.tests.report.stations.Goals as goal
 
 -- one station more
 pub loop-name-preserved : goal.loop-name-preserved

@@ -1,5 +1,0 @@
-//! The tests of `board_report`.
-#![tactic(auto)]
-
-#[cfg(test)]
-mod tests;

@@ -1,5 +1,0 @@
-//! The tests of `site_book`.
-#![tactic(auto)]
-
-#[cfg(test)]
-mod tests;
