@@ -19,12 +19,12 @@ use crate::answers::{Found, Room, TxStanding};
 use crate::place_index::PlaceIndex;
 use crate::spots::{
     carrier_before, carrier_behind, enter, evse_at, first_at, first_live, first_naming, kind_at,
-    last_at, last_live, leave, locate, number_of, slot_of, slot_sought,
+    last_at, last_live, leave, locate, look_up, number_of, slot_sought,
 };
 use crate::tx_ids::TxIds;
 use crate::tx_walk::TxWalk;
 use event_store::{EventRef, EventStore, Readings};
-use key_index::IndexKey;
+use key_index::{IndexKey, Place};
 use ledger_model::{Event, EvseId, Key, Kind, Limits, Reading, TxId};
 use std::alloc::{AllocError, Global};
 use std::marker::Model;
@@ -100,8 +100,18 @@ impl Chains {
     pub fn seek(&mut self, key: &Key)
         ensures { self.new ≡ self.old }
     {
+        let place = look_up(&self.table, &self.places, key).1;
+        self.seek_at(key, place);
+    }
+
+    /// Takes this place for that of a key, as [`Chains::look`] told it, for the calls that come next.
+    /// Nothing that they answer changes.
+    pub fn seek_at(&mut self, key: &Key, place: Place)
+        ensures { self.new ≡ self.old }
+    {
         if let Some(row) = self.table.seek(key.tx()) {
-            self.places.seek(IndexKey::new(row.slot, key.seq()));
+            self.places
+                .seek_at(IndexKey::new(row.slot, key.seq()), place);
         }
     }
 
@@ -141,9 +151,17 @@ impl Chains {
     pub fn event(&self, key: &Key) -> Option<EventRef<'_>>
         ensures { option_map (λ e. e.1) result ≡ finite.get self.now.events key.now }
     {
-        match slot_of(&self.table, &self.places, key) {
-            Some(slot) => Some(self.store.get(slot)),
-            None => None,
+        self.look(key).0
+    }
+
+    /// The same, and where the key stands or belongs, as a hint for [`Chains::seek_at`].
+    pub fn look(&self, key: &Key) -> (Option<EventRef<'_>>, Place)
+        ensures { option_map (λ e. e.1) result.0 ≡ finite.get self.now.events key.now }
+    {
+        let found = look_up(&self.table, &self.places, key);
+        match found.0 {
+            Some(slot) => (Some(self.store.get(slot)), found.1),
+            None => (None, found.1),
         }
     }
 
@@ -168,7 +186,7 @@ impl Chains {
         let at = IndexKey::new(row.slot, key.seq());
         let slot = self.store.put(at, event);
         let (carries, names) = (!event.readings().is_empty(), event.evse().is_some());
-        let place = self.places.place(at);
+        let place = self.places.near();
         self.places.insert(place, at, slot, carries, names);
         let after = TableRow {
             slot: row.slot,
@@ -253,7 +271,7 @@ impl Chains {
         match self.table.get(key.tx()) {
             Some(row) => {
                 let at = IndexKey::new(row.slot, key.seq());
-                let place = self.places.place(at);
+                let place = self.places.near();
                 let before = last_at(&self.store, carrier_before(&self.places, place, at));
                 let behind = first_at(&self.store, carrier_behind(&self.places, place, at));
                 (before, behind)

@@ -24,7 +24,7 @@ impl<'a> Model for Lane<'a> {
 }
 
 // The key of an entry and its slot.
-fn slot_under(entry: Option<(IndexKey, Filed)>) -> Option<(IndexKey, u32)>
+pub(crate) fn slot_under(entry: Option<(IndexKey, Filed)>) -> Option<(IndexKey, u32)>
     ensures { result ≡ option_map place_in entry }
 {
     match entry {

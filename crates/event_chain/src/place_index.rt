@@ -2,7 +2,7 @@
 ghost use Rattle.std.specs.Prelude.{◌≡◌, ℕ, ◌<◌, [], length, None, Some, IfOk, IsSome, slice_get, option_map};
 ghost use Rattle.std.specs.Ordering.{nat_cmp};
 ghost use Rattle.std.specs.FinMap.{put};
-ghost use Rattle.event_chain.specs.Ranked.{last_of, AreRising};
+ghost use Rattle.event_chain.specs.Ranked.{first_of, from, last_of, slot_at, AreRising};
 ghost use Rattle.slot_links.specs.Links.{linked_in};
 ghost use Rattle.key_index.specs.declared.filed.Mark.TheVariants.{Live};
 ghost use Rattle.event_chain.specs.Placed.{index, lane_of};
@@ -10,7 +10,7 @@ ghost use Rattle.event_chain.specs.Flat.{place_of};
 ghost use Rattle.event_chain.specs.Edits.{put_if, out, places_before, places_behind};
 ghost use Rattle.event_chain.specs.Lists.{slot_in, HasRank, AreOwn, AreListed, slot_before, slot_after};
 
-use crate::lane::Lane;
+use crate::lane::{Lane, slot_under};
 use crate::spots::{place_before, place_behind};
 use key_index::{Filed, IndexKey, KeyIndex, Mark, Marks, Place};
 use slot_links::SlotLinks;
@@ -24,11 +24,12 @@ use std::marker::Model;
 pub(crate) struct PlaceIndex {
     index: KeyIndex,
     links: SlotLinks,
-    // The key that was sought last, where it stands or belongs, and where its transaction begins: they
-    // save searches, and change no answer.
+    // The key that was sought last, where it stands or belongs, and where its transaction begins and
+    // ends: they save searches, and change no answer.
     sought: IndexKey,
     near: Place,
     start: Place,
+    end: Place,
 }
 
 impl Model for PlaceIndex {
@@ -103,6 +104,7 @@ impl PlaceIndex {
             sought: IndexKey::new(0, 0),
             near: Place::UNKNOWN,
             start: Place::UNKNOWN,
+            end: Place::UNKNOWN,
         })
     }
 
@@ -113,23 +115,55 @@ impl PlaceIndex {
         self.index.len()
     }
 
-    // Searches for a key once, for the calls that come next.
-    pub(crate) fn seek(&mut self, key: IndexKey)
+    // Takes this place for that of a key, for the calls that come next.
+    pub(crate) fn seek_at(&mut self, key: IndexKey, place: Place)
         ensures { self.new ≡ self.old }
     {
-        let first = IndexKey::new(key.transaction(), 0);
-        self.near = self.index.place_near(self.behind(key), key);
+        let slot = key.transaction();
+        let end = if slot == self.sought.transaction() {
+            self.end
+        } else {
+            // A transaction's events mostly come in order.
+            place
+        };
+        self.near = place;
         self.sought = key;
-        self.start = self.index.place_near(self.start, first);
+        self.start = self.index.place_near(self.start, IndexKey::new(slot, 0));
+        self.end = self
+            .index
+            .place_near(end, IndexKey::new(slot.saturating_add(1), 0));
     }
 
-    // The place where a key stands or belongs, to be handed to the calls that take one.
-    pub(crate) fn place(&self, key: IndexKey) -> Place {
-        self.index.place_near(self.near, key)
+    // The first place from a key on, and where the key stands or belongs.
+    fn first_from(&self, key: IndexKey) -> (Option<(IndexKey, u32)>, Place)
+        ensures { result.0 ≡ first_of (from key self.now.stored.entries) }
+    {
+        self.index.keys_rise();
+        let found = self.index.find(self.behind(key), key);
+        (slot_under(found.0), found.1)
+    }
+
+    // The slot of the first place from a key on, where that is the key's.
+    fn first_slot(&self, key: IndexKey) -> (Option<u32>, Place)
+        ensures { result.0 ≡ slot_at key (from key self.now.stored.entries) }
+    {
+        let found = self.first_from(key);
+        match found.0 {
+            Some((first, slot)) if first == key => (Some(slot), found.1),
+            _ => (None, found.1),
+        }
+    }
+
+    // The slot of a key, none where it is absent, and where the key stands or belongs.
+    pub(crate) fn find(&self, key: IndexKey) -> (Option<u32>, Place)
+        ensures { result.0 ≡ place_of key self.now.stored.entries }
+    {
+        self.stored(Place::UNKNOWN).keys_rise();
+        self.first_slot(key)
     }
 
     // A key that comes after the one that was sought last mostly stands or belongs right behind it.
-    pub(crate) fn behind(&self, key: IndexKey) -> Place {
+    fn behind(&self, key: IndexKey) -> Place {
         if self.sought.is_before(key) {
             return self.near.next();
         }
@@ -144,6 +178,11 @@ impl PlaceIndex {
     // Where its transaction begins.
     pub(crate) fn start(&self) -> Place {
         self.start
+    }
+
+    // Where it ends.
+    pub(crate) fn end(&self) -> Place {
+        self.end
     }
 
     // All events.
@@ -206,6 +245,7 @@ impl PlaceIndex {
         self.index.insert(place, key, Filed { slot, marks });
         self.near = place;
         self.sought = key;
+        self.end = self.end.moved_by(place);
     }
 
     // Takes a live event's marks away; it keeps its place and its slot.
@@ -238,7 +278,7 @@ impl PlaceIndex {
         ensures naming { self.new.naming ≡ index (put_if names key slot self.old.naming.entries) self.old.naming.capacity }
     {
         self.index.keys_rise();
-        let place = self.place(key);
+        let place = self.near;
         link_live(&self.index, &mut self.links, place, key, slot);
         let marks = Marks {
             live: true,

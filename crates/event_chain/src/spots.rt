@@ -37,16 +37,18 @@ fn slot_at(places: &PlaceIndex, near: Place, key: IndexKey) -> Option<u32>
     stored.get(key)
 }
 
-// Finds a key, also one that was not sought before; none where it is absent.
-pub(crate) fn slot_of(table: &TransactionTable, places: &PlaceIndex, key: &Key) -> Option<u32>
-    ensures { result ≡ place_at table.now.rows places.now.stored.entries key.now }
+// Finds a key, also one that was not sought before: its slot, none where it is absent, and where it
+// stands or belongs.
+pub(crate) fn look_up(
+    table: &TransactionTable,
+    places: &PlaceIndex,
+    key: &Key,
+) -> (Option<u32>, Place)
+    ensures { result.0 ≡ place_at table.now.rows places.now.stored.entries key.now }
 {
     match table.get(key.tx()) {
-        Some(row) => {
-            let at = IndexKey::new(row.slot, key.seq());
-            slot_at(places, places.behind(at), at)
-        }
-        None => None,
+        Some(row) => places.find(IndexKey::new(row.slot, key.seq())),
+        None => (None, Place::UNKNOWN),
     }
 }
 
@@ -185,8 +187,7 @@ pub(crate) fn last_live(places: &PlaceIndex, row: Option<TableRow>) -> Option<(I
     requires { ForSome row (λ r. r.slot < 4294967295) }
     ensures { result ≡ last_under places.now.live.entries row }
 {
-    // The event that came last is mostly the one of the key that was sought.
-    let live = places.live(places.near().next());
+    let live = places.live(places.end());
     last_in(&live, row)
 }
 

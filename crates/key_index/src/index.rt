@@ -112,11 +112,18 @@ impl KeyIndex {
     pub fn at_or_after(&self, place: Place, key: IndexKey) -> Option<(IndexKey, Filed)>
         ensures { result ≡ first_of (from key self.now.entries) }
     {
+        self.find(place, key).0
+    }
+
+    /// The same, and the place where the key stands or belongs.
+    pub fn find(&self, near: Place, key: IndexKey) -> (Option<(IndexKey, Filed)>, Place)
+        ensures { result.0 ≡ first_of (from key self.now.entries) }
+    {
         if self.leaves.is_empty() {
-            return None;
+            return (None, Place { leaf: 0, entry: 0 });
         }
-        let at = settled(&self.leaves, place, key);
-        first_from(&self.leaves, at.leaf, at.entry)
+        let at = settled(&self.leaves, near, key);
+        (first_from(&self.leaves, at.leaf, at.entry), at)
     }
 
     /// The last entry whose key is smaller than the one given.

@@ -22,4 +22,12 @@ impl Place {
             entry: self.entry.saturating_add(1),
         }
     }
+
+    /// This place once an entry was put in at another one, where no leaf was split by it.
+    pub fn moved_by(self, put: Place) -> Place {
+        if self.leaf == put.leaf && put.entry <= self.entry {
+            return self.next();
+        }
+        self
+    }
 }

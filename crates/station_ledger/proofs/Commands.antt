@@ -1,5 +1,5 @@
 -- What each command leaves for the sums to do.
-use Rattle.std.proofs.Common.{◌≡◌, ◌==◌, ◌&&◌, ℕ, ◌+◌, ◌<◌, ◌≤◌, Bool, true, false, cond, List, Option, Some, None, map, length, refl, sym, ap, subst, ◌∙◌, arith}
+use Rattle.std.proofs.Common.{is_some, ◌≡◌, ◌==◌, ◌&&◌, ℕ, ◌+◌, ◌<◌, ◌≤◌, Bool, true, false, cond, List, Option, Some, None, map, length, refl, sym, ap, subst, ◌∙◌, arith}
 use Rattle.std.specs.List.{filter, filter_map, flat_map, count_by, sum_by}
 use Rattle.std.specs.FinMap as finite
 use Rattle.std.specs.FinMap.{find}
@@ -29,6 +29,7 @@ use Rattle.station_ledger.specs.declared.standing.Standing.{Standing}
 use Rattle.station_ledger.specs.declared.totals.EvseSum.{EvseSum}
 use Rattle.station_ledger.specs.Kept.{voided_in}
 use Rattle.station_ledger.specs.Quarters.{quartered, readings_at}
+use Rattle.station_ledger.specs.Coming.{HasCome}
 use Rattle.station_ledger.specs.Sums.{AreAllowed, AreSummed, IsToCome, IsToGo}
 use Rattle.station_ledger.proofs.Moved.{kept_same}
 
@@ -46,6 +47,10 @@ pub found_live : (o : Option Stored) → found_of o ≡ Some Live → IsFound o 
 found_live None h = cc
 found_live (Some s) h = record { event = s; is = refl; marked_is = elim s.voided as (λ b. Some (cond b Voided Live) ≡ Some Live → b ≡ false) [ true ↦ λ f. cc | false ↦ λ _. refl ] h }
 
+none_of : (o : Option ℕ) → is_some o ≡ false → o ≡ None
+none_of None h = refl
+none_of (Some n) h = cc
+
 -- how it is found among the entries
 listed : (old : Chained) (key : KeyName) (o : Option Stored) → finite.get old.events key ≡ o → find key_cmp key (stored old) ≡ o
 listed old key o h = sym (finite.get-entries old.events key) ∙ h
@@ -61,6 +66,15 @@ module _ (old new : Chained) (key : KeyName) (before behind : Option MeterReadin
     before_is = before_is;
     behind_is = behind_is;
     few = few;
+  }
+
+  -- it may name an EVSE
+  pub delivered_come : (event : EventContent) → new.events ≡ events_after old.events (Deliver key event) → finite.get old.events key ≡ None → HasCome (stored old) new key (is_some event.evse)
+  delivered_come event is absent = record {
+    event = record { event = event; voided = false };
+    one = subst (λ es. IsOneMore (stored old) es (before_key key (stored old)) (key, record { event = event; voided = false }) (behind_key key (stored old))) (sym (ap finite.entries is ∙ entries_after_is old.events (Deliver key event)))
+        (delivered_more (stored old) key event (finite.entries_sorted old.events) (listed old key None absent));
+    evse = none_of event.evse;
   }
 
   -- what a mark leaves under the key

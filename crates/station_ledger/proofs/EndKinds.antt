@@ -56,7 +56,7 @@ two_ends (Ended ∷ ks) h = cc
 two_ends (Started ∷ ks) h = omega (arith, counted Started ks, one_end ks h)
 
 -- with another count nothing starts and ends
-not_two : (ks : List Kind) → (count_by is_end ks ≡ 2 → ⊥) → starts_and_ends ks ≡ false
+pub not_two : (ks : List Kind) → (count_by is_end ks ≡ 2 → ⊥) → starts_and_ends ks ≡ false
 not_two ks other = elim (starts_and_ends ks) as (λ b. starts_and_ends ks ≡ b → b ≡ false) [ true ↦ λ h. absurd (other (two_ends ks h)) | false ↦ λ _. refl ] refl
 
 -- events start and end by the first kind, the last, and how many are either

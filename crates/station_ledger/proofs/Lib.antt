@@ -8,6 +8,7 @@ pub mod Stands
 pub mod Trades
 pub mod Changes
 pub mod Commands
+pub mod OneLess
 pub mod Reaching
 pub mod Judged
 pub mod Numbered

@@ -5,6 +5,7 @@ pub mod Moved
 pub mod Spent
 pub mod Sums
 pub mod Standing
+pub mod Coming
 pub mod New
 pub mod Lines
 pub mod Numbered

@@ -16,6 +16,7 @@ use crate::moves::carry_out;
 use crate::sums::Sums;
 use energy_flow::{Flow, Work};
 use event_chain::{Chains, Found, Room};
+use key_index::Place;
 use ledger_model::{Answer, Command, Event, EvseId, Figures, Key, Limits, Period, Refusal, TxId};
 use std::alloc::{AllocError, Global};
 use std::marker::Model;
@@ -64,27 +65,35 @@ impl StationLedger {
     pub fn judge(&self, command: &Command) -> Answer
         ensures { result ≡ answer self.now.limits self.now.content command.now }
     {
+        self.judge_at(command).0
+    }
+
+    // The same, and where the command's key stands or belongs, where that was searched.
+    fn judge_at(&self, command: &Command) -> (Answer, Place)
+        ensures { result.0 ≡ answer self.now.limits self.now.content command.now }
+    {
         match command {
             Command::Deliver(key, event) => self.judge_delivery(key, event),
-            Command::Void(key) => self.judge_void(key),
-            Command::Restore(key) => self.judge_voided(key),
-            Command::Erase(key) => self.judge_voided(key),
+            Command::Void(key) => (self.judge_void(key), Place::UNKNOWN),
+            Command::Restore(key) => (self.judge_voided(key), Place::UNKNOWN),
+            Command::Erase(key) => (self.judge_voided(key), Place::UNKNOWN),
         }
     }
 
-    // The answer to an event under this key.
-    fn judge_delivery(&self, key: &Key, event: &Event) -> Answer
-        ensures { result ≡ answer_to_deliver self.now.limits self.now.content key.now event.now (finite.get self.now.content.events key.now) }
+    // The answer to an event under this key, and where the key stands or belongs.
+    fn judge_delivery(&self, key: &Key, event: &Event) -> (Answer, Place)
+        ensures { result.0 ≡ answer_to_deliver self.now.limits self.now.content key.now event.now (finite.get self.now.content.events key.now) }
     {
-        match self.chains.event(key) {
+        let (found, place) = self.chains.look(key);
+        match found {
             Some(stored) => {
                 if stored.same_as(event) {
-                    Answer::Repeat
+                    (Answer::Repeat, place)
                 } else {
-                    Answer::Refused(Refusal::ConflictingEvent)
+                    (Answer::Refused(Refusal::ConflictingEvent), place)
                 }
             }
-            None => self.judge_new(key.tx(), event.readings().len()),
+            None => (self.judge_new(key.tx(), event.readings().len()), place),
         }
     }
 
@@ -143,9 +152,9 @@ impl StationLedger {
         ensures bound { work.new ≤ work.old + most_spent self.old.content.events command }
     {
         command.keeps_ranges();
-        let answer = self.judge(&command);
+        let (answer, place) = self.judge_at(&command);
         if let Answer::Accepted(changes) = answer {
-            carry_out(&mut self.chains, &mut self.sums, command, work);
+            carry_out(&mut self.chains, &mut self.sums, place, command, work);
             self.changes = changes;
         }
         answer

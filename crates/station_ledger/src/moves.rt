@@ -17,6 +17,7 @@ use crate::pairs::Sides;
 use crate::sums::{Sums, add_event, take_event};
 use energy_flow::Work;
 use event_chain::Chains;
+use key_index::Place;
 use ledger_model::{Command, Event, Key};
 
 // Puts in a live event under a new key, for which there is room.
@@ -43,7 +44,8 @@ pub(crate) fn deliver(
     let at = key.copied();
     let (before, behind) = chains.neighbours(&at);
     chains.insert(key, event);
-    add_event(chains, sums, &at, &Sides { before, behind }, work);
+    let names = event.evse().is_some();
+    add_event(chains, sums, &at, names, &Sides { before, behind }, work);
 }
 
 // Makes a voided event live again.
@@ -63,7 +65,8 @@ pub(crate) fn restore(chains: &mut Chains, sums: &mut Sums, key: &Key, work: &mu
 {
     let (before, behind) = chains.neighbours(key);
     chains.relink(key);
-    add_event(chains, sums, key, &Sides { before, behind }, work);
+    // What a restored event names is not asked.
+    add_event(chains, sums, key, true, &Sides { before, behind }, work);
     sums.figures.voided -= 1;
 }
 
@@ -105,12 +108,16 @@ pub(crate) fn erase(chains: &mut Chains, sums: &mut Sums, key: &Key)
     sums.figures.voided -= 1;
 }
 
-// Searches for a key once, for what is done there.
-fn seek(chains: &mut Chains, sums: &mut Sums, key: &Key)
+// Finds a key for what is done there: at this place, or by a search where the place is not known.
+fn seek(chains: &mut Chains, sums: &mut Sums, place: Place, key: &Key)
     ensures chains { chains.new ≡ chains.old }
     ensures sums { sums.new ≡ sums.old }
 {
-    chains.seek(key);
+    if place == Place::UNKNOWN {
+        chains.seek(key);
+    } else {
+        chains.seek_at(key, place);
+    }
     sums.kept.look_near(chains.near());
 }
 
@@ -138,8 +145,14 @@ fn carry(chains: &mut Chains, sums: &mut Sums, command: Command, work: &mut Work
     }
 }
 
-// Finds the place of a command's key, and carries it out there.
-pub(crate) fn carry_out(chains: &mut Chains, sums: &mut Sums, command: Command, work: &mut Work)
+// Carries out a command at the place of its key, where that is known.
+pub(crate) fn carry_out(
+    chains: &mut Chains,
+    sums: &mut Sums,
+    place: Place,
+    command: Command,
+    work: &mut Work,
+)
     requires ready { IsReady chains.old command }
     requires before { AreAllowed chains.old.limits (stored chains.old) }
     requires after { AreAllowed chains.old.limits (finite.entries (events_after chains.old.events command)) }
@@ -153,6 +166,6 @@ pub(crate) fn carry_out(chains: &mut Chains, sums: &mut Sums, command: Command, 
     ensures work { work.new ≤ work.old + most_spent chains.old.events command }
     ensures grows { work.old ≤ work.new }
 {
-    seek(chains, sums, command.key());
+    seek(chains, sums, place, command.key());
     carry(chains, sums, command, work);
 }

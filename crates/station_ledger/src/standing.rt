@@ -1,7 +1,10 @@
 //! What is kept of each transaction, so that no figure needs a walk.
-ghost use Rattle.std.specs.Prelude.{◌≡◌};
+ghost use Rattle.std.specs.Prelude.{◌≡◌, ◌<◌, ◌≤◌, true, false, Some, IfSome, slice_get};
 ghost use Rattle.event_chain.specs.Chains.{stored};
-ghost use Rattle.station_ledger.specs.Standing.{kept_with, starts_and_ends_by};
+ghost use Rattle.ledger_model.specs.Complete.{kinds_of, is_complete, starts_and_ends as start_and_end};
+ghost use Rattle.ledger_model.specs.Gaps.{numbers_of, missing};
+ghost use Rattle.station_ledger.specs.Coming.{IsOneLess};
+ghost use Rattle.station_ledger.specs.Standing.{kept_with, standing_with, starts_and_ends_by};
 
 use energy_flow::Flow;
 use event_chain::Chains;
@@ -49,5 +52,85 @@ pub(crate) fn standing_of(chains: &Chains, tx: &TxId, flow: Flow) -> Option<Stan
             })
         }
         _ => None,
+    }
+}
+
+// No transaction has more live events, and no more numbers lie between them.
+const MOST_LIVE: u32 = 65_536;
+
+const MOST_MISSING: u64 = 2_147_483_648;
+
+// Tells whether what was kept is in these bounds, as it is.
+fn is_bounded(was: &Standing) -> bool
+    ensures { result ≡ true → (was.now.live ≤ 65536) × (was.now.missing ≤ 2147483648) }
+{
+    was.live <= MOST_LIVE && was.missing <= MOST_MISSING
+}
+
+// Tells whether a transaction's live events start and end as they are to.
+fn has_ends(chains: &Chains, tx: &TxId) -> bool
+    ensures { result ≡ start_and_end (kinds_of tx.now (stored chains.now)) }
+{
+    if chains.end_count(tx) != 2 {
+        return false;
+    }
+    starts_and_ends(&chains.standing(tx))
+}
+
+// Tells whether a transaction is complete, where so many numbers are missing.
+fn is_whole(chains: &Chains, tx: &TxId, lacking: u64) -> bool
+    requires { lacking ≡ missing (numbers_of tx.now (stored chains.now)) }
+    ensures { result ≡ is_complete tx.now (stored chains.now) }
+{
+    if lacking != 0 {
+        return false;
+    }
+    has_ends(chains, tx)
+}
+
+// What stands of a transaction once the event of this number came, behind its first one.
+fn one_more(chains: &Chains, tx: &TxId, seq: u32, first: u32, was: Standing, flow: Flow) -> Standing
+    requires less { IsOneLess was tx.now seq false (stored chains.now) }
+    requires first { slice_get (numbers_of tx.now (stored chains.now)) 0 ≡ Some first }
+    requires behind { first < seq }
+    requires bounded { (was.live ≤ 65536) × (was.missing ≤ 2147483648) }
+    ensures { result ≡ standing_with flow tx.now (stored chains.now) }
+{
+    let seq = u64::from(seq);
+    // Just behind the last number that was live before.
+    let behind = u64::from(first) + u64::from(was.live) + was.missing;
+    let lacking = if seq < behind {
+        was.missing - 1
+    } else {
+        was.missing + (seq - behind)
+    };
+    Standing {
+        live: was.live + 1,
+        evse: was.evse,
+        complete: is_whole(chains, tx, lacking),
+        missing: lacking,
+        flow,
+    }
+}
+
+// The same from what was kept of it, without a look at its last event; where its first one came, or one
+// that names an EVSE, from its events.
+pub(crate) fn standing_after(
+    chains: &Chains,
+    tx: &TxId,
+    seq: u32,
+    names: bool,
+    was: Option<Standing>,
+    flow: Flow,
+) -> Option<Standing>
+    requires { IfSome was (λ w. IsOneLess w tx.now seq names (stored chains.now)) }
+    ensures { result ≡ kept_with flow tx.now (stored chains.now) }
+{
+    match was {
+        Some(was) if !names && is_bounded(&was) => match chains.first(tx) {
+            Some(first) if first < seq => Some(one_more(chains, tx, seq, first, was, flow)),
+            _ => standing_of(chains, tx, flow),
+        },
+        _ => standing_of(chains, tx, flow),
     }
 }

@@ -9,10 +9,11 @@ ghost use Rattle.ledger_model.specs.Ranges.{greatest_evse};
 ghost use Rattle.transaction_map.specs.Map.{id_cmp};
 ghost use Rattle.station_ledger.specs.Moved.{sum_at, with_one, without_one, with_figures, without_figures, HasRoomAt, CountsAt, HaveRoom, DoCount, flow_in};
 ghost use Rattle.station_ledger.specs.Quarters.{readings_at};
-ghost use Rattle.station_ledger.specs.Sums.{keep, AreSummed, AreAllowed, IsToCome, IsToGo};
+ghost use Rattle.station_ledger.specs.Coming.{HasCome};
+ghost use Rattle.station_ledger.specs.Sums.{keep, AreStanding, AreSummed, AreAllowed, IsToCome, IsToGo};
 
 use crate::pairs::{Sides, add_across, add_pairs, take_across, take_pairs};
-use crate::standing::{Standing, standing_of};
+use crate::standing::{Standing, standing_after, standing_of};
 use crate::totals::{Change, EvseSum, move_at_evses, move_in_figures};
 use energy_flow::{Flow, Work};
 use event_chain::Chains;
@@ -113,9 +114,17 @@ fn replace_standing(sums: &mut Sums, tx: &TxId, change: &Change)
     move_in_figures(&mut sums.figures, change);
 }
 
-// Takes into all sums a live event that the chains have more.
-pub(crate) fn add_event(chains: &Chains, sums: &mut Sums, key: &Key, place: &Sides, work: &mut Work)
+// Takes into all sums a live event that the chains have more, which may name an EVSE.
+pub(crate) fn add_event(
+    chains: &Chains,
+    sums: &mut Sums,
+    key: &Key,
+    names: bool,
+    place: &Sides,
+    work: &mut Work,
+)
     requires within { AreAllowed chains.now.limits (stored chains.now) }
+    requires named { (es : List Entry) × (HasCome es chains.now key.now names × AreStanding chains.now.limits es sums.old.kept) }
     requires to_come { (es : List Entry) × (AreAllowed chains.now.limits es × (IsToCome es chains.now key.now place.now.before place.now.behind × AreSummed chains.now.limits es sums.old.kept sums.old.evses.items sums.old.period sums.old.quarters sums.old.energy sums.old.figures)) }
     ensures summed { (es : List Entry) → AreAllowed chains.now.limits es → IsToCome es chains.now key.now place.now.before place.now.behind → AreSummed chains.now.limits es sums.old.kept sums.old.evses.items sums.old.period sums.old.quarters sums.old.energy sums.old.figures → AreSummed chains.now.limits (stored chains.now) sums.new.kept sums.new.evses.items sums.new.period sums.new.quarters sums.new.energy sums.new.figures }
     ensures period { sums.new.period ≡ sums.old.period }
@@ -138,7 +147,7 @@ pub(crate) fn add_event(chains: &Chains, sums: &mut Sums, key: &Key, place: &Sid
     );
     sums.energy = sums.energy.plus(more).minus(less);
     let flow = traded(&was, more, less);
-    let is = standing_of(chains, tx, flow);
+    let is = standing_after(chains, tx, key.seq(), names, was, flow);
     replace_standing(sums, tx, &Change { was, is });
 }
 

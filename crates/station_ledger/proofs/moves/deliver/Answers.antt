@@ -1,10 +1,11 @@
-use Rattle.std.proofs.Common.{sym, ap, subst, ◌∙◌, arith}
+use Rattle.std.proofs.Common.{is_some, sym, ap, subst, ◌∙◌, arith}
 use Rattle.std.specs.FinMap as finite
 use Rattle.event_chain.specs.Chains.{stored}
 use Rattle.ledger_model.specs.Step.{events_after}
 use Rattle.ledger_model.specs.declared.command.Command.TheVariants.{Deliver}
-use Rattle.station_ledger.specs.Sums.{AreAllowed, AreSummed}
-use Rattle.station_ledger.proofs.Commands.{delivered, few_delivered, delivered_readings}
+use Rattle.station_ledger.specs.Coming.{HasCome}
+use Rattle.station_ledger.specs.Sums.{AreAllowed, AreStanding, AreSummed}
+use Rattle.station_ledger.proofs.Commands.{delivered, delivered_come, few_delivered, delivered_readings}
 use Rattle.station_ledger.proofs.moves.deliver.Goals as goal
 
 pub add_event-requires-clause-to_come : goal.add_event-requires-clause-to_come
@@ -27,3 +28,9 @@ pub returns-clause-work : goal.returns-clause-work
 returns-clause-work c =
     let old = c.args.chains.now in let new = c.insert.new.self in
     omega (arith, c.add_event.ensures.work, delivered_readings old new c.copied-at.result c.args.event.now (c.insert.ensures.events ∙ ap (λ k. events_after c.args.chains.now.events (Deliver k c.args.event.now)) (sym c.copied-at.ensures)))
+
+pub add_event-requires-clause-named : goal.add_event-requires-clause-named
+add_event-requires-clause-named c =
+    let old = c.args.chains.now in let new = c.insert.new.self in
+    let come = delivered_come old new c.copied-at.result c.neighbours-before.result.0 c.neighbours-before.result.1 c.neighbours-before.ensures.before c.neighbours-before.ensures.behind c.args.event.now (c.insert.ensures.events ∙ ap (λ k. events_after c.args.chains.now.events (Deliver k c.args.event.now)) (sym c.copied-at.ensures)) (ap (finite.get c.args.chains.now.events) c.copied-at.ensures ∙ c.requires.absent) in
+    (stored old, (subst (HasCome (stored old) new c.copied-at.result) (sym (c.is_some-names.ensures ∙ ap is_some c.evse.ensures.value)) come, subst (λ l. AreStanding l (stored old) c.args.sums.now.kept) (sym c.insert.ensures.limits) c.requires.summed.standing))

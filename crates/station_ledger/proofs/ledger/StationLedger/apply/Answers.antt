@@ -17,14 +17,14 @@ carry_out-requires-clause-before c =
 pub carry_out-requires-clause-after : goal.carry_out-requires-clause-after
 carry_out-requires-clause-after c =
     let l = c.self.inside in let k = c.self.invariant in let m = c.in-Accepted.changes in
-    let a = ap (λ (x : Ledger). answer x.limits x.content c.args.command) c.self.view_is ∙ sym c.in-Accepted.ensures in
+    let a = ap (λ (x : Ledger). answer x.limits x.content c.args.command) c.self.view_is ∙ sym (sym c.in-Accepted.is ∙ c.judge_at-answer.ensures) in
     let reached = reached_next l.limits (content_in l.chains l.changes) l.changes m c.args.command refl c.keeps_ranges.ensures k.reached a in
     subst (λ (b : Bounds). AreAllowed b (finite.entries (events_after l.chains.events c.args.command))) (sym k.limits_are) (allowed l.limits k.few_transactions k.few_events k.few_readings m (record { events = events_after l.chains.events c.args.command; changes = m }) reached)
 
 pub invariant_of-self : goal.invariant_of-self
 invariant_of-self c =
     let l = c.self.inside in let k = c.self.invariant in let m = c.in-Accepted.changes in let e = c.carry_out.ensures in let s = c.carry_out.new.sums in
-    let a = ap (λ (x : Ledger). answer x.limits x.content c.args.command) c.self.view_is ∙ sym c.in-Accepted.ensures in
+    let a = ap (λ (x : Ledger). answer x.limits x.content c.args.command) c.self.view_is ∙ sym (sym c.in-Accepted.is ∙ c.judge_at-answer.ensures) in
     let reached = reached_next l.limits (content_in l.chains l.changes) l.changes m c.args.command refl c.keeps_ranges.ensures k.reached a in
     let same = e.limits ∙ k.limits_are in
     record {

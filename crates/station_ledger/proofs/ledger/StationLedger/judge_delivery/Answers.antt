@@ -9,10 +9,10 @@ use Rattle.station_ledger.proofs.ledger.StationLedger.judge_delivery.Goals as go
 
 pub returns-then-same_as : goal.returns-then-same_as
 returns-then-same_as c =
-    let seen = sym (ap (option_map (λ (h : Held). h.1)) c.in-Some.is) ∙ c.event.ensures ∙ ap (λ (l : Ledger). finite.get l.content.events c.args.key.now) c.self.view_is in
+    let seen = sym (ap (option_map (λ (h : Held). h.1)) c.in-Some.is) ∙ c.look-found.ensures ∙ ap (λ (l : Ledger). finite.get l.content.events c.args.key.now) c.self.view_is in
     ap (λ b. cond b Repeat (Refused ConflictingEvent)) (sym c.if-same_as.true) ∙ answer_known _ _ c.args.key.now c.args.event.now _ _ _ seen c.same_as.ensures
 
 pub returns-else-same_as : goal.returns-else-same_as
 returns-else-same_as c =
-    let seen = sym (ap (option_map (λ (h : Held). h.1)) c.in-Some.is) ∙ c.event.ensures ∙ ap (λ (l : Ledger). finite.get l.content.events c.args.key.now) c.self.view_is in
+    let seen = sym (ap (option_map (λ (h : Held). h.1)) c.in-Some.is) ∙ c.look-found.ensures ∙ ap (λ (l : Ledger). finite.get l.content.events c.args.key.now) c.self.view_is in
     ap (λ b. cond b Repeat (Refused ConflictingEvent)) (sym c.if-same_as.false) ∙ answer_known _ _ c.args.key.now c.args.event.now _ _ _ seen c.same_as.ensures

@@ -1,0 +1,109 @@
+-- What is kept of a transaction, when one live event more comes.
+use Rattle.std.proofs.Common.{◌≡◌, ◌==◌, ℕ, ◌+◌, ◌<◌, ◌≤◌, Bool, true, false, cond, List, [], ◌∷◌, ◌++◌, Option, None, Some, IfSome, is_some, length, map, slice_get, refl, sym, ap, ◌∙◌, subst, arith, length-append}
+use Rattle.std.specs.List.{filter_map, cons_option}
+use Rattle.std.proofs.lemmas.List.{length-map, map-append}
+use Rattle.energy_flow.specs.Flow.{Energy}
+use Rattle.ledger_model.specs.Board.{last_or_none}
+use Rattle.ledger_model.specs.BoardLaws.{AreRising}
+use Rattle.ledger_model.specs.Content.{Entry, Stored, live_of}
+use Rattle.ledger_model.specs.Deltas.{IsOneMore, own_events, before_key, behind_key}
+use Rattle.ledger_model.specs.Evse.{first_or_none, evse_of}
+use Rattle.ledger_model.specs.Gaps.{numbers_of, missing}
+use Rattle.ledger_model.specs.Key.{KeyName}
+use Rattle.ledger_model.proofs.Callers.{live_with, live_without}
+use Rattle.ledger_model.proofs.GapLemmas.{missing-fills}
+use Rattle.event_chain.specs.Chains.{Chained, stored}
+use Rattle.station_ledger.specs.declared.standing.Standing.{Standing}
+use Rattle.station_ledger.specs.Standing.{standing_with, kept_with}
+use Rattle.station_ledger.specs.Coming.{HasCome, IsOneLess}
+use Rattle.station_ledger.proofs.EndNumbers.{first_is}
+
+-- The last of two lists.
+last_both : (ns : List ℕ) (m : ℕ) (ms : List ℕ) → last_or_none (ns ++ m ∷ ms) ≡ last_or_none (m ∷ ms)
+last_both [] m ms = refl
+last_both (n ∷ []) m ms = refl
+last_both (n ∷ k ∷ ns) m ms = last_both (k ∷ ns) m ms
+
+-- A number behind rising ones is above the last of them.
+last_below : (n : ℕ) (ns : List ℕ) (m : ℕ) → AreRising (n ∷ ns ++ m ∷ []) → last_or_none (n ∷ ns ++ []) < m
+last_below n [] m up = up.0
+last_below n (k ∷ ns) m up = last_below k ns m up.1
+
+-- The last of rising numbers is above the first.
+last_above : (n m : ℕ) (ms : List ℕ) → AreRising (n ∷ m ∷ ms) → n < last_or_none (m ∷ ms)
+last_above n m [] up = up.0
+last_above n m (k ∷ ms) up = omega (arith, up.0, last_above m k ms up.1)
+
+-- The back of rising numbers rises.
+back_rises : (ns : List ℕ) (m : ℕ) (ms : List ℕ) → AreRising (ns ++ m ∷ ms) → AreRising (m ∷ ms)
+back_rises [] m ms up = up
+back_rises (n ∷ []) m ms up = up.1
+back_rises (n ∷ k ∷ ns) m ms up = back_rises (k ∷ ns) m ms up.1
+
+-- Rising numbers without one of them rise.
+others_rise : (ns : List ℕ) (n : ℕ) (ms : List ℕ) → AreRising (ns ++ n ∷ ms) → AreRising (ns ++ ms)
+others_rise [] n [] up = tt
+others_rise [] n (m ∷ ms) up = up.1
+others_rise (k ∷ []) n [] up = tt
+others_rise (k ∷ []) n (m ∷ ms) up = (omega (arith, up.0, up.1.0), up.1.1)
+others_rise (k ∷ j ∷ ns) n ms up = (up.0, others_rise (j ∷ ns) n ms up.1)
+
+-- What is missing, by a number behind the first: it was missing, or it comes last.
+filled : (front back : List ℕ) (n f : ℕ) → AreRising (front ++ n ∷ back) → slice_get (front ++ n ∷ back) 0 ≡ Some f → f < n
+    → (n < f + length (front ++ back) + missing (front ++ back) → missing (front ++ n ∷ back) + 1 ≡ missing (front ++ back))
+    × (f + length (front ++ back) + missing (front ++ back) ≤ n → missing (front ++ n ∷ back) + (f + length (front ++ back) + missing (front ++ back)) ≡ missing (front ++ back) + n)
+filled [] back n f up first lt = absurd (omega (arith, (first_is (n ∷ back) f first).0, lt))
+filled (k ∷ front) [] n f up first lt =
+    let now = missing-fills (k ∷ front ++ n ∷ []) up (omega arith) in
+    let was = missing-fills (k ∷ front ++ []) (others_rise (k ∷ front) n [] up) (omega arith) in
+    let same = (first_is (k ∷ front ++ n ∷ []) f first).0 in
+    let last = last_both (k ∷ front) n [] in let low = last_below k front n up in
+    let long = length-append front (n ∷ []) in let short = length-append front [] in
+    ((λ le. omega (arith, now, was, same, last, low, long, short, le, lt)), (λ le. omega (arith, now, was, same, last, low, long, short, le, lt)))
+filled (k ∷ front) (m ∷ back) n f up first lt =
+    let now = missing-fills (k ∷ front ++ n ∷ m ∷ back) up (omega arith) in
+    let was = missing-fills (k ∷ front ++ m ∷ back) (others_rise (k ∷ front) n (m ∷ back) up) (omega arith) in
+    let same = (first_is (k ∷ front ++ n ∷ m ∷ back) f first).0 in
+    let last = last_both (k ∷ front) n (m ∷ back) in let before = last_both (k ∷ front) m back in
+    let high = last_above n m back (back_rises (k ∷ front) n (m ∷ back) up) in
+    let long = length-append front (n ∷ m ∷ back) in let short = length-append front (m ∷ back) in
+    ((λ le. omega (arith, now, was, same, last, before, high, long, short, le, lt)), (λ le. omega (arith, now, was, same, last, before, high, long, short, le, lt)))
+
+-- An event that names no EVSE is passed over.
+passed : (front : List Entry) (e : Entry) (back : List Entry) → e.1.event.evse ≡ None → filter_map (λ (x : Entry). x.1.event.evse) (front ++ e ∷ back) ≡ filter_map (λ (x : Entry). x.1.event.evse) (front ++ back)
+passed [] e back none = ap (λ (o : Option ℕ). cons_option o (filter_map (λ (x : Entry). x.1.event.evse) back)) none
+passed (f ∷ front) e back none = ap (cons_option f.1.event.evse) (passed front e back none)
+
+-- What is kept, where something is.
+kept_is : (flow : Energy) (tx : List ℕ) (es : List Entry) (was : Standing) → Some was ≡ kept_with flow tx es → was ≡ standing_with flow tx es
+kept_is flow tx es was h = elim (length (live_of tx es) == 0) as (λ b. Some was ≡ cond b None (Some (standing_with flow tx es)) → was ≡ standing_with flow tx es) [ true ↦ λ x. cc | false ↦ λ x. cc ] h
+
+-- What was kept of a transaction stands against its events once one more has come.
+pub one_less : (es : List Entry) (chains : Chained) (key : KeyName) (names : Bool) → HasCome es chains key names → AreRising (numbers_of key.tx (stored chains))
+    → (flow : Energy) (was : Standing) → Some was ≡ kept_with flow key.tx es → IsOneLess was key.tx key.seq names (stored chains)
+one_less es chains key names come up flow was kept =
+    let new = stored chains in let tx = key.tx in let e : Entry = (key, come.event) in let front = before_key key es in let back = behind_key key es in
+    let own = own_events tx front in let rest = own_events tx back in
+    let is = kept_is flow tx es was kept in
+    let with = live_with es new front e back come.one in let without = live_without es new front e back come.one in
+    let seq_of = λ (x : Entry). x.0.seq in
+    let now : numbers_of tx new ≡ map seq_of own ++ key.seq ∷ map seq_of rest = ap (map seq_of) with ∙ map-append seq_of own (e ∷ rest) in
+    let before : numbers_of tx es ≡ map seq_of own ++ map seq_of rest = ap (map seq_of) without ∙ map-append seq_of own rest in
+    let lives : was.live ≡ length (map seq_of own ++ map seq_of rest) = ap (λ (s : Standing). s.live) is ∙ sym (length-map (live_of tx es) seq_of) ∙ ap length before in
+    let gone : was.missing ≡ missing (map seq_of own ++ map seq_of rest) = ap (λ (s : Standing). s.missing) is ∙ ap missing before in
+    let rises = subst AreRising now up in
+    record {
+      live = omega (arith, ap length with, length-append own (e ∷ rest), ap (λ (s : Standing). s.live) is, ap length without, length-append own rest);
+      evse = λ none. ap (λ xs. first_or_none (filter_map (λ (x : Entry). x.1.event.evse) xs)) with ∙ ap first_or_none (passed own e rest (come.evse none))
+          ∙ sym (ap (λ (s : Standing). s.evse) is ∙ ap (λ xs. first_or_none (filter_map (λ (x : Entry). x.1.event.evse) xs)) without);
+      within = λ first at lt le. let so = (filled (map seq_of own) (map seq_of rest) key.seq first rises (ap (λ ns. slice_get ns 0) (sym now) ∙ at) lt).0 (omega (arith, le, lives, gone)) in omega (arith, so, ap missing now, gone);
+      beyond = λ first at lt le. let so = (filled (map seq_of own) (map seq_of rest) key.seq first rises (ap (λ ns. slice_get ns 0) (sym now) ∙ at) lt).1 (omega (arith, le, lives, gone)) in omega (arith, so, ap missing now, gone, lives);
+    }
+
+-- The same, where anything was kept.
+pub all_less : (es : List Entry) (chains : Chained) (key : KeyName) (names : Bool) → HasCome es chains key names → AreRising (numbers_of key.tx (stored chains))
+    → (tx : List ℕ) (seq : ℕ) → tx ≡ key.tx → seq ≡ key.seq → (flow : Energy) (was : Option Standing) → was ≡ kept_with flow tx es → IfSome was (λ w. IsOneLess w tx seq names (stored chains))
+all_less es chains key names come up tx seq tx_is seq_is flow None kept = tt
+all_less es chains key names come up tx seq tx_is seq_is flow (Some was) kept =
+    subst (λ t. IsOneLess was t seq names (stored chains)) (sym tx_is) (subst (λ n. IsOneLess was key.tx n names (stored chains)) (sym seq_is)
+    (one_less es chains key names come up flow was (kept ∙ ap (λ t. kept_with flow t es) tx_is)))

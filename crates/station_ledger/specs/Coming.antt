@@ -1,0 +1,22 @@
+-- What is kept of a transaction, and one live event that came since.
+use Rattle.std.specs.Prelude.{◌≡◌, ℕ, ◌+◌, ◌<◌, ◌≤◌, Bool, false, List, Some, None, length, slice_get}
+use Rattle.ledger_model.specs.Content.{Entry, Stored, live_of}
+use Rattle.ledger_model.specs.Deltas.{IsOneMore, before_key, behind_key}
+use Rattle.ledger_model.specs.Evse.{evse_of}
+use Rattle.ledger_model.specs.Gaps.{numbers_of, missing}
+use Rattle.ledger_model.specs.Key.{KeyName}
+use Rattle.event_chain.specs.Chains.{Chained, stored}
+use Rattle.station_ledger.specs.declared.standing.Standing.{Standing}
+
+-- One live event stands in the chains more, which may name an EVSE or not.
+pub record HasCome (es : List Entry) (chains : Chained) (key : KeyName) (names : Bool) : Type 0 where
+  pub event : Stored
+  pub one : IsOneMore es (stored chains) (before_key key es) (key, event) (behind_key key es)
+  pub evse : names ≡ false → event.event.evse ≡ None
+
+-- What was kept of a transaction before the live event of a number came, against its events since: behind the first one that number tells what is missing.
+pub record IsOneLess (was : Standing) (tx : List ℕ) (seq : ℕ) (names : Bool) (es : List Entry) : Type 0 where
+  pub live : length (live_of tx es) ≡ was.live + 1
+  pub evse : names ≡ false → evse_of tx es ≡ was.evse
+  pub within : (first : ℕ) → slice_get (numbers_of tx es) 0 ≡ Some first → first < seq → seq < first + was.live + was.missing → missing (numbers_of tx es) + 1 ≡ was.missing
+  pub beyond : (first : ℕ) → slice_get (numbers_of tx es) 0 ≡ Some first → first < seq → first + was.live + was.missing ≤ seq → missing (numbers_of tx es) + (first + was.live + was.missing) ≡ was.missing + seq
