@@ -1,4 +1,4 @@
 mod decimal;
 mod event;
 mod frame;
-mod json;
+mod marked;
