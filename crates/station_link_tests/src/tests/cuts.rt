@@ -46,8 +46,7 @@ fn lost_reply(rt: HostRuntime) -> Result<(), Fail> {
     Ok(())
 }
 
-// Why a session ends whose stream is cut off in its request, or in its frames, or takes no answer; and whether
-// there is a pass then.
+// A session whose stream fails there.
 fn served_cut<J: Naming, R: Threads + Wait + Clock>(
     rt: &R,
     alloc: Global,
@@ -71,6 +70,7 @@ fn served_cut<J: Naming, R: Threads + Wait + Clock>(
     Ok(serve(rt, alloc, desk, &NoGate, cut))
 }
 
+// Where a stream fails: in the request, in the frames behind it, or at the first write.
 #[derive(Clone, Copy)]
 enum Cut {
     InRequest,
