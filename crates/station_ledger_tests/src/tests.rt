@@ -7,8 +7,7 @@ mod scratch;
 use energy_flow::Work;
 use ledger_model::{Command, Event, Key, Kind, Limits, Moment, Period, Reading, TxId};
 use station_ledger::StationLedger;
-use std::alloc::{AllocError, Global};
-use std::test::Fail;
+use std::alloc::Global;
 
 // A command in short. An event has its transaction, its sequence number, its minute after ten o'clock
 // and its reading in watt-hours; number 0 is Started, all others are Updated. The others name an event
@@ -52,9 +51,9 @@ fn command(alloc: Global, asked: Asked) -> Option<Command> {
     })
 }
 
-fn opened(alloc: Global) -> Result<StationLedger, Fail> {
-    let limits = Limits::new(4, 8, 8, 9).ok_or("no limits")?;
-    Ok(StationLedger::open(alloc, limits, Period::default())?)
+fn opened(alloc: Global) -> Option<StationLedger> {
+    let limits = Limits::new(4, 8, 8, 9)?;
+    StationLedger::open(alloc, limits, Period::default()).ok()
 }
 
 const MIDDLE: Asked = Asked::Deliver("T1", 1, 14, Some(1_200));
@@ -93,38 +92,25 @@ fn takes(
     true
 }
 
-// Tells whether each command of a ledger takes its differences.
-fn takes_differences(alloc: Global, work: &mut Work) -> Result<bool, Fail> {
-    let mut ledger = opened(alloc)?;
-    Ok(takes(&mut ledger, alloc, DIFFERENCES, work))
-}
-
-#[test]
-fn differences_of_a_late_event(rt: HostRuntime) -> Result<(), Fail> {
-    let mut work = Work::open(&rt);
-    assert!(rt; takes_differences(rt.alloc(), &mut work)?);
-    Ok(())
-}
-
-// What the ledger's board shows after the commands; it is asked for once more where it found no memory.
-fn shown(ledger: &mut StationLedger, alloc: Global, work: &mut Work) -> Result<u64, AllocError> {
-    takes(ledger, alloc, DIFFERENCES, work);
+// What the board of the ledger shows; it is asked for once more where it found no memory.
+fn shown(ledger: &StationLedger, alloc: Global) -> Option<u64> {
     let board = match ledger.board(alloc) {
         Ok(board) => board,
-        Err(_) => ledger.board(alloc)?,
+        Err(_) => ledger.board(alloc).ok()?,
     };
-    Ok(board.figures().up)
+    Some(board.figures().up)
 }
 
-fn shown_by_new(alloc: Global, work: &mut Work) -> Result<u64, Fail> {
+// Tells whether each command of a new ledger takes its differences, and what its board shows then.
+fn after_all(alloc: Global, work: &mut Work) -> Option<(bool, u64)> {
     let mut ledger = opened(alloc)?;
-    Ok(shown(&mut ledger, alloc, work)?)
+    let are_taken = takes(&mut ledger, alloc, DIFFERENCES, work);
+    Some((are_taken, shown(&ledger, alloc)?))
 }
 
-// Run with each allocation refused in turn: a board that finds no memory leaves the ledger as it was.
+// Run with each allocation refused in turn, too: a board that finds no memory leaves the ledger as it was.
 #[test]
-fn a_board_without_memory_changes_nothing(rt: HostRuntime) -> Result<(), Fail> {
+fn differences_of_a_late_event(rt: HostRuntime) {
     let mut work = Work::open(&rt);
-    assert!(rt; shown_by_new(rt.alloc(), &mut work)? == 600_000);
-    Ok(())
+    assert!(rt; after_all(rt.alloc(), &mut work) == Some((true, 600_000)));
 }

@@ -8,29 +8,33 @@ mod texts;
 ghost use Rattle.std.specs.Prelude.{ℕ, ◌<◌, length};
 ghost use Rattle.site_book.specs.Tables.{HasTable, NamedBy};
 
+use at_once::beside_operator;
+use codes::all_taken;
+use cuts::{cut_off, sends_again};
 use desk_fixtures::{opened, plan_of};
 use ledger_model::Moment;
 use memory::{Frames, Memory, Peer, TEXT};
+use sims::each_text;
 use site_book::{Naming, Tables};
 use site_desk::{Desk, Gate, Pass, Plan};
 use station_link::{MomentSource, SessionEnd, Why, serve_connection};
-use std::alloc::{AllocError, Global};
+use std::alloc::Global;
 use std::cell::RefCell;
 use std::marker::Brand;
-use std::process::Abort;
 use std::sync::Wait;
-use std::test::Fail;
 use std::thread::Threads;
 use std::time::Clock;
+use texts::each_kind;
 
 // The line of a request that offers the subprotocol beside another.
 const OFFER: &str = "Sec-WebSocket-Protocol: ocpp1.6, ocpp2.0.1\r\n";
 
 // A client's request at a path, with this line.
-fn head(alloc: Global, path: &str, line: &str) -> Result<String, AllocError> {
-    format!(in alloc;
+fn head(alloc: Global, path: &str, line: &str) -> Option<String> {
+    let text = format!(in alloc;
         "GET {path} HTTP/1.1\r\nHost: h\r\nConnection: Upgrade\r\nUpgrade: websocket\r\nSec-WebSocket-Version: 13\r\nSec-WebSocket-Key: dGhlIHNhbXBsZSBub25jZQ==\r\n{line}\r\n"
-    )
+    );
+    text.ok()
 }
 
 // Transaction T1: its first event at ten o'clock, and one fourteen minutes later.
@@ -50,43 +54,58 @@ impl MomentSource for TenOClock {
     }
 }
 
-// What is played on the desk of the plan, under the naming that its types carry: the passes that it leaves, where
-// the desk is to close with them.
-trait Scene {
-    fn play<J: Naming, R: Abort + Threads + Wait + Clock>(
-        rt: &R,
-        alloc: Global,
-        desk: &Desk<J>,
-    ) -> Result<[Option<Pass>; 3], Fail>;
+// What is played on the desk of the plan.
+#[derive(Clone, Copy)]
+enum Scene {
+    BesideOperator,
+    NoPassLeft,
+    LostReply,
+    CutOff,
+    EachText,
+    EachKind,
 }
 
-// Stations A and B of one site.
-fn plan() -> Option<Plan> {
-    plan_of(&["north"], &[(0, "A"), (0, "B")], 0)
-}
-
-// How many changes A and B made, where the desk closes with the passes of the scene.
-fn play<P: Scene, R: Abort + Threads + Wait + Clock>(
+// The passes that a scene leaves, or none where something else was seen.
+fn play<J: Naming + Send + Sync, R: Threads + Wait + Clock + Sync>(
     rt: &R,
     alloc: Global,
-) -> Result<Option<(u64, u64)>, Fail> {
-    let plan = plan().ok_or("no plan")?;
-    let tables = Tables::make(alloc, plan.sites.len() as u16)?;
-    play_on::<P, Brand, R>(rt, alloc, tables, &plan)
+    desk: &Desk<J>,
+    scene: Scene,
+) -> Option<[Option<Pass>; 3]> {
+    match scene {
+        Scene::BesideOperator => beside_operator(rt, alloc, desk),
+        Scene::NoPassLeft => all_taken(rt, alloc, desk),
+        Scene::LostReply => sends_again(rt, alloc, desk),
+        Scene::CutOff => cut_off(rt, alloc, desk),
+        Scene::EachText => each_text(rt, alloc, desk),
+        Scene::EachKind => each_kind(rt, alloc, desk),
+    }
 }
 
-fn play_on<P: Scene, J: Naming, R: Abort + Threads + Wait + Clock>(
+fn at_desk<J: Naming + Send + Sync, R: Threads + Wait + Clock + Sync>(
     rt: &R,
     alloc: Global,
     tables: Tables,
     plan: &Plan,
-) -> Result<Option<(u64, u64)>, Fail>
+    scene: Scene,
+) -> Option<Option<(u64, u64)>>
     requires named { NamedBy J.table tables }
     requires there { (site : ℕ) → site < length plan.now.sites.items → HasTable tables site }
 {
-    let (desk, _viewers) = opened::<J>(alloc, tables, plan).ok_or("no desk")?;
-    let passes = P::play(rt, alloc, &desk)?;
-    Ok(changes_at_close(alloc, desk, passes))
+    let (desk, _viewers) = opened::<J>(alloc, tables, plan)?;
+    let passes = play(rt, alloc, &desk, scene)?;
+    Some(changes_at_close(alloc, desk, passes))
+}
+
+// How many changes the stations A and B of one site made, where the desk closes with the passes of the scene.
+fn plays<R: Threads + Wait + Clock + Sync>(
+    rt: &R,
+    alloc: Global,
+    scene: Scene,
+) -> Option<Option<(u64, u64)>> {
+    let plan = plan_of(&["north"], &[(0, "A"), (0, "B")], 0)?;
+    let tables = Tables::make(alloc, plan.sites.len() as u16).ok()?;
+    at_desk::<Brand, R>(rt, alloc, tables, &plan, scene)
 }
 
 // A session that was served: how it ended, and what the server wrote.
@@ -134,19 +153,19 @@ fn serve_frames<J: Naming, R: Threads + Wait + Clock, G: Gate>(
     gate: &G,
     request: (&str, &str),
     frames: &[u8],
-) -> Result<Served, AllocError> {
+) -> Option<Served> {
     let head = head(alloc, request.0, request.1)?;
     let peer = Peer::of(head.as_str().as_bytes(), frames);
-    Ok(serve(rt, alloc, desk, gate, peer))
+    Some(serve(rt, alloc, desk, gate, peer))
 }
 
 // Text messages of a client, or of a server.
-fn text_frames(alloc: Global, of_client: bool, texts: &[&str]) -> Result<Frames, AllocError> {
+fn text_frames(alloc: Global, of_client: bool, texts: &[&str]) -> Option<Frames> {
     let mut frames = Frames::of(alloc, of_client);
     for text in texts {
-        frames.add(TEXT, text.as_bytes())?;
+        frames.add(TEXT, text.as_bytes()).ok()?;
     }
-    Ok(frames)
+    Some(frames)
 }
 
 fn serve<J: Naming, R: Threads + Wait + Clock, G: Gate>(

@@ -2,65 +2,70 @@
 //! profile give them are rows of the program.
 
 use ocppj_frame::{Action, Incoming, read_frame};
-use std::test::Fail;
+use std::alloc::Global;
 
-// The reply, or which answer it is otherwise.
-fn shown(incoming: &Incoming) -> &str {
-    match incoming {
-        Incoming::Call(_) => "call",
-        Incoming::Silent => "silent",
-        Incoming::Reply { text, .. } => text.as_str(),
+const ANSWERS: [(&str, &str); 4] = [
+    (r#"[2,"a","Heartbeat",{"b":[1,"c"]}]"#, "call"),
+    (r#"[4,"a",{}]"#, "silent"),
+    (
+        r#"[2,"a","Nope",{"b":[1,"c"]}]"#,
+        r#"[4,"a","NotImplemented","UnknownAction",{}]"#,
+    ),
+    ("[2,", r#"[4,"-1","RpcFrameworkError","NotJson",{}]"#),
+];
+
+const OUT_OF_MEMORY: &str = r#"[4,"-1","InternalError","OutOfMemory",{}]"#;
+
+// Tells whether a text gets its answer, or the reply that tells want of memory.
+fn is_answered(alloc: Global, text: &str, answer: &str) -> bool {
+    match read_frame(alloc, text) {
+        Incoming::Call(_) => answer == "call",
+        Incoming::Silent => answer == "silent",
+        Incoming::Reply { text, memory } => {
+            text.as_str() == if memory { OUT_OF_MEMORY } else { answer }
+        }
     }
 }
 
 // Each allocation refused in turn, by hand: each text gets its answer, or the reply that tells OutOfMemory.
 #[test]
 fn refused_memory(rt: HostRuntime) {
-    for (text, answer) in [
-        (r#"[2,"a","Heartbeat",{"b":[1,"c"]}]"#, "call"),
-        (r#"[4,"a",{}]"#, "silent"),
-        (
-            r#"[2,"a","Nope",{"b":[1,"c"]}]"#,
-            r#"[4,"a","NotImplemented","UnknownAction",{}]"#,
-        ),
-        ("[2,", r#"[4,"-1","RpcFrameworkError","NotJson",{}]"#),
-    ] {
-        let incoming = read_frame(rt.alloc(), text);
-        let right = match &incoming {
-            Incoming::Reply { memory: true, .. } => r#"[4,"-1","InternalError","OutOfMemory",{}]"#,
-            _ => answer,
-        };
-        assert_eq!(rt; shown(&incoming), right, "at {text}");
+    for (text, answer) in &ANSWERS {
+        assert!(rt; is_answered(rt.alloc(), text, answer), "at {text}");
+    }
+}
+
+const CALLS: [(&str, Action); 5] = [
+    (
+        r#"[2,"a","BootNotification",{"b":1}]"#,
+        Action::BootNotification,
+    ),
+    (r#"[2,"a","Heartbeat",{"b":1}]"#, Action::Heartbeat),
+    (
+        r#"[2,"a","StatusNotification",{"b":1}]"#,
+        Action::StatusNotification,
+    ),
+    (r#"[2,"a","MeterValues",{"b":1}]"#, Action::MeterValues),
+    (
+        r#"[2,"a","TransactionEvent",{"b":1}]"#,
+        Action::TransactionEvent,
+    ),
+];
+
+// Tells whether a text is a call of this action with id `a`, whose payload has 1 under `b`.
+fn is_call(alloc: Global, text: &str, action: Action) -> bool {
+    match read_frame(alloc, text) {
+        Incoming::Call(call) => {
+            let number = call.payload().field("b").and_then(|node| node.number());
+            call.id() == "a" && call.action() == action && number == Some("1")
+        }
+        _ => false,
     }
 }
 
 #[test]
-fn always_out_of_memory(rt: HostRuntime) -> Result<(), Fail> {
-    for (text, action) in [
-        (
-            r#"[2,"a","BootNotification",{"b":1}]"#,
-            Action::BootNotification,
-        ),
-        (r#"[2,"a","Heartbeat",{"b":1}]"#, Action::Heartbeat),
-        (
-            r#"[2,"a","StatusNotification",{"b":1}]"#,
-            Action::StatusNotification,
-        ),
-        (r#"[2,"a","MeterValues",{"b":1}]"#, Action::MeterValues),
-        (
-            r#"[2,"a","TransactionEvent",{"b":1}]"#,
-            Action::TransactionEvent,
-        ),
-    ] {
-        let Incoming::Call(call) = read_frame(rt.alloc(), text) else {
-            return Err("no call")?;
-        };
-        assert_eq!(rt; call.id(), "a");
-        assert_eq!(rt; call.action(), action);
-        assert_eq!(rt;
-            call.payload().field("b").and_then(|node| node.number()),
-            Some("1")
-        );
+fn always_out_of_memory(rt: HostRuntime) {
+    for (text, action) in &CALLS {
+        assert!(rt; is_call(rt.alloc(), text, *action), "at {text}");
     }
-    Ok(())
 }

@@ -4,7 +4,7 @@ use event_chain::{Chains, Found, Room, TxWalk};
 use gap_list::{Gaps, NumberWalk};
 use ledger_model::{Event, EvseId, Key, Kind, Limits, Moment, Reading, TxId};
 use plain_list::{Answers, PlainList};
-use std::alloc::{AllocError, Global};
+use std::alloc::Global;
 use std::test::Fail;
 
 // The first moment of 2026.
@@ -12,45 +12,60 @@ fn new_year() -> Option<Moment> {
     Moment::new(1_767_225_600_000_000_000)
 }
 
-// A run of one reading.
-fn one_reading(alloc: Global, reading: Reading) -> Result<Vec<Reading>, AllocError> {
-    let mut readings = Vec::new(alloc);
-    readings.push(reading)?;
-    Ok(readings)
-}
-
 // A Started event at EVSE 3, with one reading.
-fn event(alloc: Global) -> Result<Event, Fail> {
-    let moment = new_year().ok_or("no moment")?;
-    let reading = Reading::new(moment, 5).ok_or("no reading")?;
-    let readings = one_reading(alloc, reading)?;
-    Ok(
-        Event::new(Kind::Started, moment, EvseId::new(3), readings)
-            .ok()
-            .ok_or("no event")?,
-    )
+fn event(alloc: Global) -> Option<Event> {
+    let moment = new_year()?;
+    let mut readings = Vec::new(alloc);
+    readings.push(Reading::new(moment, 5)?).ok()?;
+    Event::new(Kind::Started, moment, EvseId::new(3), readings).ok()
 }
 
 // Chains for so many transactions, events and readings.
-fn chains(alloc: Global, transactions: u64, events: u64, readings: u64) -> Result<Chains, Fail> {
-    let limits = Limits::new(transactions, events, readings, 9).ok_or("no limits")?;
-    Ok(Chains::open(alloc, &limits)?)
+fn chains(alloc: Global, transactions: u64, events: u64, readings: u64) -> Option<Chains> {
+    let limits = Limits::new(transactions, events, readings, 9)?;
+    Chains::open(alloc, &limits).ok()
 }
 
-// Chains, and the event that is put in.
-#[derive(Drop)]
-struct Scene {
-    chains: Chains,
-    sent: Event,
+// What is done with chains that were just opened.
+#[derive(Clone, Copy)]
+enum Scene {
+    SmallArena,
+    FirstLimit,
+    OutOfOrder,
+    Emptied,
+    Each,
 }
 
-// Chains for so many transactions, and as many readings as events.
-fn opened(alloc: Global, transactions: u64, events: u64) -> Result<Scene, Fail> {
-    let chains = chains(alloc, transactions, events, events)?;
-    Ok(Scene {
-        chains,
-        sent: event(alloc)?,
-    })
+impl Scene {
+    // For how many transactions, and events with a reading each, the chains have room.
+    fn room(self) -> (u64, u64) {
+        match self {
+            Scene::SmallArena | Scene::FirstLimit => (1, 2),
+            Scene::OutOfOrder => (4, 16),
+            Scene::Emptied => (1, 1),
+            Scene::Each => (2, 4),
+        }
+    }
+
+    // Tells whether each answer was the right one.
+    fn play(self, chains: &mut Chains, sent: &Event) -> bool {
+        match self {
+            Scene::SmallArena => puts_the_later_number_first(chains, sent),
+            Scene::FirstLimit => refuses_in_order(chains, sent),
+            Scene::OutOfOrder => voids_and_restores(chains, sent),
+            Scene::Emptied => gives_the_place_back(chains, sent),
+            Scene::Each => answers_for_each(chains, sent),
+        }
+    }
+}
+
+// Opens chains and plays a scene with them; tells whether all was right.
+fn plays(alloc: Global, scene: Scene) -> bool {
+    let (transactions, events) = scene.room();
+    match (chains(alloc, transactions, events, events), event(alloc)) {
+        (Some(mut chains), Some(sent)) => scene.play(&mut chains, &sent),
+        _ => false,
+    }
 }
 
 // The key of a transaction and a number below 2^31.
@@ -187,8 +202,7 @@ fn walks_over(walk: &TxWalk, numbers: &[u32]) -> bool {
     place.is_none()
 }
 
-fn puts_the_later_number_first(scene: &mut Scene) -> bool {
-    let (chains, sent) = (&mut scene.chains, &scene.sent);
+fn puts_the_later_number_first(chains: &mut Chains, sent: &Event) -> bool {
     fill(chains, "a", &[2, 0], sent)
         && is_run(chains, "a", 0, 2, 2)
         && stores(chains, 2, 2)
@@ -196,14 +210,11 @@ fn puts_the_later_number_first(scene: &mut Scene) -> bool {
 }
 
 #[test]
-fn small_arena_in_chains(rt: HostRuntime) -> Result<(), Fail> {
-    let mut scene = opened(rt.alloc(), 1, 2)?;
-    assert!(rt; puts_the_later_number_first(&mut scene));
-    Ok(())
+fn small_arena_in_chains(rt: HostRuntime) {
+    assert!(rt; plays(rt.alloc(), Scene::SmallArena));
 }
 
-fn refuses_in_order(scene: &mut Scene) -> bool {
-    let (chains, sent) = (&mut scene.chains, &scene.sent);
+fn refuses_in_order(chains: &mut Chains, sent: &Event) -> bool {
     put(chains, "a", 2, sent)
         && room(chains, "a", 1) == Some(Room::Fits)
         && room(chains, "a", 2) == Some(Room::NoReading)
@@ -213,14 +224,11 @@ fn refuses_in_order(scene: &mut Scene) -> bool {
 }
 
 #[test]
-fn the_first_limit_that_is_passed_refuses(rt: HostRuntime) -> Result<(), Fail> {
-    let mut scene = opened(rt.alloc(), 1, 2)?;
-    assert!(rt; refuses_in_order(&mut scene));
-    Ok(())
+fn the_first_limit_that_is_passed_refuses(rt: HostRuntime) {
+    assert!(rt; plays(rt.alloc(), Scene::FirstLimit));
 }
 
-fn voids_and_restores(scene: &mut Scene) -> bool {
-    let (chains, sent) = (&mut scene.chains, &scene.sent);
+fn voids_and_restores(chains: &mut Chains, sent: &Event) -> bool {
     fill(chains, "t", &[3, 0, 7, 1, 6, 2, 5, 4], sent)
         && void(chains, "t", 4)
         && found(chains, "t", 4) == Some(Found::Voided)
@@ -233,14 +241,11 @@ fn voids_and_restores(scene: &mut Scene) -> bool {
 }
 
 #[test]
-fn events_out_of_order(rt: HostRuntime) -> Result<(), Fail> {
-    let mut scene = opened(rt.alloc(), 4, 16)?;
-    assert!(rt; voids_and_restores(&mut scene));
-    Ok(())
+fn events_out_of_order(rt: HostRuntime) {
+    assert!(rt; plays(rt.alloc(), Scene::OutOfOrder));
 }
 
-fn gives_the_place_back(scene: &mut Scene) -> bool {
-    let (chains, sent) = (&mut scene.chains, &scene.sent);
+fn gives_the_place_back(chains: &mut Chains, sent: &Event) -> bool {
     put(chains, "a", 7, sent)
         && void(chains, "a", 7)
         && !put(chains, "b", 0, sent)
@@ -251,10 +256,8 @@ fn gives_the_place_back(scene: &mut Scene) -> bool {
 }
 
 #[test]
-fn an_emptied_transaction_gives_its_place_back(rt: HostRuntime) -> Result<(), Fail> {
-    let mut scene = opened(rt.alloc(), 1, 1)?;
-    assert!(rt; gives_the_place_back(&mut scene));
-    Ok(())
+fn an_emptied_transaction_gives_its_place_back(rt: HostRuntime) {
+    assert!(rt; plays(rt.alloc(), Scene::Emptied));
 }
 
 // Tells whether the first two transactions are `a` and `b`.
@@ -274,8 +277,7 @@ fn reading(chains: &Chains, tx: &str, seq: u32) -> Option<Reading> {
     chains.readings(&key(tx, seq)?).next()
 }
 
-fn answers_for_each(scene: &mut Scene) -> bool {
-    let (chains, sent) = (&mut scene.chains, &scene.sent);
+fn answers_for_each(chains: &mut Chains, sent: &Event) -> bool {
     put(chains, "b", 1, sent)
         && put(chains, "a", 0, sent)
         && lists_a_then_b(chains)
@@ -286,10 +288,8 @@ fn answers_for_each(scene: &mut Scene) -> bool {
 }
 
 #[test]
-fn each_transaction_is_answered_for(rt: HostRuntime) -> Result<(), Fail> {
-    let mut scene = opened(rt.alloc(), 2, 4)?;
-    assert!(rt; answers_for_each(&mut scene));
-    Ok(())
+fn each_transaction_is_answered_for(rt: HostRuntime) {
+    assert!(rt; plays(rt.alloc(), Scene::Each));
 }
 
 // A generator of numbers below 2^31 that look random: a linear congruence modulo 2^64.
@@ -308,28 +308,50 @@ impl Random {
     }
 }
 
-// An event with up to two readings, all told by a number.
-fn event_of(alloc: Global, number: u32) -> Result<Event, Fail> {
-    let moment = new_year().ok_or("no moment")?;
+// Up to two readings, told by a number.
+fn readings_of(alloc: Global, moment: Moment, number: u32) -> Option<Vec<Reading>> {
     let mut readings = Vec::new(alloc);
     for step in 0..number % 3 {
         let level = u64::from(number) * 4 + u64::from(step);
-        readings.push(Reading::new(moment, level).ok_or("no reading")?)?;
+        readings.push(Reading::new(moment, level)?).ok()?;
     }
-    let kind = match number / 3 % 4 {
+    Some(readings)
+}
+
+// The kind that a number tells.
+fn kind_of(number: u32) -> Kind {
+    match number % 4 {
         0 => Kind::Started,
         1 => Kind::Ended,
         _ => Kind::Updated,
-    };
-    let evse = match number / 12 % 5 {
-        0 => EvseId::new((1 + number / 60 % 64) as u8),
+    }
+}
+
+// The EVSE that a number tells, for one in five.
+fn evse_of(number: u32) -> Option<EvseId> {
+    match number % 5 {
+        0 => EvseId::new((1 + number / 5 % 64) as u8),
         _ => None,
-    };
-    Ok(
-        Event::new(kind, moment, evse, readings)
-            .ok()
-            .ok_or("no event")?,
-    )
+    }
+}
+
+// An event with up to two readings, all told by a number.
+fn event_of(alloc: Global, number: u32) -> Option<Event> {
+    let moment = new_year()?;
+    let readings = readings_of(alloc, moment, number)?;
+    Event::new(kind_of(number / 3), moment, evse_of(number / 12), readings).ok()
+}
+
+// The number and the name of one of six transactions.
+fn transaction_of(number: u32) -> (u32, &'static str) {
+    match number % 6 {
+        0 => (1, "a"),
+        1 => (2, "b"),
+        2 => (3, "c"),
+        3 => (4, "d"),
+        4 => (5, "e"),
+        _ => (6, "f"),
+    }
 }
 
 // Chains, and a plain list that is to hold the same.
@@ -340,75 +362,71 @@ struct Pair {
 }
 
 impl Pair {
-    // Changes both in one way that an event of this number may take.
-    fn change(
-        &mut self,
-        key: Key,
-        tx: u32,
-        event: &Event,
-        chance: u32,
-    ) -> Result<bool, AllocError> {
+    // Changes both in one way that the event's key may take.
+    fn change(&mut self, key: Key, tx: u32, event: &Event, chance: u32) -> Option<bool> {
         let seq = key.seq();
         match self.chains.find(&key) {
             None => {
                 if put_key(&mut self.chains, key, event) {
-                    self.plain.put(tx, seq, event)?;
+                    self.plain.put(tx, seq, event).ok()?;
                 }
-                Ok(true)
+                Some(true)
             }
             Some(Found::Live) => {
                 self.plain.mark(tx, seq, chance % 2 == 0);
-                Ok(chance % 2 == 1 || void_key(&mut self.chains, &key))
+                Some(chance % 2 == 1 || void_key(&mut self.chains, &key))
             }
             Some(Found::Voided) if chance % 2 == 0 => {
                 self.plain.mark(tx, seq, false);
-                Ok(restore_key(&mut self.chains, &key))
+                Some(restore_key(&mut self.chains, &key))
             }
             Some(Found::Voided) => {
                 self.plain.take(tx, seq);
-                Ok(erase_key(&mut self.chains, &key))
+                Some(erase_key(&mut self.chains, &key))
             }
         }
     }
 
+    // Tells whether both answer the same of a key.
+    fn answers_agree(&self, key: &Key, tx: u32, readings: usize) -> bool {
+        Answers::of(&self.chains, key, readings) == self.plain.answers(tx, key.seq(), readings)
+    }
+
     // Tells whether a walk goes over the live numbers that the plain list has.
-    fn walk_agrees(&self, alloc: Global, key: &Key, tx: u32) -> Result<bool, AllocError> {
-        let numbers = self.plain.numbers(alloc, tx)?;
-        Ok(walks_over(&self.chains.walk(key.tx()), &numbers))
+    fn walk_agrees(&self, alloc: Global, key: &Key, tx: u32) -> Option<bool> {
+        let numbers = self.plain.numbers(alloc, tx).ok()?;
+        Some(walks_over(&self.chains.walk(key.tx()), &numbers))
     }
 
     // One call at a random number of a random transaction, and whether all answers agree before it.
-    fn call(&mut self, alloc: Global, random: &mut Random) -> Result<bool, Fail> {
-        let (tx, name) = match random.next() % 6 {
-            0 => (1, "a"),
-            1 => (2, "b"),
-            2 => (3, "c"),
-            3 => (4, "d"),
-            4 => (5, "e"),
-            _ => (6, "f"),
-        };
+    fn call(&mut self, alloc: Global, random: &mut Random) -> Option<bool> {
+        let (tx, name) = transaction_of(random.next());
         // The last two transactions have few events, so they come and go.
         let seq = random.next() % if tx < 5 { 150 } else { 2 };
-        let key = key(name, seq).ok_or("no key")?;
+        let key = key(name, seq)?;
         let event = event_of(alloc, random.next())?;
-        let readings = event.readings().len();
-        let agree = Answers::of(&self.chains, &key, readings)
-            == self.plain.answers(tx, seq, readings);
+        let agree = self.answers_agree(&key, tx, event.readings().len());
         let walked = random.next() % 50 > 0 || self.walk_agrees(alloc, &key, tx)?;
-        let changed = self.change(key, tx, &event, random.next())?;
-        Ok(agree && walked && changed)
+        Some(agree && walked && self.change(key, tx, &event, random.next())?)
+    }
+
+    // Makes so many random calls; tells the first that was not answered alike.
+    fn first_difference(&mut self, alloc: Global, calls: u32) -> Option<u32> {
+        let mut random = Random { state: 17 };
+        for call in 0..calls {
+            if self.call(alloc, &mut random) != Some(true) {
+                return Some(call);
+            }
+        }
+        None
     }
 }
 
 #[test]
 fn random_calls_against_a_plain_list(rt: HostRuntime) -> Result<(), Fail> {
-    let mut pair = Pair {
-        chains: chains(rt.alloc(), 5, 400, 350)?,
-        plain: PlainList::open(rt.alloc(), 5, 400, 350),
-    };
-    let mut random = Random { state: 17 };
-    for call in 0..100_000 {
-        assert!(rt; pair.call(rt.alloc(), &mut random)?, "call {call}");
-    }
+    let chains = chains(rt.alloc(), 5, 400, 350).ok_or("no chains")?;
+    let plain = PlainList::open(rt.alloc(), 5, 400, 350);
+    let mut pair = Pair { chains, plain };
+    assert_eq!(rt; pair.first_difference(rt.alloc(), 100_000), None);
     Ok(())
 }

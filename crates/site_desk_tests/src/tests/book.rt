@@ -5,11 +5,17 @@ use ledger_model::{Figures, Limits};
 use site_book::{Naming, SiteBook, Tables, Told, Viewer};
 use std::alloc::Global;
 use std::marker::Brand;
-use std::process::Abort;
 use std::sync::Wait;
-use std::test::Fail;
 use std::thread;
 use std::thread::Threads;
+
+// What is done with a book of two rows and its two viewers.
+#[derive(Clone, Copy)]
+enum Scene {
+    Rows,
+    Late,
+    Threads,
+}
 
 fn events(events: u64) -> Figures {
     Figures {
@@ -57,26 +63,6 @@ fn is_taken<J: Naming>(book: &mut SiteBook<J>, viewer: Viewer<J>) -> bool {
     is_mine
 }
 
-#[test]
-fn posts_and_plans(rt: HostRuntime) -> Result<(), Fail> {
-    let tables = Tables::make(rt.alloc(), 2)?;
-    two_rows::<Brand, _>(&rt, rt.alloc(), tables)
-}
-
-fn two_rows<J: Naming, R: Abort>(rt: &R, alloc: Global, mut tables: Tables) -> Result<(), Fail>
-    requires named { NamedBy J.table tables }
-    requires there { HasTable tables 1 }
-{
-    let limits = default_limits().ok_or("no limits")?;
-    let (book, mut viewers) = SiteBook::<J>::open(alloc, &mut tables, 1, &[limits, limits], 1)?;
-    assert!(rt; tables.has(0) && !tables.has(1) && !tables.has(2));
-    assert!(rt; is_new(&book, &limits), "the book");
-    let mut viewer = viewers.pop().ok_or("no viewer")?;
-    assert!(rt; viewers.is_empty() && viewer.site() == 1 && viewer.glance() == Figures::zero());
-    assert!(rt; three_posts(book, viewer, &limits) == Some(true));
-    Ok(())
-}
-
 // Whether this is a book of site 1 with two rows of these limits, to which nothing was posted.
 fn is_new<J: Naming>(book: &SiteBook<J>, limits: &Limits) -> bool {
     let other = Limits::new(1_024, 16_384, 16_384, 9);
@@ -85,20 +71,70 @@ fn is_new<J: Naming>(book: &SiteBook<J>, limits: &Limits) -> bool {
     book.site() == 1 && book.totals() == Figures::zero() && holds && !holds_other
 }
 
+// Whether the viewer is one of site 1, and saw nothing yet.
+fn is_blank<J: Naming>(viewer: &mut Viewer<J>) -> bool {
+    viewer.site() == 1 && viewer.glance() == Figures::zero()
+}
+
+// Plays a scene; tells whether all was as it should be, `None` where a post is refused.
+fn play<J: Naming + Send + Sync, R: Threads + Wait + Sync>(
+    rt: &R,
+    book: &mut SiteBook<J>,
+    one: &mut Viewer<J>,
+    other: &mut Viewer<J>,
+    scene: Scene,
+) -> Option<bool> {
+    let limits = default_limits()?;
+    if !is_new(book, &limits) || !is_blank(one) {
+        return None;
+    }
+    match scene {
+        Scene::Rows => three_posts(book, one, &limits),
+        Scene::Late => sees_late(book, other, one, &limits),
+        Scene::Threads => Some(two_watch(rt, book, one, other, &limits)),
+    }
+}
+
+// Opens a book of the second of two tables and plays a scene with it; it takes back its viewers then.
+fn at_book<J: Naming + Send + Sync, R: Threads + Wait + Sync>(
+    rt: &R,
+    alloc: Global,
+    mut tables: Tables,
+    scene: Scene,
+) -> Option<bool>
+    requires named { NamedBy J.table tables }
+    requires there { HasTable tables 1 }
+{
+    let limits = default_limits()?;
+    let opened = SiteBook::<J>::open(alloc, &mut tables, 1, &[limits, limits], 2);
+    let (mut book, mut viewers) = opened.ok()?;
+    let (mut one, mut other) = (viewers.pop()?, viewers.pop()?);
+    let are_left = viewers.is_empty() && tables.has(0) && !tables.has(1) && !tables.has(2);
+    let is_right = play(rt, &mut book, &mut one, &mut other, scene)?;
+    let are_taken = is_taken(&mut book, one) && is_taken(&mut book, other);
+    Some(are_left && is_right && are_taken && book.can_post())
+}
+
+fn plays<R: Threads + Wait + Sync>(rt: &R, alloc: Global, scene: Scene) -> bool {
+    match Tables::make(alloc, 2) {
+        Ok(tables) => at_book::<Brand, R>(rt, alloc, tables, scene) == Some(true),
+        Err(_) => false,
+    }
+}
+
 // Whether rows 0, 1 and 0 again are posted and told as they should be; `None` where one is refused.
 fn three_posts<J: Naming>(
-    mut book: SiteBook<J>,
-    mut viewer: Viewer<J>,
+    book: &mut SiteBook<J>,
+    viewer: &mut Viewer<J>,
     limits: &Limits,
 ) -> Option<bool> {
-    let first = posted(&mut book, limits, 0, events(1))?;
-    let second = posted(&mut book, limits, 1, events(2))?;
+    let first = posted(book, limits, 0, events(1))?;
+    let second = posted(book, limits, 1, events(2))?;
     let both = first.site() == 1 && second.site() == 1;
-    let learnt_both = learnt(&mut viewer, first) && learnt(&mut viewer, second);
-    let last = posted(&mut book, limits, 0, events(3))?;
-    let is_posted = has_rows(&book) && last.posts() == 3;
-    let is_told = both && learnt_both && learns_last(&mut viewer, last);
-    Some(is_posted && is_told && is_taken(&mut book, viewer) && book.can_post() && has_rows(&book))
+    let learnt_both = learnt(viewer, first) && learnt(viewer, second);
+    let last = posted(book, limits, 0, events(3))?;
+    let is_told = last.posts() == 3 && learns_last(viewer, last);
+    Some(both && learnt_both && is_told && has_rows(book))
 }
 
 // Whether the book has 3 events in row 0 and 2 in row 1, after three posts.
@@ -114,47 +150,35 @@ fn learns_last<J: Naming>(viewer: &mut Viewer<J>, last: Told<J>) -> bool {
 }
 
 #[test]
-fn glance_frozen(rt: HostRuntime) -> Result<(), Fail> {
-    let tables = Tables::make(rt.alloc(), 1)?;
-    sees_what_it_was_not_told::<Brand, _>(&rt, rt.alloc(), tables)
-}
-
-fn sees_what_it_was_not_told<J: Naming, R: Abort>(
-    rt: &R,
-    alloc: Global,
-    mut tables: Tables,
-) -> Result<(), Fail>
-    requires named { NamedBy J.table tables }
-    requires there { HasTable tables 0 }
-{
-    let limits = default_limits().ok_or("no limits")?;
-    let (book, mut viewers) = SiteBook::<J>::open(alloc, &mut tables, 0, &[limits], 2)?;
-    let told_nothing = viewers.pop().ok_or("no viewer")?;
-    let told_once = viewers.pop().ok_or("no viewer")?;
-    assert!(rt; sees_late(book, told_nothing, told_once, &limits) == Some(true));
-    Ok(())
+fn posts_and_plans(rt: HostRuntime) {
+    assert!(rt; plays(&rt, rt.alloc(), Scene::Rows));
 }
 
 // Whether a viewer that was told of one post late, and one that was told of none, see the last; `None` where a
 // post is refused.
 fn sees_late<J: Naming>(
-    mut book: SiteBook<J>,
-    mut told_nothing: Viewer<J>,
-    mut told_once: Viewer<J>,
+    book: &mut SiteBook<J>,
+    told_nothing: &mut Viewer<J>,
+    told_once: &mut Viewer<J>,
     limits: &Limits,
 ) -> Option<bool> {
-    let first = posted(&mut book, limits, 0, events(7))?;
-    let again = posted(&mut book, limits, 0, events(8))?;
-    let is_seen = learnt(&mut told_once, again) && told_once.glance() == events(8);
-    posted(&mut book, limits, 0, events(6))?;
-    let is_last = sees_last(&mut told_once);
-    let is_late = learnt(&mut told_once, first) && sees_last(&mut told_once);
-    Some(is_seen && is_last && is_late && sees_last(&mut told_nothing))
+    let first = posted(book, limits, 0, events(7))?;
+    let again = posted(book, limits, 0, events(8))?;
+    let is_seen = learnt(told_once, again) && told_once.glance() == events(8);
+    posted(book, limits, 0, events(6))?;
+    let is_last = sees_last(told_once);
+    let is_late = learnt(told_once, first) && sees_last(told_once);
+    Some(is_seen && is_last && is_late && sees_last(told_nothing))
 }
 
 // Whether the viewer sees the third post.
 fn sees_last<J: Naming>(viewer: &mut Viewer<J>) -> bool {
     viewer.glance() == events(6) && viewer.posts() == 3
+}
+
+#[test]
+fn glance_frozen(rt: HostRuntime) {
+    assert!(rt; plays(&rt, rt.alloc(), Scene::Late));
 }
 
 const POSTS: u64 = 100_000;
@@ -173,7 +197,7 @@ fn numbered(post: u64) -> Figures {
 }
 
 // Glances until it sees the last post; tells whether each glance was a post's totals, and none went back.
-fn sees_posts_alone<J: Naming, R: Wait>(rt: &R, mut viewer: Viewer<J>) -> bool {
+fn sees_posts_alone<J: Naming, R: Wait>(rt: &R, viewer: &mut Viewer<J>) -> bool {
     let mut last = 0;
     for _ in rt.forever() {
         let seen = viewer.glance();
@@ -189,36 +213,26 @@ fn sees_posts_alone<J: Naming, R: Wait>(rt: &R, mut viewer: Viewer<J>) -> bool {
     unreachable!()
 }
 
-fn post_all<J: Naming>(mut book: SiteBook<J>, limits: &Limits) -> bool {
+fn post_all<J: Naming>(book: &mut SiteBook<J>, limits: &Limits) -> bool {
     for post in 1..=POSTS {
-        if posted(&mut book, limits, 0, numbered(post)).is_none() {
+        if posted(book, limits, 0, numbered(post)).is_none() {
             return false;
         }
     }
     true
 }
 
-#[test]
-fn viewers_on_threads(rt: HostRuntime) -> Result<(), Fail> {
-    let tables = Tables::make(rt.alloc(), 1)?;
-    two_watch::<Brand, _>(&rt, rt.alloc(), tables)
-}
-
-fn two_watch<J: Naming + Send + Sync, R: Abort + Threads + Wait + Sync>(
+// Whether two viewers see posts alone while they are made.
+fn two_watch<J: Naming + Send + Sync, R: Threads + Wait + Sync>(
     rt: &R,
-    alloc: Global,
-    mut tables: Tables,
-) -> Result<(), Fail>
-    requires named { NamedBy J.table tables }
-    requires there { HasTable tables 0 }
-{
-    let limits = default_limits().ok_or("no limits")?;
-    let (book, mut viewers) = SiteBook::<J>::open(alloc, &mut tables, 0, &[limits], 2)?;
-    let one = viewers.pop().ok_or("no viewer")?;
-    let other = viewers.pop().ok_or("no viewer")?;
+    book: &mut SiteBook<J>,
+    one: &mut Viewer<J>,
+    other: &mut Viewer<J>,
+    limits: &Limits,
+) -> bool {
     let (is_posted, (one, other)) = thread::join(
         rt,
-        || post_all(book, &limits),
+        || post_all(book, limits),
         || {
             thread::join(
                 rt,
@@ -227,6 +241,10 @@ fn two_watch<J: Naming + Send + Sync, R: Abort + Threads + Wait + Sync>(
             )
         },
     );
-    assert!(rt; is_posted && one && other);
-    Ok(())
+    is_posted && one && other
+}
+
+#[test]
+fn viewers_on_threads(rt: HostRuntime) {
+    assert!(rt; plays(&rt, rt.alloc(), Scene::Threads));
 }

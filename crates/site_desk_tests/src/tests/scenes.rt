@@ -5,8 +5,9 @@ ghost use Rattle.site_book.specs.Tables.{HasTable, NamedBy};
 use super::gates::{held_station, two_passes};
 use super::has;
 use super::plans::{changes, closes_with_all, each_pass, has_changes, posts, second_board};
+use super::three::{has_three, three_sides};
 use desk_fixtures::{opened, plan_of};
-use site_book::{Naming, Tables};
+use site_book::{Naming, Tables, Viewer};
 use site_desk::{Closed, Desk, Pass, Plan};
 use std::alloc::Global;
 use std::marker::Brand;
@@ -24,12 +25,13 @@ pub enum Scene {
     Changes,
     EachPass,
     SecondBoard,
+    ThreeSides,
 }
 
 // The stations of the plan.
 fn stations(scene: Scene) -> &'static [(u16, &'static str)] {
     match scene {
-        Scene::HeldStation | Scene::SecondBoard => &[(0, "A"), (0, "B")],
+        Scene::HeldStation | Scene::SecondBoard | Scene::ThreeSides => &[(0, "A"), (0, "B")],
         _ => &[(0, "A")],
     }
 }
@@ -39,6 +41,7 @@ fn play<J: Naming + Send + Sync, R: Threads + Wait + Clock + Sync>(
     rt: &R,
     alloc: Global,
     desk: &Desk<J>,
+    viewers: &mut Vec<Viewer<J>>,
     scene: Scene,
 ) -> Option<Vec<Pass>> {
     match scene {
@@ -48,14 +51,16 @@ fn play<J: Naming + Send + Sync, R: Threads + Wait + Clock + Sync>(
         Scene::Changes => changes(rt, alloc, desk),
         Scene::EachPass => each_pass(rt, alloc, desk),
         Scene::SecondBoard => second_board(rt, alloc, desk),
+        Scene::ThreeSides => three_sides(rt, alloc, desk, viewers),
     }
 }
 
 // Tells whether the desk closed as the scene left it.
-fn is_left<J: Naming>(closed: &Closed<J>, scene: Scene) -> bool {
+fn is_left<J: Naming>(alloc: Global, closed: &Closed<J>, scene: Scene) -> bool {
     match scene {
         Scene::Changes => has_changes(closed),
         Scene::Posts => has(closed, 1, 1),
+        Scene::ThreeSides => has_three(alloc, closed),
         _ => true,
     }
 }
@@ -70,10 +75,10 @@ fn at_desk<J: Naming + Send + Sync, R: Abort + Threads + Wait + Clock + Sync>(
     requires named { NamedBy J.table tables }
     requires there { (site : ℕ) → site < length plan.now.sites.items → HasTable tables site }
 {
-    let (desk, viewers) = opened::<J>(alloc, tables, plan).ok_or("no desk")?;
-    let passes = play(rt, alloc, &desk, scene).ok_or("something else was seen")?;
+    let (desk, mut viewers) = opened::<J>(alloc, tables, plan).ok_or("no desk")?;
+    let passes = play(rt, alloc, &desk, &mut viewers, scene).ok_or("something else was seen")?;
     let closed = closes_with_all(alloc, desk, passes, viewers).ok_or("not closed")?;
-    assert!(rt; is_left(&closed, scene));
+    assert!(rt; is_left(alloc, &closed, scene));
     Ok(())
 }
 

@@ -1,23 +1,20 @@
-ghost use Rattle.std.specs.Prelude.{◌≡◌, ℕ, ◌<◌, ◌≤◌, IfOk, length};
+ghost use Rattle.std.specs.Prelude.{◌≡◌, ◌≤◌, IfOk, IfSome, length};
 ghost use Rattle.board_report.specs.Plans.{IsBoardWithin};
 ghost use Rattle.board_report.specs.Sums.{station_quarters, AreOfPeriod, QuartersFit};
 ghost use Rattle.ledger_model.specs.Quarter.{default_period};
 ghost use Rattle.ledger_model.specs.Ranges.{most_readings};
-ghost use Rattle.site_book.specs.Tables.{HasTable, NamedBy};
 
+use super::scenes::{Scene, plays};
 use super::{
     Asked, FIRST, deliver, delivery_of, figures, has, has_figures, has_totals, is_tied, key_of,
     pass_of, tells,
 };
 use board_report::{SiteBoard, site_board, write_board};
-use desk_fixtures::{opened, plan_of};
 use ledger_model::{Answer, Command, Figures, Kind, Name, Period, Refusal};
-use site_book::{Naming, Tables, Viewer};
-use site_desk::{Closed, Desk, NoGate, Pass, Plan};
+use site_book::{Naming, Viewer};
+use site_desk::{Closed, Desk, NoGate, Pass};
 use station_ledger::{StationBoard, StationLedger};
 use std::alloc::{AllocError, Global};
-use std::marker::Brand;
-use std::process::Abort;
 use std::sync::Wait;
 use std::test::Fail;
 use std::thread;
@@ -41,6 +38,27 @@ const LATER: Asked = Asked {
     read: 31,
     watt_hours: 1_600,
 };
+
+// The later event with another kind, moment, EVSE, moment of its reading, and register level.
+const OTHERS: [Asked; 5] = [
+    Asked {
+        kind: Kind::Ended,
+        ..LATER
+    },
+    Asked {
+        minute: 32,
+        ..LATER
+    },
+    Asked {
+        evse: Some(1),
+        ..LATER
+    },
+    Asked { read: 30, ..LATER },
+    Asked {
+        watt_hours: 1_601,
+        ..LATER
+    },
+];
 
 // What a replay of the same commands writes for `board north` (`examples/rows/three_threads.rows`).
 const BOARD: &str = "board north period=900
@@ -172,36 +190,20 @@ fn enlisted<J: Naming, R: Threads + Wait + Clock>(
     }
 }
 
-// What is asked of A afterwards: a conflict for each part of the content.
-fn conflicts<J: Naming, R: Abort + Wait + Clock>(
+// Tells whether an event that differs in one part of its content is refused, for each part.
+fn conflicts<J: Naming, R: Wait + Clock>(
     rt: &R,
     alloc: Global,
     desk: &Desk<J>,
     pass: &mut Pass,
-) {
-    let others = [
-        Asked {
-            kind: Kind::Ended,
-            ..LATER
-        },
-        Asked {
-            minute: 32,
-            ..LATER
-        },
-        Asked {
-            evse: Some(1),
-            ..LATER
-        },
-        Asked { read: 30, ..LATER },
-        Asked {
-            watt_hours: 1_601,
-            ..LATER
-        },
-    ];
-    for told in others {
+) -> bool {
+    for told in OTHERS {
         let answer = deliver(rt, alloc, desk, pass, told);
-        assert!(rt; answer == Some(Answer::Refused(Refusal::ConflictingEvent)));
+        if answer != Some(Answer::Refused(Refusal::ConflictingEvent)) {
+            return false;
+        }
     }
+    true
 }
 
 // Tells whether a repeat is one, and the erasure of what is not voided is refused.
@@ -240,17 +242,6 @@ fn has_board<J: Naming, R: Wait>(
     Some(shown == expected && board.transactions().len() == 1)
 }
 
-// The desk closed with all passes and the viewer.
-fn closed_with<J: Naming>(alloc: Global, desk: Desk<J>, sides: Sides<J>) -> Option<Closed<J>> {
-    let mut passes = Vec::new(alloc);
-    for pass in [sides.a, sides.b, sides.operator] {
-        passes.push(pass).ok()?;
-    }
-    let mut viewers = Vec::new(alloc);
-    viewers.push(sides.viewer).ok()?;
-    desk.close(passes, viewers).ok()
-}
-
 // The board of a station, which is within the limits of its ledger.
 fn board_within(alloc: Global, ledger: &StationLedger) -> Result<StationBoard, AllocError>
     ensures few { ledger.now.limits.readings ≤ most_readings }
@@ -266,80 +257,87 @@ fn boards_of<J: Naming>(
     closed: &Closed<J>,
     first: Name,
     second: Name,
-) -> Result<Vec<(Name, StationBoard)>, Fail>
+) -> Result<Option<Vec<(Name, StationBoard)>>, AllocError>
     requires { length closed.now.cells ≡ 2 }
-    ensures fit { IfOk result (λ boards. QuartersFit (station_quarters boards.items)) }
-    ensures periods { IfOk result (λ boards. AreOfPeriod default_period boards.items) }
+    ensures fit { IfOk result (λ r. IfSome r (λ boards. QuartersFit (station_quarters boards.items))) }
+    ensures periods { IfOk result (λ r. IfSome r (λ boards. AreOfPeriod default_period boards.items)) }
 {
     let a = board_within(alloc, closed.ledger(0))?;
     let b = board_within(alloc, closed.ledger(1))?;
     if a.period() != Period::default() || b.period() != Period::default() {
-        return Err("another period")?;
+        return Ok(None);
     }
-    Ok(vec![in alloc; (first, a), (second, b)]?)
+    Ok(Some(vec![in alloc; (first, a), (second, b)]?))
 }
 
 // The board of the site over both stations.
-fn board_of<J: Naming>(alloc: Global, closed: &Closed<J>) -> Result<SiteBoard, Fail> {
+fn board_of<J: Naming>(alloc: Global, closed: &Closed<J>) -> Option<SiteBoard> {
     if closed.stations() != 2 || closed.sites() != 1 {
-        return Err("not two stations of one site")?;
+        return None;
     }
-    let first = Name::new("A").ok_or("no name")?;
-    let second = Name::new("B").ok_or("no name")?;
-    let stations = boards_of(alloc, closed, first, second)?;
-    let name = Name::new("north").ok_or("no name")?;
-    let totals = closed.totals(0);
-    Ok(site_board(alloc, &name, Period::default(), totals, stations)?)
+    let stations = boards_of(alloc, closed, Name::new("A")?, Name::new("B")?).ok()??;
+    let name = Name::new("north")?;
+    site_board(alloc, &name, Period::default(), closed.totals(0), stations).ok()
 }
 
 // Tells whether the threads leave the board of their script.
-fn is_board_of_script<J: Naming>(alloc: Global, closed: &Closed<J>) -> Result<bool, Fail> {
-    let board = board_of(alloc, closed)?;
-    Ok(write_board(alloc, &board)?.as_slice() == BOARD.as_bytes())
+fn is_board_of_script<J: Naming>(alloc: Global, closed: &Closed<J>) -> Option<bool> {
+    let text = write_board(alloc, &board_of(alloc, closed)?).ok()?;
+    Some(text.as_slice() == BOARD.as_bytes())
 }
 
-// Two stations and an operator at once.
-fn three_sides<J: Naming + Send + Sync, R: Abort + Threads + Wait + Clock + Sync>(
+// Tells whether each station's board and the answers of A are right after the three sides.
+fn is_right<J: Naming, R: Wait + Clock>(
     rt: &R,
     alloc: Global,
-    tables: Tables,
-    plan: &Plan,
-) -> Result<(), Fail>
-    requires named { NamedBy J.table tables }
-    requires there { (site : ℕ) → site < length plan.now.sites.items → HasTable tables site }
-{
-    let (desk, mut viewers) = opened::<J>(alloc, tables, plan).ok_or("no desk")?;
-    let viewer = viewers.pop().ok_or("no viewer")?;
-    let passes = enlisted(rt, alloc, &desk).ok_or("the first event was refused")?;
-    let sides = at_once(rt, alloc, &desk, passes, viewer).ok_or("a side was refused")?;
-    after_all(rt, alloc, desk, sides)
+    desk: &Desk<J>,
+    a: &mut Pass,
+) -> Option<bool> {
+    let is_asked = conflicts(rt, alloc, desk, a) && repeats(rt, alloc, desk, a)?;
+    let first = has_board(rt, alloc, desk, "A", (first(), 2))?;
+    let second = has_board(rt, alloc, desk, "B", (second(), 1))?;
+    Some(is_asked && first && second)
 }
 
-// What is seen afterwards.
-fn after_all<J: Naming, R: Abort + Wait + Clock>(
+// The three passes as a list.
+fn list_of(alloc: Global, a: Pass, b: Pass, operator: Pass) -> Option<Vec<Pass>> {
+    let mut passes = Vec::with_capacity(alloc, 3).ok()?;
+    for pass in [a, b, operator] {
+        passes.push(pass).ok()?;
+    }
+    Some(passes)
+}
+
+// Two stations and an operator at once. What B told is seen by the viewer.
+pub fn three_sides<J: Naming + Send + Sync, R: Threads + Wait + Clock + Sync>(
     rt: &R,
     alloc: Global,
-    desk: Desk<J>,
-    mut sides: Sides<J>,
-) -> Result<(), Fail> {
-    assert!(rt; sides.seen.down == 1_500_000, "what B told is seen");
-    conflicts(rt, alloc, &desk, &mut sides.a);
-    assert!(rt; repeats(rt, alloc, &desk, &mut sides.a) == Some(true));
-    assert!(rt; has_board(rt, alloc, &desk, "A", (first(), 2)) == Some(true));
-    assert!(rt; has_board(rt, alloc, &desk, "B", (second(), 1)) == Some(true));
-    let closed = closed_with(alloc, desk, sides).ok_or("not closed")?;
-    assert!(rt; has(&closed, 2, 1));
-    assert!(rt; is_tied(&closed, 0, 5) && is_tied(&closed, 1, 3));
-    assert!(rt; has_figures(&closed, 0, first()) && has_figures(&closed, 1, second()));
+    desk: &Desk<J>,
+    viewers: &mut Vec<Viewer<J>>,
+) -> Option<Vec<Pass>> {
+    let passes = enlisted(rt, alloc, desk)?;
+    let mut sides = at_once(rt, alloc, desk, passes, viewers.pop()?)?;
+    viewers.push(sides.viewer).ok()?;
+    if sides.seen.down == 1_500_000 && is_right(rt, alloc, desk, &mut sides.a)? {
+        list_of(alloc, sides.a, sides.b, sides.operator)
+    } else {
+        None
+    }
+}
+
+// Tells whether the desk closed on what the three sides did.
+pub fn has_three<J: Naming>(alloc: Global, closed: &Closed<J>) -> bool {
     let both = figures([6, 0, 2, 0, 0, 650_000, 1_500_000]);
-    assert!(rt; has_totals(&closed, 0, both));
-    assert!(rt; is_board_of_script(alloc, &closed)?);
-    Ok(())
+    has(closed, 2, 1)
+        && is_tied(closed, 0, 5)
+        && is_tied(closed, 1, 3)
+        && has_figures(closed, 0, first())
+        && has_figures(closed, 1, second())
+        && has_totals(closed, 0, both)
+        && is_board_of_script(alloc, closed) == Some(true)
 }
 
 #[test]
 fn three_threads(rt: HostRuntime) -> Result<(), Fail> {
-    let plan = plan_of(&["north"], &[(0, "A"), (0, "B")], 1).ok_or("no plan")?;
-    let tables = Tables::make(rt.alloc(), plan.sites.len() as u16)?;
-    three_sides::<Brand, _>(&rt, rt.alloc(), tables, &plan)
+    plays(&rt, rt.alloc(), Scene::ThreeSides)
 }

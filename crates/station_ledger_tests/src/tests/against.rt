@@ -134,43 +134,50 @@ struct Pair {
 }
 
 impl Pair {
-    fn open(alloc: Global, limits: (u64, u64, u64, u64)) -> Result<Self, Fail> {
+    fn open(alloc: Global, limits: (u64, u64, u64, u64)) -> Option<Self> {
         let (transactions, events, readings, changes) = limits;
-        let bounds = Limits::new(transactions, events, readings, changes).ok_or("no limits")?;
-        Ok(Pair {
-            ledger: StationLedger::open(alloc, bounds, Period::default())?,
+        let bounds = Limits::new(transactions, events, readings, changes)?;
+        Some(Pair {
+            ledger: StationLedger::open(alloc, bounds, Period::default()).ok()?,
             scratch: Scratch::open(alloc, limits),
         })
     }
 
     // Gives both the command, compares what they answer, and tells the answer.
-    fn apply(&mut self, alloc: Global, asked: Asked, work: &mut Work) -> Result<Answer, Fail> {
-        let command = asked.command(alloc)?;
+    fn apply(
+        &mut self,
+        alloc: Global,
+        asked: Asked,
+        work: &mut Work,
+    ) -> Result<Answer, &'static str> {
+        let command = asked.command(alloc).ok_or("no command")?;
         let judged = self.ledger.judge(&command);
         let answer = self.ledger.apply(command, work);
-        if (judged, self.scratch.apply(asked)?) == (answer, answer) {
+        let wanted = self.scratch.apply(asked).ok().ok_or("no memory")?;
+        if (judged, wanted) == (answer, answer) {
             Ok(answer)
         } else {
-            Err(Fail::from("answer"))
+            Err("answer")
         }
     }
 
     // Compares what they show.
-    fn compare(&self, alloc: Global) -> Result<(), Fail> {
-        let sums = self.scratch.sums(alloc)?;
+    fn compare(&self, alloc: Global) -> Result<(), &'static str> {
+        let sums = self.scratch.sums(alloc).ok().ok_or("no memory")?;
         match apart(&self.ledger, &self.scratch, &sums) {
-            Some(call) => Err(Fail::from(call)),
+            Some(call) => Err(call),
             None => Ok(()),
         }
     }
 
     // Compares their boards.
-    fn compare_boards(&self, alloc: Global) -> Result<(), Fail> {
-        let board = self.ledger.board(alloc)?;
-        if is_board(&board, &self.scratch.sums(alloc)?) {
+    fn compare_boards(&self, alloc: Global) -> Result<(), &'static str> {
+        let board = self.ledger.board(alloc).ok().ok_or("no memory")?;
+        let sums = self.scratch.sums(alloc).ok().ok_or("no memory")?;
+        if is_board(&board, &sums) {
             Ok(())
         } else {
-            Err(Fail::from("board"))
+            Err("board")
         }
     }
 }
@@ -197,7 +204,7 @@ fn step(
     alloc: Global,
     draws: &mut Draws,
     work: &mut Work,
-) -> Result<Answer, Fail> {
+) -> Result<Answer, &'static str> {
     let answer = pair.apply(alloc, Asked::draw(draws), work)?;
     pair.compare(alloc)?;
     Ok(answer)
@@ -210,7 +217,7 @@ fn steps(
     draws: &mut Draws,
     seen: &mut [bool; 10],
     work: &mut Work,
-) -> Result<(), Fail> {
+) -> Result<(), &'static str> {
     for _ in 0..20 {
         mark(seen, step(pair, alloc, draws, work)?);
     }
@@ -224,8 +231,8 @@ fn run(
     limits: (u64, u64, u64, u64),
     seen: &mut [bool; 10],
     work: &mut Work,
-) -> Result<(), Fail> {
-    let mut pair = Pair::open(alloc, limits)?;
+) -> Result<(), &'static str> {
+    let mut pair = Pair::open(alloc, limits).ok_or("no ledger")?;
     run_on(&mut pair, alloc, draws, seen, work)
 }
 
@@ -236,7 +243,7 @@ fn run_on(
     draws: &mut Draws,
     seen: &mut [bool; 10],
     work: &mut Work,
-) -> Result<(), Fail> {
+) -> Result<(), &'static str> {
     for _ in 0..50 {
         steps(pair, alloc, draws, seen, work)?;
     }

@@ -1,7 +1,6 @@
 //! Commands drawn from a seed, in plain numbers.
 use ledger_model::{Command, Event, EvseId, Key, Kind, Moment, Reading, TxId};
 use std::alloc::Global;
-use std::test::Fail;
 
 // Numbers drawn from a seed.
 #[derive(Drop)]
@@ -110,16 +109,34 @@ fn reading(told: Told) -> Option<Reading> {
     Reading::new(moment(told.minute)?, 1_000 * told.watt_hours as u64)
 }
 
-// The event.
-fn event(alloc: Global, sent: Sent) -> Result<Event, Fail> {
+// The readings that count.
+fn readings_of(alloc: Global, sent: &Sent) -> Option<Vec<Reading>> {
     let mut readings = Vec::new(alloc);
     for told in sent.readings.iter().take(sent.count as usize) {
-        readings.push(reading(*told).ok_or("no reading")?)?;
+        readings.push(reading(*told)?).ok()?;
     }
-    let evse = EvseId::new(sent.evse).filter(|evse| evse.number() > 0);
-    let moment = moment(sent.minute).ok_or("no moment")?;
-    let event = Event::new(sent.kind, moment, evse, readings);
-    Ok(event.ok().ok_or("no event")?)
+    Some(readings)
+}
+
+// The EVSE, where one is named.
+fn evse_of(number: u8) -> Option<EvseId> {
+    if number == 0 {
+        None
+    } else {
+        EvseId::new(number)
+    }
+}
+
+// The event.
+fn event(alloc: Global, sent: &Sent) -> Option<Event> {
+    let readings = readings_of(alloc, sent)?;
+    Event::new(
+        sent.kind,
+        moment(sent.minute)?,
+        evse_of(sent.evse),
+        readings,
+    )
+    .ok()
 }
 
 impl Asked {
@@ -144,10 +161,10 @@ impl Asked {
         Key::new(id(self.tx)?, self.seq)
     }
 
-    pub(crate) fn command(self, alloc: Global) -> Result<Command, Fail> {
-        let key = self.key().ok_or("no key")?;
-        Ok(match self.wish {
-            Wish::Deliver(sent) => Command::Deliver(key, event(alloc, sent)?),
+    pub(crate) fn command(self, alloc: Global) -> Option<Command> {
+        let key = self.key()?;
+        Some(match self.wish {
+            Wish::Deliver(sent) => Command::Deliver(key, event(alloc, &sent)?),
             Wish::Void => Command::Void(key),
             Wish::Restore => Command::Restore(key),
             Wish::Erase => Command::Erase(key),

@@ -89,7 +89,7 @@ impl Scratch {
     pub(crate) fn judge(&self, asked: Asked) -> Answer {
         match (asked.wish, self.stored(asked.tx, asked.seq)) {
             (Wish::Deliver(sent), None) => self.judge_new(asked.tx, sent),
-            (Wish::Deliver(sent), Some(row)) if is_same(sent, row.sent) => Answer::Repeat,
+            (Wish::Deliver(sent), Some(row)) if is_same(&sent, &row.sent) => Answer::Repeat,
             (Wish::Deliver(_), Some(_)) => Answer::Refused(Refusal::ConflictingEvent),
             (_, None) => Answer::Refused(Refusal::NoSuchEvent),
             (Wish::Void, Some(row)) if row.voided => Answer::Refused(Refusal::AlreadyVoided),
@@ -154,13 +154,11 @@ impl Scratch {
 }
 
 // Tells whether both events are the same; readings that do not count are not compared.
-fn is_same(one: Sent, other: Sent) -> bool {
-    let readings = one.readings.iter().zip(&other.readings);
+fn is_same(one: &Sent, other: &Sent) -> bool {
+    let count = usize::from(one.count);
     (one.kind, one.minute, one.evse, one.count)
         == (other.kind, other.minute, other.evse, other.count)
-        && readings
-            .take(one.count as usize)
-            .all(|(one, other)| one == other)
+        && one.readings.get(..count) == other.readings.get(..count)
 }
 
 // What is shown of a transaction, its last reading so far, and how many of its events are no Updated.

@@ -1,19 +1,11 @@
-ghost use Rattle.std.specs.Prelude.{ℕ, ◌<◌, length};
-ghost use Rattle.site_book.specs.Tables.{HasTable, NamedBy};
-
 use super::memory::Peer;
-use super::{
-    FIRST, OFFER, SECOND, Served, changes_at_close, head, plan, serve, serve_frames, text_frames,
-};
-use desk_fixtures::opened;
+use super::{FIRST, OFFER, SECOND, Scene, Served, head, plays, serve, serve_frames, text_frames};
 use ledger_model::{Answer, Command, Key, Name, TxId};
-use site_book::{Naming, Tables};
-use site_desk::{Desk, NoGate, Pass, Plan};
+use site_book::Naming;
+use site_desk::{Desk, NoGate, Pass};
 use station_link::Why;
 use std::alloc::Global;
-use std::marker::Brand;
 use std::sync::Wait;
-use std::test::Fail;
 use std::thread;
 use std::thread::Threads;
 use std::time::Clock;
@@ -38,8 +30,8 @@ fn serve_beside<J: Naming + Send + Sync, R: Threads + Wait + Clock + Sync>(
     desk: &Desk<J>,
     operator: Pass,
 ) -> Option<(Served, Option<Pass>)> {
-    let head = head(alloc, "/ocpp/A", OFFER).ok()?;
-    let sent = text_frames(alloc, true, &[FIRST, SECOND]).ok()?;
+    let head = head(alloc, "/ocpp/A", OFFER)?;
+    let sent = text_frames(alloc, true, &[FIRST, SECOND])?;
     let peer = Peer::of(head.as_str().as_bytes(), sent.bytes());
     Some(thread::join(
         rt,
@@ -50,16 +42,16 @@ fn serve_beside<J: Naming + Send + Sync, R: Threads + Wait + Clock + Sync>(
 
 // The passes of a session before, with the first event, of the one beside the operator, and the operator's,
 // where both events were answered.
-fn beside<J: Naming + Send + Sync, R: Threads + Wait + Clock + Sync>(
+pub(super) fn beside_operator<J: Naming + Send + Sync, R: Threads + Wait + Clock + Sync>(
     rt: &R,
     alloc: Global,
     desk: &Desk<J>,
 ) -> Option<[Option<Pass>; 3]> {
-    let sent = text_frames(alloc, true, &[FIRST]).ok()?;
-    let first = serve_frames(rt, alloc, desk, &NoGate, ("/ocpp/A", OFFER), sent.bytes()).ok()?;
+    let sent = text_frames(alloc, true, &[FIRST])?;
+    let first = serve_frames(rt, alloc, desk, &NoGate, ("/ocpp/A", OFFER), sent.bytes())?;
     let operator = desk.enlist(rt, &Name::new("A")?).ok()?;
     let (second, operator) = serve_beside(rt, alloc, desk, operator)?;
-    let answers = text_frames(alloc, false, &["[3,\"1\",{}]", "[3,\"2\",{}]"]).ok()?;
+    let answers = text_frames(alloc, false, &["[3,\"1\",{}]", "[3,\"2\",{}]"])?;
     if second.is(Why::PeerClosed, 1, answers.bytes()) {
         Some([first.pass, second.pass, operator])
     } else {
@@ -67,26 +59,8 @@ fn beside<J: Naming + Send + Sync, R: Threads + Wait + Clock + Sync>(
     }
 }
 
-// How many changes A and B made then, when the desk is closed.
-fn changes_beside<J: Naming + Send + Sync, R: Threads + Wait + Clock + Sync>(
-    rt: &R,
-    alloc: Global,
-    tables: Tables,
-    plan: &Plan,
-) -> Option<(u64, u64)>
-    requires named { NamedBy J.table tables }
-    requires there { (site : ℕ) → site < length plan.now.sites.items → HasTable tables site }
-{
-    let (desk, _viewers) = opened::<J>(alloc, tables, plan)?;
-    let passes = beside(rt, alloc, &desk)?;
-    changes_at_close(alloc, desk, passes)
-}
-
 #[test]
-fn session_beside_an_operator(rt: HostRuntime) -> Result<(), Fail> {
-    let plan = plan().ok_or("no plan")?;
-    let tables = Tables::make(rt.alloc(), plan.sites.len() as u16)?;
-    let changes = changes_beside::<Brand, _>(&rt, rt.alloc(), tables, &plan);
-    assert!(rt; changes == Some((4, 0)));
-    Ok(())
+fn session_beside_an_operator(rt: HostRuntime) {
+    let changes = plays(&rt, rt.alloc(), Scene::BesideOperator);
+    assert!(rt; changes == Some(Some((4, 0))));
 }

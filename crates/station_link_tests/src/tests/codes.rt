@@ -1,13 +1,11 @@
 use super::memory::Frames;
-use super::{OFFER, Scene, play, serve_frames};
+use super::{OFFER, Scene, plays, serve_frames};
 use ledger_model::Name;
 use site_book::Naming;
 use site_desk::{Desk, MAX_PASSES, NoGate, Pass};
 use station_link::Why;
-use std::alloc::{AllocError, Global};
-use std::process::Abort;
+use std::alloc::Global;
 use std::sync::Wait;
-use std::test::Fail;
 use std::thread::Threads;
 use std::time::Clock;
 
@@ -17,33 +15,38 @@ fn is_refused<J: Naming, R: Threads + Wait + Clock>(
     alloc: Global,
     desk: &Desk<J>,
     (why, code): (Why, u16),
-) -> Result<bool, AllocError> {
+) -> Option<bool> {
     let served = serve_frames(rt, alloc, desk, &NoGate, ("/ocpp/B", OFFER), &[])?;
     let mut answers = Frames::of_server(alloc);
-    answers.close(code)?;
-    Ok(served.why == why && served.frames() == answers.bytes())
+    answers.close(code).ok()?;
+    Some(served.why == why && served.frames() == answers.bytes())
 }
 
-// A station that gave out all its passes.
-struct NoPassLeft;
-
-impl Scene for NoPassLeft {
-    fn play<J: Naming, R: Abort + Threads + Wait + Clock>(
-        rt: &R,
-        alloc: Global,
-        desk: &Desk<J>,
-    ) -> Result<[Option<Pass>; 3], Fail> {
-        let name = Name::new("B").ok_or("no name")?;
-        for _ in 0..MAX_PASSES {
-            assert!(rt; desk.enlist(rt, &name).is_ok());
+// Takes all passes of station B; tells whether it gave them.
+fn takes_all<J: Naming, R: Threads + Wait + Clock>(rt: &R, desk: &Desk<J>) -> Option<bool> {
+    let name = Name::new("B")?;
+    for _ in 0..MAX_PASSES {
+        if desk.enlist(rt, &name).is_err() {
+            return Some(false);
         }
-        assert!(rt; is_refused(rt, alloc, desk, (Why::TooManyPasses, 1011))?);
-        Ok([None, None, None])
+    }
+    Some(true)
+}
+
+// A station that gave out all its passes, which are lost.
+pub(super) fn all_taken<J: Naming, R: Threads + Wait + Clock>(
+    rt: &R,
+    alloc: Global,
+    desk: &Desk<J>,
+) -> Option<[Option<Pass>; 3]> {
+    if takes_all(rt, desk)? && is_refused(rt, alloc, desk, (Why::TooManyPasses, 1011))? {
+        Some([None, None, None])
+    } else {
+        None
     }
 }
 
 #[test]
-fn no_pass_left(rt: HostRuntime) -> Result<(), Fail> {
-    assert!(rt; play::<NoPassLeft, _>(&rt, rt.alloc())? == None);
-    Ok(())
+fn no_pass_left(rt: HostRuntime) {
+    assert!(rt; plays(&rt, rt.alloc(), Scene::NoPassLeft) == Some(None));
 }

@@ -1,16 +1,14 @@
 use super::memory::{CLOSE, Frames, Memory, PING, PONG, Peer, TEXT};
-use super::{Scene, TenOClock, play, text_frames};
+use super::{Scene, TenOClock, plays, text_frames};
 use ledger_model::Name;
 use site_book::Naming;
 use site_desk::{Desk, NoGate, Pass};
 use station_link::{MomentSource, SimFault, SimStation, answer_text};
-use std::alloc::{AllocError, Global};
+use std::alloc::Global;
 use std::cell::RefCell;
 use std::io;
-use std::process::Abort;
 use std::random::RandomSource;
 use std::sync::Wait;
-use std::test::Fail;
 use std::thread::Threads;
 use std::time::Clock;
 
@@ -79,26 +77,32 @@ fn shown<J: Naming, R: Wait>(
     Some((figures.events, figures.complete, figures.up))
 }
 
-struct EachText;
+pub(super) fn each_text<J: Naming, R: Threads + Wait + Clock>(
+    rt: &R,
+    alloc: Global,
+    desk: &Desk<J>,
+) -> Option<[Option<Pass>; 3]> {
+    let name = Name::new("A")?;
+    let pass = pass_of_texts(rt, alloc, desk, &name)?;
+    if shown(rt, alloc, desk, &name)? == (3, 1, 200_000) {
+        Some([Some(pass), None, None])
+    } else {
+        None
+    }
+}
 
-impl Scene for EachText {
-    fn play<J: Naming, R: Abort + Threads + Wait + Clock>(
-        rt: &R,
-        alloc: Global,
-        desk: &Desk<J>,
-    ) -> Result<[Option<Pass>; 3], Fail> {
-        let name = Name::new("A").ok_or("no name")?;
-        assert!(rt; are(&SimStation::new(7, 3).texts(alloc)?, &TEXTS));
-        let pass = pass_of_texts(rt, alloc, desk, &name);
-        assert!(rt; shown(rt, alloc, desk, &name) == Some((3, 1, 200_000)));
-        Ok([pass, None, None])
+// Tells whether the simulated station sends these texts.
+fn are_its_texts(alloc: Global) -> bool {
+    match SimStation::new(7, 3).texts(alloc) {
+        Ok(texts) => are(&texts, &TEXTS),
+        Err(_) => false,
     }
 }
 
 #[test]
-fn simulated_texts(rt: HostRuntime) -> Result<(), Fail> {
-    assert!(rt; play::<EachText, _>(&rt, rt.alloc())? == Some((3, 0)));
-    Ok(())
+fn simulated_texts(rt: HostRuntime) {
+    assert!(rt; are_its_texts(rt.alloc()));
+    assert!(rt; plays(&rt, rt.alloc(), Scene::EachText) == Some(Some((3, 0))));
 }
 
 // Random bytes that are all 0.
@@ -123,40 +127,40 @@ fn run(alloc: Global, peer: Peer<'_>) -> (Result<Vec<String>, SimFault>, Vec<u8>
 }
 
 // A ping, and the replies.
-fn answers(alloc: Global) -> Result<Frames, AllocError> {
+fn answers(alloc: Global) -> Option<Frames> {
     let mut frames = Frames::of_server(alloc);
-    frames.add(PING, b"")?;
+    frames.add(PING, b"").ok()?;
     for reply in REPLIES {
-        frames.add(TEXT, reply.as_bytes())?;
+        frames.add(TEXT, reply.as_bytes()).ok()?;
     }
-    Ok(frames)
+    Some(frames)
 }
 
 // What the station sends then: the pong goes behind its first text, and a close behind the last.
-fn sent(alloc: Global) -> Result<Frames, AllocError> {
+fn sent(alloc: Global) -> Option<Frames> {
     let mut frames = Frames::of_client(alloc);
     for text in TEXTS {
-        frames.add(TEXT, text.as_bytes())?;
+        frames.add(TEXT, text.as_bytes()).ok()?;
         if text == TEXTS[0] {
-            frames.add(PONG, b"")?;
+            frames.add(PONG, b"").ok()?;
         }
     }
-    frames.add(CLOSE, b"")?;
-    Ok(frames)
+    frames.add(CLOSE, b"").ok()?;
+    Some(frames)
+}
+
+// Tells whether the station asks, sends its texts and has its replies.
+fn plays_its_part(alloc: Global) -> Option<bool> {
+    let answers = answers(alloc)?;
+    let (replies, written) = run(alloc, Peer::of(ANSWER, answers.bytes()));
+    let written = written.as_slice();
+    let asks = written.starts_with(b"GET /ocpp/CS-7 HTTP/1.1\r\n");
+    Some(are(&replies.ok()?, &REPLIES) && asks && written.ends_with(sent(alloc)?.bytes()))
 }
 
 #[test]
-fn simulated_station(rt: HostRuntime) -> Result<(), Fail> {
-    let answers = answers(rt.alloc())?;
-    let (replies, written) = run(rt.alloc(), Peer::of(ANSWER, answers.bytes()));
-    assert!(rt; are(&replies.ok().ok_or("no replies")?, &REPLIES));
-    assert!(rt;
-        written
-            .as_slice()
-            .starts_with(b"GET /ocpp/CS-7 HTTP/1.1\r\n")
-    );
-    assert!(rt; written.as_slice().ends_with(sent(rt.alloc())?.bytes()));
-    Ok(())
+fn simulated_station(rt: HostRuntime) {
+    assert!(rt; plays_its_part(rt.alloc()) == Some(true));
 }
 
 // Why the station has not all its replies.
@@ -164,19 +168,29 @@ fn fault(alloc: Global, peer: Peer<'_>) -> Option<SimFault> {
     run(alloc, peer).0.err()
 }
 
-#[test]
-fn simulated_station_gives_up(rt: HostRuntime) -> Result<(), Fail> {
-    let alloc = rt.alloc();
+// Tells whether the station gives up where its stream ends in the handshake, fails, ends, and takes no more.
+fn gives_up(alloc: Global) -> Option<bool> {
     let answers = text_frames(alloc, false, &[REPLIES[0]])?;
     let peer = Peer::of(ANSWER, answers.bytes());
-    let cut = Peer { given: 20, ..peer };
-    let fails = Peer {
-        fails: true,
-        ..peer
-    };
-    assert!(rt; fault(alloc, cut) == Some(SimFault::HandshakeFailed));
-    assert!(rt; fault(alloc, fails) == Some(SimFault::ReadFault));
-    assert!(rt; fault(alloc, peer) == Some(SimFault::ReadFault));
-    assert!(rt; fault(alloc, Peer { writes: 2, ..peer }) == Some(SimFault::WriteFault));
-    Ok(())
+    let cut = fault(alloc, Peer { given: 20, ..peer })?;
+    let fails = fault(
+        alloc,
+        Peer {
+            fails: true,
+            ..peer
+        },
+    )?;
+    let ends = fault(alloc, peer)?;
+    let unwritten = fault(alloc, Peer { writes: 2, ..peer })?;
+    Some(
+        cut == SimFault::HandshakeFailed
+            && fails == SimFault::ReadFault
+            && ends == SimFault::ReadFault
+            && unwritten == SimFault::WriteFault,
+    )
+}
+
+#[test]
+fn simulated_station_gives_up(rt: HostRuntime) {
+    assert!(rt; gives_up(rt.alloc()) == Some(true));
 }

@@ -5,4 +5,4 @@ use Rattle.station_ledger_tests.proofs.tests.report.station.Given as goal
 
 -- the limits and the period stay
 abbrev pub invariant-loop-one : goal.invariant-loop-one
-invariant-loop-one g l = (l.ledger.limits ≡ default_limits) × (l.ledger.period ≡ default_period)
+invariant-loop-one l = (l.ledger.limits ≡ default_limits) × (l.ledger.period ≡ default_period)
