@@ -3,7 +3,7 @@
 //! [`site_board`] puts the boards of a site's stations together under the site's name: it adds up
 //! their energies quarter by quarter, and keeps the figures and the stations' boards as they are handed
 //! in. [`write_board`] writes such a [`SiteBoard`] as lines of plain text, for people and for programs.
-//! [`total_text`] and [`energy_text`] write the seven figures and an energy alone, without memory, so a
+//! [`total_text`] and [`energy_text`] write the figures and an energy alone, without memory, so a
 //! live total and the total line of a board are one text.
 //!
 //! The crate's one contract: each text has exactly the bytes that a short definition gives for the

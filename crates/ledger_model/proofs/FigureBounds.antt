@@ -241,4 +241,6 @@ figures_within limits n c reached =
       missing = omega (arith, few_missing es (entries_sorted c.events) kept.in_range, mul-le-mul_left sequence_end few);
       up = omega (arith, energy_bound (λ p. (difference p).up) es rises kept.in_range, mul-le-mul_left greatest_reading kept.readings);
       down = omega (arith, energy_bound (λ p. (difference p).down) es falls kept.in_range, mul-le-mul_left greatest_reading kept.readings);
+      export_up = omega arith;
+      export_down = omega arith;
     }

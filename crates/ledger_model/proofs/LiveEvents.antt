@@ -53,6 +53,8 @@ of_live period voided l = record {
     missing = sum_by (λ tx. missing (numbers tx l)) (transactions_of l);
     up = (energy_over (all_pairs l)).up;
     down = (energy_over (all_pairs l)).down;
+    export_up = 0;
+    export_down = 0;
   };
   evses = map (λ at. (at, energy_over (flat_map (λ tx. pairs_of_one tx l) (filter (λ tx. evse tx l == at) (transactions_of l))))) (rising (map (λ tx. evse tx l) (transactions_of l)));
   quarters = map (λ quarter. (quarter, energy_over (filter (λ p. quarter_of period p == quarter) (all_pairs l)))) (rising (map (quarter_of period) (all_pairs l)));

@@ -9,7 +9,7 @@ use Rattle.ledger_model.specs.Evse.{evse_of, evses, energy_at, first_or_none}
 use Rattle.ledger_model.specs.Gaps.{Gap, numbers_of, gaps, missing}
 use Rattle.ledger_model.specs.Complete.{is_complete}
 
--- The figures of a station: live and voided events; transactions with a live event, how many of these are complete, what they miss, and their energy.
+-- The figures of a station: live and voided events; transactions with a live event, how many of these are complete, what they miss, and their energy. No reading is of the export register.
 abbrev pub figures : List Entry → Figures
 figures es = record {
   events = length (live es);
@@ -19,6 +19,8 @@ figures es = record {
   missing = sum_by (λ tx. missing (numbers_of tx es)) (transactions_of (live es));
   up = (energy es).up;
   down = (energy es).down;
+  export_up = 0;
+  export_down = 0;
 }
 
 -- Both figures added up, number by number.
@@ -31,6 +33,8 @@ plus_figures a b = record {
   missing = a.missing + b.missing;
   up = a.up + b.up;
   down = a.down + b.down;
+  export_up = a.export_up + b.export_up;
+  export_down = a.export_down + b.export_down;
 }
 
 -- The figures of a site: the sums over its stations.

@@ -41,7 +41,7 @@ first_run = metered Started 0 0 1_000 ∷ metered Updated 2 31 1_600 ∷ []
 abbrev pub first_run_board : Board
 first_run_board = record {
   period = 900;
-  figures = record { events = 2; voided = 0; transactions = 1; complete = 0; missing = 1; up = 600_000; down = 0 };
+  figures = record { events = 2; voided = 0; transactions = 1; complete = 0; missing = 1; up = 600_000; down = 0; export_up = 0; export_down = 0 };
   evses = (0, rise 600_000) ∷ [];
   quarters = (ten + 2, rise 600_000) ∷ [];
   transactions = record { tx = codes "t1"; evse = 0; events = 2; first = 0; last = 2; complete = false; missing = 1; flow = rise 600_000; gaps = (1, 1) ∷ [] } ∷ [];
@@ -58,7 +58,7 @@ late_event = metered Started 0 0 1_000 ∷ metered Updated 1 14 1_200 ∷ metere
 abbrev pub late_event_board : Board
 late_event_board = record {
   period = 900;
-  figures = record { events = 3; voided = 0; transactions = 1; complete = 0; missing = 0; up = 600_000; down = 0 };
+  figures = record { events = 3; voided = 0; transactions = 1; complete = 0; missing = 0; up = 600_000; down = 0; export_up = 0; export_down = 0 };
   evses = (0, rise 600_000) ∷ [];
   quarters = (ten, rise 200_000) ∷ (ten + 2, rise 400_000) ∷ [];
   transactions = record { tx = codes "t1"; evse = 0; events = 3; first = 0; last = 2; complete = false; missing = 0; flow = rise 600_000; gaps = [] } ∷ [];
@@ -69,7 +69,7 @@ abbrev pub void_and_restore : List Entry
 void_and_restore = metered Started 0 0 1_000 ∷ voided (metered Updated 1 14 1_200) ∷ metered Updated 2 31 1_600 ∷ []
 
 abbrev pub void_and_restore_board : Board
-void_and_restore_board = record first_run_board { figures = record { events = 2; voided = 1; transactions = 1; complete = 0; missing = 1; up = 600_000; down = 0 } }
+void_and_restore_board = record first_run_board { figures = record { events = 2; voided = 1; transactions = 1; complete = 0; missing = 1; up = 600_000; down = 0; export_up = 0; export_down = 0 } }
 
 -- A later reading at the very beginning of a quarter.
 abbrev pub quarter_boundary : List Entry

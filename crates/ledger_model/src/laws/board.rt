@@ -88,13 +88,13 @@ pub fn board_examples()
     ensures void_and_restore { board default_period void_and_restore ≡ void_and_restore_board }
     ensures quarter_boundary { (board default_period quarter_boundary).quarters ≡ (ten + 1, rise 100_000) ∷ [] }
     ensures readings_again_at_end { (board default_period readings_again_at_end).quarters ≡ (ten, record { up = 400_000; down = 600_000 }) ∷ (ten + 2, rise 800_000) ∷ (ten + 3, rise 100_000) ∷ [] }
-    ensures readings_again_figures { figures readings_again_at_end ≡ record { events = 4; voided = 0; transactions = 1; complete = 1; missing = 0; up = 1_300_000; down = 600_000 } }
+    ensures readings_again_figures { figures readings_again_at_end ≡ record { events = 4; voided = 0; transactions = 1; complete = 1; missing = 0; up = 1_300_000; down = 600_000; export_up = 0; export_down = 0 } }
     ensures evse_moves { (board default_period evse_moves).evses ≡ (2, rise 250_000) ∷ [] }
-    ensures evse_moves_figures { figures evse_moves ≡ record { events = 3; voided = 0; transactions = 1; complete = 1; missing = 0; up = 250_000; down = 0 } }
+    ensures evse_moves_figures { figures evse_moves ≡ record { events = 3; voided = 0; transactions = 1; complete = 1; missing = 0; up = 250_000; down = 0; export_up = 0; export_down = 0 } }
     ensures evse_voided { (board default_period evse_voided).evses ≡ (0, rise 250_000) ∷ [] }
-    ensures evse_voided_figures { figures evse_voided ≡ record { events = 2; voided = 1; transactions = 1; complete = 0; missing = 1; up = 250_000; down = 0 } }
+    ensures evse_voided_figures { figures evse_voided ≡ record { events = 2; voided = 1; transactions = 1; complete = 0; missing = 1; up = 250_000; down = 0; export_up = 0; export_down = 0 } }
     ensures start_voided { (board default_period start_voided).evses ≡ (2, rise 150_000) ∷ [] }
-    ensures start_voided_figures { figures start_voided ≡ record { events = 2; voided = 1; transactions = 1; complete = 0; missing = 0; up = 150_000; down = 0 } }
+    ensures start_voided_figures { figures start_voided ≡ record { events = 2; voided = 1; transactions = 1; complete = 0; missing = 0; up = 150_000; down = 0; export_up = 0; export_down = 0 } }
     ensures widest_gap { gaps (numbers_of (codes "t1") widest_gap) ≡ (1, 2_147_483_646) ∷ [] }
-    ensures widest_gap_figures { figures widest_gap ≡ record { events = 2; voided = 0; transactions = 1; complete = 0; missing = 2_147_483_646; up = 0; down = 10_000_000_000_000 } }
+    ensures widest_gap_figures { figures widest_gap ≡ record { events = 2; voided = 0; transactions = 1; complete = 0; missing = 2_147_483_646; up = 0; down = 10_000_000_000_000; export_up = 0; export_down = 0 } }
 {}
