@@ -1,6 +1,7 @@
 use energy_flow::{Flow, Level, Work, difference};
+use ledger_model::Direction::{self, Export, Import};
 use ledger_model::Quarter;
-use quarter_table::QuarterTable;
+use quarter_table::{QuarterRow, QuarterTable};
 use std::test::Fail;
 
 // The quarter that begins at 10:30 on the first of March 2026.
@@ -10,29 +11,39 @@ fn quarter(number: u32) -> Result<Quarter, Fail> {
     Ok(Quarter::new(number).ok_or("no quarter")?)
 }
 
+// The row's sum in a direction, and its sum in the other.
+fn sums(row: QuarterRow, direction: Direction) -> (Flow, Flow) {
+    match direction {
+        Direction::Import => (row.flow, row.export),
+        Direction::Export => (row.export, row.flow),
+    }
+}
+
 // Adds a pair where it may be added, and tells whether it did.
-fn put(table: &mut QuarterTable, quarter: Quarter, flow: Flow) -> bool {
+fn put(table: &mut QuarterTable, quarter: Quarter, direction: Direction, flow: Flow) -> bool {
     let row = table.row(quarter);
     if row.pairs == 0 && table.room() == 0 {
         return false;
     }
-    if row.pairs == u32::MAX || !row.flow.can_plus(flow) {
+    let (own, other) = sums(row, direction);
+    if row.pairs == u32::MAX || !own.can_plus(flow) || !other.can_plus(Flow::zero()) {
         return false;
     }
-    table.add(quarter, flow);
+    table.add(quarter, direction, flow);
     true
 }
 
 // Takes a pair out where it may be taken out, and tells whether it did.
-fn cut(table: &mut QuarterTable, quarter: Quarter, flow: Flow) -> bool {
+fn cut(table: &mut QuarterTable, quarter: Quarter, direction: Direction, flow: Flow) -> bool {
     let row = table.row(quarter);
-    if row.pairs == 0 || !row.flow.can_minus(flow) {
+    let (own, other) = sums(row, direction);
+    if row.pairs == 0 || !own.can_minus(flow) || !other.can_minus(Flow::zero()) {
         return false;
     }
-    if row.pairs == 1 && row.flow != flow {
+    if row.pairs == 1 && (own != flow || other != Flow::zero()) {
         return false;
     }
-    table.remove(quarter, flow);
+    table.remove(quarter, direction, flow);
     true
 }
 
@@ -43,14 +54,14 @@ fn small_arena_quarters(rt: HostRuntime) -> Result<(), Fail> {
     let down = difference(Level::new(2), Level::new(0), &mut work);
     let half_past = quarter(HALF_PAST_TEN)?;
     let mut table = QuarterTable::reserve(rt.alloc(), 1)?;
-    assert!(rt; put(&mut table, half_past, up));
-    assert!(rt; put(&mut table, half_past, down));
+    assert!(rt; put(&mut table, half_past, Import, up));
+    assert!(rt; put(&mut table, half_past, Import, down));
     let row = table.row(half_past);
     assert_eq!(rt; (row.pairs, row.flow.up(), row.flow.down()), (2, 3, 2));
     assert_eq!(rt; (table.rows().len(), table.room()), (1, 0));
-    assert!(rt; !put(&mut table, quarter(HALF_PAST_TEN + 1)?, up));
-    assert!(rt; cut(&mut table, half_past, up) && table.holds(half_past));
-    assert!(rt; cut(&mut table, half_past, down) && !table.holds(half_past));
+    assert!(rt; !put(&mut table, quarter(HALF_PAST_TEN + 1)?, Import, up));
+    assert!(rt; cut(&mut table, half_past, Import, up) && table.holds(half_past));
+    assert!(rt; cut(&mut table, half_past, Import, down) && !table.holds(half_past));
     assert_eq!(rt; (table.rows().len(), table.room()), (0, 1));
     Ok(())
 }
@@ -59,12 +70,26 @@ fn small_arena_quarters(rt: HostRuntime) -> Result<(), Fail> {
 fn a_quarter_without_a_difference_stands(rt: HostRuntime) -> Result<(), Fail> {
     let half_past = quarter(HALF_PAST_TEN)?;
     let mut table = QuarterTable::reserve(rt.alloc(), 2)?;
-    assert!(rt; put(&mut table, half_past, Flow::zero()));
-    assert!(rt; put(&mut table, half_past, Flow::zero()));
-    assert!(rt; cut(&mut table, half_past, Flow::zero()));
+    assert!(rt; put(&mut table, half_past, Import, Flow::zero()));
+    assert!(rt; put(&mut table, half_past, Import, Flow::zero()));
+    assert!(rt; cut(&mut table, half_past, Import, Flow::zero()));
     assert!(rt; table.holds(half_past));
     assert_eq!(rt; table.row(half_past).flow, Flow::zero());
-    assert!(rt; cut(&mut table, half_past, Flow::zero()));
+    assert!(rt; cut(&mut table, half_past, Import, Flow::zero()));
     assert!(rt; !table.holds(half_past));
+    Ok(())
+}
+
+#[test]
+fn a_quarter_stands_while_it_has_a_pair_of_either_direction(rt: HostRuntime) -> Result<(), Fail> {
+    let mut work = Work::open(&rt);
+    let up = difference(Level::new(0), Level::new(3), &mut work);
+    let half_past = quarter(HALF_PAST_TEN)?;
+    let mut table = QuarterTable::reserve(rt.alloc(), 1)?;
+    assert!(rt; put(&mut table, half_past, Import, up) && put(&mut table, half_past, Export, up));
+    assert!(rt; cut(&mut table, half_past, Import, up));
+    let row = table.row(half_past);
+    assert_eq!(rt; (row.pairs, row.flow.up(), row.export.up()), (1, 0, 3));
+    assert!(rt; cut(&mut table, half_past, Export, up) && !table.holds(half_past));
     Ok(())
 }
