@@ -7,7 +7,7 @@ use Rattle.std.proofs.lemmas.List.Sums.{length-filter, count_by-le-length}
 use Rattle.std.specs.List.{filter}
 use Rattle.std.specs.Ordering.{is_eq, eq_by_cmp, nat_cmp}
 use Rattle.key_index.specs.declared.filed.Mark.{Mark}
-use Rattle.key_index.specs.declared.filed.Mark.TheVariants.{Live, Carries, Names}
+use Rattle.key_index.specs.declared.filed.Mark.TheVariants.{Live, Imports, Exports, Names}
 use Rattle.key_index.specs.declared.filed.Marks.{Marks}
 use Rattle.key_index.specs.declared.filed.Filed.{Filed}
 use Rattle.key_index.specs.Entries as entries

@@ -2,7 +2,7 @@ mod plain_list;
 
 use event_chain::{Chains, Found, Room, TxWalk};
 use gap_list::{Gaps, NumberWalk};
-use ledger_model::{Event, EvseId, Key, Kind, Limits, Moment, Reading, TxId};
+use ledger_model::{Direction, Event, EvseId, Key, Kind, Limits, Moment, Reading, TxId};
 use plain_list::{Answers, PlainList};
 use std::alloc::{AllocError, Global};
 use std::test::Fail;
@@ -22,7 +22,7 @@ fn one_reading(alloc: Global, reading: Reading) -> Result<Vec<Reading>, AllocErr
 // A Started event at EVSE 3, with one reading.
 fn event(alloc: Global) -> Result<Event, Fail> {
     let moment = new_year().ok_or("no moment")?;
-    let reading = Reading::new(moment, 5).ok_or("no reading")?;
+    let reading = Reading::new(moment, 5, Direction::Export).ok_or("no reading")?;
     let readings = one_reading(alloc, reading)?;
     Ok(
         Event::new(Kind::Started, moment, EvseId::new(3), readings)
@@ -269,9 +269,9 @@ fn evse_and_ends(chains: &Chains, tx: &str) -> Option<(u8, u32)> {
     Some((chains.evse(&id).number(), chains.end_count(&id)))
 }
 
-// The first reading of a number of a transaction.
+// The first export of a number of a transaction.
 fn reading(chains: &Chains, tx: &str, seq: u32) -> Option<Reading> {
-    chains.readings(&key(tx, seq)?).next()
+    chains.readings(&key(tx, seq)?, Direction::Export).next()
 }
 
 fn answers_for_each(scene: &mut Scene) -> bool {
@@ -279,7 +279,7 @@ fn answers_for_each(scene: &mut Scene) -> bool {
     put(chains, "b", 1, sent)
         && put(chains, "a", 0, sent)
         && lists_a_then_b(chains)
-        && reading(chains, "b", 1) == Reading::new(sent.moment(), 5)
+        && reading(chains, "b", 1) == Reading::new(sent.moment(), 5, Direction::Export)
         && evse_and_ends(chains, "b") == Some((3, 1))
         && void(chains, "b", 1)
         && evse_and_ends(chains, "b") == Some((0, 0))
@@ -314,7 +314,11 @@ fn event_of(alloc: Global, number: u32) -> Result<Event, Fail> {
     let mut readings = Vec::new(alloc);
     for step in 0..number % 3 {
         let level = u64::from(number) * 4 + u64::from(step);
-        readings.push(Reading::new(moment, level).ok_or("no reading")?)?;
+        let direction = match (number / 7 + step) % 3 {
+            0 => Direction::Export,
+            _ => Direction::Import,
+        };
+        readings.push(Reading::new(moment, level, direction).ok_or("no reading")?)?;
     }
     let kind = match number / 3 % 4 {
         0 => Kind::Started,

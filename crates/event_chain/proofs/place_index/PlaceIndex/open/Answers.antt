@@ -1,5 +1,5 @@
 use Rattle.std.proofs.Common.{◌≡◌, ℕ, ◌<◌, true, false, Some, None, option_map, is_some, slice_get, length, refl, sym, ap, ◌∙◌, subst, arith}
-use Rattle.key_index.specs.declared.filed.Mark.TheVariants.{Live, Carries, Names}
+use Rattle.key_index.specs.declared.filed.Mark.TheVariants.{Live, Imports, Exports, Names}
 use Rattle.key_index.specs.declared.filed.Filed.{Filed}
 use Rattle.key_index.specs.declared.filed.Marks.{Marks}
 use Rattle.key_index.specs.Index as keyed
