@@ -1,5 +1,5 @@
 -- What chains keep after each operation.
-use Rattle.std.proofs.Common.{◌≡◌, ℕ, ◌+◌, ◌<◌, ◌/◌, ◌^◌, Bool, true, false, not, cond, ◌&&◌, nat_lt, List, Option, Some, None, is_some, length, set, sum_by, refl, sym, ap, ◌∙◌, subst, arith, inl, inr, length-set, get_or-set_same}
+use Rattle.std.proofs.Common.{◌≡◌, ℕ, ◌+◌, ◌<◌, ◌/◌, ◌^◌, Bool, true, false, not, cond, ◌&&◌, List, Option, Some, None, is_some, length, set, sum_by, refl, sym, ap, ◌∙◌, subst, arith, inl, inr, length-set, get_or-set_same}
 use Rattle.std.specs.Ordering.{eq_by_cmp, nat_cmp}
 use Rattle.std.specs.Cmp.{nat_cmp_total}
 use Rattle.std.specs.FinMap.{find, put}
@@ -22,12 +22,12 @@ use Rattle.event_store.specs.Slots.{Held, Slots}
 use Rattle.transaction_table.specs.declared.row.TableRow.{TableRow}
 use Rattle.transaction_table.specs.Table.{Table, Row, AreRising, AreApart, id_cmp, row_of}
 use Rattle.event_chain.specs.Flat.{Place, place_of, stored_in, stored_at, event_at, flat}
-use Rattle.event_chain.specs.Edits.{put_if, out, out_if}
+use Rattle.event_chain.specs.Edits.{put_if, out}
 use Rattle.event_chain.specs.Kept.{AreRanks, IsSub, is_live, is_carrier, is_naming, is_end, live_one, end_one, IsKeyed, AreIndexed, AreFigured, IsCounted, AreRoomy, IsChains, IsNamed, IsLeft, chosen}
 use Rattle.event_chain.proofs.Flats.{flat_rising}
 use Rattle.event_chain.proofs.Looks.{IsMove}
 use Rattle.event_chain.proofs.Moves.{put_move, mark_move, out_move, put_keyed, mark_keyed, out_keyed, put_here, out_here}
-use Rattle.event_chain.proofs.Subs.{sub_move, put_if_ranks, put_if_others, put_if_here, out_if_ranks, out_if_others, out_if_here}
+use Rattle.event_chain.proofs.Subs.{sub_move, put_if_ranks, put_if_others, put_if_here, out_if_ranks, out_if_others}
 use Rattle.event_chain.proofs.Figures.{figured_put, figured_out}
 use Rattle.event_chain.proofs.Sums.{at_key, sum_put, sum_without}
 use Rattle.event_chain.proofs.Effects.{found_before, flat_put, flat_out}

@@ -279,11 +279,7 @@ impl Chains {
 
     /// The live readings of a direction on either side of the place of a key in its transaction, whether
     /// the key is live, voided or absent: the last one in front of it, and the first one behind it.
-    pub fn neighbours(
-        &self,
-        key: &Key,
-        direction: Direction,
-    ) -> (Option<Reading>, Option<Reading>)
+    pub fn neighbours(&self, key: &Key, direction: Direction) -> (Option<Reading>, Option<Reading>)
         ensures before { result.0 ≡ last_reading (own_readings direction key.now.tx (before_key key.now (stored self.now))) }
         ensures behind { result.1 ≡ first_reading (own_readings direction key.now.tx (behind_key key.now (stored self.now))) }
     {

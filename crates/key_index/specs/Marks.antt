@@ -4,7 +4,6 @@ use Rattle.std.specs.List.{filter}
 use Rattle.key_index.specs.declared.filed.Mark.{Mark}
 use Rattle.key_index.specs.declared.filed.Mark.TheVariants.{Live, Imports, Exports, Names}
 use Rattle.key_index.specs.declared.filed.Marks.{Marks}
-use Rattle.key_index.specs.declared.filed.Filed.{Filed}
 use Rattle.key_index.specs.declared.counts.Counts.{Counts}
 use Rattle.key_index.specs.Entries.{Entry}
 

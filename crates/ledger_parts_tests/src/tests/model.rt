@@ -1,8 +1,8 @@
 //! Examples of what the types take and keep, from OCPP 2.0.1 and this product's profile.
 use energy_flow::Level;
 use ledger_model::{
-    Direction, Event, EvseId, Figures, Kind, Limits, Listed, Moment, Name, Period, Quarter, Reading, Refusal,
-    TxId,
+    Direction, Event, EvseId, Figures, Kind, Limits, Listed, Moment, Name, Period, Quarter,
+    Reading, Refusal, TxId,
 };
 use std::alloc::{AllocError, Global};
 use std::test::Fail;

@@ -1,5 +1,5 @@
 use Rattle.std.proofs.Common.{length, arith, ◌-◌, slice_get, option_map, sym, ap, ◌∙◌}
-use Rattle.event_chain.specs.Placed.{Index, carriers_of}
+use Rattle.event_chain.specs.Placed.{carriers_of}
 use Rattle.ledger_model.specs.Gaps.{numbers_of}
 use Rattle.event_chain.specs.Chains.{Chained, stored}
 use Rattle.event_chain.specs.Edits.{last_under}

@@ -1,4 +1,4 @@
-use Rattle.std.proofs.Common.{◌≡◌, ℕ, ◌+◌, nat_lt, false, not, cond, ◌&&◌, is_some, length, refl, sym, ap, ◌∙◌, subst, arith}
+use Rattle.std.proofs.Common.{◌≡◌, ℕ, ◌+◌, false, not, cond, ◌&&◌, is_some, refl, sym, ap, ◌∙◌, subst, arith}
 use Rattle.std.specs.FinMap as finite
 use Rattle.event_chain.specs.Edits.{carried}
 use Rattle.ledger_model.specs.declared.reading.Direction.{Direction}
@@ -14,7 +14,7 @@ use Rattle.event_chain.specs.Placed.{Index, carriers_of}
 use Rattle.event_chain.specs.Kept.{IsChains, events_of, end_count, is_end, is_live, is_carrier, is_naming}
 use Rattle.event_chain.proofs.Facts.{found_voided}
 use Rattle.event_chain.proofs.Used.{unused_voided}
-use Rattle.event_chain.proofs.Marks.{is_placed, spot_event, spot_here, spot_within, spot_get, spot_is, spot_absent, spot_room, spot_live, spot_ends, spot_few, in_indexes, marked_chains, marked_events, same_stored}
+use Rattle.event_chain.proofs.Marks.{is_placed, spot_event, spot_here, spot_within, spot_get, spot_is, spot_absent, spot_live, spot_ends, spot_few, in_indexes, marked_chains, marked_events, same_stored}
 use Rattle.event_chain.proofs.chains.Chains.relink.Goals as goal
 
 pub locate-at-requires : goal.locate-at-requires

@@ -1,4 +1,4 @@
-use Rattle.std.proofs.Common.{◌+◌, ◌&&◌, nat_lt, not, length, List, None, is_some, set, refl, sym, ap, ◌∙◌, subst}
+use Rattle.std.proofs.Common.{◌+◌, ◌&&◌, not, List, None, is_some, set, refl, sym, ap, ◌∙◌, subst}
 use Rattle.std.specs.FinMap as finite
 use Rattle.event_chain.specs.Placed.{carriers_of}
 use Rattle.ledger_model.specs.Deltas.{first_reading}

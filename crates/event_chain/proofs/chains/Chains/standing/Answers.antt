@@ -1,6 +1,6 @@
 use Rattle.std.proofs.Common.{ℕ, ◌-◌, length, slice_get, option_map, sym, ap, ◌∙◌, subst, arith}
 use Rattle.std.specs.List.{count_by}
-use Rattle.event_chain.specs.Placed.{Index, carriers_of}
+use Rattle.event_chain.specs.Placed.{carriers_of}
 use Rattle.ledger_model.specs.Content.{live_of}
 use Rattle.ledger_model.specs.Complete.{kinds_of}
 use Rattle.ledger_model.specs.Evse.{evse_of}

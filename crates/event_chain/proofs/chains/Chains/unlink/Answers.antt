@@ -1,4 +1,4 @@
-use Rattle.std.proofs.Common.{◌≡◌, ℕ, ◌-◌, nat_lt, true, not, cond, Some, None, ◌&&◌, is_some, length, refl, sym, ap, ◌∙◌, subst, arith}
+use Rattle.std.proofs.Common.{◌≡◌, ℕ, ◌-◌, true, not, cond, Some, None, ◌&&◌, is_some, refl, sym, ap, ◌∙◌, subst, arith}
 use Rattle.std.specs.FinMap as finite
 use Rattle.ledger_model.specs.Content.{Stored}
 use Rattle.ledger_model.specs.Step.{marked}
@@ -7,9 +7,9 @@ use Rattle.transaction_table.specs.Table.{with_row}
 use Rattle.event_chain.specs.Chains.{Chained}
 use Rattle.event_chain.specs.Room.{found_of}
 use Rattle.event_chain.specs.Placed.{Index, carriers_of}
-use Rattle.event_chain.specs.Kept.{IsChains, events_of, end_count, is_end, is_live, is_carrier, is_naming}
+use Rattle.event_chain.specs.Kept.{IsChains, events_of, end_count, is_end, is_live}
 use Rattle.event_chain.proofs.Facts.{found_live}
-use Rattle.event_chain.proofs.Marks.{is_placed, spot_event, spot_here, spot_get, spot_is, spot_sub, spot_there, spot_live, spot_ends, out_indexes, marked_chains, marked_events, same_stored}
+use Rattle.event_chain.proofs.Marks.{is_placed, spot_event, spot_here, spot_get, spot_is, spot_sub, spot_live, spot_ends, out_indexes, marked_chains, marked_events, same_stored}
 use Rattle.event_chain.proofs.chains.Chains.unlink.Goals as goal
 
 pub locate-at-requires : goal.locate-at-requires
