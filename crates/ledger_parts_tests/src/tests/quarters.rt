@@ -1,7 +1,10 @@
+ghost use Rattle.std.specs.Prelude.{◌≡◌};
+ghost use Rattle.ledger_model.specs.Energy.{flows_toward};
+
 use energy_flow::{Flow, Level, Work, difference};
 use ledger_model::Direction::{self, Export, Import};
 use ledger_model::Quarter;
-use quarter_table::{QuarterRow, QuarterTable};
+use quarter_table::QuarterTable;
 use std::test::Fail;
 
 // The quarter that begins at 10:30 on the first of March 2026.
@@ -11,22 +14,25 @@ fn quarter(number: u32) -> Result<Quarter, Fail> {
     Ok(Quarter::new(number).ok_or("no quarter")?)
 }
 
-// The row's sum in a direction, and its sum in the other.
-fn sums(row: QuarterRow, direction: Direction) -> (Flow, Flow) {
+// What a difference of this direction counts for among imports, and among exports.
+fn parted(direction: Direction, flow: Flow) -> (Flow, Flow)
+    ensures import { result.0 ≡ (flows_toward direction flow).flow }
+    ensures export { result.1 ≡ (flows_toward direction flow).export }
+{
     match direction {
-        Direction::Import => (row.flow, row.export),
-        Direction::Export => (row.export, row.flow),
+        Direction::Import => (flow, Flow::zero()),
+        Direction::Export => (Flow::zero(), flow),
     }
 }
 
 // Adds a pair where it may be added, and tells whether it did.
 fn put(table: &mut QuarterTable, quarter: Quarter, direction: Direction, flow: Flow) -> bool {
+    let (imported, exported) = parted(direction, flow);
     let row = table.row(quarter);
     if row.pairs == 0 && table.room() == 0 {
         return false;
     }
-    let (own, other) = sums(row, direction);
-    if row.pairs == u32::MAX || !own.can_plus(flow) || !other.can_plus(Flow::zero()) {
+    if row.pairs == u32::MAX || !row.flow.can_plus(imported) || !row.export.can_plus(exported) {
         return false;
     }
     table.add(quarter, direction, flow);
@@ -35,12 +41,12 @@ fn put(table: &mut QuarterTable, quarter: Quarter, direction: Direction, flow: F
 
 // Takes a pair out where it may be taken out, and tells whether it did.
 fn cut(table: &mut QuarterTable, quarter: Quarter, direction: Direction, flow: Flow) -> bool {
+    let (imported, exported) = parted(direction, flow);
     let row = table.row(quarter);
-    let (own, other) = sums(row, direction);
-    if row.pairs == 0 || !own.can_minus(flow) || !other.can_minus(Flow::zero()) {
+    if row.pairs == 0 || !row.flow.can_minus(imported) || !row.export.can_minus(exported) {
         return false;
     }
-    if row.pairs == 1 && (own != flow || other != Flow::zero()) {
+    if row.pairs == 1 && (row.flow != imported || row.export != exported) {
         return false;
     }
     table.remove(quarter, direction, flow);
