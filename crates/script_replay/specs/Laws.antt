@@ -3,10 +3,10 @@ use Rattle.std.specs.Prelude.{◌≡◌, ℕ, true, List, [], ◌∷◌, ◌++�
 use Rattle.ledger_model.specs.declared.command.Command.{Command}
 use Rattle.ledger_model.specs.declared.command.Command.TheVariants.{Deliver}
 use Rattle.ledger_model.specs.Board.{figures}
-use Rattle.ledger_model.specs.BoardLaws.{AreSums, sum_of_flows}
+use Rattle.ledger_model.specs.BoardLaws.{AreSums, sum_of_energies}
 use Rattle.ledger_model.specs.Content.{empty_content, entries}
 use Rattle.ledger_model.specs.declared.reading.Direction.TheVariants.{Import, Export}
-use Rattle.ledger_model.specs.Energy.{energy, flows_in}
+use Rattle.ledger_model.specs.Energy.{Flows, energy, energy_in}
 use Rattle.ledger_model.specs.Laws.{IsAccepted}
 use Rattle.ledger_model.specs.Step.{Reached, answer}
 use Rattle.ledger_model.specs.World.{Station, World, Happens, run}
@@ -62,10 +62,17 @@ BoardsAreFromScratch = (lines : List Line) (line : Line) (site : List ℕ) → l
     → is_among site (script_after start lines).sites ≡ true
     → (line_step (script_after start lines) line).1 ≡ board_text (shown_site site (period_named (script_after start lines) site) (stations_of site (script_after start lines).world))
 
+-- what stations imported and exported in a quarter, added up
+abbrev pub sums_in : ℕ → ℕ → World → Flows
+sums_in period quarter stations = record {
+  flow = sum_of_energies (map (λ s. energy_in Import period quarter (entries s.content)) stations);
+  export = sum_of_energies (map (λ s. energy_in Export period quarter (entries s.content)) stations);
+}
+
 -- the figures of a site are the sums over these stations, and so, whatever the settlement period, are the energies of each quarter that it shows
 pub record AreSitesSums (site : List ℕ) (period : ℕ) (stations : World) : Type 0 where
   pub figures_are : AreSums (shown_site site period stations).figures (map (λ s. figures (entries s.content)) stations)
-  pub quarters_are : All (λ line. line.1 ≡ sum_of_flows (map (λ s. flows_in period line.0 (entries s.content)) stations)) (shown_site site period stations).quarters
+  pub quarters_are : All (λ line. line.1 ≡ sums_in period line.0 stations) (shown_site site period stations).quarters
 
 -- the board of each site shows the sums over its stations
 abbrev pub SitesAreSums : Type 0
