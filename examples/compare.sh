@@ -164,10 +164,12 @@ for day in day site_day; do
 done
 made_by ./board_to_tables.py --tz Europe/Berlin --from 2026-03-29 --to 2026-10-25 --out "$made/berlin" tables/berlin.text
 made_by ./board_to_tables.py --out "$made/states" tables/states.text
-for name in berlin.periods berlin.transactions states.transactions; do
+made_by ./board_to_tables.py --out "$made/exports" tables/exports.text
+for name in berlin.periods berlin.transactions states.transactions exports.periods exports.transactions; do
     as_stored "tables/$name.csv" "$made/$name.csv"
 done
 holds tables/berlin.said
+holds tables/exports.said
 made_by ./board_to_tables.py --tz Europe/Berlin --day 2026-03-29 --out "$made/one" tables/berlin.text
 grep -E '^board|:00Z,2026-03-29T' tables/berlin.periods.csv > "$made/one.rows"
 diff "$made/one.rows" "$made/one.periods.csv" || differs "a day of tables/berlin.periods.csv"

@@ -36,14 +36,14 @@ EARLY = 0.05
 REPLIES = (b'[3,"1",{}]', b'[3,"2",{}]')
 # A station's part of a board, behind its name, where it told none, the first or both events of transaction T1.
 TOLD = (
-    "total events=0 voided=0 transactions=0 complete=0 missing=0 up=0 down=0\n",
-    "total events=1 voided=0 transactions=1 complete=0 missing=0 up=0 down=0\n"
-    "evse 0 up=0 down=0\n"
-    "tx t1 evse=0 events=1 first=0 last=0 complete=no missing=0 up=0 down=0\n",
-    "total events=2 voided=0 transactions=1 complete=0 missing=0 up=200000 down=0\n"
-    "evse 0 up=200000 down=0\n"
-    "period 2026-03-01T10:00:00Z up=200000 down=0\n"
-    "tx t1 evse=0 events=2 first=0 last=1 complete=no missing=0 up=200000 down=0\n",
+    "total events=0 voided=0 transactions=0 complete=0 missing=0 up=0 down=0 export_up=0 export_down=0\n",
+    "total events=1 voided=0 transactions=1 complete=0 missing=0 up=0 down=0 export_up=0 export_down=0\n"
+    "evse 0 up=0 down=0 export_up=0 export_down=0\n"
+    "tx t1 evse=0 events=1 first=0 last=0 complete=no missing=0 up=0 down=0 export_up=0 export_down=0\n",
+    "total events=2 voided=0 transactions=1 complete=0 missing=0 up=200000 down=0 export_up=0 export_down=0\n"
+    "evse 0 up=200000 down=0 export_up=0 export_down=0\n"
+    "period 2026-03-01T10:00:00Z up=200000 down=0 export_up=0 export_down=0\n"
+    "tx t1 evse=0 events=2 first=0 last=1 complete=no missing=0 up=200000 down=0 export_up=0 export_down=0\n",
 )
 
 
@@ -190,8 +190,8 @@ def board(site: str, told: dict[str, int]) -> str:
     return (
         f"board {site} period=900\n"
         f"total events={sum(told.values())} voided=0 transactions={sum(events > 0 for events in told.values())} "
-        f"complete=0 missing=0 up={up} down=0\n"
-        + (f"period 2026-03-01T10:00:00Z up={up} down=0\n" if up else "")
+        f"complete=0 missing=0 up={up} down=0 export_up=0 export_down=0\n"
+        + (f"period 2026-03-01T10:00:00Z up={up} down=0 export_up=0 export_down=0\n" if up else "")
         + "".join(f"station {name}\n{TOLD[events]}" for name, events in told.items())
         + "end\n"
     )
@@ -381,7 +381,7 @@ def eight_stations_on_two_sites(program: str) -> None:
             station.receives(Frame(TEXT, reply, False).bytes())
         station.leaves()
 
-    totals = r"total events=[0-9]+ voided=0 transactions=[0-9]+ complete=[0-9]+ missing=[0-9]+ up=[0-9]+ down=[0-9]+\n"
+    totals = r"total events=[0-9]+ voided=0 transactions=[0-9]+ complete=[0-9]+ missing=[0-9]+ up=[0-9]+ down=[0-9]+ export_up=0 export_down=0\n"
     with (
         Server(program, len(stations), "--watch", "2", stations=stations) as server,
         ThreadPoolExecutor(len(stations)) as threads,

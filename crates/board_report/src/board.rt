@@ -45,7 +45,7 @@ impl SiteBoard {
         self.period
     }
 
-    /// The seven figures of the site.
+    /// The nine figures of the site.
     pub fn figures(&self) -> Figures
         ensures { result ≡ self.now.figures }
     {

@@ -42,7 +42,8 @@ fn add_line(falling: &mut Vec<QuarterLine>, added: QuarterLine) -> Result<(), Al
     };
     if last.quarter() == added.quarter() {
         let flow = added.flow().plus(last.flow());
-        falling.push(QuarterLine::new(last.quarter(), flow))?;
+        let export = added.export().plus(last.export());
+        falling.push(QuarterLine::new(last.quarter(), flow, export))?;
     } else {
         falling.push(last)?;
         falling.push(added)?;
@@ -65,7 +66,7 @@ fn falling_sums(alloc: Global, lines: &[QuarterLine]) -> Result<Vec<QuarterLine>
     Ok(falling)
 }
 
-// The quarters that stations show, rising, each with the sum of its energies.
+// The quarters that stations show, rising, each with the sums of its energies.
 pub(crate) fn site_quarters(
     alloc: Global,
     stations: &[(Name, StationBoard)],

@@ -1,6 +1,7 @@
 //! The places of events: their transactions, their ranks, and the slots that hold them.
 ghost use Rattle.std.specs.Prelude.{◌≡◌, ◌<◌, true, false, length, None, Some, IsSome, slice_get, option_map};
 ghost use Rattle.std.specs.Option.{ForSome};
+ghost use Rattle.event_chain.specs.Placed.{carriers_of};
 ghost use Rattle.event_chain.specs.Ranked.{last_of};
 ghost use Rattle.key_index.specs.Key.{rank};
 ghost use Rattle.ledger_model.specs.Ranges.{sequence_end};
@@ -14,7 +15,7 @@ use crate::lane::Lane;
 use crate::place_index::PlaceIndex;
 use event_store::EventStore;
 use key_index::{IndexKey, Place};
-use ledger_model::{EvseId, Key, Kind, Reading, TxId};
+use ledger_model::{Direction, EvseId, Key, Kind, Reading, TxId};
 use transaction_table::{TableRow, TransactionTable};
 
 // The greatest sequence number.
@@ -199,48 +200,60 @@ pub(crate) fn first_naming(places: &PlaceIndex, row: Option<TableRow>) -> Option
     first_in(&naming, row)
 }
 
-// The last place in front of a key of an event with a reading, of the key's transaction.
+// The last place in front of a key of an event with a reading of a direction, of the key's
+// transaction.
 pub(crate) fn carrier_before(
     places: &PlaceIndex,
+    direction: Direction,
     place: Place,
     key: IndexKey,
 ) -> Option<(IndexKey, u32)>
-    ensures { result ≡ last_of (places_before key places.now.carriers.entries) }
+    ensures { result ≡ last_of (places_before key (carriers_of places.now direction).entries) }
 {
-    let carriers = places.carriers(place);
+    let carriers = places.carriers(direction, place);
     place_before(&carriers, key)
 }
 
-// The first place behind a key of an event with a reading, of the key's transaction.
+// The first place behind a key of an event with a reading of a direction, of the key's
+// transaction.
 pub(crate) fn carrier_behind(
     places: &PlaceIndex,
+    direction: Direction,
     place: Place,
     key: IndexKey,
 ) -> Option<(IndexKey, u32)>
-    ensures { result ≡ slice_get (places_behind key places.now.carriers.entries) 0 }
+    ensures { result ≡ slice_get (places_behind key (carriers_of places.now direction).entries) 0 }
 {
-    let carriers = places.carriers(place);
+    let carriers = places.carriers(direction, place);
     place_behind(&carriers, key)
 }
 
-// The last reading of the event of a place, where there is one.
-pub(crate) fn last_at(store: &EventStore, place: Option<(IndexKey, u32)>) -> Option<Reading>
+// The last reading of a direction of the event of a place, where there is one.
+pub(crate) fn last_at(
+    store: &EventStore,
+    direction: Direction,
+    place: Option<(IndexKey, u32)>,
+) -> Option<Reading>
     requires { IsStored store.now.slots place }
-    ensures { result ≡ last_at store.now.slots place }
+    ensures { result ≡ last_at store.now.slots direction place }
 {
     match place {
-        Some(place) => store.get(place.1).last_reading(),
+        Some(place) => store.get(place.1).last_reading(direction),
         None => None,
     }
 }
 
-// The first reading of the event of a place, where there is one.
-pub(crate) fn first_at(store: &EventStore, place: Option<(IndexKey, u32)>) -> Option<Reading>
+// The first reading of a direction of the event of a place, where there is one.
+pub(crate) fn first_at(
+    store: &EventStore,
+    direction: Direction,
+    place: Option<(IndexKey, u32)>,
+) -> Option<Reading>
     requires { IsStored store.now.slots place }
-    ensures { result ≡ first_at store.now.slots place }
+    ensures { result ≡ first_at store.now.slots direction place }
 {
     match place {
-        Some(place) => store.get(place.1).first_reading(),
+        Some(place) => store.get(place.1).first_reading(direction),
         None => None,
     }
 }

@@ -32,7 +32,9 @@ A script has one line for each step, and each answer is one line, or a board:
   msg <station> <text>       an OCPP-J message of the station; writes the reply, or `silent`
   void, restore or erase, with <station> <transaction id> <seqNo>
                              an operator's command; writes `accepted <n>` or `refused <name>`
-  energy <station>           writes `energy up=<n> down=<n>`, in milliwatt-hours
+  energy <station>           writes `energy up=<n> down=<n>`, what was imported, in
+                             milliwatt-hours
+  export <station>           writes `export up=<n> down=<n>`, what was exported
   total <station>            writes the station's figures
   board <site>               writes the board of the site, from its name to `end`
 Empty lines and lines that begin with # write nothing. A line with a fault writes

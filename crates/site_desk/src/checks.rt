@@ -124,6 +124,8 @@ fn plus(figures: &Figures, others: &Figures) -> Option<Figures>
         missing: figures.missing.checked_add(others.missing)?,
         up: figures.up.checked_add(others.up)?,
         down: figures.down.checked_add(others.down)?,
+        export_up: figures.export_up.checked_add(others.export_up)?,
+        export_down: figures.export_down.checked_add(others.export_down)?,
     })
 }
 

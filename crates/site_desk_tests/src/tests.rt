@@ -107,6 +107,7 @@ fn figures(seven: [u64; 7]) -> Figures {
         missing,
         up,
         down,
+        ..Figures::zero()
     }
 }
 

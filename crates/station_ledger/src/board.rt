@@ -220,7 +220,7 @@ impl StationBoard {
         self.period
     }
 
-    /// The seven figures.
+    /// The nine figures.
     pub fn figures(&self) -> Figures
         ensures { result ≡ self.now.figures }
     {

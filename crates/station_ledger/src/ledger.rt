@@ -177,6 +177,8 @@ impl StationLedger {
         Figures {
             up: self.sums.energy.up(),
             down: self.sums.energy.down(),
+            export_up: 0,
+            export_down: 0,
             ..self.sums.figures
         }
     }

@@ -7,7 +7,7 @@
 //! refusals tells the first rule that stands against it. A repeat and a refusal change nothing.
 //! [`StationLedger::energy`] adds up what the register rose and fell by between each counted reading
 //! and the next one of its transaction, in the order of sequence numbers, and [`StationLedger::evse`]
-//! does so for the transactions of one EVSE. [`StationLedger::figures`] sums up the station in seven
+//! does so for the transactions of one EVSE. [`StationLedger::figures`] sums up the station in nine
 //! numbers, and a [`StationBoard`] shows it: the figures, the EVSEs and the quarters with their energy,
 //! and each transaction that has a live event, with the numbers that are missing. None of these is lent
 //! a `Work`, so none compares readings.

@@ -25,6 +25,7 @@ fn are_figures(shown: Figures, want: [u64; 7]) -> bool {
     let [events, voided, transactions, complete, missing, up, down] = want;
     counts == [events, voided, transactions, complete]
         && [shown.missing, shown.up, shown.down] == [missing, up, down]
+        && (shown.export_up, shown.export_down) == (0, 0)
 }
 
 // Tells whether the line shows this transaction.

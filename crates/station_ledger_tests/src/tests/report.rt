@@ -150,6 +150,7 @@ fn figures(numbers: [u64; 7]) -> Figures {
         missing,
         up,
         down,
+        ..Figures::zero()
     }
 }
 
