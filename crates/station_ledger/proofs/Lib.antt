@@ -1,5 +1,6 @@
 pub mod Rows
 pub mod Walks
+pub mod Both
 pub mod EndKinds
 pub mod EndNumbers
 pub mod Moved
