@@ -8,6 +8,7 @@ pub mod Bounded
 pub mod Stands
 pub mod Trades
 pub mod Changes
+pub mod Settled
 pub mod Commands
 pub mod OneLess
 pub mod Reaching
