@@ -227,7 +227,7 @@ pub(crate) fn take_gap(
     place: &Around,
     work: &mut Work,
 ) -> Energies
-    requires holds { HoldsBoth period (sides_across (by_direction place.now.import.before place.now.export.before) (by_direction place.now.import.behind place.now.export.behind)) quarters.old }
+    requires { HoldsBoth period (sides_across (by_direction place.now.import.before place.now.export.before) (by_direction place.now.import.behind place.now.export.behind)) quarters.old }
     ensures import { result.import ≡ energy_over (sides_across (by_direction place.now.import.before place.now.export.before) (by_direction place.now.import.behind place.now.export.behind) Import) }
     ensures import_up { result.import.up ≤ greatest_reading * length (sides_across (by_direction place.now.import.before place.now.export.before) (by_direction place.now.import.behind place.now.export.behind) Import) }
     ensures import_down { result.import.down ≤ greatest_reading * length (sides_across (by_direction place.now.import.before place.now.export.before) (by_direction place.now.import.behind place.now.export.behind) Import) }
