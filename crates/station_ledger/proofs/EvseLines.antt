@@ -5,7 +5,7 @@ use Rattle.std.proofs.lemmas.Bool.{eq-eqb, lt-ltb, le-ltb, ltb-true}
 use Rattle.std.proofs.lemmas.Bool.Decides.{Decides-eqb}
 use Rattle.std.proofs.lemmas.List.{append-nil, map-append}
 use Rattle.ledger_model.specs.Energy.{Flows}
-use Rattle.ledger_model.specs.Board.{Flowed, board}
+use Rattle.ledger_model.specs.Board.{Flowed}
 use Rattle.ledger_model.specs.BoardLaws.{AreRising, IsIn}
 use Rattle.ledger_model.specs.Content.{Entry, live, transactions_of}
 use Rattle.ledger_model.specs.Evse.{evse_of, evses, flows_at, transactions_at}

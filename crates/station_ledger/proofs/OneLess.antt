@@ -1,13 +1,13 @@
 -- What is kept of a transaction, when one live event more comes.
-use Rattle.std.proofs.Common.{◌≡◌, ◌==◌, ℕ, ◌+◌, ◌<◌, ◌≤◌, Bool, true, false, cond, List, [], ◌∷◌, ◌++◌, Option, None, Some, IfSome, is_some, length, map, slice_get, refl, sym, ap, ◌∙◌, subst, arith, length-append}
+use Rattle.std.proofs.Common.{◌≡◌, ◌==◌, ℕ, ◌+◌, ◌<◌, ◌≤◌, Bool, true, false, cond, List, [], ◌∷◌, ◌++◌, Option, None, Some, IfSome, length, map, slice_get, refl, sym, ap, ◌∙◌, subst, arith, length-append}
 use Rattle.std.specs.List.{filter_map, cons_option}
 use Rattle.std.proofs.lemmas.List.{length-map, map-append}
 use Rattle.energy_flow.specs.Flow.{Energy}
 use Rattle.ledger_model.specs.Board.{last_or_none}
 use Rattle.ledger_model.specs.BoardLaws.{AreRising}
-use Rattle.ledger_model.specs.Content.{Entry, Stored, live_of}
-use Rattle.ledger_model.specs.Deltas.{IsOneMore, own_events, before_key, behind_key}
-use Rattle.ledger_model.specs.Evse.{first_or_none, evse_of}
+use Rattle.ledger_model.specs.Content.{Entry, live_of}
+use Rattle.ledger_model.specs.Deltas.{own_events, before_key, behind_key}
+use Rattle.ledger_model.specs.Evse.{first_or_none}
 use Rattle.ledger_model.specs.Gaps.{numbers_of, missing}
 use Rattle.ledger_model.specs.Key.{KeyName}
 use Rattle.ledger_model.proofs.Callers.{live_with, live_without}

@@ -1,15 +1,13 @@
 -- All sums after the pairs of one event came or went.
-use Rattle.std.proofs.Common.{◌≡◌, ℕ, ◌+◌, ◌*◌, ◌<◌, ◌≤◌, List, Option, None, length, sym, ap, subst, ◌∙◌, arith}
+use Rattle.std.proofs.Common.{◌≡◌, ℕ, ◌*◌, ◌≤◌, List, Option, length, ◌∙◌, arith}
 use Rattle.std.specs.FinMap.{find}
 use Rattle.energy_flow.specs.Flow.{Energy, plus, minus}
-use Rattle.ledger_model.specs.declared.figures.Figures.{Figures}
 use Rattle.ledger_model.specs.declared.reading.Direction.{Direction}
 use Rattle.ledger_model.specs.declared.reading.Direction.TheVariants.{Import, Export}
 use Rattle.ledger_model.specs.Content.{Entry}
 use Rattle.ledger_model.specs.Energy.{Pair, energy, energy_of, energy_over}
 use Rattle.ledger_model.specs.Limits.{Bounds}
-use Rattle.ledger_model.specs.Ranges.{greatest_reading, most_event_readings, most_readings}
-use Rattle.quarter_table.specs.Table.{Table}
+use Rattle.ledger_model.specs.Ranges.{greatest_reading, most_readings}
 use Rattle.transaction_map.specs.Map.{Mapped, id_cmp}
 use Rattle.station_ledger.specs.declared.standing.Standing.{Standing}
 use Rattle.station_ledger.specs.Moved.{CanTrade, flow_in}

@@ -1,5 +1,5 @@
 -- Each reading of events in range is at a moment, and so the quarter of each pair begins at one.
-use Rattle.std.proofs.Common.{◌≡◌, ℕ, zero, suc, ◌/◌, not, true, false, cond, List, [], ◌∷◌, ◌++◌, map, filter, sym, subst, arith, ⊎_elim}
+use Rattle.std.proofs.Common.{◌≡◌, ℕ, suc, not, true, false, cond, List, [], ◌∷◌, ◌++◌, map, sym, subst, arith, ⊎_elim}
 use Rattle.std.specs.List.{All, flat_map}
 use Rattle.std.specs.Str.{bytes_eq}
 use Rattle.std.proofs.lemmas.List.Elements.{All-nil, All-cons, All-append}

@@ -1,5 +1,5 @@
 -- The readings on either side of an event's place, direction by direction.
-use Rattle.std.specs.Prelude.{ℕ, ◌+◌, Bool, if◌then◌else◌, List, Option, None, is_some}
+use Rattle.std.specs.Prelude.{Bool, if◌then◌else◌, List, Option, None, is_some}
 use Rattle.ledger_model.specs.declared.reading.Direction.{Direction}
 use Rattle.ledger_model.specs.declared.reading.Direction.TheVariants.{Import, Export}
 use Rattle.ledger_model.specs.Deltas.{across, first_reading, pairs_between}

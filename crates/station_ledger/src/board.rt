@@ -82,7 +82,11 @@ impl QuarterLine {
         ensures flow { result.1.flow ≡ flow }
         ensures export { result.1.export ≡ export }
     {
-        QuarterLine { quarter, flow, export }
+        QuarterLine {
+            quarter,
+            flow,
+            export,
+        }
     }
 
     /// The quarter.

@@ -124,7 +124,9 @@ fn take_across(
     ensures grows { work.old ≤ work.new }
 {
     match (before, behind) {
-        (Some(earlier), Some(later)) => take_pair(quarters, period, direction, earlier, later, work),
+        (Some(earlier), Some(later)) => take_pair(
+            quarters, period, direction, earlier, later, work,
+        ),
         _ => Flow::zero(),
     }
 }
@@ -214,9 +216,26 @@ pub(crate) fn add_gap(
     ensures work { work.new ≤ work.old + both_length (sides_across (by_direction place.now.import.before place.now.export.before) (by_direction place.now.import.behind place.now.export.behind)) }
     ensures grows { work.old ≤ work.new }
 {
-    let Around { import: imports, export: exports } = *place;
-    let import = add_across(quarters, period, Direction::Import, imports.before, imports.behind, work);
-    let export = add_across(quarters, period, Direction::Export, exports.before, exports.behind, work);
+    let Around {
+        import: imports,
+        export: exports,
+    } = *place;
+    let import = add_across(
+        quarters,
+        period,
+        Direction::Import,
+        imports.before,
+        imports.behind,
+        work,
+    );
+    let export = add_across(
+        quarters,
+        period,
+        Direction::Export,
+        exports.before,
+        exports.behind,
+        work,
+    );
     Energies { import, export }
 }
 
@@ -239,9 +258,26 @@ pub(crate) fn take_gap(
     ensures work { work.new ≤ work.old + both_length (sides_across (by_direction place.now.import.before place.now.export.before) (by_direction place.now.import.behind place.now.export.behind)) }
     ensures grows { work.old ≤ work.new }
 {
-    let Around { import: imports, export: exports } = *place;
-    let import = take_across(quarters, period, Direction::Import, imports.before, imports.behind, work);
-    let export = take_across(quarters, period, Direction::Export, exports.before, exports.behind, work);
+    let Around {
+        import: imports,
+        export: exports,
+    } = *place;
+    let import = take_across(
+        quarters,
+        period,
+        Direction::Import,
+        imports.before,
+        imports.behind,
+        work,
+    );
+    let export = take_across(
+        quarters,
+        period,
+        Direction::Export,
+        exports.before,
+        exports.behind,
+        work,
+    );
     Energies { import, export }
 }
 
@@ -266,9 +302,30 @@ pub(crate) fn add_own(
     ensures work { work.new ≤ work.old + both_length (sides_between (by_direction place.now.import.before place.now.export.before) chains.now key.now (by_direction place.now.import.behind place.now.export.behind)) }
     ensures grows { work.old ≤ work.new }
 {
-    let Around { import: imports, export: exports } = *place;
-    let import = add_pairs(quarters, period, Direction::Import, imports.before, chains, key, imports.behind, work);
-    let export = add_pairs(quarters, period, Direction::Export, exports.before, chains, key, exports.behind, work);
+    let Around {
+        import: imports,
+        export: exports,
+    } = *place;
+    let import = add_pairs(
+        quarters,
+        period,
+        Direction::Import,
+        imports.before,
+        chains,
+        key,
+        imports.behind,
+        work,
+    );
+    let export = add_pairs(
+        quarters,
+        period,
+        Direction::Export,
+        exports.before,
+        chains,
+        key,
+        exports.behind,
+        work,
+    );
     Energies { import, export }
 }
 
@@ -294,8 +351,29 @@ pub(crate) fn take_own(
     ensures work { work.new ≤ work.old + both_length (sides_between (by_direction place.now.import.before place.now.export.before) chains.now key.now (by_direction place.now.import.behind place.now.export.behind)) }
     ensures grows { work.old ≤ work.new }
 {
-    let Around { import: imports, export: exports } = *place;
-    let import = take_pairs(quarters, period, Direction::Import, imports.before, chains, key, imports.behind, work);
-    let export = take_pairs(quarters, period, Direction::Export, exports.before, chains, key, exports.behind, work);
+    let Around {
+        import: imports,
+        export: exports,
+    } = *place;
+    let import = take_pairs(
+        quarters,
+        period,
+        Direction::Import,
+        imports.before,
+        chains,
+        key,
+        imports.behind,
+        work,
+    );
+    let export = take_pairs(
+        quarters,
+        period,
+        Direction::Export,
+        exports.before,
+        chains,
+        key,
+        exports.behind,
+        work,
+    );
     Energies { import, export }
 }

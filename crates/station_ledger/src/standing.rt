@@ -39,11 +39,7 @@ fn starts_and_ends(events: &event_chain::TxStanding) -> bool
 }
 
 // What stands of a transaction with these energies; none where it has no live event.
-pub(crate) fn standing_of(
-    chains: &Chains,
-    tx: &TxId,
-    energies: Energies,
-) -> Option<Standing>
+pub(crate) fn standing_of(chains: &Chains, tx: &TxId, energies: Energies) -> Option<Standing>
     ensures { result ≡ kept_with energies.import energies.export tx.now (stored chains.now) }
 {
     let events = chains.standing(tx);

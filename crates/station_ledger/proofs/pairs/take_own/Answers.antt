@@ -1,6 +1,4 @@
-use Rattle.std.proofs.Common.{◌∙◌, sym, ap, arith}
-use Rattle.energy_flow.specs.Flow.{Energy}
-use Rattle.station_ledger.specs.Sides.{by_direction, sides_across, sides_between}
+use Rattle.station_ledger.specs.Sides.{by_direction, sides_between}
 use Rattle.station_ledger.proofs.Both.{holds_first, holds_second, without_both}
 use Rattle.station_ledger.proofs.pairs.take_own.Goals as goal
 

@@ -1,4 +1,4 @@
-use Rattle.std.proofs.Common.{◌≡◌, List, [], count_by, sym, ap, subst, ◌∙◌, arith}
+use Rattle.std.proofs.Common.{◌≡◌, List, [], count_by, sym, ap, subst, ◌∙◌}
 use Rattle.std.specs.FinMap as finite
 use Rattle.std.specs.FinMap.{FinMap}
 use Rattle.ledger_model.specs.Content.{Entry, Stored}
