@@ -32,6 +32,6 @@ mod sums;
 mod write;
 
 pub use board::{SiteBoard, site_board};
-pub use fixed::{energy_text, total_text};
+pub use fixed::{energy_text, export_text, total_text};
 pub use laws::plans_fit;
 pub use write::write_board;
