@@ -5,7 +5,6 @@ use Rattle.std.proofs.lemmas.Bool.{cases_eq}
 use Rattle.std.proofs.lemmas.List.Sums.{sum_by-cons}
 use Rattle.ledger_model.specs.declared.reading.Direction.{Direction}
 use Rattle.ledger_model.specs.declared.reading.Direction.TheVariants.{Import, Export}
-use Rattle.quarter_table.proofs.Parts.{Part}
 use Rattle.ledger_model.specs.Board.{Board, Flowed, board, flows_under}
 use Rattle.ledger_model.specs.BoardLaws.{AreRising, IsIn}
 use Rattle.ledger_model.specs.Content.{Entry}
@@ -15,7 +14,7 @@ use Rattle.ledger_model.specs.Ranges.{most_plan_readings, greatest_reading}
 use Rattle.ledger_model.proofs.Callers.{sum_by-filter_cons, rising-AreRising}
 use Rattle.board_report.specs.Plans.{IsBoardWithin, AreBoardsWithin}
 use Rattle.board_report.specs.Sums.{station_quarters, QuartersFit}
-use Rattle.board_report.proofs.SumLemmas.{up, down, export_up, export_down, part_none, under-own, under-other, above_first}
+use Rattle.board_report.proofs.SumLemmas.{Part, up, down, export_up, export_down, part_none, under-own, under-other, above_first}
 
 tail_rises : (m : ℕ) (ms : List ℕ) → AreRising (m ∷ ms) → AreRising ms
 tail_rises m [] rise = tt

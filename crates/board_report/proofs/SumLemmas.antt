@@ -10,29 +10,42 @@ use Rattle.std.proofs.lemmas.List.Sums.{sum_by-cons}
 use Rattle.std.proofs.lemmas.List.Sorted.{sum_by-IsPermutation, IsPermutation-sym}
 use Rattle.ledger_model.specs.Board.{Board, Flowed, flows_under}
 use Rattle.ledger_model.specs.Energy.{Flows, no_flows, plus_flows, put_in, rising}
-use Rattle.quarter_table.proofs.Parts.{Part, same_flows}
 use Rattle.ledger_model.specs.Quarter.{IsQuarterOf}
 use Rattle.ledger_model.specs.BoardLaws.{AreRising, IsIn}
 use Rattle.ledger_model.proofs.Callers.{put_in-same, put_in-below, put_in-above, rising-AreRising, rising-IsIn}
 use Rattle.board_report.specs.Lines.{quarter_sums, AreInOrder, put_line, CanLead, CanPlusFlows}
 use Rattle.board_report.specs.Sums.{AreQuartersOf, QuartersFit, station_quarters}
 
--- the four sums of both directions
+-- one of the four sums of energies of both directions: it adds up by itself
+pub record Part : Type 0 where
+  pub measure : Flows → ℕ
+  pub plus_of : (a b : Flows) → measure (plus_flows a b) ≡ measure a + measure b
+  pub none_of : measure no_flows ≡ 0
+
 abbrev pub up : Part
-up = record { measure = λ f. f.flow.up; plus_of = λ a b. refl; minus_of = λ a b. refl; total_of = λ fs. refl }
+up = record { measure = λ f. f.flow.up; plus_of = λ a b. refl; none_of = refl }
 
 abbrev pub down : Part
-down = record { measure = λ f. f.flow.down; plus_of = λ a b. refl; minus_of = λ a b. refl; total_of = λ fs. refl }
+down = record { measure = λ f. f.flow.down; plus_of = λ a b. refl; none_of = refl }
 
 abbrev pub export_up : Part
-export_up = record { measure = λ f. f.export.up; plus_of = λ a b. refl; minus_of = λ a b. refl; total_of = λ fs. refl }
+export_up = record { measure = λ f. f.export.up; plus_of = λ a b. refl; none_of = refl }
 
 abbrev pub export_down : Part
-export_down = record { measure = λ f. f.export.down; plus_of = λ a b. refl; minus_of = λ a b. refl; total_of = λ fs. refl }
+export_down = record { measure = λ f. f.export.down; plus_of = λ a b. refl; none_of = refl }
+
+-- energies that agree in each of them are the same
+same_flows : (a b : Flows) → ((p : Part) → p.measure a ≡ p.measure b) → a ≡ b
+same_flows a b each =
+    let up_is : a.flow.up ≡ b.flow.up = each up in
+    let down_is : a.flow.down ≡ b.flow.down = each down in
+    let export_up_is : a.export.up ≡ b.export.up = each export_up in
+    let export_down_is : a.export.down ≡ b.export.down = each export_down in
+    λ i. record { flow = record { up = up_is i; down = down_is i }; export = record { up = export_up_is i; down = export_down_is i } }
 
 -- no energies have nothing
 pub part_none : (p : Part) → p.measure no_flows ≡ 0
-part_none p = p.total_of []
+part_none p = p.none_of
 
 plus_none : (f : Flows) → plus_flows f no_flows ≡ f
 plus_none f = same_flows (plus_flows f no_flows) f (λ p. p.plus_of f no_flows ∙ (let none = part_none p in omega (arith, none)))
@@ -71,8 +84,8 @@ below_not_in n m (k ∷ ms) less up (inl e) = absurd (omega arith)
 below_not_in n m (k ∷ ms) less up (inr h) = below_not_in n k ms (let a : m < k = up.0 in omega arith) up.1 h
 
 tail_rises : (m : ℕ) (ms : List ℕ) → AreRising (m ∷ ms) → AreRising ms
-tail_rises m [] up = tt
-tail_rises m (k ∷ ms) up = up.1
+tail_rises m [] rise = tt
+tail_rises m (k ∷ ms) rise = rise.1
 
 module _ (x : Flowed) (was is : ℕ → Flows) (agree : (k : ℕ) → (x.0 ≡ k → ⊥) → is k ≡ was k) (here : is x.0 ≡ plus_flows x.1 (was x.0)) where
   abbrev lines : (ℕ → Flows) → List ℕ → List Flowed
