@@ -8,7 +8,6 @@ use Rattle.std.proofs.lemmas.List.{take_more}
 use Rattle.std.proofs.lemmas.Grind.{flat_map-append}
 use Rattle.std.proofs.lemmas.List.Sums.{sum_by-cons}
 use Rattle.std.proofs.lemmas.List.Sorted.{sum_by-IsPermutation, IsPermutation-sym}
-use Rattle.energy_flow.specs.Flow.{CanPlus}
 use Rattle.ledger_model.specs.Board.{Board, Flowed, flows_under}
 use Rattle.ledger_model.specs.Energy.{Flows, no_flows, plus_flows, put_in, rising}
 use Rattle.ledger_model.specs.Quarter.{IsQuarterOf}
@@ -17,11 +16,39 @@ use Rattle.ledger_model.proofs.Callers.{put_in-same, put_in-below, put_in-above,
 use Rattle.board_report.specs.Lines.{quarter_sums, AreInOrder, put_line, CanLead, CanPlusFlows}
 use Rattle.board_report.specs.Sums.{AreQuartersOf, QuartersFit, station_quarters}
 
-same_flows : (a b : Flows) → a.flow.up ≡ b.flow.up → a.flow.down ≡ b.flow.down → a.export.up ≡ b.export.up → a.export.down ≡ b.export.down → a ≡ b
-same_flows a b up down export_up export_down = λ i. record { flow = record { up = up i; down = down i }; export = record { up = export_up i; down = export_down i } }
+-- one of the four sums of energies of both directions: it adds up by itself
+pub record Part : Type 0 where
+  pub measure : Flows → ℕ
+  pub plus_of : (a b : Flows) → measure (plus_flows a b) ≡ measure a + measure b
+  pub none_of : measure no_flows ≡ 0
+
+abbrev pub up : Part
+up = record { measure = λ f. f.flow.up; plus_of = λ a b. refl; none_of = refl }
+
+abbrev pub down : Part
+down = record { measure = λ f. f.flow.down; plus_of = λ a b. refl; none_of = refl }
+
+abbrev pub export_up : Part
+export_up = record { measure = λ f. f.export.up; plus_of = λ a b. refl; none_of = refl }
+
+abbrev pub export_down : Part
+export_down = record { measure = λ f. f.export.down; plus_of = λ a b. refl; none_of = refl }
+
+-- energies that agree in each of them are the same
+same_flows : (a b : Flows) → ((p : Part) → p.measure a ≡ p.measure b) → a ≡ b
+same_flows a b each =
+    let up_is : a.flow.up ≡ b.flow.up = each up in
+    let down_is : a.flow.down ≡ b.flow.down = each down in
+    let export_up_is : a.export.up ≡ b.export.up = each export_up in
+    let export_down_is : a.export.down ≡ b.export.down = each export_down in
+    λ i. record { flow = record { up = up_is i; down = down_is i }; export = record { up = export_up_is i; down = export_down_is i } }
+
+-- no energies have nothing
+pub part_none : (p : Part) → p.measure no_flows ≡ 0
+part_none p = p.none_of
 
 plus_none : (f : Flows) → plus_flows f no_flows ≡ f
-plus_none f = same_flows (plus_flows f no_flows) f (omega arith) (omega arith) (omega arith) (omega arith)
+plus_none f = same_flows (plus_flows f no_flows) f (λ p. p.plus_of f no_flows ∙ (let none = part_none p in omega (arith, none)))
 
 -- the quarters of lines
 abbrev pub numbers : List Flowed → List ℕ
@@ -57,8 +84,8 @@ below_not_in n m (k ∷ ms) less up (inl e) = absurd (omega arith)
 below_not_in n m (k ∷ ms) less up (inr h) = below_not_in n k ms (let a : m < k = up.0 in omega arith) up.1 h
 
 tail_rises : (m : ℕ) (ms : List ℕ) → AreRising (m ∷ ms) → AreRising ms
-tail_rises m [] up = tt
-tail_rises m (k ∷ ms) up = up.1
+tail_rises m [] rise = tt
+tail_rises m (k ∷ ms) rise = rise.1
 
 module _ (x : Flowed) (was is : ℕ → Flows) (agree : (k : ℕ) → (x.0 ≡ k → ⊥) → is k ≡ was k) (here : is x.0 ≡ plus_flows x.1 (was x.0)) where
   abbrev lines : (ℕ → Flows) → List ℕ → List Flowed
@@ -102,33 +129,16 @@ pub sums_more : (x : Flowed) (xs : List Flowed) → put_line x (quarter_sums xs)
 sums_more x xs = put_rising x (λ k. flows_under k xs) (λ k. flows_under k (x ∷ xs)) (λ k apart. under-other x xs k apart) (under-own x xs x.0 refl)
     (rising (numbers xs)) (rising-AreRising (numbers xs)) (λ no. under-none x.0 xs (λ h. no ((rising-IsIn x.0 (numbers xs)).1 h)))
 
--- one of the four sums
-pub record IsPart (part : Flows → ℕ) : Type 0 where
-  pub none : part no_flows ≡ 0
-  pub adds : (a b : Flows) → part (plus_flows a b) ≡ part a + part b
-
 -- lines at the end have no more energy than all
-under-more : (part : Flows → ℕ) → IsPart part → (q : ℕ) (x : Flowed) (xs : List Flowed) → part (flows_under q xs) ≤ part (flows_under q (x ∷ xs))
-under-more part is q x xs = ⊎_elim
-    (λ (e : x.0 ≡ q). omega (arith, ap part (under-own x xs q e), is.adds x.1 (flows_under q xs)))
-    (λ (o : x.0 ≡ q → ⊥). omega (arith, ap part (under-other x xs q o)))
+under-more : (p : Part) (q : ℕ) (x : Flowed) (xs : List Flowed) → p.measure (flows_under q xs) ≤ p.measure (flows_under q (x ∷ xs))
+under-more p q x xs = ⊎_elim
+    (λ (e : x.0 ≡ q). omega (arith, ap p.measure (under-own x xs q e), p.plus_of x.1 (flows_under q xs)))
+    (λ (o : x.0 ≡ q → ⊥). omega (arith, ap p.measure (under-other x xs q o)))
     (cases_eq x.0 q)
 
-under-end : (part : Flows → ℕ) → IsPart part → (q : ℕ) (front xs : List Flowed) → part (flows_under q xs) ≤ part (flows_under q (front ++ xs))
-under-end part is q [] xs = omega arith
-under-end part is q (y ∷ front) xs = omega (arith, under-end part is q front xs, under-more part is q y (front ++ xs))
-
-pub up_part : IsPart (λ f. f.flow.up)
-up_part = record { none = refl; adds = λ a b. refl }
-
-pub down_part : IsPart (λ f. f.flow.down)
-down_part = record { none = refl; adds = λ a b. refl }
-
-pub export_up_part : IsPart (λ f. f.export.up)
-export_up_part = record { none = refl; adds = λ a b. refl }
-
-pub export_down_part : IsPart (λ f. f.export.down)
-export_down_part = record { none = refl; adds = λ a b. refl }
+under-end : (p : Part) (q : ℕ) (front xs : List Flowed) → p.measure (flows_under q xs) ≤ p.measure (flows_under q (front ++ xs))
+under-end p q [] xs = omega arith
+under-end p q (y ∷ front) xs = omega (arith, under-end p q front xs, under-more p q y (front ++ xs))
 
 -- lines at the end of lines in order are in order
 order-tail : (x : Flowed) (xs : List Flowed) → AreInOrder (x ∷ xs) → AreInOrder xs
@@ -149,21 +159,20 @@ leads : (x : Flowed) (xs : List Flowed) (ks : List ℕ) → ((k : ℕ) → IsIn 
 leads x xs [] low room = tt
 leads x xs (k ∷ ks) low room = (low k (inl refl), room k)
 
--- what a quarter's first line adds stays within what all lines have
-fits : (part : Flows → ℕ) → IsPart part → (front : List Flowed) (x : Flowed) (xs all : List Flowed) (k : ℕ) → front ++ (x ∷ xs) ≡ all → x.0 ≡ k → part (flows_under k all) < 2 ^ 64 → part x.1 + part (flows_under k xs) < 2 ^ 64
-fits part is front x xs all k parts e few =
-    omega (arith, few, ap part (under-own x xs k e), is.adds x.1 (flows_under k xs), under-end part is k front (x ∷ xs), ap (λ (ls : List Flowed). part (flows_under k ls)) parts)
-
 -- the line before the last ones of lines in order can be added to their sums
 pub can_lead : (front : List Flowed) (x : Flowed) (xs all : List Flowed) → front ++ (x ∷ xs) ≡ all → AreInOrder all → QuartersFit all → CanLead x (quarter_sums xs)
 can_lead front x xs all parts order fit =
     let here : AreInOrder (x ∷ xs) = order-end front (x ∷ xs) (subst AreInOrder (sym parts) order) in
     leads x xs (rising (numbers xs))
     (λ k h. order-first x xs k here ((rising-IsIn k (numbers xs)).0 h))
-    (λ k e. (
-      record { up = fits (λ f. f.flow.up) up_part front x xs all k parts e (fit.up k); down = fits (λ f. f.flow.down) down_part front x xs all k parts e (fit.down k) },
-      record { up = fits (λ f. f.export.up) export_up_part front x xs all k parts e (fit.export_up k); down = fits (λ f. f.export.down) export_down_part front x xs all k parts e (fit.export_down k) },
-    ))
+    (λ k e.
+    let own = under-own x xs k e in
+    let room : (p : Part) → p.measure (flows_under k all) < 2 ^ 64 → p.measure x.1 + p.measure (flows_under k xs) < 2 ^ 64 =
+    λ p few. omega (arith, ap p.measure own, p.plus_of x.1 (flows_under k xs), under-end p k front (x ∷ xs), ap (λ (ls : List Flowed). p.measure (flows_under k ls)) parts, few) in
+    record {
+      flow = record { up = room up (fit.up k); down = room down (fit.down k) };
+      export = record { up = room export_up (fit.export_up k); down = room export_down (fit.export_down k) };
+    })
 
 -- the last line, and what stands before it
 parted : (left : List Flowed) (k : ℕ) (x : Flowed) (after : List Flowed) → k + 1 ≡ length left → x ≡ get_or left k x → take k left ++ (x ∷ after) ≡ left ++ after
@@ -202,29 +211,24 @@ in_if_hits k (x ∷ xs) h = ⊎_elim
 in_permuted : (k : ℕ) (xs ys : List Flowed) → IsPermutation xs ys → IsIn k (numbers xs) → IsIn k (numbers ys)
 in_permuted k xs ys same h = in_if_hits k ys (omega (arith, sum_by-IsPermutation (hit k) xs ys same, hits_if_in k xs h))
 
--- one of the sums of a quarter's lines as a sum
+-- the energy of a quarter as a sum
 at : (Flows → ℕ) → ℕ → Flowed → ℕ
 at part q line = cond (eqb line.0 q) (part line.1) 0
 
-part_is : (part : Flows → ℕ) → IsPart part → (q : ℕ) (xs : List Flowed) → part (flows_under q xs) ≡ sum_by (at part q) xs
+under_is : (p : Part) (q : ℕ) (xs : List Flowed) → p.measure (flows_under q xs) ≡ sum_by (at p.measure q) xs
 unfolding at
-part_is part is q [] = is.none
-part_is part is q (x ∷ xs) =
-    let rest = part_is part is q xs in
-    let more = sum_by-cons (at part q) x xs in
+under_is p q [] = part_none p
+under_is p q (x ∷ xs) =
+    let rest = under_is p q xs in
+    let more = sum_by-cons (at p.measure q) x xs in
     ⊎_elim
-    (λ (e : x.0 ≡ q). omega (arith, ap part (under-own x xs q e), is.adds x.1 (flows_under q xs), rest, more, ap {B = ℕ} (λ b. cond b (part x.1) 0) (eq-eqb x.0 q e)))
-    (λ (o : x.0 ≡ q → ⊥). omega (arith, ap part (under-other x xs q o), rest, more, ap {B = ℕ} (λ b. cond b (part x.1) 0) (ne_eqb x.0 q o)))
+    (λ (e : x.0 ≡ q). omega (arith, ap p.measure (under-own x xs q e), p.plus_of x.1 (flows_under q xs), rest, more, ap {B = ℕ} (λ b. cond b (p.measure x.1) 0) (eq-eqb x.0 q e)))
+    (λ (o : x.0 ≡ q → ⊥). omega (arith, ap p.measure (under-other x xs q o), rest, more, ap {B = ℕ} (λ b. cond b (p.measure x.1) 0) (ne_eqb x.0 q o)))
     (cases_eq x.0 q)
-
-part_permuted : (part : Flows → ℕ) → IsPart part → (q : ℕ) (xs ys : List Flowed) → IsPermutation xs ys → part (flows_under q ys) ≡ part (flows_under q xs)
-part_permuted part is q xs ys same = part_is part is q ys ∙ sum_by-IsPermutation (at part q) xs ys same ∙ sym (part_is part is q xs)
 
 -- the energies of a quarter do not depend on the order of lines
 under_permuted : (q : ℕ) (xs ys : List Flowed) → IsPermutation xs ys → flows_under q ys ≡ flows_under q xs
-under_permuted q xs ys same = same_flows _ _
-    (part_permuted (λ f. f.flow.up) up_part q xs ys same) (part_permuted (λ f. f.flow.down) down_part q xs ys same)
-    (part_permuted (λ f. f.export.up) export_up_part q xs ys same) (part_permuted (λ f. f.export.down) export_down_part q xs ys same)
+under_permuted q xs ys same = same_flows (flows_under q ys) (flows_under q xs) (λ p. under_is p q ys ∙ sum_by-IsPermutation (at p.measure q) xs ys same ∙ sym (under_is p q xs))
 
 -- no rising number is below the first
 first_is_lowest : (n : ℕ) (ns : List ℕ) → AreRising (n ∷ ns) → (k : ℕ) → IsIn k (n ∷ ns) → n ≤ k

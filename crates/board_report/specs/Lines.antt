@@ -21,9 +21,10 @@ put_line new (line ∷ lines) =
     if new.0 == line.0 then (line.0, plus_flows new.1 line.1) ∷ lines
     else (if nat_lt new.0 line.0 then new ∷ line ∷ lines else line ∷ put_line new lines)
 
--- The sums of both directions leave no 64 bits.
-abbrev pub CanPlusFlows : Flows → Flows → Type 0
-CanPlusFlows a b = CanPlus a.flow b.flow × CanPlus a.export b.export
+-- Energies can be added, direction by direction.
+pub record CanPlusFlows (a b : Flows) : Type 0 where
+  pub flow : CanPlus a.flow b.flow
+  pub export : CanPlus a.export b.export
 
 -- A line can be added before rising lines: its number is not above the first, and its energies can be added where they are equal.
 abbrev pub CanLead : Flowed → List Flowed → Type 0

@@ -8,7 +8,7 @@ use Rattle.ledger_model.specs.Quarter.{IsQuarterOf}
 abbrev pub station_quarters : List (List ℕ × Board) → List Flowed
 station_quarters stations = flat_map (λ (s : List ℕ × Board). s.1.quarters) stations
 
--- The energies of the lines of each quarter add up to less than 2^64: up and down, imported and exported.
+-- The energies of the lines of each quarter add up to less than 2^64, up and down, in each direction.
 pub record QuartersFit (lines : List Flowed) : Type 0 where
   pub up : (quarter : ℕ) → (flows_under quarter lines).flow.up < 2 ^ 64
   pub down : (quarter : ℕ) → (flows_under quarter lines).flow.down < 2 ^ 64

@@ -1,7 +1,7 @@
 // Texts that take no memory.
 ghost use Rattle.std.specs.Prelude.{◌≡◌, ◌+◌, ◌≤◌, ◌++◌, length};
 ghost use Rattle.arrayvec.specs.ArrayString.{array_string_len};
-ghost use Rattle.board_report.specs.Texts.{field, flow_fields, export_fields, energy_text as energy_text_of, export_text as export_text_of, total_text as total_text_of};
+ghost use Rattle.board_report.specs.Texts.{field, flow_fields, flows_fields, energy_text as energy_text_of, export_text as export_text_of, total_text as total_text_of};
 
 use arrayvec::ArrayString;
 use energy_flow::Flow;
@@ -23,22 +23,24 @@ fn push_field<const CAP: usize>(text: &mut ArrayString<CAP>, label: &str, number
 fn push_flow<const CAP: usize>(text: &mut ArrayString<CAP>, up: u64, down: u64)
     requires room { array_string_len text.old + 50 ≤ CAP }
     ensures text { text.new.bytes ≡ text.old.bytes ++ flow_fields up down }
-    ensures room { array_string_len text.new ≤ array_string_len text.old + 50 }
 {
     push_field(text, " up=", up);
     push_field(text, " down=", down);
 }
 
-// Puts ` export_up=<n> export_down=<n>` behind the text.
-fn push_export<const CAP: usize>(text: &mut ArrayString<CAP>, up: u64, down: u64)
-    requires room { array_string_len text.old + 64 ≤ CAP }
-    ensures text { text.new.bytes ≡ text.old.bytes ++ export_fields up down }
+// Puts ` up=<n> down=<n> export_up=<n> export_down=<n>` behind the text.
+#[tactic(auto, unfolding(crate::specs::Texts::flows_fields))]
+fn push_flows<const CAP: usize>(text: &mut ArrayString<CAP>, figures: &Figures)
+    requires room { array_string_len text.old + 114 ≤ CAP }
+    ensures text { text.new.bytes ≡ text.old.bytes ++ flows_fields figures.now.up figures.now.down figures.now.export_up figures.now.export_down }
 {
-    push_field(text, " export_up=", up);
-    push_field(text, " export_down=", down);
+    push_field(text, " up=", figures.up);
+    push_field(text, " down=", figures.down);
+    push_field(text, " export_up=", figures.export_up);
+    push_field(text, " export_down=", figures.export_down);
 }
 
-/// `energy up=<n> down=<n>`, what was imported, in milliwatt-hours, without a line feed.
+/// `energy up=<n> down=<n>`, in milliwatt-hours, without a line feed.
 pub fn energy_text(flow: Flow) -> ArrayString<64>
     ensures { result.bytes ≡ energy_text_of flow }
 {
@@ -48,7 +50,7 @@ pub fn energy_text(flow: Flow) -> ArrayString<64>
     text
 }
 
-/// `export up=<n> down=<n>`, what was exported, in milliwatt-hours, without a line feed.
+/// `export up=<n> down=<n>`, in milliwatt-hours, without a line feed.
 pub fn export_text(flow: Flow) -> ArrayString<64>
     ensures { result.bytes ≡ export_text_of flow }
 {
@@ -58,8 +60,8 @@ pub fn export_text(flow: Flow) -> ArrayString<64>
     text
 }
 
-/// `total events=<n> voided=<n> transactions=<n> complete=<n> missing=<n> up=<n> down=<n> export_up=<n>
-/// export_down=<n>`, the energies in milliwatt-hours, without a line feed.
+/// `total events=<n> voided=<n> transactions=<n> complete=<n> missing=<n> up=<n> down=<n>
+/// export_up=<n> export_down=<n>`, the energies in milliwatt-hours, without a line feed.
 #[tactic(auto, unfolding(crate::specs::Texts::total_text))]
 pub fn total_text(figures: &Figures) -> ArrayString<320>
     ensures { result.bytes ≡ total_text_of figures.now }
@@ -70,7 +72,6 @@ pub fn total_text(figures: &Figures) -> ArrayString<320>
     push_field(&mut text, " transactions=", figures.transactions);
     push_field(&mut text, " complete=", figures.complete);
     push_field(&mut text, " missing=", figures.missing);
-    push_flow(&mut text, figures.up, figures.down);
-    push_export(&mut text, figures.export_up, figures.export_down);
+    push_flows(&mut text, figures);
     text
 }

@@ -66,7 +66,7 @@ fn falling_sums(alloc: Global, lines: &[QuarterLine]) -> Result<Vec<QuarterLine>
     Ok(falling)
 }
 
-// The quarters that stations show, rising, each with the sums of its energies.
+// The quarters that stations show, rising, each with the sum of its energies.
 pub(crate) fn site_quarters(
     alloc: Global,
     stations: &[(Name, StationBoard)],

@@ -34,14 +34,22 @@ fn put_text(text: &mut Vec<u8>, word: &str, shown: &str) -> Result<(), AllocErro
     Ok(())
 }
 
-// Appends ` up=<n> down=<n> export_up=<n> export_down=<n>` and a line feed.
-fn put_flows(text: &mut Vec<u8>, flow: Flow, export: Flow) -> Result<(), AllocError>
-    ensures { OnOk result (text.new.items ≡ text.old.items ++ line (flows_fields flow export)) }
+// Appends ` up=<n> down=<n> export_up=<n> export_down=<n>`.
+#[tactic(auto, unfolding(crate::specs::Texts::flows_fields))]
+fn put_fields(text: &mut Vec<u8>, flow: Flow, export: Flow) -> Result<(), AllocError>
+    ensures { OnOk result (text.new.items ≡ text.old.items ++ flows_fields flow.up flow.down export.up export.down) }
 {
     put_field(text, " up=", flow.up())?;
     put_field(text, " down=", flow.down())?;
     put_field(text, " export_up=", export.up())?;
-    put_field(text, " export_down=", export.down())?;
+    put_field(text, " export_down=", export.down())
+}
+
+// The same, and a line feed.
+fn put_flows(text: &mut Vec<u8>, flow: Flow, export: Flow) -> Result<(), AllocError>
+    ensures { OnOk result (text.new.items ≡ text.old.items ++ line (flows_fields flow.up flow.down export.up export.down)) }
+{
+    put_fields(text, flow, export)?;
     text.push(b'\n')?;
     Ok(())
 }

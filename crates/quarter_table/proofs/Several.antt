@@ -23,7 +23,7 @@ made_without [] gs = refl
 made_without (f ∷ fs) gs = ap (rows_without fs) (made_removed [] f.0 f.1 (fs ++ gs)) ∙ made_without fs gs
 
 -- Pairs of one direction that add up as two lists do.
-one_side : (period : ℕ) (d : Direction) (all some rest : List Pair) → ((f : Pair → ℕ) → sum_by f all ≡ sum_by f (some ++ rest))
+pub one_side : (period : ℕ) (d : Direction) (all some rest : List Pair) → ((f : Pair → ℕ) → sum_by f all ≡ sum_by f (some ++ rest))
     → (measure : Flowed → ℕ) → sum_by measure (flows_of period d all) ≡ sum_by measure (flows_of period d some) + sum_by measure (flows_of period d rest)
 one_side period d all some rest same measure =
     let shown : Pair → Flowed = λ p. (quarter_of period p, flows_toward d (difference p)) in
@@ -31,7 +31,7 @@ one_side period d all some rest same measure =
     omega (arith, sum_by-map measure shown all, same f, sum_by-append f some rest, sum_by-map measure shown some, sum_by-map measure shown rest)
 
 -- Both directions together.
-both_sides : (measure : Flowed → ℕ) (all some rest others few more : List Flowed) → sum_by measure all ≡ sum_by measure some + sum_by measure rest → sum_by measure others ≡ sum_by measure few + sum_by measure more
+pub both_sides : (measure : Flowed → ℕ) (all some rest others few more : List Flowed) → sum_by measure all ≡ sum_by measure some + sum_by measure rest → sum_by measure others ≡ sum_by measure few + sum_by measure more
     → sum_by measure (all ++ others) ≡ sum_by measure ((some ++ few) ++ (rest ++ more))
 both_sides measure all some rest others few more one other =
     omega (arith, one, other, sum_by-append measure all others, sum_by-append measure (some ++ few) (rest ++ more), sum_by-append measure some few, sum_by-append measure rest more)

@@ -1,13 +1,13 @@
 -- What is kept of a transaction, when one live event more comes.
-use Rattle.std.proofs.Common.{◌≡◌, ◌==◌, ℕ, ◌+◌, ◌<◌, ◌≤◌, Bool, true, false, cond, List, [], ◌∷◌, ◌++◌, Option, None, Some, IfSome, is_some, length, map, slice_get, refl, sym, ap, ◌∙◌, subst, arith, length-append}
+use Rattle.std.proofs.Common.{◌≡◌, ◌==◌, ℕ, ◌+◌, ◌<◌, ◌≤◌, Bool, true, false, cond, List, [], ◌∷◌, ◌++◌, Option, None, Some, IfSome, length, map, slice_get, refl, sym, ap, ◌∙◌, subst, arith, length-append}
 use Rattle.std.specs.List.{filter_map, cons_option}
 use Rattle.std.proofs.lemmas.List.{length-map, map-append}
 use Rattle.energy_flow.specs.Flow.{Energy}
 use Rattle.ledger_model.specs.Board.{last_or_none}
 use Rattle.ledger_model.specs.BoardLaws.{AreRising}
-use Rattle.ledger_model.specs.Content.{Entry, Stored, live_of}
-use Rattle.ledger_model.specs.Deltas.{IsOneMore, own_events, before_key, behind_key}
-use Rattle.ledger_model.specs.Evse.{first_or_none, evse_of}
+use Rattle.ledger_model.specs.Content.{Entry, live_of}
+use Rattle.ledger_model.specs.Deltas.{own_events, before_key, behind_key}
+use Rattle.ledger_model.specs.Evse.{first_or_none}
 use Rattle.ledger_model.specs.Gaps.{numbers_of, missing}
 use Rattle.ledger_model.specs.Key.{KeyName}
 use Rattle.ledger_model.proofs.Callers.{live_with, live_without}
@@ -75,16 +75,16 @@ passed [] e back none = ap (λ (o : Option ℕ). cons_option o (filter_map (λ (
 passed (f ∷ front) e back none = ap (cons_option f.1.event.evse) (passed front e back none)
 
 -- What is kept, where something is.
-kept_is : (flow : Energy) (tx : List ℕ) (es : List Entry) (was : Standing) → Some was ≡ kept_with flow tx es → was ≡ standing_with flow tx es
-kept_is flow tx es was h = elim (length (live_of tx es) == 0) as (λ b. Some was ≡ cond b None (Some (standing_with flow tx es)) → was ≡ standing_with flow tx es) [ true ↦ λ x. cc | false ↦ λ x. cc ] h
+kept_is : (flow export : Energy) (tx : List ℕ) (es : List Entry) (was : Standing) → Some was ≡ kept_with flow export tx es → was ≡ standing_with flow export tx es
+kept_is flow export tx es was h = elim (length (live_of tx es) == 0) as (λ b. Some was ≡ cond b None (Some (standing_with flow export tx es)) → was ≡ standing_with flow export tx es) [ true ↦ λ x. cc | false ↦ λ x. cc ] h
 
 -- What was kept of a transaction stands against its events once one more has come.
 pub one_less : (es : List Entry) (chains : Chained) (key : KeyName) (names : Bool) → HasCome es chains key names → AreRising (numbers_of key.tx (stored chains))
-    → (flow : Energy) (was : Standing) → Some was ≡ kept_with flow key.tx es → IsOneLess was key.tx key.seq names (stored chains)
-one_less es chains key names come up flow was kept =
+    → (flow export : Energy) (was : Standing) → Some was ≡ kept_with flow export key.tx es → IsOneLess was key.tx key.seq names (stored chains)
+one_less es chains key names come up flow export was kept =
     let new = stored chains in let tx = key.tx in let e : Entry = (key, come.event) in let front = before_key key es in let back = behind_key key es in
     let own = own_events tx front in let rest = own_events tx back in
-    let is = kept_is flow tx es was kept in
+    let is = kept_is flow export tx es was kept in
     let with = live_with es new front e back come.one in let without = live_without es new front e back come.one in
     let seq_of = λ (x : Entry). x.0.seq in
     let now : numbers_of tx new ≡ map seq_of own ++ key.seq ∷ map seq_of rest = ap (map seq_of) with ∙ map-append seq_of own (e ∷ rest) in
@@ -102,8 +102,8 @@ one_less es chains key names come up flow was kept =
 
 -- The same, where anything was kept.
 pub all_less : (es : List Entry) (chains : Chained) (key : KeyName) (names : Bool) → HasCome es chains key names → AreRising (numbers_of key.tx (stored chains))
-    → (tx : List ℕ) (seq : ℕ) → tx ≡ key.tx → seq ≡ key.seq → (flow : Energy) (was : Option Standing) → was ≡ kept_with flow tx es → IfSome was (λ w. IsOneLess w tx seq names (stored chains))
-all_less es chains key names come up tx seq tx_is seq_is flow None kept = tt
-all_less es chains key names come up tx seq tx_is seq_is flow (Some was) kept =
+    → (tx : List ℕ) (seq : ℕ) → tx ≡ key.tx → seq ≡ key.seq → (flow export : Energy) (was : Option Standing) → was ≡ kept_with flow export tx es → IfSome was (λ w. IsOneLess w tx seq names (stored chains))
+all_less es chains key names come up tx seq tx_is seq_is flow export None kept = tt
+all_less es chains key names come up tx seq tx_is seq_is flow export (Some was) kept =
     subst (λ t. IsOneLess was t seq names (stored chains)) (sym tx_is) (subst (λ n. IsOneLess was key.tx n names (stored chains)) (sym seq_is)
-    (one_less es chains key names come up flow was (kept ∙ ap (λ t. kept_with flow t es) tx_is)))
+    (one_less es chains key names come up flow export was (kept ∙ ap (λ t. kept_with flow export t es) tx_is)))

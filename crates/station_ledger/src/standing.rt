@@ -6,6 +6,7 @@ ghost use Rattle.ledger_model.specs.Gaps.{numbers_of, missing};
 ghost use Rattle.station_ledger.specs.Coming.{IsOneLess};
 ghost use Rattle.station_ledger.specs.Standing.{kept_with, standing_with, starts_and_ends_by};
 
+use crate::pairs::Energies;
 use energy_flow::Flow;
 use event_chain::Chains;
 use ledger_model::{EvseId, Kind, TxId};
@@ -21,8 +22,10 @@ pub struct Standing {
     pub complete: bool,
     /// How many numbers are missing between its live events.
     pub missing: u64,
-    /// Its energy, in milliwatt-hours.
+    /// Its imported energy, in milliwatt-hours.
     pub flow: Flow,
+    /// Its exported energy, in milliwatt-hours.
+    pub export: Flow,
 }
 
 // Tells whether a transaction's lowest live event is Started, its highest is Ended, and no other is
@@ -35,9 +38,9 @@ fn starts_and_ends(events: &event_chain::TxStanding) -> bool
         && matches!(events.last_kind, Some(Kind::Ended))
 }
 
-// What stands of a transaction with this energy; none where it has no live event.
-pub(crate) fn standing_of(chains: &Chains, tx: &TxId, flow: Flow) -> Option<Standing>
-    ensures { result ≡ kept_with flow tx.now (stored chains.now) }
+// What stands of a transaction with these energies; none where it has no live event.
+pub(crate) fn standing_of(chains: &Chains, tx: &TxId, energies: Energies) -> Option<Standing>
+    ensures { result ≡ kept_with energies.import energies.export tx.now (stored chains.now) }
 {
     let events = chains.standing(tx);
     match (events.first, events.last) {
@@ -48,7 +51,8 @@ pub(crate) fn standing_of(chains: &Chains, tx: &TxId, flow: Flow) -> Option<Stan
                 evse: events.evse,
                 complete: missing == 0 && starts_and_ends(&events),
                 missing,
-                flow,
+                flow: energies.import,
+                export: energies.export,
             })
         }
         _ => None,
@@ -89,12 +93,19 @@ fn is_whole(chains: &Chains, tx: &TxId, lacking: u64) -> bool
 }
 
 // What stands of a transaction once the event of this number came, behind its first one.
-fn one_more(chains: &Chains, tx: &TxId, seq: u32, first: u32, was: Standing, flow: Flow) -> Standing
+fn one_more(
+    chains: &Chains,
+    tx: &TxId,
+    seq: u32,
+    first: u32,
+    was: Standing,
+    energies: Energies,
+) -> Standing
     requires less { IsOneLess was tx.now seq false (stored chains.now) }
     requires first { slice_get (numbers_of tx.now (stored chains.now)) 0 ≡ Some first }
     requires behind { first < seq }
     requires bounded { (was.live ≤ 65536) × (was.missing ≤ 2147483648) }
-    ensures { result ≡ standing_with flow tx.now (stored chains.now) }
+    ensures { result ≡ standing_with energies.import energies.export tx.now (stored chains.now) }
 {
     let seq = u64::from(seq);
     // Just behind the last number that was live before.
@@ -109,7 +120,8 @@ fn one_more(chains: &Chains, tx: &TxId, seq: u32, first: u32, was: Standing, flo
         evse: was.evse,
         complete: is_whole(chains, tx, lacking),
         missing: lacking,
-        flow,
+        flow: energies.import,
+        export: energies.export,
     }
 }
 
@@ -121,16 +133,16 @@ pub(crate) fn standing_after(
     seq: u32,
     names: bool,
     was: Option<Standing>,
-    flow: Flow,
+    energies: Energies,
 ) -> Option<Standing>
     requires { IfSome was (λ w. IsOneLess w tx.now seq names (stored chains.now)) }
-    ensures { result ≡ kept_with flow tx.now (stored chains.now) }
+    ensures { result ≡ kept_with energies.import energies.export tx.now (stored chains.now) }
 {
     match was {
         Some(was) if !names && is_bounded(&was) => match chains.first(tx) {
-            Some(first) if first < seq => Some(one_more(chains, tx, seq, first, was, flow)),
-            _ => standing_of(chains, tx, flow),
+            Some(first) if first < seq => Some(one_more(chains, tx, seq, first, was, energies)),
+            _ => standing_of(chains, tx, energies),
         },
-        _ => standing_of(chains, tx, flow),
+        _ => standing_of(chains, tx, energies),
     }
 }

@@ -19,8 +19,10 @@ pub(crate) struct Change {
 pub struct EvseSum {
     /// How many transactions it has.
     pub transactions: u32,
-    /// Their energy, in milliwatt-hours.
+    /// Their imported energy, in milliwatt-hours.
     pub flow: Flow,
+    /// Their exported energy, in milliwatt-hours.
+    pub export: Flow,
 }
 
 // Counts a transaction at its EVSE.
@@ -36,6 +38,7 @@ fn add_at_evse(evses: &mut Vec<EvseSum>, s: Standing)
     evses[at] = EvseSum {
         transactions: sum.transactions + 1,
         flow: sum.flow.plus(s.flow),
+        export: sum.export.plus(s.export),
     };
 }
 
@@ -52,6 +55,7 @@ fn take_at_evse(evses: &mut Vec<EvseSum>, s: Standing)
     evses[at] = EvseSum {
         transactions: sum.transactions - 1,
         flow: sum.flow.minus(s.flow),
+        export: sum.export.minus(s.export),
     };
 }
 
