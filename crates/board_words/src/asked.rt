@@ -6,6 +6,7 @@ ghost use Rattle.board_words.specs.Arguments.{AsksPeriod, AsksServe, AsksService
 use crate::station_words::{WordFault, plan_of};
 use clap::ArgMatches;
 use ledger_model::{MAX_STATIONS, Period};
+use live_server::Live;
 use site_desk::Plan;
 use site_server::{MAX_CONNECTIONS, MAX_SIMULATED_EVENTS, Service};
 
@@ -18,6 +19,8 @@ pub enum Asked<'a> {
     Replay,
     /// To serve the stations of a plan, over 1 to 64 connections; or what is wrong with their words.
     Serve(Result<Plan, WordFault<'a>>, Service),
+    /// To serve the stations of a plan for as long as an operator's lines come; or what is wrong with their words.
+    Live(Result<Plan, WordFault<'a>>, Live),
     /// To play so many simulated stations, 1 to 64, each with so many events, 2 to 64.
     Simulate(u16, u32),
 }
@@ -31,7 +34,22 @@ pub fn serve_asked<'a>(matches: &ArgMatches<'a>) -> Asked<'a>
     let words = matches.get_strs("stations").unwrap_or(&[]);
     let viewers = if service.glances > 0 { 1 } else { 0 };
     let period = period_of(matches);
-    Asked::Serve(plan_of(words, viewers, period), service)
+    let plan = plan_of(words, viewers, period);
+    if matches.get_flag("live") {
+        Asked::Live(plan, live_of(matches, service))
+    } else {
+        Asked::Serve(plan, service)
+    }
+}
+
+/// What the options of `serve` ask for where it is to live.
+pub fn live_of(matches: &ArgMatches<'_>, service: Service) -> Live {
+    Live {
+        port: service.port,
+        glances: service.glances,
+        is_logged: matches.get_flag("log"),
+        board_port: matches.get_one::<u16>("board-port"),
+    }
 }
 
 /// What the options of `serve` ask for. The number of connections is in range already, which the checker sees by

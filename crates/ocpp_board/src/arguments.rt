@@ -105,6 +105,9 @@ fn serve_command<'a>(alloc: Global) -> Result<Command<'a>, AllocError> {
         .arg(connections_option(alloc))?
         .arg(watch_option(alloc))?
         .arg(period_option(alloc))?
+        .arg(live_option(alloc)?)?
+        .arg(log_option(alloc)?)?
+        .arg(board_port_option(alloc)?)?
         .arg(station_words(alloc))
 }
 
@@ -144,6 +147,31 @@ fn period_option<'a>(alloc: Global) -> Arg<'a> {
         .value_parser(PERIODS.as_slice())
         .default_value("900")
         .help("The settlement period of all sites' boards, in seconds")
+}
+
+fn live_option<'a>(alloc: Global) -> Result<Arg<'a>, AllocError> {
+    Arg::new(alloc, "live")
+        .long("live")
+        .action(ArgAction::SetTrue)
+        .help("Serve until standard input ends or says `close`, and answer its lines meanwhile")
+        .conflicts_with("connections")
+}
+
+fn log_option<'a>(alloc: Global) -> Result<Arg<'a>, AllocError> {
+    Arg::new(alloc, "log")
+        .long("log")
+        .action(ArgAction::SetTrue)
+        .help("With --live, tell on standard error which sessions begin and end")
+        .requires_arg("live")
+}
+
+fn board_port_option<'a>(alloc: Global) -> Result<Arg<'a>, AllocError> {
+    Arg::new(alloc, "board-port")
+        .long("board-port")
+        .value_name("PORT")
+        .value_parser(value_parser!(u16))
+        .help("With --live, the port of 127.0.0.1 where browsers find boards; 0 lets the system choose")
+        .requires_arg("live")
 }
 
 fn station_words<'a>(alloc: Global) -> Arg<'a> {
