@@ -91,10 +91,15 @@ class Live:
             lines.append(self.line().decode())
         return lines
 
+    def close(self) -> None:
+        """The input ends."""
+        self.input.close()
+        self.process.stdin = None
+
     def ends(self, written: str, told: str = "", status: int = 0, within: float = END) -> str:
         """Its input ends; it has to write this and to tell lines that this expression fits, in this time."""
         began = time.monotonic()
-        self.input.close()
+        self.close()
         try:
             self.process.wait(LONGEST_WAIT + within)
         except subprocess.TimeoutExpired:
@@ -164,7 +169,7 @@ def silent_station_comes_again(program: str) -> None:
         if (took := time.monotonic() - began) > 2:
             raise Differs(f"it is answered after {took:.1f} seconds")
         server.answers("total S7", TWO + "\n")
-        server.input.close()
+        server.close()
         for station in [*found[:14], *found[15:], again]:
             station.receives(dismissed("ServerCloses"))
             station.ends()

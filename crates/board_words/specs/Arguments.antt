@@ -1,10 +1,11 @@
 -- What the program can be asked to do, and what its words ask for.
-use Rattle.std.specs.Prelude.{◌≡◌, ℕ, ◌<◌, ◌≤◌, ◌^◌, ⊤, List, [], None, Some, codes, nat_lt, if◌then◌else◌, option_map, unwrap_or}
+use Rattle.std.specs.Prelude.{◌≡◌, ℕ, ◌<◌, ◌≤◌, ◌^◌, ⊤, Bool, true, false, List, [], Option, None, Some, codes, nat_lt, if◌then◌else◌, option_map, unwrap_or}
 use Rattle.core.specs.Str.Parse.{IsNumeral, digits_value, without_leading_plus}
 use Rattle.clap.specs.Matches.{matched_of, one_text, raw_values}
 use Rattle.clap.specs.declared.parser.matches.Found.{Found}
 use Rattle.board_words.specs.declared.asked.Asked.{Asked}
-use Rattle.board_words.specs.declared.asked.Asked.TheVariants.{Replay, Serve, Simulate}
+use Rattle.board_words.specs.declared.asked.Asked.TheVariants.{Replay, Serve, ServeLive, Simulate}
+use Rattle.live_server.specs.declared.service.Live.{Live}
 use Rattle.ledger_model.specs.Quarter.{IsPeriod, default_period}
 use Rattle.board_words.specs.StationWords.{AnswersWords}
 use Rattle.site_server.specs.declared.service.Service.{Service}
@@ -14,6 +15,7 @@ use Rattle.simulated_station.specs.Sim.{IsSimulated}
 abbrev pub IsAskable : Asked → Type 0
 IsAskable Replay = ⊤
 IsAskable (Serve plan service) = (1 ≤ service.connections) × (service.connections ≤ 64)
+IsAskable (ServeLive plan live) = ⊤
 IsAskable (Simulate stations events) = IsSimulated stations events
 
 -- An option gives this number: what its text says, where that is a decimal below this power of 2, and the other where it has no text.
@@ -27,6 +29,32 @@ pub record GivesWithin (found : Found) (option : List ℕ) (bits other least mos
   pub given : ℕ
   pub gives : Gives found option bits other given
   pub within : least ≤ given → given ≤ most → number ≡ given
+
+-- A flag is set where it is used, and else not.
+pub record IsFlag (found : Found) (option : List ℕ) (flag : Bool) : Type 0 where
+  pub none : one_text found option ≡ None → flag ≡ false
+  pub set : one_text found option ≡ Some (codes "true") → flag ≡ true
+  pub unset : one_text found option ≡ Some (codes "false") → flag ≡ false
+
+-- An option gives a number where it has a text: what that says, where it is a decimal below this power of 2.
+pub record GivesSome (found : Found) (option : List ℕ) (bits : ℕ) (number : Option ℕ) : Type 0 where
+  pub read : (text : List ℕ) → one_text found option ≡ Some text → IsNumeral 10 (without_leading_plus text) → digits_value 10 (without_leading_plus text) < 2 ^ bits
+      → number ≡ Some (digits_value 10 (without_leading_plus text))
+  pub none : one_text found option ≡ None → number ≡ None
+
+-- What the options of `serve --live` ask for.
+pub record AsksLive (found : Found) (live : Live) : Type 0 where
+  pub port : Gives found (codes "port") 16 0 live.port
+  pub watch : Gives found (codes "watch") 16 0 live.glances
+  pub log : IsFlag found (codes "log") live.is_logged
+  pub boards : GivesSome found (codes "board-port") 16 live.board_port
+
+-- A server that lives is asked for.
+abbrev pub is_live : Asked → Bool
+is_live Replay = false
+is_live (Serve plan service) = false
+is_live (ServeLive plan live) = true
+is_live (Simulate stations events) = false
 
 -- What the options of `serve` ask for.
 pub record AsksService (found : Found) (service : Service) : Type 0 where
@@ -48,10 +76,12 @@ words_of found = unwrap_or (option_map raw_values (matched_of found (codes "stat
 abbrev pub AsksServe : Found → Asked → Type 0
 AsksServe found Replay = ⊥
 AsksServe found (Serve plan service) = AsksService found service × (period : ℕ) × (AsksPeriod found period × AnswersWords plan (if nat_lt 0 service.glances then 1 else 0) period (words_of found))
+AsksServe found (ServeLive plan live) = AsksLive found live × (period : ℕ) × (AsksPeriod found period × AnswersWords plan (if nat_lt 0 live.glances then 1 else 0) period (words_of found))
 AsksServe found (Simulate stations events) = ⊥
 
 -- A simulation is asked for.
 abbrev pub AsksSimulate : Found → Asked → Type 0
 AsksSimulate found Replay = ⊥
 AsksSimulate found (Serve plan service) = ⊥
+AsksSimulate found (ServeLive plan live) = ⊥
 AsksSimulate found (Simulate stations events) = GivesWithin found (codes "stations") 16 2 1 64 stations × GivesWithin found (codes "events") 32 3 2 64 events

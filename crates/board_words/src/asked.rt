@@ -1,7 +1,7 @@
 //! What the options of a command ask for.
-ghost use Rattle.std.specs.Prelude.{◌≤◌};
+ghost use Rattle.std.specs.Prelude.{◌≤◌, codes};
 ghost use Rattle.clap.specs.Matches.{found_of};
-ghost use Rattle.board_words.specs.Arguments.{AsksPeriod, AsksServe, AsksService, AsksSimulate, IsAskable};
+ghost use Rattle.board_words.specs.Arguments.{AsksLive, AsksPeriod, AsksServe, AsksService, AsksSimulate, IsAskable, IsFlag, is_live};
 
 use crate::station_words::{WordFault, plan_of};
 use clap::ArgMatches;
@@ -20,7 +20,7 @@ pub enum Asked<'a> {
     /// To serve the stations of a plan, over 1 to 64 connections; or what is wrong with their words.
     Serve(Result<Plan, WordFault<'a>>, Service),
     /// To serve the stations of a plan for as long as an operator's lines come; or what is wrong with their words.
-    Live(Result<Plan, WordFault<'a>>, Live),
+    ServeLive(Result<Plan, WordFault<'a>>, Live),
     /// To play so many simulated stations, 1 to 64, each with so many events, 2 to 64.
     Simulate(u16, u32),
 }
@@ -29,6 +29,7 @@ pub enum Asked<'a> {
 pub fn serve_asked<'a>(matches: &ArgMatches<'a>) -> Asked<'a>
     ensures range { IsAskable result }
     ensures asked { AsksServe (found_of matches.now) result }
+    ensures lives { IsFlag (found_of matches.now) (codes "live") (is_live result) }
 {
     let service = service_of(matches);
     let words = matches.get_strs("stations").unwrap_or(&[]);
@@ -36,17 +37,21 @@ pub fn serve_asked<'a>(matches: &ArgMatches<'a>) -> Asked<'a>
     let period = period_of(matches);
     let plan = plan_of(words, viewers, period);
     if matches.get_flag("live") {
-        Asked::Live(plan, live_of(matches, service))
+        Asked::ServeLive(plan, live_of(matches))
     } else {
         Asked::Serve(plan, service)
     }
 }
 
-/// What the options of `serve` ask for where it is to live.
-pub fn live_of(matches: &ArgMatches<'_>, service: Service) -> Live {
+/// What the options of `serve --live` ask for.
+pub fn live_of(matches: &ArgMatches<'_>) -> Live
+    ensures { AsksLive (found_of matches.now) result }
+{
+    let port = matches.get_one::<u16>("port");
+    let watch = matches.get_one::<u16>("watch");
     Live {
-        port: service.port,
-        glances: service.glances,
+        port: port.unwrap_or(0),
+        glances: watch.unwrap_or(0),
         is_logged: matches.get_flag("log"),
         board_port: matches.get_one::<u16>("board-port"),
     }

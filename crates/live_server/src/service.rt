@@ -130,7 +130,10 @@ fn run<
     input: &mut I,
     output: &mut W,
     lines: L,
-) -> Result<Ran<J>, ServiceFault> {
+) -> Result<Ran<J>, ServiceFault>
+    requires opened { AreNewPlaces plan.now.sites.items plan.now.stations.items desk.now.stations }
+    requires readings { sum_by (λ s. s.limits.readings) plan.now.stations.items ≤ most_plan_readings }
+{
     let listener = listen(rt, live.port)?;
     let boards = match live.board_port {
         Some(port) => Some(listen(rt, port)?),
@@ -140,7 +143,7 @@ fn run<
     if let Some(boards) = &boards {
         tell_board_port(address_of(boards)?, output)?;
     }
-    let workers = 2 * plan.stations.len() + SPARE_WORKERS;
+    let workers = plan.stations.len().saturating_mul(2).saturating_add(SPARE_WORKERS);
     let shared = Shared::open(alloc, desk, plan, workers, lines, live.is_logged)?;
     let (ended, viewers) = serve_all(
         rt,

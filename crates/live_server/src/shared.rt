@@ -1,6 +1,10 @@
 //! What all threads of a live server look at.
-ghost use Rattle.std.specs.Prelude.{◌≡◌, IfErr, IfOk, IfSome};
-ghost use Rattle.site_desk.specs.Roster.{IsNamed};
+ghost use Rattle.std.specs.Prelude.{◌≡◌, ◌≤◌, Err, IfErr, IfOk, IfSome, false, sum_by};
+ghost use Rattle.std.specs.List.{list_any};
+ghost use Rattle.std.specs.Str.{bytes_eq};
+ghost use Rattle.ledger_model.specs.Ranges.{most_plan_readings};
+ghost use Rattle.site_desk.specs.Roster.{AreNewPlaces, IsNamed};
+ghost use Rattle.station_link.specs.declared.ending.Why.{Why};
 ghost use Rattle.station_link.specs.Session.{MayLackPass};
 
 use crate::shelf::Shelf;
@@ -29,6 +33,8 @@ pub(crate) struct Shared<'a, J: Naming, L: Write + Drop> {
     pub(crate) lines: Mutex<L>,
     // Whether sessions are told.
     is_logged: bool,
+    ghost opened: { AreNewPlaces plan.now.sites.items plan.now.stations.items desk.now.stations },
+    ghost readings: { sum_by (λ s. s.limits.readings) plan.now.stations.items ≤ most_plan_readings },
 }
 
 impl<'a, J: Naming, L: Write + Drop> Shared<'a, J, L> {
@@ -40,6 +46,8 @@ impl<'a, J: Naming, L: Write + Drop> Shared<'a, J, L> {
         lines: L,
         is_logged: bool,
     ) -> Result<Self, AllocError>
+        requires opened { AreNewPlaces plan.now.sites.items plan.now.stations.items desk.now.stations }
+        requires readings { sum_by (λ s. s.limits.readings) plan.now.stations.items ≤ most_plan_readings }
         ensures { IfOk result (λ s. s.desk.now ≡ desk.now) }
     {
         let mut replaced = Vec::with_capacity(alloc, workers)?;
@@ -60,6 +68,7 @@ impl<'a, J: Naming, L: Write + Drop> Shared<'a, J, L> {
     // A pass of the station of this name: one that an earlier session left, or else a new one.
     pub(crate) fn pass_of<R: Wait + Threads>(&self, rt: &R, name: &Name) -> Result<Pass, Why>
         ensures refused { IfErr result MayLackPass }
+        ensures unknown { result ≡ Err Why.UnknownStation → list_any (λ s. bytes_eq name.now s.name) self.now.desk.now.stations ≡ false }
         ensures named { IfOk result (λ p. IsNamed self.now.desk.now.stations name.now p.station) }
     {
         let Some(station) = self.desk.number(name) else {
@@ -81,6 +90,7 @@ impl<'a, J: Naming, L: Write + Drop> Shared<'a, J, L> {
     // A new pass of the station of this name.
     fn new_pass<R: Wait + Threads>(&self, rt: &R, name: &Name) -> Result<Pass, Why>
         ensures refused { IfErr result MayLackPass }
+        ensures unknown { result ≡ Err Why.UnknownStation → list_any (λ s. bytes_eq name.now s.name) self.now.desk.now.stations ≡ false }
         ensures named { IfOk result (λ p. IsNamed self.now.desk.now.stations name.now p.station) }
     {
         if self.shelf.lock(rt).reserve().is_err() {

@@ -28,10 +28,12 @@ const WRITE_SECONDS: u64 = 30;
 // Where a connection stands.
 #[derive(Clone, Copy)]
 enum Phase {
-    // In its opening handshake, or behind its close frame: it ends after so long from then on.
-    Until(Instant, Duration),
+    // In its opening handshake, which began then.
+    Greeting(Instant),
     // In its session.
     Serving,
+    // Behind its close frame, which went then.
+    Leaving(Instant),
 }
 
 // One connection, as its stream and its session look at it.
@@ -56,7 +58,7 @@ impl<'a, R: Clock> Visit<'a, R> {
             rt,
             closing,
             replaced,
-            phase: Cell::new(Phase::Until(now, Duration::from_secs(GREETING_SECONDS))),
+            phase: Cell::new(Phase::Greeting(now)),
             silent: Cell::new(0),
         })
     }
@@ -66,10 +68,10 @@ impl<'a, R: Clock> Visit<'a, R> {
         self.phase.set(Phase::Serving);
     }
 
-    // Tells whether it has been as long as that since then, or the clock can't tell.
-    fn is_over(&self, since: Instant, limit: Duration) -> bool {
+    // Tells whether it has been so many seconds since then, or the clock can't tell.
+    fn is_over(&self, since: Instant, seconds: u64) -> bool {
         match since.elapsed(self.rt) {
-            Ok(elapsed) => elapsed >= limit,
+            Ok(elapsed) => elapsed >= Duration::from_secs(seconds),
             Err(_) => true,
         }
     }
@@ -95,7 +97,7 @@ impl<R: Clock> Attendant for Visit<'_, R> {
 
     fn leaves(&self) {
         if let Ok(now) = Instant::now(self.rt) {
-            self.phase.set(Phase::Until(now, Duration::from_secs(LEAVING_SECONDS)));
+            self.phase.set(Phase::Leaving(now));
         }
     }
 }
@@ -117,12 +119,13 @@ impl<'a, R: Clock> VisitStream<'a, R> {
         Ok(VisitStream { visit, stream })
     }
 
-    // A read of a handshake, or after a close frame.
-    fn read_until(&mut self, since: Instant, limit: Duration, buf: &mut [u8]) -> io::Result<usize>
+    // A read of a handshake, which ends where the server closes.
+    fn read_greeting(&mut self, since: Instant, buf: &mut [u8]) -> io::Result<usize>
         ensures { ReadsAtMost result buf.new }
     {
         for _ in 0..=GREETING_SECONDS {
-            if self.visit.is_over(since, limit) {
+            let closes = self.visit.closing.load(Ordering::SeqCst);
+            if closes || self.visit.is_over(since, GREETING_SECONDS) {
                 return Err(io::Error::from(ErrorKind::TimedOut));
             }
             match self.stream.read(buf) {
@@ -135,6 +138,16 @@ impl<'a, R: Clock> VisitStream<'a, R> {
             }
         }
         Err(io::Error::from(ErrorKind::TimedOut))
+    }
+
+    // A read after a close frame.
+    fn read_last(&mut self, since: Instant, buf: &mut [u8]) -> io::Result<usize>
+        ensures { ReadsAtMost result buf.new }
+    {
+        if self.visit.is_over(since, LEAVING_SECONDS) {
+            return Err(io::Error::from(ErrorKind::TimedOut));
+        }
+        self.stream.read(buf)
     }
 
     // A read of a session.
@@ -162,8 +175,9 @@ impl<'a, R: Clock> VisitStream<'a, R> {
 impl<R: Clock> Read for VisitStream<'_, R> {
     fn read(&mut self, buf: &mut [u8]) -> io::Result<usize> {
         match self.visit.phase.get() {
-            Phase::Until(since, limit) => self.read_until(since, limit, buf),
+            Phase::Greeting(since) => self.read_greeting(since, buf),
             Phase::Serving => self.read_tick(buf),
+            Phase::Leaving(since) => self.read_last(since, buf),
         }
     }
 }

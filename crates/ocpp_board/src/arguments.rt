@@ -55,8 +55,13 @@ seconds in which it takes nothing.
 Example: two stations of one site, the totals each second for a minute, four connections:
   ocpp_board serve --port 9000 --connections 4 --watch 60 north/CS-01 north/CS-02
 
-Exit status: 0; 1 with `fault <name>` (ListenFailed, WriteFault, OutOfMemory, Torn); 2 for a
-fault of the arguments, or with `fault BadStation`, `fault PlanLimit` or `fault StationTwice`.
+With --live it serves connections without end, two of each station at once: a third ends the
+oldest. Meanwhile it answers lines on standard input, as `ocpp_board --help` lists them, but for
+declarations and `now`; it ends when its input ends or says `close`, and writes the boards.
+  ocpp_board serve --live --port 9000 --log --board-port 9080 north/CS-01 north/CS-02
+
+Exit status: 0; 1 with `fault <name>` (ListenFailed, ReadFault, WriteFault, OutOfMemory,
+Torn); 2 for a fault of the arguments, or with `fault BadStation`, `fault PlanLimit` or `fault StationTwice`.
 A second line tells the cause: the word, the station, or the system's words for the port.";
 
 const SIM_EXAMPLE: &str = "\

@@ -55,7 +55,7 @@ pub fn run_command_line<
             }
             Err(fault) => tell_word(errors, fault),
         },
-        Ok(Asked::Live(plan, live)) => match plan {
+        Ok(Asked::ServeLive(plan, live)) => match plan {
             Ok(plan) => {
                 let ended = serve_live(rt, rt.alloc(), &plan, live, reader, writer, lines);
                 let status = tell_end(errors, ended);
