@@ -49,9 +49,10 @@ pub fn live_of(matches: &ArgMatches<'_>) -> Live
 {
     let port = matches.get_one::<u16>("port");
     let watch = matches.get_one::<u16>("watch");
+    let glances = watch.unwrap_or(0);
     Live {
         port: port.unwrap_or(0),
-        glances: watch.unwrap_or(0),
+        glances,
         is_logged: matches.get_flag("log"),
         board_port: matches.get_one::<u16>("board-port"),
     }

@@ -63,6 +63,7 @@ module _ (sites : List SitePlan) (site : ℕ) where
         },
         others bs h.1,
       )
+
       at : (t : Bool) → eqb s.site site ≡ t → ((bs : List (List ℕ × Board)) → AreBoardsOf (filter (λ (q : Place). eqb q.site site) places) bs → AreBoardsWithin (limits_at stations site) bs) → AreBoardsWithin (limits_at (s ∷ stations) site) boards
       at true e others =
           let here : eqb p.site site ≡ true = ap (λ n. eqb n site) like.0.site ∙ e in
@@ -88,6 +89,7 @@ module _ (sites : List SitePlan) (site : ℕ) where
           let by : b.1.period ≡ p.period = ap (λ (c : Board). c.period) h.0.board.shown in
           let site_is : s.site ≡ site = sym like.0.site ∙ here in
           All-cons (λ (c : List ℕ × Board). c.1.period ≡ period_at sites site) b bs (by ∙ like.0.period ∙ ap (period_at sites) site_is) (others bs h.1)
+
       at : (t : Bool) → eqb p.site site ≡ t → ((bs : List (List ℕ × Board)) → AreBoardsOf (filter (λ (q : Place). eqb q.site site) places) bs → AreOfPeriod (period_at sites site) bs) → AreOfPeriod (period_at sites site) boards
       at true e others = taken others (eqb-true p.site site e) boards (subst (λ t. AreBoardsOf (cond t (p ∷ filter (λ (q : Place). eqb q.site site) places) (filter (λ (q : Place). eqb q.site site) places)) boards) e all)
       at false e others = others boards (subst (λ t. AreBoardsOf (cond t (p ∷ filter (λ (q : Place). eqb q.site site) places) (filter (λ (q : Place). eqb q.site site) places)) boards) e all)

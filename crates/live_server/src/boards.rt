@@ -3,8 +3,8 @@ ghost use Rattle.std.specs.Prelude.{◌≤◌, IfOk, length};
 
 use crate::door::Door;
 use crate::operator::site_of;
+use crate::reply::{Status, response};
 use crate::request::{Request, read_request};
-use crate::response::{Status, response};
 use crate::shared::Shared;
 use desk_report::running_board;
 use ledger_model::Name;
@@ -31,6 +31,7 @@ const WRITE_SECONDS: u64 = 5;
 
 // The content types.
 const TEXT: &str = "text/plain; charset=utf-8";
+
 const PAGE: &str = "text/html; charset=utf-8";
 
 // What is written where there is no memory for an answer.

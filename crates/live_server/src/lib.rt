@@ -20,8 +20,8 @@
 mod boards;
 mod door;
 mod operator;
+mod reply;
 mod request;
-mod response;
 mod service;
 mod session;
 mod shared;
@@ -29,6 +29,6 @@ mod shelf;
 mod visit;
 mod watch;
 
-pub use response::{Status, response};
+pub use reply::{Status, response};
 pub use service::{Live, serve_live};
 pub use shelf::Shelf;

@@ -10,8 +10,8 @@ use board_report::{energy_text, total_text};
 use desk_report::{running_board, write_out};
 use ledger_model::{Answer, Command, Name};
 use script_lines::{
-    LineEnd, LineFault, LineReader, MAX_LINE_BYTES, ReplayFault, ScriptLine, put_answer, put_fault, put_line,
-    read_line,
+    LineEnd, LineFault, LineReader, MAX_LINE_BYTES, ReplayFault, ScriptLine, put_answer, put_fault,
+    put_line, read_line,
 };
 use site_book::Naming;
 use site_desk::{BoardFault, NoGate, Pass, Plan};
@@ -33,13 +33,7 @@ const NO_MEMORY: &[u8] = b"fault OutOfMemory\n";
 const TORN: &str = "fault Torn";
 
 // Answers line after line until the input ends or a line says `close`. An answer is out before the next line is read.
-pub(crate) fn operate<
-    J: Naming,
-    R: Threads + Wait + Clock,
-    L: Write + Drop,
-    I: BufRead,
-    W: Write,
->(
+pub(crate) fn operate<J: Naming, R: Threads + Wait + Clock, L: Write + Drop, I: BufRead, W: Write>(
     rt: &R,
     alloc: Global,
     shared: &Shared<'_, J, L>,

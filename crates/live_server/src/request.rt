@@ -1,6 +1,6 @@
 //! What a browser asks for, by the head of its request.
-use httparse::spans::{EMPTY_HEADER_SPAN, parse_request};
 use httparse::Status;
+use httparse::spans::{EMPTY_HEADER_SPAN, parse_request};
 use ledger_model::Name;
 
 // How many header lines a request may have.

@@ -1,6 +1,7 @@
 //! A whole live server, from its desk to its boards.
 ghost use Rattle.std.specs.Prelude.{◌≡◌, ◌≤◌, ◌<◌, ℕ, List, Option, OnOk, length, sum_by};
 ghost use Rattle.std.specs.Io.KnownBytes.{Appends};
+ghost use Rattle.std.specs.Thread.{IsSend, IsSync};
 ghost use Rattle.site_book.specs.Tables.{HasTable, NamedBy};
 ghost use Rattle.ledger_model.specs.Ranges.{most_plan_readings};
 ghost use Rattle.site_desk.specs.Roster.{AreNewPlaces};
@@ -105,7 +106,9 @@ fn serve_under<
         × AreBoards plan.now.sites.items plan.now.stations.items boards) }
 {
     let (desk, viewers) = open_desk::<J>(alloc, tables, plan)?;
-    let (passes, viewers, ended) = run(rt, alloc, plan, &desk, viewers, live, input, output, lines)?;
+    let (passes, viewers, ended) = run(
+        rt, alloc, plan, &desk, viewers, live, input, output, lines,
+    )?;
     close_desk(alloc, plan, desk, passes, viewers, output)?;
     ended
 }
@@ -143,7 +146,11 @@ fn run<
     if let Some(boards) = &boards {
         tell_board_port(address_of(boards)?, output)?;
     }
-    let workers = plan.stations.len().saturating_mul(2).saturating_add(SPARE_WORKERS);
+    let workers = plan
+        .stations
+        .len()
+        .saturating_mul(2)
+        .saturating_add(SPARE_WORKERS);
     let shared = Shared::open(alloc, desk, plan, workers, lines, live.is_logged)?;
     let (ended, viewers) = serve_all(
         rt,
@@ -192,32 +199,34 @@ fn serve_all<
     let door = &door;
     let board_door = Door::new(boards.unwrap_or(listener));
     let board_door = &board_door;
-    thread::scope(thread::scope_env(), rt, |scope| -> Ended<J> {
-        let watching = Stack::new().stack_size(SMALL_STACK).spawn_scoped_with(
-            scope,
-            Anything,
-            move || watch(rt, shared, glances, viewers),
-        );
-        let workers = start_workers(scope, rt, alloc, shared, door);
-        let browsers = if boards.is_some() {
-            start_boards(scope, rt, alloc, shared, board_door)
-        } else {
-            Ok(0)
-        };
-        let ended = if workers == shared.replaced.len() && browsers.is_ok() {
-            operate(rt, alloc, shared, input, output)
-        } else {
-            Err(ServiceFault::OutOfMemory)
-        };
-        shared.closing.store(true, Ordering::SeqCst);
-        door.call_away(rt, workers as u64);
-        board_door.call_away(rt, browsers.unwrap_or(0));
-        let viewers = match watching {
-            Ok(watching) => watching.join(rt),
-            Err(refused) => (refused.value)(),
-        };
-        (ended, viewers)
-    })
+    thread::scope(
+        thread::scope_env(),
+        rt,
+        |scope| -> Ended<J>
+            requires { IsSync R.row × IsSend J.row × IsSync J.row × IsSend L.row }
+        {
+            let watching = Stack::new().stack_size(SMALL_STACK).spawn_scoped_with(
+                scope,
+                Anything,
+                move || watch(rt, shared, glances, viewers),
+            );
+            let workers = start_workers(scope, rt, alloc, shared, door);
+            let browsers = start_boards(scope, rt, alloc, shared, board_door, boards.is_some());
+            let ended = if workers == shared.replaced.len() && browsers.is_ok() {
+                operate(rt, alloc, shared, input, output)
+            } else {
+                Err(ServiceFault::OutOfMemory)
+            };
+            shared.closing.store(true, Ordering::SeqCst);
+            door.call_away(rt, workers as u64);
+            board_door.call_away(rt, browsers.unwrap_or(0));
+            let viewers = match watching {
+                Ok(watching) => watching.join(rt),
+                Err(refused) => (refused.value)(),
+            };
+            (ended, viewers)
+        },
+    )
 }
 
 // Starts a worker for each session that may stand, and tells how many could start.
@@ -247,7 +256,7 @@ fn start_workers<
     shared.replaced.len()
 }
 
-// Starts the thread that answers browsers, and tells that it is one.
+// Starts the thread that answers browsers, where that is wanted, and tells how many it is.
 fn start_boards<
     's,
     E: 's,
@@ -260,7 +269,11 @@ fn start_boards<
     alloc: Global,
     shared: &'s Shared<'_, J, L>,
     door: &'s Door<'_>,
+    is_wanted: bool,
 ) -> Result<u64, ServiceFault> {
+    if !is_wanted {
+        return Ok(0);
+    }
     let started = Stack::new().stack_size(SMALL_STACK).spawn_scoped_with(
         scope,
         Anything,

@@ -56,11 +56,13 @@ fn visit<J: Naming, R: Threads + Wait + Clock, L: Write + Drop>(
         return;
     };
     match greet(alloc, stream) {
-        Ok(Greeted {
-            mut socket,
-            asked,
-            shown,
-        }) => {
+        Ok(
+            Greeted {
+                mut socket,
+                asked,
+                shown,
+            },
+        ) => {
             visit.serves();
             match let_in(rt, shared, asked) {
                 Ok((name, pass)) => {

@@ -45,7 +45,8 @@ impl Shelf {
     /// Makes room for one pass more than were given out.
     pub fn reserve(&mut self) -> Result<(), AllocError> {
         let wanted = self.given.saturating_add(1);
-        self.passes.reserve(wanted.saturating_sub(self.passes.len()))?;
+        self.passes
+            .reserve(wanted.saturating_sub(self.passes.len()))?;
         self.given = wanted;
         Ok(())
     }
@@ -103,7 +104,8 @@ impl Shelf {
         let mut oldest: Option<(usize, u64)> = None;
         for (worker, row) in self.running.iter().enumerate() {
             if let Some(session) = row {
-                if session.station == station && oldest.is_none_or(|(_, number)| session.number < number)
+                if session.station == station
+                    && oldest.is_none_or(|(_, number)| session.number < number)
                 {
                     oldest = Some((worker, session.number));
                 }

@@ -175,7 +175,9 @@ fn board_port_option<'a>(alloc: Global) -> Result<Arg<'a>, AllocError> {
         .long("board-port")
         .value_name("PORT")
         .value_parser(value_parser!(u16))
-        .help("With --live, the port of 127.0.0.1 where browsers find boards; 0 lets the system choose")
+        .help(
+            "With --live, the port of 127.0.0.1 where browsers find boards; 0 lets the system choose",
+        )
         .requires_arg("live")
 }
 

@@ -90,12 +90,7 @@ fn tell_end<E: Write>(errors: &mut E, ended: Result<(), ServiceFault>) -> u8 {
 }
 
 // Writes why a server did not begin, where its stations or its port tell it.
-fn tell_cause<E: Write>(
-    errors: &mut E,
-    plan: &Plan,
-    port: u16,
-    ended: Result<(), ServiceFault>,
-) {
+fn tell_cause<E: Write>(errors: &mut E, plan: &Plan, port: u16, ended: Result<(), ServiceFault>) {
     match ended {
         Err(ServiceFault::StationTwice) => {
             if let Some(name) = plan.station_twice() {

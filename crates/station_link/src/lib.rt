@@ -29,9 +29,7 @@ mod session;
 
 pub use answer::{Answered, answer_text};
 pub use ending::Why;
-pub use live::{
-    Attendant, Cause, Dismissal, Greeted, LiveEnd, greet, refuse, serve_live,
-};
+pub use live::{Attendant, Cause, Dismissal, Greeted, LiveEnd, greet, refuse, serve_live};
 pub use moment::{MomentSource, present};
 pub use request::{Seen, admit};
 pub use session::{MAX_MESSAGES, SessionEnd, serve_connection, serve_session};

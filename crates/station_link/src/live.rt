@@ -188,15 +188,7 @@ pub fn serve_live<
     ensures texts { result.texts ≤ most_messages }
 {
     let (end, texts) = answer_live(
-        rt,
-        alloc,
-        socket,
-        desk,
-        name,
-        &mut pass,
-        gate,
-        clock,
-        attendant,
+        rt, alloc, socket, desk, name, &mut pass, gate, clock, attendant,
     );
     attendant.leaves();
     say_goodbye(socket, end.code, end.cause.name());

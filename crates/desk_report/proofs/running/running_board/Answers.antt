@@ -40,5 +40,5 @@ returns-in-Ok-write_board g c =
       of_site = c.in-Ok.ensures.boards;
       is = c.in-Ok-write_board.ensures
           ∙ ap board_text (named_is b.board (get_or (map (λ (p : SitePlan). p.name) sites) site []) (period_at sites site) _ boards name (b.ensures.figures ∙ c.in-Ok.ensures.totals) (b.ensures.period ∙ c.period.ensures)
-              (b.ensures.quarters ∙ ap (λ p. (site_board p boards).quarters) c.period.ensures) b.ensures.stations);
+          (b.ensures.quarters ∙ ap (λ p. (site_board p boards).quarters) c.period.ensures) b.ensures.stations);
     }

@@ -57,7 +57,11 @@ pub fn response(
     let mut bytes = Vec::new(alloc);
     put_head(&mut bytes, "HTTP/1.1 ", status.text())?;
     put_head(&mut bytes, "Content-Type: ", kind)?;
-    put_head(&mut bytes, "Content-Length: ", Buffer::new().format(body.len()))?;
+    put_head(
+        &mut bytes,
+        "Content-Length: ",
+        Buffer::new().format(body.len()),
+    )?;
     put_head(&mut bytes, "Connection: close", "")?;
     put_head(&mut bytes, "", "")?;
     bytes.extend_from_slice(body)?;
