@@ -3,11 +3,14 @@ use Rattle.std.specs.Prelude.{◌≡◌, ℕ, ◌<◌, ◌≤◌, ◌^◌, ⊤, 
 use Rattle.core.specs.Str.Parse.{IsNumeral, digits_value, without_leading_plus}
 use Rattle.clap.specs.Matches.{matched_of, one_text, raw_values}
 use Rattle.clap.specs.declared.parser.matches.Found.{Found}
+use Rattle.std.specs.declared.result.Result.{Result}
+use Rattle.site_desk.specs.declared.plan.Plan.{Plan}
 use Rattle.board_words.specs.declared.asked.Asked.{Asked}
 use Rattle.board_words.specs.declared.asked.Asked.TheVariants.{Replay, Serve, ServeLive, Simulate}
 use Rattle.live_server.specs.declared.service.Live.{Live}
 use Rattle.ledger_model.specs.Quarter.{IsPeriod, default_period}
 use Rattle.board_words.specs.StationWords.{AnswersWords}
+use Rattle.board_words.specs.declared.station_words.WordFault.{WordFault}
 use Rattle.site_server.specs.declared.service.Service.{Service}
 use Rattle.simulated_station.specs.Sim.{IsSimulated}
 
@@ -56,7 +59,7 @@ is_live (Serve plan service) = false
 is_live (ServeLive plan live) = true
 is_live (Simulate stations events) = false
 
--- What the options of `serve` ask for.
+-- What the options of `serve` ask for where it does not live.
 pub record AsksService (found : Found) (service : Service) : Type 0 where
   pub port : Gives found (codes "port") 16 0 service.port
   pub connections : GivesWithin found (codes "connections") 8 1 1 64 service.connections
@@ -72,11 +75,15 @@ pub record AsksPeriod (found : Found) (period : ℕ) : Type 0 where
 abbrev pub words_of : Found → List (List ℕ)
 words_of found = unwrap_or (option_map raw_values (matched_of found (codes "stations"))) []
 
--- A server is asked for with the plan of its words, in which each site has the settlement period that is asked for, and a viewer where its totals are watched.
+-- The plan of a server is that of its words, in which each site has the settlement period that is asked for, and a viewer where its totals are watched.
+abbrev pub AsksPlan : Found → ℕ → Result Plan WordFault → Type 0
+AsksPlan found glances plan = (period : ℕ) × (AsksPeriod found period × AnswersWords plan (if nat_lt 0 glances then 1 else 0) period (words_of found))
+
+-- A server is asked for with what its options say, and the plan of its words.
 abbrev pub AsksServe : Found → Asked → Type 0
 AsksServe found Replay = ⊥
-AsksServe found (Serve plan service) = AsksService found service × (period : ℕ) × (AsksPeriod found period × AnswersWords plan (if nat_lt 0 service.glances then 1 else 0) period (words_of found))
-AsksServe found (ServeLive plan live) = AsksLive found live × (period : ℕ) × (AsksPeriod found period × AnswersWords plan (if nat_lt 0 live.glances then 1 else 0) period (words_of found))
+AsksServe found (Serve plan service) = AsksService found service × AsksPlan found service.glances plan
+AsksServe found (ServeLive plan live) = AsksLive found live × AsksPlan found live.glances plan
 AsksServe found (Simulate stations events) = ⊥
 
 -- A simulation is asked for.

@@ -1,7 +1,7 @@
 //! What the options of a command ask for.
 ghost use Rattle.std.specs.Prelude.{◌≤◌, codes};
 ghost use Rattle.clap.specs.Matches.{found_of};
-ghost use Rattle.board_words.specs.Arguments.{AsksLive, AsksPeriod, AsksServe, AsksService, AsksSimulate, IsAskable, IsFlag, is_live};
+ghost use Rattle.board_words.specs.Arguments.{AsksLive, AsksPeriod, AsksPlan, AsksServe, AsksService, AsksSimulate, IsAskable, IsFlag, is_live};
 
 use crate::station_words::{WordFault, plan_of};
 use clap::ArgMatches;
@@ -31,16 +31,22 @@ pub fn serve_asked<'a>(matches: &ArgMatches<'a>) -> Asked<'a>
     ensures asked { AsksServe (found_of matches.now) result }
     ensures lives { IsFlag (found_of matches.now) (codes "live") (is_live result) }
 {
-    let service = service_of(matches);
-    let words = matches.get_strs("stations").unwrap_or(&[]);
-    let viewers = if service.glances > 0 { 1 } else { 0 };
-    let period = period_of(matches);
-    let plan = plan_of(words, viewers, period);
     if matches.get_flag("live") {
-        Asked::ServeLive(plan, live_of(matches))
+        let live = live_of(matches);
+        Asked::ServeLive(plan_asked(matches, live.glances), live)
     } else {
-        Asked::Serve(plan, service)
+        let service = service_of(matches);
+        Asked::Serve(plan_asked(matches, service.glances), service)
     }
+}
+
+// The plan of the words of `serve`, with a viewer for each site where its totals are glanced at so often.
+fn plan_asked<'a>(matches: &ArgMatches<'a>, glances: u16) -> Result<Plan, WordFault<'a>>
+    ensures { AsksPlan (found_of matches.now) glances result }
+{
+    let words = matches.get_strs("stations").unwrap_or(&[]);
+    let viewers = if glances > 0 { 1 } else { 0 };
+    plan_of(words, viewers, period_of(matches))
 }
 
 /// What the options of `serve --live` ask for.
