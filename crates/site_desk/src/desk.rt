@@ -198,11 +198,11 @@ impl<J: Naming> Desk<J> {
             return Err(BoardFault::UnknownStation);
         };
         let lock: &Mutex<StationCell> = &self.cells[number];
-        let cell = lock.lock(rt);
-        if !stands_at(&cell, number, &self.places[number]) {
+        let held = lock.lock(rt);
+        if !stands_at(&held, number, &self.places[number]) {
             return Err(BoardFault::Torn);
         }
-        Ok(totals_of(&cell))
+        Ok(totals_of(&held))
     }
 
     /// The boards of the stations of the site of this number, in the plan's order and each with the
