@@ -29,6 +29,11 @@ to its last. Where no number is missing and a session is still not complete, one
 whether its end is yet to come or a start or an end is misplaced; an earlier board of the same station in
 the text may tell, and then the table does.
 
+--follow reads a board from a server that lives, `ocpp_board serve --live --board-port 9080 ..`, again and again,
+and writes the files anew each time; the pages draw themselves anew as often:
+
+    board_to_tables.py --follow http://127.0.0.1:9080/board/north 10 --out NAME
+
 A name or an id that begins with = + - or @ gets a ' before it in the CSV files, as spreadsheets would
 take it for a formula; --raw leaves it alone. Lines of a board that can't be read are told on standard
 error with their numbers, and the page says where it is not whole.
@@ -38,14 +43,17 @@ import argparse
 import csv
 import os
 import re
+import shutil
 import sys
+import tempfile
 import time
 from collections.abc import Iterable, Iterator
 from datetime import date, datetime, timedelta, timezone
 from functools import lru_cache
 from html import escape
 from itertools import groupby
-from typing import BinaryIO, NamedTuple, TextIO
+from typing import BinaryIO, NamedTuple, NoReturn, TextIO
+from urllib.request import urlopen
 from zoneinfo import ZoneInfo
 
 # Bytes that are looked at of a line; those of a board are far shorter.
@@ -55,6 +63,8 @@ PAGE_CHARACTERS = 1_000_000
 TABLE_SESSIONS = 500
 # Complaints that are told; the others are counted.
 MOST_COMPLAINTS = 20
+# Seconds that a server may take to answer.
+LONGEST_ANSWER = 30
 # Moments whose texts are kept, since all stations share them.
 KEPT_MOMENTS = 131_072
 
@@ -209,6 +219,10 @@ def lines(text: BinaryIO) -> Iterator[tuple[int, str]]:
         while rest and not rest.endswith(b"\n"):
             rest = text.readline(LONGEST_LINE)
         yield number, line.rstrip(b"\r\n").decode("ascii", "replace")
+
+
+# The line of a page that has a browser draw it anew, where its board is followed.
+refresh = ""
 
 
 class Progress:
@@ -544,7 +558,7 @@ def head(title: str, said: str, links: str = "") -> str:
     """A page up to its main part."""
     return (f'<!DOCTYPE html>\n<html lang="en">\n<head>\n<meta charset="utf-8">\n'
             '<meta name="viewport" content="width=device-width, initial-scale=1">\n'
-            f"<title>{title}</title>\n<style>{STYLE}</style>\n</head>\n<body>\n{FALLS}<header>\n<h1>{title}</h1>\n"
+            f"{refresh}<title>{title}</title>\n<style>{STYLE}</style>\n</head>\n<body>\n{FALLS}<header>\n<h1>{title}</h1>\n"
             f"{links}{said}</header>\n<main>\n")
 
 
@@ -931,12 +945,16 @@ def arguments() -> argparse.Namespace:
                         help="no day before this one")
     parser.add_argument("--to", dest="last", metavar="DAY", type=date.fromisoformat, default=date.max,
                         help="no day after this one")
+    parser.add_argument("--follow", nargs=2, metavar=("URL", "SECONDS"),
+                        help="read a board from this address and write the files anew every so many seconds")
     parser.add_argument("--raw", action="store_true", help="write names and ids into the CSV files as they are")
     words = parser.parse_args()
     if words.day:
         words.first = words.last = words.day
     if words.first > words.last:
         parser.error("--from is after --to")
+    if words.follow and (not re.fullmatch("[1-9][0-9]{0,4}", words.follow[1]) or words.text != "-"):
+        parser.error("--follow takes an address and seconds, 1 to 99999, and no text")
     return words
 
 
@@ -955,22 +973,46 @@ def plain(text: BinaryIO) -> BinaryIO:
 
 def main() -> int:
     words = arguments()
-    calendar = Calendar(words)
     try:
-        with (plain(open(0 if words.text == "-" else words.text, "rb")) as text,
-              open(words.out + ".periods.csv", "w", encoding="utf-8", newline="") as periods,
-              open(words.out + ".transactions.csv", "w", encoding="utf-8", newline="") as transactions):
-            days = DayPages(words.out, calendar)
-            index = Index(words.out, calendar, days)
-            reader = Reader([Tables(periods, transactions, words.raw, calendar), days, index], Progress(text))
-            reader.read(text)
-            days.close()
-            index.close(reader.counts["boards"] > 0)
+        if words.follow:
+            follow(words, words.follow[0], int(words.follow[1]))
+        return write_files(words, plain(open(0 if words.text == "-" else words.text, "rb")))
     except KeyboardInterrupt:
         return 130
     except OSError as fault:
         print(f"board_to_tables.py: {fault}", file=sys.stderr)
         return 2
+
+
+def follow(words: argparse.Namespace, url: str, seconds: int) -> NoReturn:
+    """Writes the files anew every so many seconds. Where the server is not there the files stay as they are."""
+    global refresh
+    refresh = f'<meta http-equiv="refresh" content="{seconds}">\n'
+    while True:
+        with tempfile.TemporaryFile() as text:
+            try:
+                with urlopen(url, timeout=LONGEST_ANSWER) as answer:
+                    shutil.copyfileobj(answer, text)
+            except (OSError, ValueError) as fault:
+                print(f"board_to_tables.py: {url}: {fault}", file=sys.stderr)
+            else:
+                text.seek(0)
+                write_files(words, text)
+        time.sleep(seconds)
+
+
+def write_files(words: argparse.Namespace, source: BinaryIO) -> int:
+    """Writes the files of a text, and gives the exit status."""
+    calendar = Calendar(words)
+    with (source as text,
+          open(words.out + ".periods.csv", "w", encoding="utf-8", newline="") as periods,
+          open(words.out + ".transactions.csv", "w", encoding="utf-8", newline="") as transactions):
+        days = DayPages(words.out, calendar)
+        index = Index(words.out, calendar, days)
+        reader = Reader([Tables(periods, transactions, words.raw, calendar), days, index], Progress(text))
+        reader.read(text)
+        days.close()
+        index.close(reader.counts["boards"] > 0)
     reader.tell()
     return 1 if reader.counts["unread"] else 0
 

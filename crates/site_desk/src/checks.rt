@@ -113,7 +113,7 @@ pub(crate) fn are_whole<J: Naming>(
 }
 
 // Both figures added up, where that fits.
-fn plus(figures: &Figures, others: &Figures) -> Option<Figures>
+pub(crate) fn plus(figures: &Figures, others: &Figures) -> Option<Figures>
     ensures { IfSome result (λ f. f ≡ plus_figures figures.now others.now) }
 {
     Some(Figures {

@@ -1,7 +1,7 @@
 use Rattle.std.proofs.Common.{length}
 use Rattle.desk_report.specs.Closed.{boards_text}
 use Rattle.desk_report.proofs.ClosedSites.{boards_are, closed_of}
-use Rattle.site_server.proofs.close.close.Goals as goal
+use Rattle.site_server.proofs.close.close_desk.Goals as goal
 
 pub write_boards-requires-clause-closed : goal.write_boards-requires-clause-closed
 write_boards-requires-clause-closed g c =

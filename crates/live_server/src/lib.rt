@@ -1,0 +1,34 @@
+//! A server that lives: connections without end, an operator's lines while stations are served, and a clean end.
+//!
+//! [`serve_live`] opens the desk of a plan, tells where it listens, and starts workers, which accept connections and
+//! serve them for as long as the server lives: `Shared` has what all of them look at, a `Visit` what one connection
+//! knows of its time, and the [`Shelf`] the passes that sessions left, which later ones of their stations take back.
+//! Meanwhile the calling thread answers an operator's lines (`operate`), a thread glances at the totals, and
+//! another one answers browsers with boards ([`response`]). At the end it joins them all, closes the desk with all
+//! its checks, and writes the board of each site.
+//!
+//! The crate's one contract: what is written last is, for each site in the plan's order, the board from scratch from
+//! the content of its stations' ledgers. An operator's command goes to the station that it names, and a session gets a
+//! pass of the station that its request names. That connections are accepted, sessions end in time and passes come
+//! back is shown by tests.
+//!
+//! ```text
+//! serve_live(rt, alloc, &plan, live, &mut input, &mut output, lines)?;   // until the input ends or says `close`
+//! ```
+#![tactic(auto)]
+
+mod boards;
+mod door;
+mod operator;
+mod reply;
+mod request;
+mod service;
+mod session;
+mod shared;
+mod shelf;
+mod visit;
+mod watch;
+
+pub use reply::{Status, response};
+pub use service::{Live, serve_live};
+pub use shelf::Shelf;

@@ -1,0 +1,13 @@
+use Rattle.std.proofs.Common.{ap, ◌∙◌}
+use Rattle.ledger_model.specs.Board.{figures}
+use Rattle.ledger_model.specs.Content.{entries}
+use Rattle.ledger_model.specs.Energy.{energy}
+use Rattle.site_desk.proofs.operator.totals_of.Goals as goal
+
+pub returns : goal.returns
+returns c = record {
+  content = c.args.cell.now.content;
+  reached = c.ledger-ledger.ensures.reached;
+  figures = c.figures.ensures.value ∙ ap (λ x. figures (entries x)) c.ledger-ledger.ensures.content;
+  energy = c.energy.ensures ∙ ap (λ x. energy (entries x)) c.ledger-ledger.ensures.content;
+}
