@@ -6,7 +6,7 @@ ghost use Rattle.site_desk.specs.Roster.{IsNamed};
 ghost use Rattle.live_server.specs.Operated.{IsCommanded};
 
 use crate::shared::Shared;
-use board_report::{energy_text, total_text};
+use board_report::{energy_text, export_text, total_text};
 use desk_report::{running_board, write_out};
 use ledger_model::{Answer, Command, Name};
 use script_lines::{
@@ -101,6 +101,7 @@ fn answer_line<J: Naming, R: Threads + Wait + Clock, L: Write + Drop>(
         ScriptLine::Sends(name, text) => receive(rt, alloc, shared, &name, text, reply),
         ScriptLine::Commands(name, what) => put_command(rt, shared, &name, what, reply),
         ScriptLine::AsksEnergy(name) => put_energy(rt, shared, &name, reply),
+        ScriptLine::AsksExport(name) => put_export(rt, shared, &name, reply),
         ScriptLine::AsksTotal(name) => put_total(rt, shared, &name, reply),
         ScriptLine::AsksBoard(name) => put_board(rt, alloc, shared, &name, reply),
     }
@@ -176,7 +177,20 @@ fn put_command<J: Naming, R: Threads + Wait + Clock, L: Write + Drop>(
     }
 }
 
-// Appends the energy of the station of this name.
+// Appends what the station of this name exported.
+fn put_export<J: Naming, R: Wait, L: Write + Drop>(
+    rt: &R,
+    shared: &Shared<'_, J, L>,
+    name: &Name,
+    reply: &mut Vec<u8>,
+) -> Result<(), AllocError> {
+    match shared.desk.station_totals(rt, name) {
+        Ok((_figures, _energy, export)) => put_line(reply, export_text(export).as_str()),
+        Err(fault) => put_board_fault(reply, fault, LineFault::UnknownStation),
+    }
+}
+
+// Appends what the station of this name imported.
 fn put_energy<J: Naming, R: Wait, L: Write + Drop>(
     rt: &R,
     shared: &Shared<'_, J, L>,
@@ -184,7 +198,7 @@ fn put_energy<J: Naming, R: Wait, L: Write + Drop>(
     reply: &mut Vec<u8>,
 ) -> Result<(), AllocError> {
     match shared.desk.station_totals(rt, name) {
-        Ok((_figures, energy)) => put_line(reply, energy_text(energy).as_str()),
+        Ok((_figures, energy, _export)) => put_line(reply, energy_text(energy).as_str()),
         Err(fault) => put_board_fault(reply, fault, LineFault::UnknownStation),
     }
 }
@@ -197,7 +211,7 @@ fn put_total<J: Naming, R: Wait, L: Write + Drop>(
     reply: &mut Vec<u8>,
 ) -> Result<(), AllocError> {
     match shared.desk.station_totals(rt, name) {
-        Ok((figures, _energy)) => put_line(reply, total_text(&figures).as_str()),
+        Ok((figures, _energy, _export)) => put_line(reply, total_text(&figures).as_str()),
         Err(fault) => put_board_fault(reply, fault, LineFault::UnknownStation),
     }
 }

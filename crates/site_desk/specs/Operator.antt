@@ -3,6 +3,7 @@ use Rattle.std.specs.Prelude.{◌≡◌, ℕ, ◌==◌, ⊤, List, [], ◌∷◌
 use Rattle.energy_flow.specs.Flow.{Energy}
 use Rattle.ledger_model.specs.declared.figures.Figures.{Figures}
 use Rattle.ledger_model.specs.Board.{Board, figures}
+use Rattle.ledger_model.specs.declared.reading.Direction.TheVariants.{Import, Export}
 use Rattle.ledger_model.specs.Energy.{energy}
 use Rattle.ledger_model.specs.Content.{Content, entries}
 use Rattle.ledger_model.specs.Figures.{AreWithin}
@@ -12,18 +13,19 @@ use Rattle.site_desk.specs.declared.roster.Place.{Place}
 use Rattle.site_desk.specs.Roster.{IsNamed}
 use Rattle.site_desk.specs.Submit.{IsBoardWithin}
 
--- The figures and the energy are those of some content that accepted commands leave within these limits.
-pub record AreTotalsWithin (limits : Bounds) (f : Figures) (e : Energy) : Type 0 where
+-- The figures and the energies, imported and exported, are those of some content that accepted commands leave within these limits.
+pub record AreTotalsWithin (limits : Bounds) (f : Figures) (e x : Energy) : Type 0 where
   pub content : Content
   pub reached : Reached limits content.changes content
   pub figures : f ≡ figures (entries content)
-  pub energy : e ≡ energy (entries content)
+  pub energy : e ≡ energy Import (entries content)
+  pub export : x ≡ energy Export (entries content)
 
 -- They are of the station of this name: some content has them that accepted commands leave within the limits of the station's place.
-pub record AreTotalsOfName (places : List Place) (name : List ℕ) (f : Figures) (e : Energy) : Type 0 where
+pub record AreTotalsOfName (places : List Place) (name : List ℕ) (f : Figures) (e x : Energy) : Type 0 where
   pub number : ℕ
   pub named : IsNamed places name number
-  pub totals : AreTotalsWithin named.place.limits f e
+  pub totals : AreTotalsWithin named.place.limits f e x
 
 -- The board of the station of this place, under its name: some content makes it that accepted commands leave within the place's limits, by the place's period.
 pub record IsBoardAt (p : Place) (b : List ℕ × Board) : Type 0 where

@@ -183,16 +183,16 @@ impl<J: Naming> Desk<J> {
         }
     }
 
-    /// The figures and the energy of the station of this name, both of one moment. It waits for the
+    /// The figures of the station of this name, and what it imported and exported, all of one moment. It waits for the
     /// station's lock. A cell there that is not the station's own, which no run of these calls meets,
     /// answers `Torn`.
     pub fn station_totals<R: Wait>(
         &self,
         rt: &R,
         name: &Name,
-    ) -> Result<(Figures, Flow), BoardFault>
+    ) -> Result<(Figures, Flow, Flow), BoardFault>
         ensures unknown { (result ≡ Err BoardFault.UnknownStation) ↔ (list_any (λ p. bytes_eq name.now p.name) self.now.stations ≡ false) }
-        ensures totals { IfOk result (λ t. AreTotalsOfName self.now.stations name.now t.0 t.1) }
+        ensures totals { IfOk result (λ t. AreTotalsOfName self.now.stations name.now t.0 t.1 t.2) }
     {
         let Some(number) = number_of(&self.places, name) else {
             return Err(BoardFault::UnknownStation);

@@ -16,12 +16,12 @@ use station_ledger::StationBoard;
 use std::alloc::{AllocError, Global};
 use std::sync::{Mutex, MutexGuard, Wait};
 
-// The figures and the energy of a cell's station.
-pub(crate) fn totals_of(cell: &StationCell) -> (Figures, Flow)
-    ensures { AreTotalsWithin cell.now.limits result.0 result.1 }
+// The figures of a cell's station, and what it imported and exported.
+pub(crate) fn totals_of(cell: &StationCell) -> (Figures, Flow, Flow)
+    ensures { AreTotalsWithin cell.now.limits result.0 result.1 result.2 }
 {
     let ledger = cell.ledger();
-    (ledger.figures(), ledger.energy())
+    (ledger.figures(), ledger.energy(), ledger.export())
 }
 
 // The cells of a site's stations, each with its lock held, in the plan's order.
