@@ -1,0 +1,5 @@
+use Rattle.journal_ties.specs.Entries.{entry}
+use Rattle.journal_ties.proofs.journal.Journal.add.Given as goal
+
+abbrev pub ghosts-note : goal.ghosts-note
+ghosts-note g a = record { entry = entry a.station a.line.now }
