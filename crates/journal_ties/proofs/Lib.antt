@@ -1,2 +1,3 @@
 mod Moves
 mod Written
+mod Lines

@@ -78,7 +78,8 @@ impl<W: Write + Drop, B: Ties> Journal<W, B> {
         ensures hand { result ≡ record { station = station; entries = of_station station self.old.entries } }
         ensures journal { self.new ≡ record self.old { hands = station + 1 } }
     {
-        let seat = enlist::<Brand>(&self.table.shared, &mut self.seat, station);
+        let table = &self.table;
+        let seat = enlist::<Brand>(&table.shared, &mut self.seat, station);
         self.hands = u32::from(station) + 1;
         Hand {
             station,
@@ -101,8 +102,9 @@ impl<W: Write + Drop, B: Ties> Journal<W, B> {
         }
         self.broken = true;
         write_line(&mut self.writer, line)?;
+        let table = &self.table;
         note::<Brand>(
-            &self.table.shared,
+            &table.shared,
             &mut self.seat,
             &mut hand.seat,
             hand.station,
@@ -117,7 +119,8 @@ impl<W: Write + Drop, B: Ties> Journal<W, B> {
         ensures own { hand.old.entries ≡ of_station hand.old.station self.old.entries }
         ensures same { (self.new ≡ self.old) × (hand.new ≡ hand.old) }
     {
-        agree(&self.table.shared, &mut self.seat, &mut hand.seat);
+        let table = &self.table;
+        agree(&table.shared, &mut self.seat, &mut hand.seat);
     }
 
     /// The writer. What it took since the journal was opened is the text of the entries, and behind it,

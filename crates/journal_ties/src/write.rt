@@ -1,5 +1,5 @@
 //! Writing a line.
-ghost use Rattle.std.specs.Prelude.{ℕ, List};
+ghost use Rattle.std.specs.Prelude.{ℕ, List, [], ◌∷◌};
 ghost use Rattle.std.specs.Io.KnownBytes.{Appends};
 ghost use Rattle.journal_ties.specs.Entries.{line_text};
 ghost use Rattle.journal_ties.specs.Writing.{WritesFront};
@@ -13,6 +13,14 @@ pub(crate) fn write_line<W: Write>(writer: &mut W, line: &[u8]) -> Result<(), Br
         × WritesFront result (line_text line.now) written }
 {
     write_bytes(writer, line)?;
+    end_line(writer)
+}
+
+// Writes a line feed and flushes.
+fn end_line<W: Write>(writer: &mut W) -> Result<(), Broken>
+    ensures { (written : List ℕ) × Appends (W.contents writer.old) (W.contents writer.new) written
+        × WritesFront result (10 ∷ []) written }
+{
     write_bytes(writer, b"\n")?;
     match writer.flush() {
         Ok(()) => Ok(()),
