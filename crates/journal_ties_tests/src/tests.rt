@@ -1,0 +1,4 @@
+mod failing;
+mod station;
+mod threads;
+mod writers;
