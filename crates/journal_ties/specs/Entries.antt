@@ -1,12 +1,12 @@
 use Rattle.std.specs.Prelude.{ℕ, List, [], ◌∷◌, ◌++◌, ◌==◌, filter}
 use Rattle.journal_ties.specs.declared.entry.Entry.{Entry}
 
--- A station's line as an entry.
-abbrev pub entry : ℕ → List ℕ → Entry
-entry station line = record { station = station; line = line }
+-- A station's line, and the command that it is, as an entry.
+abbrev pub entry : {C : Type 0} → ℕ → List ℕ → C → Entry C
+entry station line command = record { station = station; line = line; command = command }
 
 -- The entries of one station, in their order.
-abbrev pub of_station : ℕ → List Entry → List Entry
+abbrev pub of_station : {C : Type 0} → ℕ → List (Entry C) → List (Entry C)
 of_station station entries = filter (λ e. e.station == station) entries
 
 -- The text of a line: its bytes and a line feed.
@@ -14,6 +14,6 @@ abbrev pub line_text : List ℕ → List ℕ
 line_text line = line ++ 10 ∷ []
 
 -- The text of entries: the texts of their lines, one after the other.
-abbrev pub text_of : List Entry → List ℕ
+abbrev pub text_of : {C : Type 0} → List (Entry C) → List ℕ
 text_of [] = []
 text_of (e ∷ entries) = line_text e.line ++ text_of entries

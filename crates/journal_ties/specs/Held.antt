@@ -6,8 +6,8 @@ use Rattle.journal_ties.specs.Journal.{IsWritten}
 use Rattle.journal_ties.specs.Rule.{keeping, holding}
 
 -- What a seat knows, and the slots that it holds: a journal's table has none.
-abbrev pub Seated : Type 0
-Seated = Me (Unit {0}) View
+abbrev pub Seated : Type 0 → Type 0
+Seated C = Me (Unit {0}) (View C)
 
 -- A seat at this table of one word.
 pub record Sits (table seat : TableId) : Type 0 where
@@ -15,19 +15,19 @@ pub record Sits (table seat : TableId) : Type 0 where
   pub one : table.words ≡ 1
 
 -- A table before its journal is opened: its first seat knows that there are no entries and no hands.
-pub record IsUnused (table seat : TableId) (me : Seated) : Type 0 where
+pub record IsUnused {C : Type 0} (table seat : TableId) (me : Seated C) : Type 0 where
   pub sits : Sits table seat
   pub me_is : me ≡ (keeping [] 0, [])
 
 -- What a journal keeps beside its table: the number of hands, whether a write failed, and what its writer holds.
-pub record IsJournal (named : TableId) (before : Option (List ℕ)) (hands : ℕ) (broken : Bool) (now : Option (List ℕ)) (table seat : TableId) (me : Seated) : Type 0 where
+pub record IsJournal {C : Type 0} (named : TableId) (before : Option (List ℕ)) (hands : ℕ) (broken : Bool) (now : Option (List ℕ)) (table seat : TableId) (me : Seated C) : Type 0 where
   pub is_named : table ≡ named
   pub sits : Sits table seat
   pub me_is : me ≡ (keeping me.0.log hands, [])
   pub written : IsWritten broken before now me.0.log
 
 -- What a hand is: a seat of this station at the table.
-pub record IsHand (named : TableId) (station : ℕ) (seat : TableId) (me : Seated) : Type 0 where
+pub record IsHand {C : Type 0} (named : TableId) (station : ℕ) (seat : TableId) (me : Seated C) : Type 0 where
   pub is_named : seat ≡ named
   pub me_is : me ≡ (holding station me.0.mine, [])
 

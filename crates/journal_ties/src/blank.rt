@@ -8,12 +8,12 @@ use std::marker::Model;
 /// The table of a journal that is not open yet. To a contract it is what names the table. It takes a few
 /// words of memory; nothing else here takes any.
 #[derive(Drop)]
-pub struct Blank {
-    table: JournalTable,
-    seat: TableSeat,
+pub struct Blank<C> {
+    table: JournalTable<C>,
+    seat: TableSeat<C>,
 }
 
-impl Model for Blank {
+impl<C> Model for Blank<C> {
     ghost use Rattle.atomic_table.specs.Seated.{TableId, table_id_coded};
     ghost use Rattle.journal_ties.specs.Held.{IsUnused};
 
@@ -26,14 +26,14 @@ impl Model for Blank {
     ghost invariant = { λ b. IsUnused b.table.shared.table_id b.seat.table_id b.seat.me };
 }
 
-impl Blank {
+impl<C> Blank<C> {
     /// The table of one journal.
     pub fn new(alloc: Global) -> Result<Self, AllocError> {
-        let (table, seat) = JournalTable::of_words(alloc, &[0; 1], &())?;
+        let (table, seat) = JournalTable::<C>::of_words(alloc, &[0; 1], &())?;
         Ok(Blank { table, seat })
     }
 
-    pub(crate) fn into_parts(self) -> (JournalTable, TableSeat)
+    pub(crate) fn into_parts(self) -> (JournalTable<C>, TableSeat<C>)
         ensures table { result.0.shared.table_id ≡ self }
         ensures seat { IsUnused self result.1.table_id result.1.me }
     {

@@ -14,31 +14,31 @@ use std::marker::{Brand, Model, PhantomData};
 
 /// A list of entries, each of which was written and flushed as a line before it was noted.
 #[derive(Drop)]
-pub struct Journal<W: Write + Drop, B: Ties> {
-    table: JournalTable,
-    seat: TableSeat,
+pub struct Journal<W: Write + Drop, B: Ties, C> {
+    table: JournalTable<C>,
+    seat: TableSeat<C>,
     writer: W,
     hands: u32,
     broken: bool,
     ties: PhantomData<B>,
 }
 
-impl<W: Write + Drop, B: Ties> Model for Journal<W, B> {
+impl<W: Write + Drop, B: Ties, C> Model for Journal<W, B, C> {
     ghost use Rattle.journal_ties.specs.Journal.{Ledger};
     ghost use Rattle.journal_ties.specs.Held.{IsJournal};
 
-    ghost Value = { Ledger };
+    ghost Value = { Ledger C };
 
     ghost view = { λ j. record { entries = j.seat.me.0.log; hands = j.hands; broken = j.broken } };
 
     ghost invariant = { λ j. IsJournal B.table B.before j.hands j.broken (W.contents j.writer) j.table.shared.table_id j.seat.table_id j.seat.me };
 }
 
-impl<W: Write + Drop, B: Ties> Journal<W, B> {
+impl<W: Write + Drop, B: Ties, C> Journal<W, B, C> {
     /// A journal of no entries, with no hands, that writes behind what the writer holds.
     ///
     /// Conditions: B names this table, and what the writer holds.
-    pub fn open(blank: Blank, writer: W) -> Self
+    pub fn open(blank: Blank<C>, writer: W) -> Self
         requires table { blank ≡ B.table }
         requires before { W.contents writer ≡ B.before }
         ensures { result ≡ record { entries = []; hands = 0; broken = false } }
@@ -68,18 +68,17 @@ impl<W: Write + Drop, B: Ties> Journal<W, B> {
         self.broken
     }
 
-    /// The hand of a station, which may have entries only from now on or from before any hand: it knows
-    /// those that are there.
+    /// The hand of a station, with that station's entries.
     ///
     /// Conditions: neither this station nor one of a greater number was given a hand
     /// ([`Journal::hands`] tells), so no station has two.
-    pub fn hand(&mut self, station: u16) -> Hand<B>
+    pub fn hand(&mut self, station: u16) -> Hand<B, C>
         requires { self.old.hands ≤ station }
         ensures hand { result ≡ record { station = station; entries = of_station station self.old.entries } }
         ensures journal { self.new ≡ record self.old { hands = station + 1 } }
     {
         let table = &self.table;
-        let seat = enlist::<Brand>(&table.shared, &mut self.seat, station);
+        let seat = enlist::<C, Brand>(&table.shared, &mut self.seat, station);
         self.hands = u32::from(station) + 1;
         Hand {
             station,
@@ -89,10 +88,11 @@ impl<W: Write + Drop, B: Ties> Journal<W, B> {
     }
 
     /// Writes and flushes the line and a line feed, and then notes the entry, here and in the hand. After
-    /// an error nothing is noted, and the journal takes nothing more.
-    pub fn add(&mut self, hand: &mut Hand<B>, line: &[u8]) -> Result<(), Broken>
-        ensures added { OnOk result (self.new ≡ record self.old { entries = self.old.entries ++ entry hand.old.station line.now ∷ [] }) }
-        ensures known { OnOk result (hand.new ≡ record hand.old { entries = hand.old.entries ++ entry hand.old.station line.now ∷ [] }) }
+    /// an error nothing is noted, and the journal takes nothing more. The command is noted for contracts
+    /// alone: what it has to do with the line is the caller's to say.
+    pub fn add(&mut self, hand: &mut Hand<B, C>, line: &[u8], command: &C) -> Result<(), Broken>
+        ensures added { OnOk result (self.new ≡ record self.old { entries = self.old.entries ++ entry hand.old.station line.now command.now ∷ [] }) }
+        ensures known { OnOk result (hand.new ≡ record hand.old { entries = hand.old.entries ++ entry hand.old.station line.now command.now ∷ [] }) }
         ensures whole { OnOk result (self.old.broken ≡ false) }
         ensures broken { OnErr result (self.new ≡ record self.old { broken = true }) }
         ensures same { OnErr result (hand.new ≡ hand.old) }
@@ -103,19 +103,20 @@ impl<W: Write + Drop, B: Ties> Journal<W, B> {
         self.broken = true;
         write_line(&mut self.writer, line)?;
         let table = &self.table;
-        note::<Brand>(
+        note::<C, Brand>(
             &table.shared,
             &mut self.seat,
             &mut hand.seat,
             hand.station,
             line,
+            command,
         );
         self.broken = false;
         Ok(())
     }
 
     /// Compares a hand with the journal: its entries are just those of its station, in their order.
-    pub fn compare(&mut self, hand: &mut Hand<B>)
+    pub fn compare(&mut self, hand: &mut Hand<B, C>)
         ensures own { hand.old.entries ≡ of_station hand.old.station self.old.entries }
         ensures same { (self.new ≡ self.old) × (hand.new ≡ hand.old) }
     {

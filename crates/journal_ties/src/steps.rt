@@ -5,11 +5,11 @@ ghost use Rattle.journal_ties.specs.Held.{Sits};
 ghost use Rattle.journal_ties.specs.Rule.{keeping, holding, joined};
 
 use crate::table::{
-    Adds, Compares, Enlists, Gives, Leaves, TableSeat, TakesIn, TheEntry, TheStation, Words,
+    Adds, Compares, Enlists, Gives, Leaves, TableSeat, TakesIn, TheEntries, TheStation, Words,
 };
 
 // A hand leaves all that it knows to a new seat: it can't be joined and kept.
-pub(crate) fn leave(words: &Words, hand: &mut TableSeat) -> TableSeat
+pub(crate) fn leave<C>(words: &Words<C>, hand: &mut TableSeat<C>) -> TableSeat<C>
     requires sits { Sits words.now.table_id hand.old.table_id }
     requires holds { hand.old.me ≡ (holding hand.old.me.0.station hand.old.me.0.mine, []) }
     ensures sits { Sits words.now.table_id result.table_id }
@@ -19,7 +19,7 @@ pub(crate) fn leave(words: &Words, hand: &mut TableSeat) -> TableSeat
 }
 
 // The journal takes in what a hand left.
-pub(crate) fn take_in(words: &Words, seat: &mut TableSeat, other: TableSeat)
+pub(crate) fn take_in<C>(words: &Words<C>, seat: &mut TableSeat<C>, other: TableSeat<C>)
     requires sits { Sits words.now.table_id seat.old.table_id × Sits words.now.table_id other.table_id }
     requires keeps { seat.old.me ≡ (keeping seat.old.me.0.log seat.old.me.0.made, []) }
     requires holds { other.me ≡ (holding other.me.0.station other.me.0.mine, []) }
@@ -29,19 +29,25 @@ pub(crate) fn take_in(words: &Words, seat: &mut TableSeat, other: TableSeat)
     words.join_seat::<TakesIn>(seat, other);
 }
 
-// Both learn the entry that E names.
-pub(crate) fn append<E: TheEntry>(words: &Words, seat: &mut TableSeat)
+// Both learn the entry of this line.
+pub(crate) fn append<C, E: TheEntries<C>>(
+    words: &Words<C>,
+    seat: &mut TableSeat<C>,
+    station: u16,
+    line: &[u8],
+    command: &C,
+)
+    requires entries { E.entries ≡ entry station line.now command.now ∷ [] }
     requires sits { Sits words.now.table_id seat.old.table_id }
-    requires joined { seat.old.me ≡ (joined seat.old.me.0.log seat.old.me.0.made seat.old.me.0.station seat.old.me.0.mine, []) }
-    requires entry { E.entry.station ≡ seat.old.me.0.station }
+    requires joined { seat.old.me ≡ (joined seat.old.me.0.log seat.old.me.0.made station seat.old.me.0.mine, []) }
     ensures sits { Sits words.now.table_id seat.new.table_id }
-    ensures added { seat.new.me ≡ (joined (seat.old.me.0.log ++ E.entry ∷ []) seat.old.me.0.made seat.old.me.0.station (seat.old.me.0.mine ++ E.entry ∷ []), []) }
+    ensures added { seat.new.me ≡ (joined (seat.old.me.0.log ++ entry station line.now command.now ∷ []) seat.old.me.0.made station (seat.old.me.0.mine ++ entry station line.now command.now ∷ []), []) }
 {
     words.load::<Adds<E>>(seat, 0);
 }
 
 // The hand's entries are those of its station.
-pub(crate) fn compare(words: &Words, seat: &mut TableSeat)
+pub(crate) fn compare<C>(words: &Words<C>, seat: &mut TableSeat<C>)
     requires sits { Sits words.now.table_id seat.old.table_id }
     requires joined { seat.old.me ≡ (joined seat.old.me.0.log seat.old.me.0.made seat.old.me.0.station seat.old.me.0.mine, []) }
     ensures sits { Sits words.now.table_id seat.new.table_id }
@@ -52,7 +58,7 @@ pub(crate) fn compare(words: &Words, seat: &mut TableSeat)
 }
 
 // The journal gives the hand back.
-pub(crate) fn give(words: &Words, seat: &mut TableSeat) -> TableSeat
+pub(crate) fn give<C>(words: &Words<C>, seat: &mut TableSeat<C>) -> TableSeat<C>
     requires sits { Sits words.now.table_id seat.old.table_id }
     requires joined { seat.old.me ≡ (joined seat.old.me.0.log seat.old.me.0.made seat.old.me.0.station seat.old.me.0.mine, []) }
     ensures sits { Sits words.now.table_id seat.new.table_id × Sits words.now.table_id result.table_id }
@@ -63,7 +69,11 @@ pub(crate) fn give(words: &Words, seat: &mut TableSeat) -> TableSeat
 }
 
 // The journal makes the hand of the station that K names.
-pub(crate) fn enlist<K: TheStation>(words: &Words, seat: &mut TableSeat, station: u16) -> TableSeat
+pub(crate) fn enlist<C, K: TheStation>(
+    words: &Words<C>,
+    seat: &mut TableSeat<C>,
+    station: u16,
+) -> TableSeat<C>
     requires station { K.station ≡ station }
     requires sits { Sits words.now.table_id seat.old.table_id }
     requires keeps { seat.old.me ≡ (keeping seat.old.me.0.log seat.old.me.0.made, []) }
@@ -76,29 +86,30 @@ pub(crate) fn enlist<K: TheStation>(words: &Words, seat: &mut TableSeat, station
 }
 
 // The journal and a hand note this line of the hand's station.
-pub(crate) fn note<E: TheEntry>(
-    words: &Words,
-    seat: &mut TableSeat,
-    hand: &mut TableSeat,
+pub(crate) fn note<C, E: TheEntries<C>>(
+    words: &Words<C>,
+    seat: &mut TableSeat<C>,
+    hand: &mut TableSeat<C>,
     station: u16,
     line: &[u8],
+    command: &C,
 )
-    requires entry { E.entry ≡ entry station line.now }
+    requires entries { E.entries ≡ entry station line.now command.now ∷ [] }
     requires sits { Sits words.now.table_id seat.old.table_id × Sits words.now.table_id hand.old.table_id }
     requires keeps { seat.old.me ≡ (keeping seat.old.me.0.log seat.old.me.0.made, []) }
     requires holds { hand.old.me ≡ (holding station hand.old.me.0.mine, []) }
     ensures sits { Sits words.now.table_id seat.new.table_id × Sits words.now.table_id hand.new.table_id }
-    ensures keeps { seat.new.me ≡ (keeping (seat.old.me.0.log ++ entry station line.now ∷ []) seat.old.me.0.made, []) }
-    ensures holds { hand.new.me ≡ (holding station (hand.old.me.0.mine ++ entry station line.now ∷ []), []) }
+    ensures keeps { seat.new.me ≡ (keeping (seat.old.me.0.log ++ entry station line.now command.now ∷ []) seat.old.me.0.made, []) }
+    ensures holds { hand.new.me ≡ (holding station (hand.old.me.0.mine ++ entry station line.now command.now ∷ []), []) }
 {
     let left = leave(words, hand);
     take_in(words, seat, left);
-    append::<E>(words, seat);
+    append::<C, E>(words, seat, station, line, command);
     *hand = give(words, seat);
 }
 
 // The journal and a hand are compared.
-pub(crate) fn agree(words: &Words, seat: &mut TableSeat, hand: &mut TableSeat)
+pub(crate) fn agree<C>(words: &Words<C>, seat: &mut TableSeat<C>, hand: &mut TableSeat<C>)
     requires sits { Sits words.now.table_id seat.old.table_id × Sits words.now.table_id hand.old.table_id }
     requires keeps { seat.old.me ≡ (keeping seat.old.me.0.log seat.old.me.0.made, []) }
     requires holds { hand.old.me ≡ (holding hand.old.me.0.station hand.old.me.0.mine, []) }

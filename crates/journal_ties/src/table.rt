@@ -7,24 +7,24 @@ use std::collections::LinkedList;
 use std::marker::{Brand, PhantomData};
 
 // What a seat knows. No value of it is made.
-pub(crate) struct View {
+pub(crate) struct View<C> {
     // It is the journal's seat.
     pub(crate) is_journal: bool,
     // All entries.
-    pub(crate) log: LinkedList<Entry>,
+    pub(crate) log: LinkedList<Entry<C>>,
     // Each station that was given a hand has a number below this one.
     pub(crate) made: u32,
     // It is a station's hand.
     pub(crate) is_hand: bool,
     pub(crate) station: u16,
     // The entries of that station.
-    pub(crate) mine: LinkedList<Entry>,
+    pub(crate) mine: LinkedList<Entry<C>>,
 }
 
 // The rule of a journal's table.
 pub(crate) struct OneList;
 
-impl TableRule<(), View, ()> for OneList {
+impl<C> TableRule<(), View<C>, ()> for OneList {
     ghost use Rattle.std.specs.Prelude.{[]};
     ghost use Rattle.journal_ties.specs.Rule.{Tied, keeping};
 
@@ -33,24 +33,24 @@ impl TableRule<(), View, ()> for OneList {
     ghost first = { λ _. keeping [] 0 };
 }
 
-pub(crate) type JournalTable = Table<(), View, (), OneList, Global>;
+pub(crate) type JournalTable<C> = Table<(), View<C>, (), OneList, Global>;
 
-pub(crate) type Words = Shared<(), View, (), OneList>;
+pub(crate) type Words<C> = Shared<(), View<C>, (), OneList>;
 
-pub(crate) type TableSeat = Seat<(), View>;
+pub(crate) type TableSeat<C> = Seat<(), View<C>>;
 
-// Names the entry that is added, for the proof alone: a load carries none.
-pub(crate) trait TheEntry {
+// Names the entries that are added, for the proof alone: a load carries none.
+pub(crate) trait TheEntries<C> {
+    ghost use Rattle.std.specs.Prelude.{List};
     ghost use Rattle.journal_ties.specs.declared.entry.Entry.{Entry};
 
-    ghost entry: { Entry };
+    ghost entries: { List (Entry C) };
 }
 
-impl TheEntry for Brand {
+impl<C> TheEntries<C> for Brand {
     ghost use Rattle.std.specs.Prelude.{[]};
-    ghost use Rattle.journal_ties.specs.Entries.{entry};
 
-    ghost entry = { entry 0 [] };
+    ghost entries = { [] };
 }
 
 // Names the station that is given a hand, for the proof alone.
@@ -64,21 +64,21 @@ impl TheStation for Brand {
     ghost station = { 0 };
 }
 
-// The journal and the hand that it took in learn the entry that E names.
+// The journal and the hand that it took in learn the entries that E names.
 pub(crate) struct Adds<E> {
-    entry: PhantomData<E>,
+    entries: PhantomData<E>,
 }
 
-impl<E: TheEntry> Play<(), View> for Adds<E> {
+impl<C, E: TheEntries<C>> Play<(), View<C>> for Adds<E> {
     ghost use Rattle.journal_ties.specs.Rule.{Added};
 
-    ghost then = { Added E.entry };
+    ghost then = { Added E.entries };
 }
 
 // The hand's entries are compared with the journal's.
 pub(crate) struct Compares;
 
-impl Play<(), View> for Compares {
+impl<C> Play<(), View<C>> for Compares {
     ghost use Rattle.journal_ties.specs.Rule.{Compared};
 
     ghost then = { Compared };
@@ -87,7 +87,7 @@ impl Play<(), View> for Compares {
 // A hand leaves all that it knows to a new seat.
 pub(crate) struct Leaves;
 
-impl Split<View> for Leaves {
+impl<C> Split<View<C>> for Leaves {
     ghost use Rattle.journal_ties.specs.Rule.{holding, nobody};
 
     ghost left = { λ _. nobody };
@@ -98,7 +98,7 @@ impl Split<View> for Leaves {
 // The journal takes in what a hand left.
 pub(crate) struct TakesIn;
 
-impl Join<View> for TakesIn {
+impl<C> Join<View<C>> for TakesIn {
     ghost use Rattle.journal_ties.specs.Rule.{joined, nobody};
 
     ghost both = { λ v w. joined v.log v.made w.station w.mine };
@@ -109,7 +109,7 @@ impl Join<View> for TakesIn {
 // The journal gives the hand back.
 pub(crate) struct Gives;
 
-impl Split<View> for Gives {
+impl<C> Split<View<C>> for Gives {
     ghost use Rattle.journal_ties.specs.Rule.{keeping, holding};
 
     ghost left = { λ v. keeping v.log v.made };
@@ -122,7 +122,7 @@ pub(crate) struct Enlists<K> {
     station: PhantomData<K>,
 }
 
-impl<K: TheStation> Split<View> for Enlists<K> {
+impl<C, K: TheStation> Split<View<C>> for Enlists<K> {
     ghost use Rattle.std.specs.Prelude.{◌+◌};
     ghost use Rattle.journal_ties.specs.Entries.{of_station};
     ghost use Rattle.journal_ties.specs.Rule.{keeping, holding};

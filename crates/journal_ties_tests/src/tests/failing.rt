@@ -11,15 +11,15 @@ use std::test::Fail;
 
 // Gives three lines to a station, of two bytes each. Gives the writer, and of each line whether it was
 // taken.
-fn three_lines<W: Write + Drop, B: Ties>(blank: Blank, writer: W) -> (W, [bool; 3])
+fn three_lines<W: Write + Drop, B: Ties>(blank: Blank<u64>, writer: W) -> (W, [bool; 3])
     requires table { blank ≡ B.table }
     requires before { W.contents writer ≡ B.before }
 {
-    let mut journal = Journal::<W, B>::open(blank, writer);
+    let mut journal = Journal::<W, B, u64>::open(blank, writer);
     let mut station = Station::new(journal.hand(7));
-    let one = station.take(&mut journal, b"ab");
-    let two = station.take(&mut journal, b"cd");
-    let three = station.take(&mut journal, b"ef");
+    let one = station.take(&mut journal, b"ab", 1);
+    let two = station.take(&mut journal, b"cd", 2);
+    let three = station.take(&mut journal, b"ef", 3);
     (journal.into_writer(), [one, two, three])
 }
 

@@ -1,43 +1,48 @@
-ghost use Rattle.std.specs.Prelude.{◌≡◌, ℕ, List, [], length};
+ghost use Rattle.std.specs.Prelude.{◌≡◌, ℕ, List, [], sum_by};
 ghost use Rattle.journal_ties.specs.Entries.{of_station};
 
 use journal_ties::{Hand, Journal, Ties};
 use std::io::Write;
 
-// A station under its lock: what its lines come to is how many they are.
+// A station under its lock. A command is an amount, and what the station's commands come to is their sum.
 #[derive(Drop)]
 pub struct Station<B: Ties> {
-    hand: Hand<B>,
-    lines: u64,
-    ghost counted: { lines ≡ length hand.entries },
+    hand: Hand<B, u64>,
+    total: u64,
+    ghost summed: { total ≡ sum_by (λ e. e.command) hand.entries },
 }
 
 impl<B: Ties> Station<B> {
-    pub fn new(hand: Hand<B>) -> Self
+    pub fn new(hand: Hand<B, u64>) -> Self
         requires { hand.entries ≡ [] }
     {
-        Station { hand, lines: 0 }
+        Station { hand, total: 0 }
     }
 
-    // Gives a line to the journal, and then counts it.
-    pub fn take<W: Write + Drop>(&mut self, journal: &mut Journal<W, B>, line: &[u8]) -> bool {
-        let Some(lines) = self.lines.checked_add(1) else {
+    // Gives a line to the journal, and then adds its amount.
+    pub fn take<W: Write + Drop>(
+        &mut self,
+        journal: &mut Journal<W, B, u64>,
+        line: &[u8],
+        amount: u64,
+    ) -> bool {
+        let Some(total) = self.total.checked_add(amount) else {
             return false;
         };
-        if journal.add(&mut self.hand, line).is_err() {
+        if journal.add(&mut self.hand, line, &amount).is_err() {
             return false;
         }
-        self.lines = lines;
+        self.total = total;
         true
     }
 
-    // Its number, and how many lines it took: those of its own in the journal.
-    pub fn settle<W: Write + Drop>(self, journal: &mut Journal<W, B>) -> (u16, u64)
+    // Its number and its total: the sum of its own entries in the journal.
+    pub fn settle<W: Write + Drop>(self, journal: &mut Journal<W, B, u64>) -> (u16, u64)
         ensures same { journal.new ≡ journal.old }
-        ensures settled { result.1 ≡ length (of_station result.0 journal.old.entries) }
+        ensures settled { result.1 ≡ sum_by (λ e. e.command) (of_station result.0 journal.old.entries) }
     {
-        let Station { mut hand, lines } = self;
+        let Station { mut hand, total } = self;
         journal.compare(&mut hand);
-        (hand.station(), lines)
+        (hand.station(), total)
     }
 }

@@ -1,4 +1,4 @@
-ghost use Rattle.std.specs.Prelude.{◌≡◌, ℕ, List, Option, length};
+ghost use Rattle.std.specs.Prelude.{◌≡◌, ℕ, List, Option, sum_by};
 ghost use Rattle.journal_ties.specs.declared.entry.Entry.{Entry};
 ghost use Rattle.journal_ties.specs.Entries.{of_station};
 ghost use Rattle.journal_ties.specs.Journal.{IsWritten};
@@ -16,34 +16,34 @@ use std::thread::Threads;
 // Gives each line to the station and the journal, under the journal's lock.
 fn work<W: Write + Drop, B: Ties, R: Wait>(
     rt: &R,
-    shared: &Mutex<Journal<W, B>>,
+    shared: &Mutex<Journal<W, B, u64>>,
     mut station: Station<B>,
-    lines: &[&[u8]],
+    lines: &[(&[u8], u64)],
 ) -> Station<B> {
     for line in lines {
         let mut guard = shared.lock(rt);
         let journal = &mut *guard;
-        station.take(journal, line);
+        station.take(journal, line.0, line.1);
     }
     station
 }
 
-// Two threads give lines to two stations. Gives the writer, and of each station its number and how many
-// lines it took: there is one list of entries of which the writer holds the text, and each station took
-// just its own.
+// Two threads give lines to two stations. Gives the writer, and of each station its number and total:
+// there is one list of entries of which the writer holds the text, and each total is the sum of the
+// station's own.
 fn serve_two<W: Write + Drop + Send, B: Ties + Send + Sync, R: Threads + Wait + Sync>(
     rt: &R,
-    blank: Blank,
+    blank: Blank<u64>,
     writer: W,
-    first: &[&[u8]],
-    second: &[&[u8]],
+    first: &[(&[u8], u64)],
+    second: &[(&[u8], u64)],
 ) -> (W, bool, (u16, u64), (u16, u64))
     requires table { blank ≡ B.table }
     requires before { W.contents writer ≡ B.before }
-    ensures { (log : List Entry) × IsWritten result.1 B.before (W.contents result.0) log
-        × (result.2.1 ≡ length (of_station result.2.0 log)) × (result.3.1 ≡ length (of_station result.3.0 log)) }
+    ensures { (log : List (Entry ℕ)) × IsWritten result.1 B.before (W.contents result.0) log
+        × (result.2.1 ≡ sum_by (λ e. e.command) (of_station result.2.0 log)) × (result.3.1 ≡ sum_by (λ e. e.command) (of_station result.3.0 log)) }
 {
-    let mut journal = Journal::<W, B>::open(blank, writer);
+    let mut journal = Journal::<W, B, u64>::open(blank, writer);
     let one = Station::new(journal.hand(0));
     let two = Station::new(journal.hand(1));
     let shared = Mutex::new(journal);
@@ -85,12 +85,12 @@ fn two_stations_on_threads(rt: HostRuntime) -> Result<(), Fail> {
     let alloc = rt.alloc();
     let blank = Blank::new(alloc)?;
     let writer = Vec::new(alloc);
-    let first: [&[u8]; 3] = [b"a1", b"a2", b"a3"];
-    let second: [&[u8]; 3] = [b"b1", b"b2", b"b3"];
+    let first: [(&[u8], u64); 3] = [(b"a1", 1), (b"a2", 2), (b"a3", 3)];
+    let second: [(&[u8], u64); 3] = [(b"b1", 10), (b"b2", 20), (b"b3", 30)];
     let (text, broken, one, two) = serve_two::<Vec<u8>, Brand, _>(
         &rt, blank, writer, &first, &second,
     );
-    assert!(rt; !broken && one == (0, 3) && two == (1, 3));
+    assert!(rt; !broken && one == (0, 6) && two == (1, 60));
     assert!(rt; has_both(text.as_slice()));
     Ok(())
 }

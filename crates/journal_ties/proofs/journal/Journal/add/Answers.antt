@@ -19,12 +19,12 @@ pub invariant_of-self-2 : goal.invariant_of-self-2
 invariant_of-self-2 g c =
     let i = c.self.invariant in
     let log = c.self.inside.seat.me.0.log in
-    let now = log ++ entry c.hand.inside.station c.args.line.now ∷ [] in
+    let now = log ++ entry c.hand.inside.station c.args.line.now c.args.command.now ∷ [] in
     let grown : c.note.new.seat.me.0.log ≡ now = ap (λ m. m.0.log) c.note.ensures.keeps in
     let made : c.self.inside.seat.me.0.made ≡ c.self.inside.hands = ap (λ m. m.0.made) i.me_is in
     record {
       is_named = i.is_named;
       sits = c.note.ensures.sits.0;
       me_is = c.note.ensures.keeps ∙ (λ n. (keeping (sym grown n) (made n), []));
-      written = subst (IsWritten false _ _) (sym grown) (added _ _ _ _ log c.hand.inside.station c.args.line.now c.if-self.false i.written c.in_ok-write_line.ensures);
+      written = subst (IsWritten false _ _) (sym grown) (added _ _ _ _ log c.hand.inside.station c.args.line.now c.args.command.now c.if-self.false i.written c.in_ok-write_line.ensures);
     }
