@@ -1,4 +1,4 @@
-use Rattle.std.specs.Prelude.{ℕ, List, [], ◌∷◌, ◌++◌, ◌==◌, filter}
+use Rattle.std.specs.Prelude.{ℕ, ◌≢◌, List, [], ◌∷◌, ◌++◌, ◌==◌, filter, All}
 use Rattle.journal_ties.specs.declared.entry.Entry.{Entry}
 
 -- A station's line, and the command that it is, as an entry.
@@ -8,6 +8,10 @@ entry station line command = record { station = station; line = line; command = 
 -- The entries of one station, in their order.
 abbrev pub of_station : {C : Type 0} → ℕ → List (Entry C) → List (Entry C)
 of_station station entries = filter (λ e. e.station == station) entries
+
+-- No byte of the line is a line feed.
+abbrev pub HasNoFeed : List ℕ → Type 0
+HasNoFeed line = All (λ b. b ≢ 10) line
 
 -- The text of a line: its bytes and a line feed.
 abbrev pub line_text : List ℕ → List ℕ

@@ -1,5 +1,5 @@
 ghost use Rattle.std.specs.Prelude.{◌≡◌, ◌+◌, ◌≤◌, Bool, true, false, [], ◌∷◌, ◌++◌, OnOk, OnErr};
-ghost use Rattle.journal_ties.specs.Entries.{entry, of_station};
+ghost use Rattle.journal_ties.specs.Entries.{HasNoFeed, entry, of_station};
 ghost use Rattle.journal_ties.specs.Journal.{IsWritten};
 
 use crate::blank::Blank;
@@ -90,7 +90,10 @@ impl<W: Write + Drop, B: Ties, C> Journal<W, B, C> {
     /// Writes and flushes the line and a line feed, and then notes the entry, here and in the hand. After
     /// an error nothing is noted, and the journal takes nothing more. The command is noted for contracts
     /// alone: what it has to do with the line is the caller's to say.
+    ///
+    /// Condition: the line has no line feed ([`is_line`](crate::is_line) tells).
     pub fn add(&mut self, hand: &mut Hand<B, C>, line: &[u8], command: &C) -> Result<(), Broken>
+        requires line { HasNoFeed line.now }
         ensures added { OnOk result (self.new ≡ record self.old { entries = self.old.entries ++ entry hand.old.station line.now command.now ∷ [] }) }
         ensures known { OnOk result (hand.new ≡ record hand.old { entries = hand.old.entries ++ entry hand.old.station line.now command.now ∷ [] }) }
         ensures whole { OnOk result (self.old.broken ≡ false) }

@@ -40,3 +40,4 @@ pub use entry::Entry;
 pub use hand::Hand;
 pub use journal::Journal;
 pub use ties::Ties;
+pub use write::is_line;

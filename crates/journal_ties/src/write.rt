@@ -1,11 +1,18 @@
-//! Writing a line.
-ghost use Rattle.std.specs.Prelude.{ℕ, List, [], ◌∷◌};
+//! What a line is, and writing one.
+ghost use Rattle.std.specs.Prelude.{ℕ, ◌↔◌, List, [], ◌∷◌, IsTrue};
 ghost use Rattle.std.specs.Io.KnownBytes.{Appends};
-ghost use Rattle.journal_ties.specs.Entries.{line_text};
+ghost use Rattle.journal_ties.specs.Entries.{HasNoFeed, line_text};
 ghost use Rattle.journal_ties.specs.Writing.{WritesFront};
 
 use crate::broken::Broken;
 use std::io::Write;
+
+/// Tells whether these bytes are a line: they have no line feed.
+pub fn is_line(bytes: &[u8]) -> bool
+    ensures { IsTrue result ↔ HasNoFeed bytes.now }
+{
+    bytes.iter().all(|byte| *byte != b'\n')
+}
 
 // Writes and flushes a line and a line feed.
 pub(crate) fn write_line<W: Write>(writer: &mut W, line: &[u8]) -> Result<(), Broken>

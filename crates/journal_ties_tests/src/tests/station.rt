@@ -1,7 +1,7 @@
 ghost use Rattle.std.specs.Prelude.{◌≡◌, ℕ, List, [], sum_by};
 ghost use Rattle.journal_ties.specs.Entries.{of_station};
 
-use journal_ties::{Hand, Journal, Ties};
+use journal_ties::{Hand, Journal, Ties, is_line};
 use std::io::Write;
 
 // A station under its lock. A command is an amount, and what the station's commands come to is their sum.
@@ -29,7 +29,7 @@ impl<B: Ties> Station<B> {
         let Some(total) = self.total.checked_add(amount) else {
             return false;
         };
-        if journal.add(&mut self.hand, line, &amount).is_err() {
+        if !is_line(line) || journal.add(&mut self.hand, line, &amount).is_err() {
             return false;
         }
         self.total = total;

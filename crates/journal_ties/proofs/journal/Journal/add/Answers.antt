@@ -12,7 +12,7 @@ invariant_of-self g c =
       is_named = i.is_named;
       sits = i.sits;
       me_is = i.me_is;
-      written = cut _ _ _ _ c.self.inside.seat.me.0.log c.args.line.now c.if-self.false i.written c.in_err-write_line.ensures;
+      written = cut _ _ _ _ c.self.inside.seat.me.0.log c.args.line.now c.requires.line c.if-self.false i.written c.in_err-write_line.ensures;
     }
 
 pub invariant_of-self-2 : goal.invariant_of-self-2
@@ -26,5 +26,5 @@ invariant_of-self-2 g c =
       is_named = i.is_named;
       sits = c.note.ensures.sits.0;
       me_is = c.note.ensures.keeps ∙ (λ n. (keeping (sym grown n) (made n), []));
-      written = subst (IsWritten false _ _) (sym grown) (added _ _ _ _ log c.hand.inside.station c.args.line.now c.args.command.now c.if-self.false i.written c.in_ok-write_line.ensures);
+      written = subst (IsWritten false _ _) (sym grown) (added _ _ _ _ log c.hand.inside.station c.args.line.now c.args.command.now c.requires.line c.if-self.false i.written c.in_ok-write_line.ensures);
     }
