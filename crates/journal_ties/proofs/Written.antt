@@ -1,5 +1,5 @@
 -- The loop that writes some bytes: what the writer has taken of them.
-use Rattle.std.proofs.Common.{◌≡◌, ℕ, ◌+◌, ◌-◌, List, ◌++◌, Option, Result, Ok, Err, refl, append_assoc, append-nil, take, drop, length, sym, ap, ◌∙◌, [], subst, arith, take_all, length-drop, take-append-drop}
+use Rattle.std.proofs.Common.{◌≡◌, ℕ, ◌+◌, ◌-◌, List, ◌++◌, Option, Result, Ok, Err, append_assoc, append-nil, take, drop, length, sym, ap, ◌∙◌, [], subst, arith, take_all, length-drop, take-append-drop}
 use Rattle.std.proofs.Math.Seq.{take-add}
 use Rattle.std.specs.Io.KnownBytes.{Keeps, Appends}
 use Rattle.journal_ties.specs.Writing.{WritesFront}
