@@ -8,7 +8,6 @@ ghost use Rattle.transaction_map.specs.Map.{id_cmp, AreRising};
 use crate::named::NamedValue;
 use ledger_model::TxId;
 use std::alloc::{AllocError, Global};
-use std::cmp::Ordering;
 use std::marker::Model;
 
 /// Values by transaction id, in one sorted run reserved by `open`. Contracts see the rows by rising
@@ -48,10 +47,8 @@ fn place_near<V: Copy>(rows: &[NamedValue<V>], near: usize, tx: &TxId) -> Result
     ensures at { IfOk result (λ i. IsAt tx.now rows.now i) }
     ensures gap { IfErr result (λ i. IsGap tx.now rows.now i) }
 {
-    if near < rows.len() {
-        if let Ordering::Equal = rows[near].cmp_id(tx) {
-            return Ok(near);
-        }
+    if near < rows.len() && rows[near].is_of(tx) {
+        return Ok(near);
     }
     place(rows, tx)
 }
