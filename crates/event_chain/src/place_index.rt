@@ -120,18 +120,15 @@ impl PlaceIndex {
         ensures { self.new ≡ self.old }
     {
         let slot = key.transaction();
-        let end = if slot == self.sought.transaction() {
-            self.end
-        } else {
+        if slot != self.sought.transaction() || self.start == Place::UNKNOWN {
             // A transaction's events mostly come in order.
-            place
-        };
+            self.start = self.index.place_near(place, IndexKey::new(slot, 0));
+            self.end = self
+                .index
+                .place_near(place, IndexKey::new(slot.saturating_add(1), 0));
+        }
         self.near = place;
         self.sought = key;
-        self.start = self.index.place_near(self.start, IndexKey::new(slot, 0));
-        self.end = self
-            .index
-            .place_near(end, IndexKey::new(slot.saturating_add(1), 0));
     }
 
     // The first place from a key on, and where the key stands or belongs.
