@@ -117,6 +117,10 @@ marked_readings old new key voided was is f =
 pub delivered_readings : (old new : Chained) (key : KeyName) (event : EventContent) → new.events ≡ events_after old.events (Deliver key event) → length (readings_at new key) ≡ length event.readings
 delivered_readings old new key event is = ap (λ m. length (readings_under (finite.get m key))) is ∙ ap (λ o. length (readings_under o)) (inserted_there old.events key (record { event = event; voided = false }))
 
+-- the readings of a delivered event are those that came with it
+pub delivered_own : (old new : Chained) (key : KeyName) (event : EventContent) → new.events ≡ events_after old.events (Deliver key event) → readings_at new key ≡ event.readings
+delivered_own old new key event is = ap (λ m. readings_under (finite.get m key)) is ∙ ap readings_under (inserted_there old.events key (record { event = event; voided = false }))
+
 -- a delivered event has few readings, where the events after are allowed
 pub few_delivered : (limits : Bounds) (old : Chained) (key : KeyName) (event : EventContent) → AreAllowed limits (finite.entries (events_after old.events (Deliver key event))) → length event.readings ≤ most_event_readings
 few_delivered limits old key event after =

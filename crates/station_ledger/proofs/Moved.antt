@@ -1,5 +1,5 @@
 -- One live event more, or less, moves what its transaction counts for.
-use Rattle.std.proofs.Common.{◌≡◌, ◌==◌, ℕ, zero, suc, ◌+◌, ◌<◌, ◌≤◌, Bool, true, false, not, cond, ◌&&◌, ◌||◌, List, [], ◌∷◌, Option, Some, None, length, map, refl, sym, ap, ◌∙◌, arith, length-append}
+use Rattle.std.proofs.Common.{◌≡◌, ◌==◌, ℕ, zero, suc, ◌+◌, ◌<◌, ◌≤◌, Bool, true, false, not, cond, ◌&&◌, ◌||◌, List, [], ◌∷◌, Option, Some, None, length, map, refl, sym, ap, ◌∙◌, arith, length-append, slice_get, unwrap_or}
 use Rattle.std.specs.List.{filter_map, flat_map}
 use Rattle.std.specs.Str.{bytes_eq}
 use Rattle.std.proofs.lemmas.Bool.{ne_eqb}
@@ -124,6 +124,7 @@ flow_in_kept tx es = kept_cases (λ o. flow_in o ≡ energy_of tx es) (energy_of
 -- what is kept hangs on the transaction's live events alone
 kept_over : List ℕ → List Entry → Option Standing
 kept_over tx own = cond (length own == 0) None (Some (record {
+  first = unwrap_or (slice_get (map (λ e. e.0.seq) own) 0) 0;
   live = length own;
   evse = first_or_none (filter_map (λ e. e.1.event.evse) own);
   complete = starts_and_ends (map (λ e. e.1.event.kind) own) && (missing (map (λ e. e.0.seq) own) == 0);

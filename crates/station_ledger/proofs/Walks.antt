@@ -1,5 +1,5 @@
 -- Pairs along readings, one reading after the other.
-use Rattle.std.proofs.Common.{◌≡◌, ℕ, ◌+◌, ◌*◌, ◌≤◌, List, [], ◌∷◌, ◌++◌, length, Option, Some, refl, sym, ap, ◌∙◌, arith, length-append}
+use Rattle.std.proofs.Common.{◌≡◌, ℕ, ◌+◌, ◌*◌, ◌≤◌, List, [], ◌∷◌, ◌++◌, length, drop, get_or, Option, Some, refl, sym, ap, ◌∙◌, arith, length-append}
 use Rattle.std.proofs.lemmas.List.{map-append, append_assoc}
 use Rattle.std.proofs.lemmas.List.Sums.{sum_by-append}
 use Rattle.energy_flow.specs.Flow.{Energy, plus}
@@ -32,6 +32,11 @@ rows_with-append (f ∷ fs) gs rows = rows_with-append fs gs (set_row (with_pair
 rows_without-append : (fs gs : List Flowed) (rows : List QuarterRow) → rows_without (fs ++ gs) rows ≡ rows_without gs (rows_without fs rows)
 rows_without-append [] gs rows = refl
 rows_without-append (f ∷ fs) gs rows = rows_without-append fs gs (set_row (without_pair f.1 (row_at f.0 rows)) rows)
+
+-- readings with a first one
+pub parted : (left rest : List MeterReading) (r d : MeterReading) → 1 ≤ length left → r ≡ get_or left 0 d → rest ≡ drop 1 left → left ≡ r ∷ rest
+parted [] rest r d some is after = absurd (omega (arith, some))
+parted (x ∷ left) rest r d some is after = λ i. sym is i ∷ sym after i
 
 -- the pair of the next reading, and those after it
 module _ (last : Option MeterReading) (r : MeterReading) (left rest : List MeterReading) (behind : Option MeterReading) (steps : left ≡ r ∷ rest) where

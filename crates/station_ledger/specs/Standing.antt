@@ -1,5 +1,5 @@
 -- What is kept of a transaction with a live event.
-use Rattle.std.specs.Prelude.{ℕ, Bool, true, false, ◌&&◌, ◌==◌, if◌then◌else◌, List, Option, None, Some, length}
+use Rattle.std.specs.Prelude.{ℕ, Bool, true, false, ◌&&◌, ◌==◌, if◌then◌else◌, List, Option, None, Some, length, slice_get, unwrap_or}
 use Rattle.energy_flow.specs.Flow.{Energy}
 use Rattle.ledger_model.specs.Content.{Entry, live_of}
 use Rattle.ledger_model.specs.Complete.{is_complete}
@@ -13,6 +13,7 @@ use Rattle.station_ledger.specs.declared.standing.Standing.{Standing}
 -- A transaction's standing, with this energy.
 abbrev pub standing_with : Energy → List ℕ → List Entry → Standing
 standing_with flow tx es = record {
+  first = unwrap_or (slice_get (numbers_of tx es) 0) 0;
   live = length (live_of tx es);
   evse = evse_of tx es;
   complete = is_complete tx es;

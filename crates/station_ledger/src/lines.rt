@@ -80,7 +80,7 @@ fn transaction_line(
         first: chains.first(tx).unwrap_or(0),
         last: chains.last(tx).unwrap_or(0),
         complete: standing.complete,
-        missing: standing.missing,
+        missing: u64::from(standing.missing),
         flow: standing.flow,
         gaps: Listed::of(gaps(alloc, chains, tx)?),
     })

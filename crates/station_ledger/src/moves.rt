@@ -45,7 +45,16 @@ pub(crate) fn deliver(
     let (before, behind) = chains.neighbours(&at);
     chains.insert(key, event);
     let names = event.evse().is_some();
-    add_event(chains, sums, &at, names, &Sides { before, behind }, work);
+    let own = Some(event.readings());
+    add_event(
+        chains,
+        sums,
+        &at,
+        names,
+        own,
+        &Sides { before, behind },
+        work,
+    );
 }
 
 // Makes a voided event live again.
@@ -66,7 +75,15 @@ pub(crate) fn restore(chains: &mut Chains, sums: &mut Sums, key: &Key, work: &mu
     let (before, behind) = chains.neighbours(key);
     chains.relink(key);
     // What a restored event names is not asked.
-    add_event(chains, sums, key, true, &Sides { before, behind }, work);
+    add_event(
+        chains,
+        sums,
+        key,
+        true,
+        None,
+        &Sides { before, behind },
+        work,
+    );
     sums.figures.voided -= 1;
 }
 

@@ -1,5 +1,5 @@
 //! Pairs of readings put into the table of quarters, and taken out of it.
-ghost use Rattle.std.specs.Prelude.{◌≡◌, ◌+◌, ◌≤◌, ◌*◌, length};
+ghost use Rattle.std.specs.Prelude.{◌≡◌, ◌+◌, ◌≤◌, ◌*◌, length, IfSome};
 ghost use Rattle.ledger_model.specs.Deltas.{across, pairs_between};
 ghost use Rattle.ledger_model.specs.Energy.{difference, energy_over, quarter_of};
 ghost use Rattle.ledger_model.specs.Ranges.{greatest_reading, most_readings};
@@ -110,7 +110,7 @@ pub(crate) fn take_across(
 
 // Adds the pairs that the readings of the event of a key make with one another and with those on either
 // side, and answers what they add up to.
-pub(crate) fn add_pairs(
+fn add_stored(
     quarters: &mut QuarterTable,
     period: Period,
     before: Option<Reading>,
@@ -140,7 +140,65 @@ pub(crate) fn add_pairs(
     total.plus(flow)
 }
 
-// Takes those pairs out, and answers what they add up to.
+// The same of readings that are at hand.
+fn add_listed(
+    quarters: &mut QuarterTable,
+    period: Period,
+    before: Option<Reading>,
+    readings: &[Reading],
+    behind: Option<Reading>,
+    work: &mut Work,
+) -> Flow
+    requires { HasRoom (length (pairs_between before readings.now behind)) quarters.old }
+    ensures flow { result ≡ energy_over (pairs_between before readings.now behind) }
+    ensures up { result.up ≤ greatest_reading * length (pairs_between before readings.now behind) }
+    ensures down { result.down ≤ greatest_reading * length (pairs_between before readings.now behind) }
+    ensures rows { quarters.new.rows ≡ rows_with (quartered period (pairs_between before readings.now behind)) quarters.old.rows }
+    ensures capacity { quarters.new.capacity ≡ quarters.old.capacity }
+    ensures work { work.new ≤ work.old + length (pairs_between before readings.now behind) }
+    ensures grows { work.old ≤ work.new }
+{
+    let mut total = Flow::zero();
+    let mut last = before;
+    let mut left = readings;
+    while let [reading, more @ ..] = left {
+        let flow = add_across(quarters, period, last, Some(*reading), work);
+        total = total.plus(flow);
+        last = Some(*reading);
+        left = more;
+    }
+    let flow = add_across(quarters, period, last, behind, work);
+    total.plus(flow)
+}
+
+// The same of an event whose readings are these, where they are at hand.
+pub(crate) fn add_pairs(
+    quarters: &mut QuarterTable,
+    period: Period,
+    before: Option<Reading>,
+    chains: &Chains,
+    key: &Key,
+    own: Option<&[Reading]>,
+    behind: Option<Reading>,
+    work: &mut Work,
+) -> Flow
+    requires own { IfSome own (λ rs. rs.now ≡ readings_at chains.now key.now) }
+    requires room { HasRoom (length (pairs_between before (readings_at chains.now key.now) behind)) quarters.old }
+    ensures flow { result ≡ energy_over (pairs_between before (readings_at chains.now key.now) behind) }
+    ensures up { result.up ≤ greatest_reading * length (pairs_between before (readings_at chains.now key.now) behind) }
+    ensures down { result.down ≤ greatest_reading * length (pairs_between before (readings_at chains.now key.now) behind) }
+    ensures rows { quarters.new.rows ≡ rows_with (quartered period (pairs_between before (readings_at chains.now key.now) behind)) quarters.old.rows }
+    ensures capacity { quarters.new.capacity ≡ quarters.old.capacity }
+    ensures work { work.new ≤ work.old + length (pairs_between before (readings_at chains.now key.now) behind) }
+    ensures grows { work.old ≤ work.new }
+{
+    match own {
+        Some(readings) => add_listed(quarters, period, before, readings, behind, work),
+        None => add_stored(quarters, period, before, chains, key, behind, work),
+    }
+}
+
+// Takes the pairs of the readings of the event of a key out, and answers what they add up to.
 pub(crate) fn take_pairs(
     quarters: &mut QuarterTable,
     period: Period,

@@ -1,5 +1,5 @@
 //! What is kept of a station's live events, so that no figure needs a walk.
-ghost use Rattle.std.specs.Prelude.{◌≡◌, ℕ, ◌+◌, ◌<◌, ◌≤◌, List, [], None, Some, length, IfOk};
+ghost use Rattle.std.specs.Prelude.{◌≡◌, ℕ, ◌+◌, ◌<◌, ◌≤◌, List, [], None, Some, length, IfOk, IfSome};
 ghost use Rattle.std.specs.FinMap.{find};
 ghost use Rattle.energy_flow.specs.Flow.{no_energy, plus, minus, CanPlus, CanMinus};
 ghost use Rattle.event_chain.specs.Chains.{stored};
@@ -17,7 +17,7 @@ use crate::standing::{Standing, standing_after, standing_of};
 use crate::totals::{Change, EvseSum, move_at_evses, move_in_figures};
 use energy_flow::{Flow, Work};
 use event_chain::Chains;
-use ledger_model::{Figures, GREATEST_EVSE, Key, Limits, Period, TxId};
+use ledger_model::{Figures, GREATEST_EVSE, Key, Limits, Period, Reading, TxId};
 use quarter_table::QuarterTable;
 use std::alloc::{AllocError, Global};
 use transaction_map::TransactionMap;
@@ -114,16 +114,19 @@ fn replace_standing(sums: &mut Sums, tx: &TxId, change: &Change)
     move_in_figures(&mut sums.figures, change);
 }
 
-// Takes into all sums a live event that the chains have more, which may name an EVSE.
+// Takes into all sums a live event that the chains have more, which may name an EVSE; its readings may be
+// at hand.
 pub(crate) fn add_event(
     chains: &Chains,
     sums: &mut Sums,
     key: &Key,
     names: bool,
+    own: Option<&[Reading]>,
     place: &Sides,
     work: &mut Work,
 )
     requires within { AreAllowed chains.now.limits (stored chains.now) }
+    requires own { IfSome own (λ rs. rs.now ≡ readings_at chains.now key.now) }
     requires named { (es : List Entry) × (HasCome es chains.now key.now names × AreStanding chains.now.limits es sums.old.kept) }
     requires to_come { (es : List Entry) × (AreAllowed chains.now.limits es × (IsToCome es chains.now key.now place.now.before place.now.behind × AreSummed chains.now.limits es sums.old.kept sums.old.evses.items sums.old.period sums.old.quarters sums.old.energy sums.old.figures)) }
     ensures summed { (es : List Entry) → AreAllowed chains.now.limits es → IsToCome es chains.now key.now place.now.before place.now.behind → AreSummed chains.now.limits es sums.old.kept sums.old.evses.items sums.old.period sums.old.quarters sums.old.energy sums.old.figures → AreSummed chains.now.limits (stored chains.now) sums.new.kept sums.new.evses.items sums.new.period sums.new.quarters sums.new.energy sums.new.figures }
@@ -142,6 +145,7 @@ pub(crate) fn add_event(
         place.before,
         chains,
         key,
+        own,
         place.behind,
         work,
     );

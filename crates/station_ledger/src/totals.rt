@@ -81,7 +81,7 @@ fn counted(figures: Figures, s: Standing) -> Figures
         events: figures.events + u64::from(s.live),
         transactions: figures.transactions + 1,
         complete: figures.complete + u64::from(s.complete),
-        missing: figures.missing + s.missing,
+        missing: figures.missing + u64::from(s.missing),
         ..figures
     }
 }
@@ -95,7 +95,7 @@ fn uncounted(figures: Figures, s: Standing) -> Figures
         events: figures.events - u64::from(s.live),
         transactions: figures.transactions - 1,
         complete: figures.complete - u64::from(s.complete),
-        missing: figures.missing - s.missing,
+        missing: figures.missing - u64::from(s.missing),
         ..figures
     }
 }

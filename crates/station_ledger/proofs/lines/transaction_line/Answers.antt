@@ -28,6 +28,7 @@ returns c =
     let first = c.unwrap_or.ensures ∙ ap (λ o. unwrap_or o 0) c.first.ensures ∙ first_is_or ns in
     let last = c.unwrap_or-2.ensures ∙ ap (λ o. unwrap_or o 0) c.last.ensures ∙ last_is_or ns in
     let events = c.from.ensures ∙ ap (λ t. t.live) s in
+    let missing = c.from-2.ensures ∙ ap (λ t. t.missing) s in
     let gaps = c.of.ensures ∙ c.in_ok-gaps.ensures in
     λ i. record {
       tx = c.copied.ensures i;
@@ -36,7 +37,7 @@ returns c =
       first = first i;
       last = last i;
       complete = (s i).complete;
-      missing = (s i).missing;
+      missing = missing i;
       flow = (s i).flow;
       gaps = gaps i;
     }

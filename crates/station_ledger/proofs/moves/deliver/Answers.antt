@@ -5,7 +5,7 @@ use Rattle.ledger_model.specs.Step.{events_after}
 use Rattle.ledger_model.specs.declared.command.Command.TheVariants.{Deliver}
 use Rattle.station_ledger.specs.Coming.{HasCome}
 use Rattle.station_ledger.specs.Sums.{AreAllowed, AreStanding, AreSummed}
-use Rattle.station_ledger.proofs.Commands.{delivered, delivered_come, few_delivered, delivered_readings}
+use Rattle.station_ledger.proofs.Commands.{delivered, delivered_come, few_delivered, delivered_own, delivered_readings}
 use Rattle.station_ledger.proofs.moves.deliver.Goals as goal
 
 pub add_event-requires-clause-to_come : goal.add_event-requires-clause-to_come
@@ -34,3 +34,7 @@ add_event-requires-clause-named c =
     let old = c.args.chains.now in let new = c.insert.new.self in
     let come = delivered_come old new c.copied-at.result c.neighbours-before.result.0 c.neighbours-before.result.1 c.neighbours-before.ensures.before c.neighbours-before.ensures.behind c.args.event.now (c.insert.ensures.events ∙ ap (λ k. events_after c.args.chains.now.events (Deliver k c.args.event.now)) (sym c.copied-at.ensures)) (ap (finite.get c.args.chains.now.events) c.copied-at.ensures ∙ c.requires.absent) in
     (stored old, (subst (HasCome (stored old) new c.copied-at.result) (sym (c.is_some-names.ensures ∙ ap is_some c.evse.ensures.value)) come, subst (λ l. AreStanding l (stored old) c.args.sums.now.kept) (sym c.insert.ensures.limits) c.requires.summed.standing))
+
+pub add_event-requires-clause-own : goal.add_event-requires-clause-own
+add_event-requires-clause-own c =
+    c.readings.ensures.value ∙ sym (delivered_own c.args.chains.now c.insert.new.self c.copied-at.result c.args.event.now (c.insert.ensures.events ∙ ap (λ k. events_after c.args.chains.now.events (Deliver k c.args.event.now)) (sym c.copied-at.ensures)))

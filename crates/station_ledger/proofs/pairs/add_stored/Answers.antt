@@ -1,7 +1,7 @@
 use Rattle.std.proofs.Common.{ap, ◌∙◌, arith}
 use Rattle.energy_flow.specs.Flow.{Energy}
 use Rattle.station_ledger.proofs.Walks.{split_length, split_energy, split_with, room_rest}
-use Rattle.station_ledger.proofs.pairs.add_pairs.Goals as goal
+use Rattle.station_ledger.proofs.pairs.add_stored.Goals as goal
 
 pub loop-reading-preserved : goal.loop-reading-preserved
 loop-reading-preserved c =

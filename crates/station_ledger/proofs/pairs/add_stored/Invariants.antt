@@ -5,7 +5,7 @@ use Rattle.ledger_model.specs.Energy.{energy_over}
 use Rattle.ledger_model.specs.Ranges.{greatest_reading}
 use Rattle.quarter_table.specs.Pairs.{rows_with}
 use Rattle.station_ledger.specs.Quarters.{quartered, readings_at, HasRoom}
-use Rattle.station_ledger.proofs.pairs.add_pairs.Given as goal
+use Rattle.station_ledger.proofs.pairs.add_stored.Given as goal
 
 -- the pairs so far, and those of the readings that are left
 abbrev pub invariant-loop-reading : goal.invariant-loop-reading

@@ -26,8 +26,8 @@ take_across-less-requires c =
     let ch = coming c.args.chains.now.limits c.tx-tx.result.now es c.args.chains.now c.args.key.now c.args.place.now.before c.args.place.now.behind c.tx-tx.ensures c.requires.to_come.1.0 c.requires.within h in
     holds c.args.chains.now.limits c.tx-tx.result.now es (stored c.args.chains.now) (across c.args.place.now.before c.args.place.now.behind) (pairs_between c.args.place.now.before (readings_at c.args.chains.now c.args.key.now) c.args.place.now.behind) ch.kept ch.traded ch.before ch.after c.args.sums.now.period c.args.sums.now.quarters s.by_quarter
 
-pub add_pairs-more-requires : goal.add_pairs-more-requires
-add_pairs-more-requires c =
+pub add_pairs-more-requires-clause-room : goal.add_pairs-more-requires-clause-room
+add_pairs-more-requires-clause-room c =
     let es = c.requires.to_come.0 in let h = c.requires.to_come.1.1.0 in let s = c.requires.to_come.1.1.1 in
     let ch = coming c.args.chains.now.limits c.tx-tx.result.now es c.args.chains.now c.args.key.now c.args.place.now.before c.args.place.now.behind c.tx-tx.ensures c.requires.to_come.1.0 c.requires.within h in
     room c.args.chains.now.limits c.tx-tx.result.now es (stored c.args.chains.now) (across c.args.place.now.before c.args.place.now.behind) (pairs_between c.args.place.now.before (readings_at c.args.chains.now c.args.key.now) c.args.place.now.behind) ch.kept ch.traded ch.before ch.after c.args.sums.now.period c.args.sums.now.quarters s.by_quarter c.take_across-less.new.quarters c.take_across-less.ensures.rows c.take_across-less.ensures.capacity ch.few_came
