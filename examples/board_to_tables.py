@@ -20,12 +20,19 @@ board says; sites may have different ones.
 What `up` and `down` mean for a settlement: a difference of two readings counts in the period of its later
 reading, so what a meter read at 10:15:00 has risen since the reading before belongs to the period that
 begins at 10:15. Readings that an Ended event lists again show as `down`, back to the first of them, and
-again as `up`; the net energy is `up` less `down`.
+again as `up`. `export up` and `export down` are the same of the export register, which vehicles that feed
+back have. The net energy, which the pages show, is what was imported less what was exported: `up` less
+`down`, less `export up` and more `export down`.
 
 A board has no times of transactions: how long a session was is told in sequence numbers, from its first
 to its last. Where no number is missing and a session is still not complete, one board doesn't tell
 whether its end is yet to come or a start or an end is misplaced; an earlier board of the same station in
 the text may tell, and then the table does.
+
+--follow reads a board from a server that lives, `ocpp_board serve --live --board-port 9080 ..`, again and again,
+and writes the files anew each time; the pages draw themselves anew as often:
+
+    board_to_tables.py --follow http://127.0.0.1:9080/board/north 10 --out NAME
 
 A name or an id that begins with = + - or @ gets a ' before it in the CSV files, as spreadsheets would
 take it for a formula; --raw leaves it alone. Lines of a board that can't be read are told on standard
@@ -36,14 +43,17 @@ import argparse
 import csv
 import os
 import re
+import shutil
 import sys
+import tempfile
 import time
 from collections.abc import Iterable, Iterator
 from datetime import date, datetime, timedelta, timezone
 from functools import lru_cache
 from html import escape
 from itertools import groupby
-from typing import BinaryIO, NamedTuple, TextIO
+from typing import BinaryIO, NamedTuple, NoReturn, TextIO
+from urllib.request import urlopen
 from zoneinfo import ZoneInfo
 
 # Bytes that are looked at of a line; those of a board are far shorter.
@@ -53,13 +63,15 @@ PAGE_CHARACTERS = 1_000_000
 TABLE_SESSIONS = 500
 # Complaints that are told; the others are counted.
 MOST_COMPLAINTS = 20
+# Seconds that a server may take to answer.
+LONGEST_ANSWER = 30
 # Moments whose texts are kept, since all stations share them.
 KEPT_MOMENTS = 131_072
 
 # The lines of a board: this table, NEXT, `Part.add` and `Reader.take` are all that knows them.
 N = r"(0|[1-9][0-9]{0,19})"
 NAME = r"([A-Za-z0-9*\-_=:+|@.]{1,48})"
-FLOW = rf"up={N} down={N}"
+FLOW = rf"up={N} down={N} export_up={N} export_down={N}"
 LINES = {
     "board": re.compile(rf"board {NAME} period=(300|900|1800|3600)"),
     "total": re.compile(rf"total events={N} voided={N} transactions={N} complete={N} missing={N} {FLOW}"),
@@ -83,14 +95,43 @@ NEXT = {
 }
 
 
+class Flow(NamedTuple):
+    """What the import register rose and fell by, and what the export register did, in mWh."""
+
+    up: int = 0
+    down: int = 0
+    export_up: int = 0
+    export_down: int = 0
+
+    @property
+    def above(self) -> int:
+        """How far bars go up: what was imported, and what the export register fell by."""
+        return self.up + self.export_down
+
+    @property
+    def below(self) -> int:
+        return self.down + self.export_up
+
+    @property
+    def net(self) -> int:
+        return self.above - self.below
+
+
+def flow_of(values: Iterable[str]) -> Flow:
+    return Flow(*map(int, values))
+
+
+def sum_of(flows: Iterable[Flow]) -> Flow:
+    return Flow(*map(sum, zip(*flows)))
+
+
 class Total(NamedTuple):
     events: int
     voided: int
     transactions: int
     complete: int
     missing: int
-    up: int
-    down: int
+    flow: Flow
 
 
 class Period(NamedTuple):
@@ -98,22 +139,20 @@ class Period(NamedTuple):
 
     start: datetime
     seconds: int
-    up: int
-    down: int
+    flow: Flow
 
 
 class Evse(NamedTuple):
     number: int
-    up: int
-    down: int
+    flow: Flow
 
 
 class Session:
     """A transaction's line and its gaps."""
 
-    def __init__(self, tx: str, complete: bool, numbers: list[int]) -> None:
-        self.tx, self.complete = tx, complete
-        self.evse, self.events, self.first, self.last, self.missing, self.up, self.down = numbers
+    def __init__(self, tx: str, complete: bool, numbers: list[int], flow: Flow) -> None:
+        self.tx, self.complete, self.flow = tx, complete, flow
+        self.evse, self.events, self.first, self.last, self.missing = numbers
         self.gaps: list[tuple[int, int]] = []
         self.state = ""
 
@@ -131,17 +170,18 @@ class Part:
     def add(self, kind: str, values: tuple[str, ...]) -> bool:
         """Takes a line into the part; False where its values can't be."""
         if kind == "total":
-            self.total = Total(*map(int, values))
+            self.total = Total(*map(int, values[:5]), flow_of(values[5:]))
         elif kind == "evse":
-            self.evses.append(Evse(*map(int, values)))
+            self.evses.append(Evse(int(values[0]), flow_of(values[1:])))
         elif kind == "period":
             start = moment_of(values[0], self.seconds)
             if start is None:
                 return False
-            self.periods.append(Period(start, self.seconds, int(values[1]), int(values[2])))
+            self.periods.append(Period(start, self.seconds, flow_of(values[1:])))
         elif kind == "tx":
-            tx, evse, events, first, last, complete, *others = values
-            session = Session(tx, complete == "yes", [int(n) for n in (evse, events, first, last, *others)])
+            tx, evse, events, first, last, complete, missing, *flow = values
+            numbers = [int(n) for n in (evse, events, first, last, missing)]
+            session = Session(tx, complete == "yes", numbers, flow_of(flow))
             if session.first > session.last:
                 return False
             self.sessions.append(session)
@@ -179,6 +219,10 @@ def lines(text: BinaryIO) -> Iterator[tuple[int, str]]:
         while rest and not rest.endswith(b"\n"):
             rest = text.readline(LONGEST_LINE)
         yield number, line.rstrip(b"\r\n").decode("ascii", "replace")
+
+
+# The line of a page that has a browser draw it anew, where its board is followed.
+refresh = ""
 
 
 class Progress:
@@ -402,7 +446,8 @@ def kwh_of(mwh: int) -> str:
 class Tables(Sink):
     """The two CSV files."""
 
-    FLOWS = ["up (mWh)", "down (mWh)", "up (kWh)", "down (kWh)"]
+    FLOWS = ["up (mWh)", "down (mWh)", "up (kWh)", "down (kWh)",
+             "export up (mWh)", "export down (mWh)", "export up (kWh)", "export down (kWh)"]
     TRANSACTIONS = ["board", "site", "station", "transaction", "EVSE (0: not named)", "events", "first seqNo",
                     "last seqNo", "complete", "missing", "gaps (from..to)", *FLOWS, "state"]
 
@@ -419,8 +464,9 @@ class Tables(Sink):
         return "'" + text if text[0] in "=+-@" and not self.raw else text
 
     @staticmethod
-    def flows(up: int, down: int) -> list[int | str]:
-        return [up, down, kwh_of(up), kwh_of(down)]
+    def flows(flow: Flow) -> list[int | str]:
+        up, down, export_up, export_down = flow
+        return [up, down, kwh_of(up), kwh_of(down), export_up, export_down, kwh_of(export_up), kwh_of(export_down)]
 
     def board(self, number: int, site: str, line: int) -> None:
         self.number, self.site = number, self.cell(site)
@@ -429,16 +475,16 @@ class Tables(Sink):
         level, station = ("site", "") if part.is_site else ("station", self.cell(part.name))
         for p in self.calendar.shown(part.periods):
             self.periods.writerow([self.number, level, self.site, station, p.seconds, *self.calendar.cells(p.start),
-                                   *self.flows(p.up, p.down)])
+                                   *self.flows(p.flow)])
         for t in part.sessions:
             self.transactions.writerow(
                 [self.number, self.site, station, self.cell(t.tx), t.evse, t.events, t.first, t.last,
                  "yes" if t.complete else "no", t.missing, " ".join(f"{a}..{b}" for a, b in t.gaps),
-                 *self.flows(t.up, t.down), t.state])
+                 *self.flows(t.flow), t.state])
 
 
 STYLE = """
-:root{color-scheme:light;--ink:#1a1a1a;--rise:#1f4e79;--fall:#8a3a00;--line:#c4c4c4}
+:root{color-scheme:light;--ink:#1a1a1a;--rise:#1f4e79;--fall:#8a3a00;--out:#1b5e20;--line:#c4c4c4}
 *{box-sizing:border-box}
 body{margin:0 auto;max-width:74rem;padding:1rem;font:1rem/1.45 system-ui,sans-serif;color:var(--ink);background:#fff}
 h1{font-size:1.5rem}h2{font-size:1.35rem;border-bottom:3px solid var(--ink);margin-top:2.5rem}
@@ -448,13 +494,14 @@ dl.figures div{border:1px solid var(--line);padding:.3rem .7rem}
 dl.figures div.mark{border:3px double var(--ink)}
 dl.figures dt{font-size:.8rem}dl.figures dd{margin:0;font-weight:600}
 .warning{border:3px double var(--ink);padding:.5rem .7rem;font-weight:600}
-.day{display:grid;grid-template-columns:minmax(0,1fr) 21rem;gap:0 1.25rem;margin:0 0 1.25rem}
+.day{display:grid;grid-template-columns:minmax(0,1fr) 33rem;gap:0 1.25rem;margin:0 0 1.25rem}
 figure{margin:0;padding-left:4rem}figcaption,caption{text-align:left;font-size:.85rem;padding:.2rem 0}
 figcaption{margin-left:-4rem}
 svg{display:block;overflow:visible}
 svg text{font:11px system-ui,sans-serif;fill:var(--ink)}
 .grid{stroke:var(--line)}.zero{stroke:var(--ink)}
 .up{fill:var(--rise)}.down{fill:url(#falls);stroke:var(--fall)}
+.out{fill:url(#exports);stroke:var(--out)}.back{fill:url(#returns);stroke:var(--out)}
 .still{fill:#fff;stroke:var(--ink);stroke-width:1.5}
 .there{fill:var(--rise)}.gap{fill:#fff;stroke:var(--ink);stroke-dasharray:2 2}
 .scroll{overflow:auto;max-height:17rem}
@@ -466,8 +513,8 @@ table.plain{max-width:38rem}td.left{min-width:9rem}td.id,tbody th{font-weight:40
 tr.mark{outline:3px double var(--ink);outline-offset:-2px}
 nav{display:flex;flex-wrap:wrap;gap:.5rem 1.5rem;margin:1rem 0}
 a{color:#0b3d91}a:focus,.scroll:focus{outline:3px solid #0b3d91}
+@media(max-width:70rem){.day{grid-template-columns:minmax(0,1fr)}}
 @media(max-width:48rem){
-.day{grid-template-columns:minmax(0,1fr)}
 .cards thead{position:absolute;width:1px;height:1px;overflow:hidden;clip-path:inset(50%)}
 .cards,.cards caption,.cards tbody,.cards tr,.cards th,.cards td{display:block}
 .cards tr{border:1px solid var(--ink);margin:0 0 .75rem}
@@ -481,12 +528,17 @@ a{color:#0b3d91}a:focus,.scroll:focus{outline:3px solid #0b3d91}
 
 FALLS = """<svg width="0" height="0" style="position:absolute" aria-hidden="true"><defs><pattern id="falls" width="4" \
 height="4" patternUnits="userSpaceOnUse" patternTransform="rotate(45)"><rect width="4" height="4" fill="#fff"/>\
-<rect width="1.6" height="4" fill="#8a3a00"/></pattern></defs></svg>
+<rect width="1.6" height="4" fill="#8a3a00"/></pattern>\
+<pattern id="exports" width="5" height="5" patternUnits="userSpaceOnUse" patternTransform="rotate(-45)">\
+<rect width="5" height="5" fill="#fff"/><rect width="3" height="5" fill="#1b5e20"/></pattern>\
+<pattern id="returns" width="5" height="5" patternUnits="userSpaceOnUse"><rect width="5" height="5" fill="#fff"/>\
+<circle cx="2.5" cy="2.5" r="1.2" fill="#1b5e20"/></pattern></defs></svg>
 """
 
 BARS = """<p>Energy is in kWh. A bar stands for a settlement period: a full bar goes up by what the meters rose, \
-a hatched bar goes down by what they fell, and a ring is a period whose readings show no difference. Each picture has \
-its numbers in a table.</p>
+a hatched bar goes down by what they fell, and a ring is a period whose readings show no difference. What was fed back \
+goes down below it, green and hatched the other way; a dotted bar goes up by what the export register fell. Each \
+picture has its numbers in a table, and there the net energy: what was imported less what was exported.</p>
 <p>A difference of two readings counts in the period of its later reading: what a meter read at 10:15:00 has risen \
 since the reading before belongs to the period that begins at 10:15. Readings that an Ended event lists again show as \
 down, and again as up.</p>
@@ -506,7 +558,7 @@ def head(title: str, said: str, links: str = "") -> str:
     """A page up to its main part."""
     return (f'<!DOCTYPE html>\n<html lang="en">\n<head>\n<meta charset="utf-8">\n'
             '<meta name="viewport" content="width=device-width, initial-scale=1">\n'
-            f"<title>{title}</title>\n<style>{STYLE}</style>\n</head>\n<body>\n{FALLS}<header>\n<h1>{title}</h1>\n"
+            f"{refresh}<title>{title}</title>\n<style>{STYLE}</style>\n</head>\n<body>\n{FALLS}<header>\n<h1>{title}</h1>\n"
             f"{links}{said}</header>\n<main>\n")
 
 
@@ -519,6 +571,14 @@ def kwh(mwh: int) -> str:
     """An energy in kWh, exactly, for a reader."""
     whole, part = divmod(abs(mwh), 1_000_000)
     return ("\N{MINUS SIGN}" if mwh < 0 else "") + f"{whole:,}" + f".{part:06}".rstrip("0").rstrip(".")
+
+
+# The columns of a table that has energies in kWh, and a row's cells of them.
+FLOW_HEADS = ["Up", "Down", "Export up", "Export down", "Net"]
+
+
+def cells_of(flow: Flow) -> list[str]:
+    return [*map(kwh, flow), kwh(flow.net)]
 
 
 def ranges(gaps: list[tuple[int, int]]) -> str:
@@ -554,8 +614,10 @@ def figures(total: Total | None) -> Iterator[str]:
     """The figures of a site or a station; nothing where its total line was not read."""
     if total is None:
         return
-    rows = [("Up", kwh(total.up) + " kWh", False), ("Down", kwh(total.down) + " kWh", False),
-            ("Net", kwh(total.up - total.down) + " kWh", False), ("Sessions", total.transactions, False),
+    flow = total.flow
+    rows = [("Up", kwh(flow.up) + " kWh", False), ("Down", kwh(flow.down) + " kWh", False),
+            ("Export up", kwh(flow.export_up) + " kWh", False), ("Export down", kwh(flow.export_down) + " kWh", False),
+            ("Net", kwh(flow.net) + " kWh", False), ("Sessions", total.transactions, False),
             ("Complete", f"{total.complete} of {total.transactions}", total.complete < total.transactions),
             ("Missing numbers", total.missing, total.missing > 0), ("Events", total.events, False),
             ("Voided events", total.voided, total.voided > 0)]
@@ -571,8 +633,8 @@ class Scale:
     TOP, HEIGHT = 14, 170
 
     def __init__(self, periods: list[Period]) -> None:
-        self.up = max((p.up for p in periods), default=0)
-        self.down = max((p.down for p in periods), default=0)
+        self.up = max((p.flow.above for p in periods), default=0)
+        self.down = max((p.flow.below for p in periods), default=0)
         self.span = self.up + self.down or 1
         self.zero = self.at(0)
         self.step = self.round_step()
@@ -598,14 +660,19 @@ def short(number: float) -> str:
 
 
 def bar(left: float, wide: float, p: Period, scale: Scale) -> Iterator[str]:
-    if p.up == p.down == 0:
+    flow = p.flow
+    if not any(flow):
         yield f'<circle class="still" cx="{short(left + wide / 2)}%" cy="{short(scale.zero)}" r="3"/>'
-    for kind, mwh, y in (("up", p.up, scale.at(p.up)), ("down", p.down, scale.zero)):
-        if mwh:
-            height = max(abs(scale.at(mwh) - scale.zero), 1.5)
-            y = min(y, scale.zero - height) if kind == "up" else y
-            yield (f'<rect class="{kind}" x="{short(left + wide / 10)}%" width="{short(wide * 0.8)}%" y="{short(y)}" '
-                   f'height="{short(height)}"/>')
+    for side, parts in ((-1, (("up", flow.up), ("back", flow.export_down))),
+                        (1, (("down", flow.down), ("out", flow.export_up)))):
+        end = scale.zero
+        for kind, mwh in parts:
+            if mwh:
+                height = max(abs(scale.at(mwh) - scale.zero), 1.5)
+                y = end - height if side < 0 else end
+                end += side * height
+                yield (f'<rect class="{kind}" x="{short(left + wide / 10)}%" width="{short(wide * 0.8)}%" '
+                       f'y="{short(y)}" height="{short(height)}"/>')
 
 
 @lru_cache(2)
@@ -644,16 +711,20 @@ def periods_of(day: date, periods: list[Period], calendar: Calendar) -> Iterator
     zone = "UTC" if calendar.is_utc else calendar.name
     beside = "" if calendar.is_utc else '<th scope="col">From (UTC)'
     yield (f'<table class="plain"><caption>{day}, kWh</caption>\n<thead><tr><th scope="col">Period ({zone}){beside}'
-           '<th scope="col">Up<th scope="col">Down</thead>\n<tbody>\n')
+           + "".join(f'<th scope="col">{head}' for head in FLOW_HEADS) + "</thead>\n<tbody>\n")
     for p in periods:
-        yield f'<tr><th scope="row">{calendar.times(p.start, p.seconds)}<td>{kwh(p.up)}<td>{kwh(p.down)}\n'
+        yield (f'<tr><th scope="row">{calendar.times(p.start, p.seconds)}'
+               + "".join(f"<td>{cell}" for cell in cells_of(p.flow)) + "\n")
     yield "</tbody></table>\n"
 
 
 def said_of(whose: str, day: date, periods: list[Period]) -> str:
-    up, down = sum(p.up for p in periods), sum(p.down for p in periods)
+    flow = sum_of(p.flow for p in periods)
     count = "1 period" if len(periods) == 1 else f"{len(periods)} periods"
-    return f"{whose} on {day}: {count}, {kwh(up)} kWh up, {kwh(down)} kWh down"
+    said = f"{whose} on {day}: {count}, {kwh(flow.up)} kWh up, {kwh(flow.down)} kWh down"
+    if flow.export_up or flow.export_down:
+        said += f", {kwh(flow.export_up)} kWh exported, {kwh(flow.export_down)} kWh export down"
+    return said
 
 
 def day_of_part(whose: str, day: date, periods: list[Period], scale: Scale, calendar: Calendar) -> Iterator[str]:
@@ -689,11 +760,11 @@ def session_row(t: Session) -> Row:
     missing = f"<b>{t.missing}</b>: {ranges(t.gaps)}" if t.missing else "0"
     return ("" if t.complete else MARK,
             [escape(t.tx), str(t.evse) if t.evse else "not named", state, f"{t.first} to {t.last}",
-             str(t.last - t.first + 1), str(t.events), missing + "".join(strip(t)), kwh(t.up), kwh(t.down)])
+             str(t.last - t.first + 1), str(t.events), missing + "".join(strip(t)), *cells_of(t.flow)])
 
 
 SESSION_HEADS = ["Transaction", "EVSE", " State", "First and last number", "Numbers spanned", "Events",
-                 " Missing numbers", "Up, kWh", "Down, kWh"]
+                 " Missing numbers", *(f"{head}, kWh" for head in FLOW_HEADS)]
 
 
 def sections_of(part: Part, label: str) -> Iterator[str]:
@@ -703,9 +774,8 @@ def sections_of(part: Part, label: str) -> Iterator[str]:
                                      "read.</p>\n")
     evses = ""
     if part.evses:
-        rows = (("", [f"EVSE {e.number}" if e.number else "EVSE not named", kwh(e.up), kwh(e.down)])
-                for e in part.evses)
-        evses = "<h4>EVSEs</h4>\n" + "".join(table("Energy by EVSE, kWh", ["EVSE", "Up", "Down"], rows))
+        rows = (("", [f"EVSE {e.number}" if e.number else "EVSE not named", *cells_of(e.flow)]) for e in part.evses)
+        evses = "<h4>EVSEs</h4>\n" + "".join(table("Energy by EVSE, kWh", ["EVSE", *FLOW_HEADS], rows))
     none = "" if part.sessions else "<p>It shows no session.</p>\n"
     yield (f'<section aria-labelledby="{label}">\n<h3 id="{label}">Station {name}</h3>\n{warning}'
            f'{"".join(figures(part.total))}{evses}{none}</section>\n')
@@ -778,7 +848,8 @@ class Index(Sink):
     """The page of all boards: figures, stations, days, and sessions, which go on on further pages where there are
     many. A board's sections wait until the table of its stations, which comes first, is known."""
 
-    STATIONS = ["Station", "Sessions", "Complete", "Missing numbers", "Events", "Voided events", "Up, kWh", "Down, kWh"]
+    STATIONS = ["Station", "Sessions", "Complete", "Missing numbers", "Events", "Voided events",
+                *(f"{head}, kWh" for head in FLOW_HEADS)]
 
     def __init__(self, out: str, calendar: Calendar, days: DayPages) -> None:
         self.out, self.calendar, self.days = out, calendar, days
@@ -826,17 +897,16 @@ class Index(Sink):
         """A station's row in the table of a site's stations."""
         total = part.total
         if total is None:
-            return MARK, [name] + ["not read"] * 7
+            return MARK, [name] + ["not read"] * 10
         marked = not part.whole or total.complete < total.transactions or total.missing or total.voided
         return (MARK if marked else "",
                 [name, str(total.transactions), str(total.complete), str(total.missing), str(total.events),
-                 str(total.voided), kwh(total.up), kwh(total.down)])
+                 str(total.voided), *cells_of(total.flow)])
 
     def day_rows(self) -> Iterator[Row]:
         for day, group in groupby(self.calendar.shown(self.site.periods), key=lambda p: self.calendar.day(p.start)):
             periods = list(group)
-            yield "", [link(self.days.path(day), str(day)), str(len(periods)), kwh(sum(p.up for p in periods)),
-                       kwh(sum(p.down for p in periods))]
+            yield "", [link(self.days.path(day), str(day)), str(len(periods)), *cells_of(sum_of(p.flow for p in periods))]
 
     def end(self) -> None:
         label = f"b{self.number}"
@@ -845,8 +915,8 @@ class Index(Sink):
         self.index.put(f'<section aria-labelledby="{label}">\n<h2 id="{label}">Site {self.name}</h2>\n'
                        f"<p>Board {self.number} of the text, from its line {self.line} on.</p>\n{warning}")
         self.index.put("".join(figures(self.site.total)))
-        self.index.put("<h3>Days</h3>\n" + "".join(table("Energy of the site by day, kWh", ["Day", "Periods", "Up",
-                                                                                           "Down"], self.day_rows())))
+        heads = ["Day", "Periods", *FLOW_HEADS]
+        self.index.put("<h3>Days</h3>\n" + "".join(table("Energy of the site by day, kWh", heads, self.day_rows())))
         self.index.put("<h3>Stations</h3>\n" + "".join(table("Stations of the site", self.STATIONS, self.rows,
                                                              cards=True)))
         self.index.put("".join(self.waiting) + "</section>\n")
@@ -875,12 +945,16 @@ def arguments() -> argparse.Namespace:
                         help="no day before this one")
     parser.add_argument("--to", dest="last", metavar="DAY", type=date.fromisoformat, default=date.max,
                         help="no day after this one")
+    parser.add_argument("--follow", nargs=2, metavar=("URL", "SECONDS"),
+                        help="read a board from this address and write the files anew every so many seconds")
     parser.add_argument("--raw", action="store_true", help="write names and ids into the CSV files as they are")
     words = parser.parse_args()
     if words.day:
         words.first = words.last = words.day
     if words.first > words.last:
         parser.error("--from is after --to")
+    if words.follow and (not re.fullmatch("[1-9][0-9]{0,4}", words.follow[1]) or words.text != "-"):
+        parser.error("--follow takes an address and seconds, 1 to 99999, and no text")
     return words
 
 
@@ -899,22 +973,46 @@ def plain(text: BinaryIO) -> BinaryIO:
 
 def main() -> int:
     words = arguments()
-    calendar = Calendar(words)
     try:
-        with (plain(open(0 if words.text == "-" else words.text, "rb")) as text,
-              open(words.out + ".periods.csv", "w", encoding="utf-8", newline="") as periods,
-              open(words.out + ".transactions.csv", "w", encoding="utf-8", newline="") as transactions):
-            days = DayPages(words.out, calendar)
-            index = Index(words.out, calendar, days)
-            reader = Reader([Tables(periods, transactions, words.raw, calendar), days, index], Progress(text))
-            reader.read(text)
-            days.close()
-            index.close(reader.counts["boards"] > 0)
+        if words.follow:
+            follow(words, words.follow[0], int(words.follow[1]))
+        return write_files(words, plain(open(0 if words.text == "-" else words.text, "rb")))
     except KeyboardInterrupt:
         return 130
     except OSError as fault:
         print(f"board_to_tables.py: {fault}", file=sys.stderr)
         return 2
+
+
+def follow(words: argparse.Namespace, url: str, seconds: int) -> NoReturn:
+    """Writes the files anew every so many seconds. Where the server is not there the files stay as they are."""
+    global refresh
+    refresh = f'<meta http-equiv="refresh" content="{seconds}">\n'
+    while True:
+        with tempfile.TemporaryFile() as text:
+            try:
+                with urlopen(url, timeout=LONGEST_ANSWER) as answer:
+                    shutil.copyfileobj(answer, text)
+            except (OSError, ValueError) as fault:
+                print(f"board_to_tables.py: {url}: {fault}", file=sys.stderr)
+            else:
+                text.seek(0)
+                write_files(words, text)
+        time.sleep(seconds)
+
+
+def write_files(words: argparse.Namespace, source: BinaryIO) -> int:
+    """Writes the files of a text, and gives the exit status."""
+    calendar = Calendar(words)
+    with (source as text,
+          open(words.out + ".periods.csv", "w", encoding="utf-8", newline="") as periods,
+          open(words.out + ".transactions.csv", "w", encoding="utf-8", newline="") as transactions):
+        days = DayPages(words.out, calendar)
+        index = Index(words.out, calendar, days)
+        reader = Reader([Tables(periods, transactions, words.raw, calendar), days, index], Progress(text))
+        reader.read(text)
+        days.close()
+        index.close(reader.counts["boards"] > 0)
     reader.tell()
     return 1 if reader.counts["unread"] else 0
 

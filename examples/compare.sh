@@ -147,12 +147,13 @@ if [ -n "$program" ]; then
     ./words.py "$program" words.txt || differs words.txt
     ./sessions.py "$program" || differs sessions.py
     ./serving.py "$program" || differs serving.py
+    ./living.py "$program" || differs living.py
     with_program
 else
     (cd ../crates/ocpp_board && rt try --steps 1 --seconds 300 --cases "$made/cases" -- replay) 2>&1 |
         grep -v ' output=expected '
     [ "${PIPESTATUS[0]}" = 0 ] || differs "scripts"
-    echo "words.txt, sessions.py, serving.py, explain.py and live_board.py: not run, which needs a built program"
+    echo "words.txt, sessions.py, serving.py, living.py, explain.py and live_board.py: not run, which needs a built program"
 fi
 
 # The boards become tables and pages, in UTC and in a zone whose days have 23 and 25 hours.
@@ -164,10 +165,12 @@ for day in day site_day; do
 done
 made_by ./board_to_tables.py --tz Europe/Berlin --from 2026-03-29 --to 2026-10-25 --out "$made/berlin" tables/berlin.text
 made_by ./board_to_tables.py --out "$made/states" tables/states.text
-for name in berlin.periods berlin.transactions states.transactions; do
+made_by ./board_to_tables.py --out "$made/exports" tables/exports.text
+for name in berlin.periods berlin.transactions states.transactions exports.periods exports.transactions; do
     as_stored "tables/$name.csv" "$made/$name.csv"
 done
 holds tables/berlin.said
+holds tables/exports.said
 made_by ./board_to_tables.py --tz Europe/Berlin --day 2026-03-29 --out "$made/one" tables/berlin.text
 grep -E '^board|:00Z,2026-03-29T' tables/berlin.periods.csv > "$made/one.rows"
 diff "$made/one.rows" "$made/one.periods.csv" || differs "a day of tables/berlin.periods.csv"

@@ -36,8 +36,9 @@ MOST_TOLD = 10
 SHOWN = 200
 
 FIRST_WORDS = {"limits": 5, "station": 3, "period": 3, "now": 2, "msg": 3, "void": 4, "restore": 4, "erase": 4, "energy": 2,
-               "total": 2, "board": 2}
+               "export": 2, "total": 2, "board": 2}
 ACTIONS = ["BootNotification", "Heartbeat", "StatusNotification", "MeterValues", "TransactionEvent"]
+COUNTED = (None, "Energy.Active.Import.Register", "Energy.Active.Export.Register")
 LIMITS = [("transactions", 4_096), ("events", 65_536), ("readings", 65_536), ("changes", 2**63)]
 NAME = re.compile(r"[A-Za-z0-9*\-_=:+|@.]{1,48}")
 NO_NAME_CHARACTER = re.compile(r"[^A-Za-z0-9*\-_=:+|@.]")
@@ -170,7 +171,7 @@ def bad_line(line: bytes, number: int) -> Said:
         form = {"limits": "limits <transactions> <events> <readings> <changes>", "station": "station <site> <station>",
                 "period": "period <site> <seconds>",
                 "now": "now <time>", "msg": "msg <station> <text>", "board": "board <site>",
-                "energy": "energy <station>", "total": "total <station>"}
+                "energy": "energy <station>", "export": "export <station>", "total": "total <station>"}
         return (f"{len(words)} words, and not {count}",
                 form.get(words[0], f"{words[0]} <station> <transaction id> <seqNo>"))
     return words_fault(words) or ("no cause was found", "compare the line with docs/formats.md")
@@ -264,8 +265,7 @@ class Checks:
             return
         path += "."
         texts = [self.member(sampled, path, name, str, False) for name in ("measurand", "phase", "location")]
-        if (texts[0] not in (None, "Energy.Active.Import.Register") or texts[1] is not None
-                or texts[2] not in (None, "Outlet")):
+        if texts[0] not in COUNTED or texts[1] is not None or texts[2] not in (None, "Outlet"):
             return
         unit = self.member(sampled, path, "unitOfMeasure", dict, False)
         if unit is not None:

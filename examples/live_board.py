@@ -13,7 +13,7 @@ its lines goes between the script's lines, and its answer comes on standard outp
     void CS-01 T1 3
     accepted 17
     total CS-01
-    total events=16 voided=1 transactions=1 complete=0 missing=1 up=4800000 down=0
+    total events=16 voided=1 transactions=1 complete=0 missing=1 up=4800000 down=0 export_up=0 export_down=0
 
 No board is asked for, and no operator's line is handed on, before the script's first line that needs the
 ledgers (a message, a command or a question), since no station can be declared after it. The program ends when

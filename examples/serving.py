@@ -36,14 +36,14 @@ EARLY = 0.05
 REPLIES = (b'[3,"1",{}]', b'[3,"2",{}]')
 # A station's part of a board, behind its name, where it told none, the first or both events of transaction T1.
 TOLD = (
-    "total events=0 voided=0 transactions=0 complete=0 missing=0 up=0 down=0\n",
-    "total events=1 voided=0 transactions=1 complete=0 missing=0 up=0 down=0\n"
-    "evse 0 up=0 down=0\n"
-    "tx t1 evse=0 events=1 first=0 last=0 complete=no missing=0 up=0 down=0\n",
-    "total events=2 voided=0 transactions=1 complete=0 missing=0 up=200000 down=0\n"
-    "evse 0 up=200000 down=0\n"
-    "period 2026-03-01T10:00:00Z up=200000 down=0\n"
-    "tx t1 evse=0 events=2 first=0 last=1 complete=no missing=0 up=200000 down=0\n",
+    "total events=0 voided=0 transactions=0 complete=0 missing=0 up=0 down=0 export_up=0 export_down=0\n",
+    "total events=1 voided=0 transactions=1 complete=0 missing=0 up=0 down=0 export_up=0 export_down=0\n"
+    "evse 0 up=0 down=0 export_up=0 export_down=0\n"
+    "tx t1 evse=0 events=1 first=0 last=0 complete=no missing=0 up=0 down=0 export_up=0 export_down=0\n",
+    "total events=2 voided=0 transactions=1 complete=0 missing=0 up=200000 down=0 export_up=0 export_down=0\n"
+    "evse 0 up=200000 down=0 export_up=0 export_down=0\n"
+    "period 2026-03-01T10:00:00Z up=200000 down=0 export_up=0 export_down=0\n"
+    "tx t1 evse=0 events=2 first=0 last=1 complete=no missing=0 up=200000 down=0 export_up=0 export_down=0\n",
 )
 
 
@@ -190,8 +190,8 @@ def board(site: str, told: dict[str, int]) -> str:
     return (
         f"board {site} period=900\n"
         f"total events={sum(told.values())} voided=0 transactions={sum(events > 0 for events in told.values())} "
-        f"complete=0 missing=0 up={up} down=0\n"
-        + (f"period 2026-03-01T10:00:00Z up={up} down=0\n" if up else "")
+        f"complete=0 missing=0 up={up} down=0 export_up=0 export_down=0\n"
+        + (f"period 2026-03-01T10:00:00Z up={up} down=0 export_up=0 export_down=0\n" if up else "")
         + "".join(f"station {name}\n{TOLD[events]}" for name, events in told.items())
         + "end\n"
     )
@@ -381,7 +381,7 @@ def eight_stations_on_two_sites(program: str) -> None:
             station.receives(Frame(TEXT, reply, False).bytes())
         station.leaves()
 
-    totals = r"total events=[0-9]+ voided=0 transactions=[0-9]+ complete=[0-9]+ missing=[0-9]+ up=[0-9]+ down=[0-9]+\n"
+    totals = r"total events=[0-9]+ voided=0 transactions=[0-9]+ complete=[0-9]+ missing=[0-9]+ up=[0-9]+ down=[0-9]+ export_up=0 export_down=0\n"
     with (
         Server(program, len(stations), "--watch", "2", stations=stations) as server,
         ThreadPoolExecutor(len(stations)) as threads,
@@ -408,25 +408,26 @@ SCENES: tuple[Callable[[str], None], ...] = (
 )
 
 
-def main() -> int:
-    parser = argparse.ArgumentParser(description=__doc__, formatter_class=argparse.RawDescriptionHelpFormatter)
+def play(name: str, about: str | None, scenes: tuple[Callable[[str], None], ...]) -> int:
+    """Plays each scene with the program that the command line names, tells which differ, and gives the exit status."""
+    parser = argparse.ArgumentParser(description=about, formatter_class=argparse.RawDescriptionHelpFormatter)
     parser.add_argument("program", metavar="PROGRAM", help="the built ocpp_board")
     words = parser.parse_args()
     differing = 0
     try:
         subprocess.run([words.program, "--help"], stdout=subprocess.DEVNULL, check=True)
     except (OSError, subprocess.CalledProcessError) as error:
-        print(f"serving.py: {words.program}: {error}", file=sys.stderr)
+        print(f"{name}.py: {words.program}: {error}", file=sys.stderr)
         return 2
-    for scene in SCENES:
+    for scene in scenes:
         try:
             scene(words.program)
         except (Differs, OSError, subprocess.SubprocessError, threading.BrokenBarrierError) as how:
             print(f"{scene.__name__}: {how}")
             differing += 1
-    print(f"serving: {len(SCENES)} scenes played, {differing} differ")
+    print(f"{name}: {len(scenes)} scenes played, {differing} differ")
     return 1 if differing else 0
 
 
 if __name__ == "__main__":
-    sys.exit(main())
+    sys.exit(play("serving", __doc__, SCENES))

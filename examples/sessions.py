@@ -42,7 +42,7 @@ SECOND = event(1, "Updated", "2026-03-01T10:14:00Z", 1200)
 NOT_JSON = b'[4,"-1","RpcFrameworkError","NotJson",{}]'
 TOO_LONG = b'[4,"-1","RpcFrameworkError","TextTooLong",{}]'
 BOARD = """board north period=900
-total events=2 voided=0 transactions=1 complete=0 missing=0 up=200000 down=0
+total events=2 voided=0 transactions=1 complete=0 missing=0 up=200000 down=0 export_up=0 export_down=0
 """
 
 

@@ -55,10 +55,30 @@ def added(parts: Iterable[Figures]) -> Figures:
     return whole
 
 
-def periods(part: Figures) -> dict[tuple[str, datetime], tuple[int, int]]:
+# The numbers of a total line, and of an energy, in the order in which a board has them.
+FLOW = ("up", "down", "export_up", "export_down")
+TOTAL = ("events", "voided", "transactions", "complete", "missing", *FLOW)
+# An energy as these numbers. A program that knows no exported energy has none of it.
+Flow = tuple[int, ...]
+NO_FLOW: Flow = (0,) * len(FLOW)
+
+
+def flow_of(numbers: Mapping[str, Any]) -> Flow:
+    return tuple(int(numbers.get(name, 0)) for name in FLOW)
+
+
+def plus(one: Flow, other: Flow) -> Flow:
+    return tuple(a + b for a, b in zip(one, other))
+
+
+def minus(one: Flow, other: Flow) -> Flow:
+    return tuple(a - b for a, b in zip(one, other))
+
+
+def periods(part: Figures) -> dict[tuple[str, datetime], Flow]:
     """What rose and fell in each period of each station."""
     return {
-        (station, datetime.fromisoformat(start)): (numbers["up"], numbers["down"])
+        (station, datetime.fromisoformat(start)): flow_of(numbers)
         for (station, kind, start), numbers in part.items()
         if kind == "period"
     }
@@ -102,11 +122,6 @@ def new_rows(text: str, base: str) -> str:
             elif kind == "tx" and ("transactions", name) not in fresh:
                 parts["gone_transactions"].append({"station": station, "transaction": name})
     return json.dumps({name: part for name, part in parts.items() if part})
-
-
-# The numbers of a total line, and of an energy, in the order in which a board has them.
-TOTAL = ("events", "voided", "transactions", "complete", "missing", "up", "down")
-FLOW = ("up", "down")
 
 
 def words_of(names: Iterable[str], numbers: Mapping[str, int]) -> str:

@@ -27,7 +27,7 @@ from pathlib import Path
 from typing import Any, NamedTuple
 from zoneinfo import ZoneInfo
 
-from boards import Figures, added, figures, periods
+from boards import NO_FLOW, Figures, Flow, added, figures, flow_of, minus, periods, plus
 from compact import READ, answered, boards, is_repeat
 from database import (
     LOST,
@@ -43,7 +43,7 @@ from database import (
 )
 
 # What rose and fell in the periods of stations.
-Flows = dict[tuple[str, datetime], tuple[int, int]]
+Flows = dict[tuple[str, datetime], Flow]
 # A station and the id of a transaction, in small letters as boards have it.
 Transaction = tuple[str, str]
 REMOVE = """
@@ -59,11 +59,13 @@ select station, transaction, archive from own_archived_transaction join own_clos
 where shard = $1 and site = $2
 """
 KEPT = """
-select station, starts, sum(up)::bigint as up, sum(down)::bigint as down from own_archived_period
+select station, starts, sum(up)::bigint as up, sum(down)::bigint as down, sum(export_up)::bigint as export_up,
+    sum(export_down)::bigint as export_down from own_archived_period
 where shard = $1 and site = $2 group by station, starts
 """
 SETTLED = """
-select station, starts, sum(up)::bigint as up, sum(down)::bigint as down from own_closed_period
+select station, starts, sum(up)::bigint as up, sum(down)::bigint as down, sum(export_up)::bigint as export_up,
+    sum(export_down)::bigint as export_down from own_closed_period
 where shard = $1 and site = $2 group by station, starts
 """
 CLOSING = """
@@ -71,17 +73,20 @@ insert into own_closing (shard, site, closing, day, period, xid, id, archive)
 values ($1, $2, $3, $4, $5, $6::text::xid8, $7, $8)
 """
 CLOSED = """
-insert into own_closed_period (shard, site, closing, station, starts, day, up, down)
-values ($1, $2, $3, $4, $5, $6, $7, $8)
+insert into own_closed_period (shard, site, closing, station, starts, day, up, down, export_up, export_down)
+values ($1, $2, $3, $4, $5, $6, $7, $8, $9, $10)
 """
 ARCHIVED = """
-insert into own_archived_period (shard, site, closing, station, starts, up, down) values ($1, $2, $3, $4, $5, $6, $7)
+insert into own_archived_period (shard, site, closing, station, starts, up, down, export_up, export_down)
+values ($1, $2, $3, $4, $5, $6, $7, $8, $9)
 """
 TRANSACTION = """
-insert into own_archived_transaction (shard, site, closing, station, transaction, complete, missing, up, down)
-values ($1, $2, $3, $4, $5, $6, $7, $8, $9)
+insert into own_archived_transaction (shard, site, closing, station, transaction, complete, missing, up, down,
+    export_up, export_down)
+values ($1, $2, $3, $4, $5, $6, $7, $8, $9, $10, $11)
 on conflict (shard, site, station, transaction) do update set closing = excluded.closing, complete = excluded.complete,
-    missing = excluded.missing, up = excluded.up, down = excluded.down
+    missing = excluded.missing, up = excluded.up, down = excluded.down, export_up = excluded.export_up,
+    export_down = excluded.export_down
 """
 
 
@@ -276,23 +281,17 @@ class Closing:
             f"{sum(is_repeat(line.answer, line.is_change) for line in live)} repeats; {name or 'no archive needed'}"
         )
 
-    async def unsettled(self, day: date, rest: Figures, moved: Flows) -> list[tuple[str, datetime, date, int, int]]:
+    async def unsettled(self, day: date, rest: Figures, moved: Flows) -> list[tuple[Any, ...]]:
         """The rows by which what is settled comes to be what log and archives say, up to this day."""
         actual = dict(periods(rest))
         kept = await self.fetch(KEPT, self.site)
-        for key, (up, down) in [((row["station"], row["starts"]), (row["up"], row["down"])) for row in kept] + [
-            *moved.items()
-        ]:
-            had = actual.get(key, (0, 0))
-            actual[key] = (had[0] + up, had[1] + down)
-        settled = {
-            (row["station"], row["starts"]): (int(row["up"]), int(row["down"]))
-            for row in await self.fetch(SETTLED, self.site)
-        }
-        rows = []
-        for (station, starts), (up, down) in sorted(differences(actual, settled).items()):
+        for key, flow in [((row["station"], row["starts"]), flow_of(row)) for row in kept] + [*moved.items()]:
+            actual[key] = plus(actual.get(key, NO_FLOW), flow)
+        settled = {(row["station"], row["starts"]): flow_of(row) for row in await self.fetch(SETTLED, self.site)}
+        rows = list[tuple[Any, ...]]()
+        for (station, starts), flow in sorted(differences(actual, settled).items()):
             if (local := starts.astimezone(self.zone).date()) <= day:
-                rows.append((station, starts, local, up, down))
+                rows.append((station, starts, local, *flow))
         return rows
 
     def tell_late(self, late: list[Line]) -> None:
@@ -306,15 +305,15 @@ def differences(new: Flows, old: Flows) -> Flows:
     """By which periods differ; one that is only in the one is there even where it has no energy."""
     found = {}
     for key in new.keys() | old.keys():
-        (up, down), had = new.get(key, (0, 0)), old.get(key, (0, 0))
-        if (up, down) != had or key not in old:
-            found[key] = (up - had[0], down - had[1])
+        flow, had = new.get(key, NO_FLOW), old.get(key, NO_FLOW)
+        if flow != had or key not in old:
+            found[key] = minus(flow, had)
     return found
 
 
-def transactions(part: Figures) -> list[tuple[str, str, bool, int, int, int]]:
+def transactions(part: Figures) -> list[tuple[Any, ...]]:
     return [
-        (station, name, bool(numbers["complete"]), numbers["missing"], numbers["up"], numbers["down"])
+        (station, name, bool(numbers["complete"]), numbers["missing"], *flow_of(numbers))
         for (station, kind, name), numbers in part.items()
         if kind == "tx"
     ]

@@ -15,7 +15,7 @@ from pathlib import Path
 from typing import Any
 from zoneinfo import ZoneInfo
 
-from boards import Figures, added, figures, periods
+from boards import FLOW, NO_FLOW, TOTAL, Figures, added, figures, flow_of, periods
 from close_day import COMMANDS, transaction_of
 from database import Fault, Plan, connect, knows_period
 
@@ -115,9 +115,9 @@ class Database:
 
 # The numbers of a station's lines, which are columns.
 NUMBERS = {
-    "total": {"events", "voided", "transactions", "complete", "missing", "up", "down"},
-    "period": {"up", "down"},
-    "tx": {"evse", "events", "first", "last", "complete", "missing", "up", "down"},
+    "total": set(TOTAL),
+    "period": set(FLOW),
+    "tx": {"evse", "events", "first", "last", "complete", "missing", *FLOW},
     "gap": set[str](),
 }
 
@@ -303,17 +303,18 @@ class Fleet:
         except ValueError as fault:
             differ.append(f"shard {shard}: {fault}")
         rows = await owner.fetch(
-            "select station, starts, sum(up)::bigint as up, sum(down)::bigint as down from own_closed_period "
+            "select station, starts, sum(up)::bigint as up, sum(down)::bigint as down, "
+            "sum(export_up)::bigint as export_up, sum(export_down)::bigint as export_down from own_closed_period "
             "where shard = $1 and site = $2 group by station, starts",
             shard,
             site,
         )
-        settled = {(row["station"], row["starts"]): (row["up"], row["down"]) for row in rows}
+        settled = {(row["station"], row["starts"]): flow_of(row) for row in rows}
         zone = ZoneInfo(await owner.fetchval("select zone from own_site where shard = $1 and site = $2", shard, site))
         last = date.fromisoformat(day)
         wanted = {key: flow for key, flow in periods(whole).items() if key[1].astimezone(zone).date() <= last}
         # A period that was settled and has no reading any more has no energy.
-        if settled != wanted | {key: (0, 0) for key in settled.keys() - wanted.keys()}:
+        if settled != wanted | {key: NO_FLOW for key in settled.keys() - wanted.keys()}:
             differ.append(f"shard {shard}: what is settled is not the periods of all that came")
         return differ
 

@@ -41,9 +41,13 @@ PARTS = (
     ("own_station", "site, station, transactions, events, readings, changes", "place"),
     ("own_board", "site, text", "site"),
     ("own_closing", "site, closing, day, period, at, archive", "closing"),
-    ("own_closed_period", "site, closing, station, starts, day, up, down", "starts"),
-    ("own_archived_period", "site, closing, station, starts, up, down", "starts"),
-    ("own_archived_transaction", "site, closing, station, transaction, complete, missing, up, down", "transaction"),
+    ("own_closed_period", "site, closing, station, starts, day, up, down, export_up, export_down", "starts"),
+    ("own_archived_period", "site, closing, station, starts, up, down, export_up, export_down", "starts"),
+    (
+        "own_archived_transaction",
+        "site, closing, station, transaction, complete, missing, up, down, export_up, export_down",
+        "transaction",
+    ),
 )
 PLACE = "select l.xid::text, l.id from own_log l where l.shard = $1 order by l.xid, l.id offset $2 limit 1"
 

@@ -42,7 +42,7 @@ from urllib.parse import parse_qs, quote, unquote, urlencode, urlsplit
 from weakref import WeakValueDictionary
 from zoneinfo import ZoneInfo
 
-from boards import Figures, Numbers, joined
+from boards import FLOW, Figures, Numbers, joined
 from database import LOST, Fault, Unreachable, asyncpg, connect, password_or_fault, seen, told
 
 TABLES = Path(__file__).resolve().parent.parent / "board_to_tables.py"
@@ -58,12 +58,15 @@ cross join lateral (
     select coalesce(sum(events), 0)::bigint as events, coalesce(sum(voided), 0)::bigint as voided,
            coalesce(sum(transactions), 0)::bigint as transactions, coalesce(sum(complete), 0)::bigint as complete,
            coalesce(sum(missing), 0)::bigint as missing, coalesce(sum(up), 0)::bigint as up,
-           coalesce(sum(down), 0)::bigint as down, max(at) as at
+           coalesce(sum(down), 0)::bigint as down, coalesce(sum(export_up), 0)::bigint as export_up,
+           coalesce(sum(export_down), 0)::bigint as export_down, max(at) as at
     from own_board_station b where b.shard = p.shard and b.site = p.site) b
 cross join lateral (
     select count(*) as archived, count(*) filter (where complete) as archived_complete,
            coalesce(sum(missing), 0)::bigint as archived_missing, coalesce(sum(up), 0)::bigint as archived_up,
-           coalesce(sum(down), 0)::bigint as archived_down
+           coalesce(sum(down), 0)::bigint as archived_down,
+           coalesce(sum(export_up), 0)::bigint as archived_export_up,
+           coalesce(sum(export_down), 0)::bigint as archived_export_down
     from own_archived_transaction a join own_closing c using (shard, site, closing)
     where a.shard = p.shard and a.site = p.site and c.at <= b.at) a
 order by p.site, p.shard
@@ -80,7 +83,8 @@ select station, count(*) as transactions, count(*) filter (where complete) as co
 from own_archived_transaction where shard = $1 and site = $2 and closing <= $3 group by station
 """
 FLOWS = """
-select station, starts, sum(up)::bigint as up, sum(down)::bigint as down
+select station, starts, sum(up)::bigint as up, sum(down)::bigint as down, sum(export_up)::bigint as export_up,
+       sum(export_down)::bigint as export_down
 from own_archived_period where shard = $1 and site = $2 and closing <= $3 group by station, starts
 """
 # Sessions that are not complete: first those that lack messages, the oldest first.
@@ -263,7 +267,7 @@ class SiteFigures:
             self.numbers[name] = self.numbers.get(name, 0) + row[name]
         for name, more in (
             ("transactions", "archived"),
-            *((n, f"archived_{n}") for n in ("complete", "missing", "up", "down")),
+            *((n, f"archived_{n}") for n in ("complete", "missing", *FLOW)),
         ):
             self.numbers[name] = self.numbers.get(name, 0) + row[name] + row[more]
         self.at = max(filter(None, (self.at, row["at"])), default=None)
@@ -324,7 +328,7 @@ class Ledger:
                     count += one["transactions"]
                 for one in await cell.ask(FLOWS, *place):
                     key = (one["station"], "period", f"{one['starts']:%Y-%m-%dT%H:%M:%SZ}")
-                    flows[key] = {"up": one["up"], "down": one["down"]}
+                    flows[key] = {name: one[name] for name in FLOW}
             boards.append(joined(name, period, (row["text"] for _, row in same if row["text"]), totals, flows))
         return "".join(boards), count
 
@@ -449,11 +453,11 @@ def with_links(text: str, name: str, archived: int, faults: list[str]) -> bytes:
 
 def sites_page(sites: list[SiteFigures], faults: list[str]) -> bytes:
     heads = [*("Site", "Stations", "Sessions", "Complete", "Missing numbers", "Events", "Voided events"), "Up, kWh"]
-    heads += ["Down, kWh", "Last change", " Zone"]
+    heads += ["Down, kWh", "Export up, kWh", "Export down, kWh", "Last change", " Zone"]
 
     def cells(numbers: Numbers) -> list[str]:
         names = ("stations", "transactions", "complete", "missing", "events", "voided")
-        return [f"{numbers.get(n, 0):,}" for n in names] + [kwh(numbers.get(n, 0)) for n in ("up", "down")]
+        return [f"{numbers.get(n, 0):,}" for n in names] + [kwh(numbers.get(n, 0)) for n in FLOW]
 
     rows = []
     whole: Numbers = {}

@@ -273,7 +273,9 @@ create table board_station (
     complete bigint not null,
     missing bigint not null,
     up bigint not null,
-    down bigint not null
+    down bigint not null,
+    export_up bigint not null default 0,
+    export_down bigint not null default 0
 ) partition by list (cell);
 create table own_board_station partition of board_station (
     primary key (shard, site, station),
@@ -290,7 +292,9 @@ create table board_period (
     id bigint not null,
     at timestamptz not null default now(),
     up bigint not null,
-    down bigint not null
+    down bigint not null,
+    export_up bigint not null default 0,
+    export_down bigint not null default 0
 ) partition by list (cell);
 create table own_board_period partition of board_period (
     primary key (shard, site, station, starts),
@@ -313,7 +317,9 @@ create table board_transaction (
     complete boolean not null,
     missing bigint not null,
     up bigint not null,
-    down bigint not null
+    down bigint not null,
+    export_up bigint not null default 0,
+    export_down bigint not null default 0
 ) partition by list (cell);
 create table own_board_transaction partition of board_transaction (
     primary key (shard, site, station, transaction),
@@ -368,33 +374,43 @@ begin
         using jsonb_to_recordset(parts->'gone_transactions') as r (station text, transaction text)
         where b.shard = shard_number and b.site = site_name and b.station = r.station and b.transaction = r.transaction;
     insert into own_board_station as b
-            (shard, site, station, xid, id, events, voided, transactions, complete, missing, up, down)
-        select shard_number, site_name, station, new_xid, new_id, events, voided, transactions, complete, missing, up, down
+            (shard, site, station, xid, id, events, voided, transactions, complete, missing, up, down,
+            export_up, export_down)
+        select shard_number, site_name, station, new_xid, new_id, events, voided, transactions, complete, missing, up, down,
+            coalesce(export_up, 0), coalesce(export_down, 0)
         from jsonb_to_recordset(parts->'stations') as r (station text, events bigint, voided bigint,
-            transactions bigint, complete bigint, missing bigint, up bigint, down bigint)
+            transactions bigint, complete bigint, missing bigint, up bigint, down bigint, export_up bigint,
+            export_down bigint)
         on conflict (shard, site, station) do update set xid = excluded.xid, id = excluded.id, at = now(),
             events = excluded.events, voided = excluded.voided, transactions = excluded.transactions,
-            complete = excluded.complete, missing = excluded.missing, up = excluded.up, down = excluded.down
-        where (b.events, b.voided, b.transactions, b.complete, b.missing, b.up, b.down) <> (excluded.events,
-            excluded.voided, excluded.transactions, excluded.complete, excluded.missing, excluded.up, excluded.down);
-    insert into own_board_period as b (shard, site, station, starts, xid, id, up, down)
-        select shard_number, site_name, station, starts, new_xid, new_id, up, down
-        from jsonb_to_recordset(parts->'periods') as r (station text, starts timestamptz, up bigint, down bigint)
+            complete = excluded.complete, missing = excluded.missing, up = excluded.up, down = excluded.down,
+            export_up = excluded.export_up, export_down = excluded.export_down
+        where (b.events, b.voided, b.transactions, b.complete, b.missing, b.up, b.down, b.export_up, b.export_down) <>
+            (excluded.events, excluded.voided, excluded.transactions, excluded.complete, excluded.missing, excluded.up,
+            excluded.down, excluded.export_up, excluded.export_down);
+    insert into own_board_period as b (shard, site, station, starts, xid, id, up, down, export_up, export_down)
+        select shard_number, site_name, station, starts, new_xid, new_id, up, down, coalesce(export_up, 0),
+            coalesce(export_down, 0)
+        from jsonb_to_recordset(parts->'periods') as r (station text, starts timestamptz, up bigint, down bigint,
+            export_up bigint, export_down bigint)
         on conflict (shard, site, station, starts) do update set xid = excluded.xid, id = excluded.id, at = now(),
-            up = excluded.up, down = excluded.down
-        where (b.up, b.down) <> (excluded.up, excluded.down);
+            up = excluded.up, down = excluded.down, export_up = excluded.export_up, export_down = excluded.export_down
+        where (b.up, b.down, b.export_up, b.export_down) <>
+            (excluded.up, excluded.down, excluded.export_up, excluded.export_down);
     insert into own_board_transaction as b (shard, site, station, transaction, xid, id, evse, events, first, last,
-            complete, missing, up, down)
+            complete, missing, up, down, export_up, export_down)
         select shard_number, site_name, station, transaction, new_xid, new_id, evse, events, first, last,
-            complete = 1, missing, up, down
+            complete = 1, missing, up, down, coalesce(export_up, 0), coalesce(export_down, 0)
         from jsonb_to_recordset(parts->'transactions') as r (station text, transaction text, evse smallint,
-            events bigint, first bigint, last bigint, complete smallint, missing bigint, up bigint, down bigint)
+            events bigint, first bigint, last bigint, complete smallint, missing bigint, up bigint, down bigint,
+            export_up bigint, export_down bigint)
         on conflict (shard, site, station, transaction) do update set xid = excluded.xid, id = excluded.id, at = now(),
             evse = excluded.evse, events = excluded.events, first = excluded.first, last = excluded.last,
-            complete = excluded.complete, missing = excluded.missing, up = excluded.up, down = excluded.down
-        where (b.evse, b.events, b.first, b.last, b.complete, b.missing, b.up, b.down) <> (excluded.evse,
-            excluded.events, excluded.first, excluded.last, excluded.complete, excluded.missing, excluded.up,
-            excluded.down);
+            complete = excluded.complete, missing = excluded.missing, up = excluded.up, down = excluded.down,
+            export_up = excluded.export_up, export_down = excluded.export_down
+        where (b.evse, b.events, b.first, b.last, b.complete, b.missing, b.up, b.down, b.export_up, b.export_down) <>
+            (excluded.evse, excluded.events, excluded.first, excluded.last, excluded.complete, excluded.missing,
+            excluded.up, excluded.down, excluded.export_up, excluded.export_down);
     delete from own_board_gap b using jsonb_to_recordset(parts->'transactions') as r (station text, transaction text)
         where b.shard = shard_number and b.site = site_name and b.station = r.station and b.transaction = r.transaction;
     insert into own_board_gap (shard, site, station, transaction, first, last, xid, id)
@@ -432,7 +448,9 @@ create table closed_period (
     starts timestamptz not null,
     day date not null,
     up bigint not null,
-    down bigint not null
+    down bigint not null,
+    export_up bigint not null default 0,
+    export_down bigint not null default 0
 ) partition by list (cell);
 create table own_closed_period partition of closed_period (
     primary key (shard, site, station, starts, closing),
@@ -448,7 +466,9 @@ create table archived_period (
     station text not null,
     starts timestamptz not null,
     up bigint not null,
-    down bigint not null
+    down bigint not null,
+    export_up bigint not null default 0,
+    export_down bigint not null default 0
 ) partition by list (cell);
 create table own_archived_period partition of archived_period (
     primary key (shard, site, station, starts, closing),
@@ -466,7 +486,9 @@ create table archived_transaction (
     complete boolean not null,
     missing bigint not null,
     up bigint not null,
-    down bigint not null
+    down bigint not null,
+    export_up bigint not null default 0,
+    export_down bigint not null default 0
 ) partition by list (cell);
 create table own_archived_transaction partition of archived_transaction (
     primary key (shard, site, station, transaction),
@@ -476,9 +498,10 @@ create table own_archived_transaction partition of archived_transaction (
 -- Energy in kWh by local time: what is in the log, and what closings took out of it.
 create view energy as
     select site, (starts at time zone zone)::date as day, starts at time zone zone as local_start, starts, station,
-        trim_scale(sum(up) / 1000000) as up_kwh, trim_scale(sum(down) / 1000000) as down_kwh
-    from (select cell, shard, site, station, starts, up, down from board_period union all
-          select cell, shard, site, station, starts, up, down from archived_period) as flow
+        trim_scale(sum(up) / 1000000) as up_kwh, trim_scale(sum(down) / 1000000) as down_kwh,
+        trim_scale(sum(export_up) / 1000000) as export_up_kwh, trim_scale(sum(export_down) / 1000000) as export_down_kwh
+    from (select cell, shard, site, station, starts, up, down, export_up, export_down from board_period union all
+          select cell, shard, site, station, starts, up, down, export_up, export_down from archived_period) as flow
     join site using (cell, shard, site) group by site, zone, starts, station;
 -- Transactions that lack messages, with which ones, and since when they are as they are, in local time.
 create view lacking as
@@ -490,7 +513,8 @@ create view lacking as
 
 -- What is settled: each period once, with how often it was corrected.
 create view settled_period as
-    select site, station, day, starts, sum(up) as up, sum(down) as down, count(*) - 1 as corrections
+    select site, station, day, starts, sum(up) as up, sum(down) as down, sum(export_up) as export_up,
+        sum(export_down) as export_down, count(*) - 1 as corrections
     from closed_period group by site, station, day, starts;
 
 -- Workers ------------------------------------------------------------------------------------------------------------

@@ -1,53 +1,47 @@
 -- The quarters of a plan's boards have no more energy than its readings can show.
-use Rattle.std.proofs.Common.{◌≡◌, ℕ, ◌+◌, ◌*◌, ◌<◌, ◌≤◌, inl, inr, Bool, true, false, cond, List, [], ◌∷◌, ◌++◌, map, sym, ap, arith, eqb, ⊎_elim}
+use Rattle.std.proofs.Common.{◌≡◌, ℕ, ◌+◌, ◌*◌, ◌<◌, ◌≤◌, inl, inr, Bool, true, false, cond, List, [], ◌∷◌, ◌++◌, map, sym, ap, ◌∙◌, arith, eqb, ⊎_elim}
 use Rattle.std.specs.List.{sum_by, filter}
 use Rattle.std.proofs.lemmas.Bool.{cases_eq}
 use Rattle.std.proofs.lemmas.List.Sums.{sum_by-cons}
-use Rattle.energy_flow.specs.Flow.{Energy}
-use Rattle.ledger_model.specs.Board.{Board, Flowed, board, energy_under}
+use Rattle.ledger_model.specs.declared.reading.Direction.{Direction}
+use Rattle.ledger_model.specs.declared.reading.Direction.TheVariants.{Import, Export}
+use Rattle.ledger_model.specs.Board.{Board, Flowed, board, flows_under}
 use Rattle.ledger_model.specs.BoardLaws.{AreRising, IsIn}
 use Rattle.ledger_model.specs.Content.{Entry}
-use Rattle.ledger_model.specs.Energy.{Pair, difference, pairs, quarter_of, quarters, energy, energy_in}
+use Rattle.ledger_model.specs.Energy.{Flows, flows_in, Pair, difference, pairs, quarter_of, quarters, energy, energy_in}
 use Rattle.ledger_model.specs.Limits.{Bounds}
 use Rattle.ledger_model.specs.Ranges.{most_plan_readings, greatest_reading}
 use Rattle.ledger_model.proofs.Callers.{sum_by-filter_cons, rising-AreRising}
 use Rattle.board_report.specs.Plans.{IsBoardWithin, AreBoardsWithin}
 use Rattle.board_report.specs.Sums.{station_quarters, QuartersFit}
-use Rattle.board_report.proofs.SumLemmas.{under-own, under-other, above_first}
-
--- one energy is no more than another, up and down
-abbrev IsNoMore : Energy → Energy → Type 0
-IsNoMore a b = (a.up ≤ b.up) × (a.down ≤ b.down)
+use Rattle.board_report.proofs.SumLemmas.{Part, up, down, export_up, export_down, part_none, under-own, under-other, above_first}
 
 tail_rises : (m : ℕ) (ms : List ℕ) → AreRising (m ∷ ms) → AreRising ms
-tail_rises m [] up = tt
-tail_rises m (k ∷ ms) up = up.1
+tail_rises m [] rise = tt
+tail_rises m (k ∷ ms) rise = rise.1
 
-module _ (e : ℕ → Energy) where
+module _ (p : Part) (e : ℕ → Flows) where
   abbrev lines : List ℕ → List Flowed
   lines ks = map (λ k. (k, e k)) ks
 
   -- lines of other quarters have nothing of a quarter
-  under-others : (q : ℕ) (ks : List ℕ) → (IsIn q ks → ⊥) → IsNoMore (energy_under q (lines ks)) (record { up = 0; down = 0 })
-  under-others q [] none = (omega arith, omega arith)
-  under-others q (k ∷ ks) none =
-      let other = under-other (k, e k) (lines ks) q (λ same. none (inl (sym same))) in
-      let rest = under-others q ks (λ h. none (inr h)) in
-      (omega (arith, ap (λ (f : Energy). f.up) other, rest.0), omega (arith, ap (λ (f : Energy). f.down) other, rest.1))
+  under-others : (q : ℕ) (ks : List ℕ) → (IsIn q ks → ⊥) → p.measure (flows_under q (lines ks)) ≡ 0
+  under-others q [] none = part_none p
+  under-others q (k ∷ ks) none = ap p.measure (under-other (k, e k) (lines ks) q (λ same. none (inl (sym same)))) ∙ under-others q ks (λ h. none (inr h))
 
   -- lines of rising quarters have that of one line
-  under-rising : (q : ℕ) (ks : List ℕ) → AreRising ks → IsNoMore (energy_under q (lines ks)) (e q)
-  under-rising q [] up = (omega arith, omega arith)
-  under-rising q (k ∷ ks) up = ⊎_elim
+  under-rising : (q : ℕ) (ks : List ℕ) → AreRising ks → p.measure (flows_under q (lines ks)) ≤ p.measure (e q)
+  under-rising q [] rise = let none = part_none p in omega (arith, none)
+  under-rising q (k ∷ ks) rise = ⊎_elim
       (λ (same : k ≡ q).
-      let own = under-own (k, e k) (lines ks) q same in
-      let here = ap e same in
-      let rest = under-others q ks (λ h. let above : k < q = above_first k ks up q h in absurd (omega arith)) in
-      (omega (arith, ap (λ (f : Energy). f.up) own, ap (λ (f : Energy). f.up) here, rest.0), omega (arith, ap (λ (f : Energy). f.down) own, ap (λ (f : Energy). f.down) here, rest.1)))
+      let own = ap p.measure (under-own (k, e k) (lines ks) q same) in
+      let here = ap (λ n. p.measure (e n)) same in
+      let rest = under-others q ks (λ h. let above : k < q = above_first k ks rise q h in absurd (omega arith)) in
+      omega (arith, own, p.plus_of (e k) (flows_under q (lines ks)), here, rest))
       (λ (apart : k ≡ q → ⊥).
-      let other = under-other (k, e k) (lines ks) q apart in
-      let rest = under-rising q ks (tail_rises k ks up) in
-      (omega (arith, ap (λ (f : Energy). f.up) other, rest.0), omega (arith, ap (λ (f : Energy). f.down) other, rest.1)))
+      let other = ap p.measure (under-other (k, e k) (lines ks) q apart) in
+      let rest = under-rising q ks (tail_rises k ks rise) in
+      omega (arith, other, rest))
       (cases_eq k q)
 
 -- some pairs have no more than all
@@ -59,67 +53,71 @@ sum-filter f p (x ∷ xs) = omega (arith, sum_by-filter_cons f p x xs, sum_by-co
     part true n = omega arith
     part false n = omega arith
 
-in_quarter : (period q : ℕ) (es : List Entry) → IsNoMore (energy_in period q es) (energy es)
-in_quarter period q es = (
-  sum-filter (λ p. (difference p).up) (λ p. eqb (quarter_of period p) q) (pairs es),
-  sum-filter (λ p. (difference p).down) (λ p. eqb (quarter_of period p) q) (pairs es),
-)
+in_quarter_up : (d : Direction) (period q : ℕ) (es : List Entry) → (energy_in d period q es).up ≤ (energy d es).up
+in_quarter_up d period q es = sum-filter (λ p. (difference p).up) (λ p. eqb (quarter_of period p) q) (pairs d es)
 
--- a board shows no more for a quarter than its figures say
-under-board : (period q : ℕ) (es : List Entry) → IsNoMore (energy_under q (board period es).quarters) (energy es)
-under-board period q es =
-    let one = under-rising (λ quarter. energy_in period quarter es) q (quarters period es) (rising-AreRising (map (quarter_of period) (pairs es))) in
-    let all = in_quarter period q es in
-    (omega (arith, one.0, all.0), omega (arith, one.1, all.1))
+in_quarter_down : (d : Direction) (period q : ℕ) (es : List Entry) → (energy_in d period q es).down ≤ (energy d es).down
+in_quarter_down d period q es = sum-filter (λ p. (difference p).down) (λ p. eqb (quarter_of period p) q) (pairs d es)
+
+-- a board shows no more for a quarter than the quarter's pairs add up to
+under-board : (p : Part) (period q : ℕ) (es : List Entry) → p.measure (flows_under q (board period es).quarters) ≤ p.measure (flows_in period q es)
+under-board p period q es = under-rising p (λ quarter. flows_in period quarter es) q (quarters period es) (rising-AreRising (map (quarter_of period) (pairs Import es ++ pairs Export es)))
+
+-- in each direction, up and down
+record EachPart (P : Part → Type 0) : Type 0 where
+  pub of_up : P up
+  pub of_down : P down
+  pub of_export_up : P export_up
+  pub of_export_down : P export_down
 
 -- nor than its limits allow
-abbrev Allows : ℕ → Energy → Type 0
-Allows readings e = (e.up ≤ greatest_reading * readings) × (e.down ≤ greatest_reading * readings)
+abbrev Allows : ℕ → Flows → Type 0
+Allows readings f = EachPart (λ p. p.measure f ≤ greatest_reading * readings)
 
-under-limits : (q : ℕ) (limits : Bounds) (b : Board) → IsBoardWithin limits b → Allows limits.readings (energy_under q b.quarters)
+under-limits : (q : ℕ) (limits : Bounds) (b : Board) → IsBoardWithin limits b → Allows limits.readings (flows_under q b.quarters)
 under-limits q limits b h =
-    let shown = under-board b.period q h.entries in
-    let same = ap (λ (c : Board). energy_under q c.quarters) h.is in
-    let figures = ap (λ (c : Board). c.figures) h.is in (
-      omega (arith, ap (λ (f : Energy). f.up) same, shown.0, ap {B = ℕ} (λ f. f.up) figures, h.within.up),
-      omega (arith, ap (λ (f : Energy). f.down) same, shown.1, ap {B = ℕ} (λ f. f.down) figures, h.within.down),
-    )
+    let es = h.entries in
+    let same = ap (λ (c : Board). flows_under q c.quarters) h.is in
+    let figures = ap (λ (c : Board). c.figures) h.is in record {
+      of_up = omega (arith, ap (λ (f : Flows). f.flow.up) same, under-board up b.period q es, in_quarter_up Import b.period q es, ap {B = ℕ} (λ f. f.up) figures, h.within.up);
+      of_down = omega (arith, ap (λ (f : Flows). f.flow.down) same, under-board down b.period q es, in_quarter_down Import b.period q es, ap {B = ℕ} (λ f. f.down) figures, h.within.down);
+      of_export_up = omega (arith, ap (λ (f : Flows). f.export.up) same, under-board export_up b.period q es, in_quarter_up Export b.period q es, ap {B = ℕ} (λ f. f.export_up) figures, h.within.export_up);
+      of_export_down = omega (arith, ap (λ (f : Flows). f.export.down) same, under-board export_down b.period q es, in_quarter_down Export b.period q es, ap {B = ℕ} (λ f. f.export_down) figures, h.within.export_down);
+    }
 
 -- the energy of a quarter over two lists
-under-append : (q : ℕ) (xs ys : List Flowed) → ((energy_under q (xs ++ ys)).up ≡ (energy_under q xs).up + (energy_under q ys).up) × ((energy_under q (xs ++ ys)).down ≡ (energy_under q xs).down + (energy_under q ys).down)
-under-append q [] ys = (omega arith, omega arith)
-under-append q (x ∷ xs) ys =
-    let rest = under-append q xs ys in
+under-append : (p : Part) (q : ℕ) (xs ys : List Flowed) → p.measure (flows_under q (xs ++ ys)) ≡ p.measure (flows_under q xs) + p.measure (flows_under q ys)
+under-append p q [] ys = let none = part_none p in omega (arith, none)
+under-append p q (x ∷ xs) ys =
+    let rest = under-append p q xs ys in
     ⊎_elim
-    (λ (same : x.0 ≡ q).
-    let all = under-own x (xs ++ ys) q same in
-    let front = under-own x xs q same in
-    (omega (arith, ap (λ (f : Energy). f.up) all, ap (λ (f : Energy). f.up) front, rest.0), omega (arith, ap (λ (f : Energy). f.down) all, ap (λ (f : Energy). f.down) front, rest.1)))
-    (λ (apart : x.0 ≡ q → ⊥).
-    let all = under-other x (xs ++ ys) q apart in
-    let front = under-other x xs q apart in
-    (omega (arith, ap (λ (f : Energy). f.up) all, ap (λ (f : Energy). f.up) front, rest.0), omega (arith, ap (λ (f : Energy). f.down) all, ap (λ (f : Energy). f.down) front, rest.1)))
+    (λ (same : x.0 ≡ q). omega (arith, ap p.measure (under-own x (xs ++ ys) q same), p.plus_of x.1 (flows_under q (xs ++ ys)), ap p.measure (under-own x xs q same), p.plus_of x.1 (flows_under q xs), rest))
+    (λ (apart : x.0 ≡ q → ⊥). omega (arith, ap p.measure (under-other x (xs ++ ys) q apart), ap p.measure (under-other x xs q apart), rest))
     (cases_eq x.0 q)
 
 abbrev readings_of_plan : List Bounds → ℕ
 readings_of_plan plan = sum_by (λ (limits : Bounds). limits.readings) plan
 
-under-plan : (q : ℕ) (plan : List Bounds) (stations : List (List ℕ × Board)) → AreBoardsWithin plan stations → Allows (readings_of_plan plan) (energy_under q (station_quarters stations))
-under-plan q [] [] h = (omega arith, omega arith)
+under-plan : (q : ℕ) (plan : List Bounds) (stations : List (List ℕ × Board)) → AreBoardsWithin plan stations → Allows (readings_of_plan plan) (flows_under q (station_quarters stations))
+under-plan q [] [] h = record { of_up = omega arith; of_down = omega arith; of_export_up = omega arith; of_export_down = omega arith }
 under-plan q [] (s ∷ stations) h = absurd h
 under-plan q (limits ∷ plan) [] h = absurd h
 under-plan q (limits ∷ plan) (s ∷ stations) h =
-    let parts = under-append q s.1.quarters (station_quarters stations) in
     let one = under-limits q limits s.1 h.0 in
     let rest = under-plan q plan stations h.1 in
+    let all = station_quarters (s ∷ stations) in
     let more = sum_by-cons (λ (l : Bounds). l.readings) limits plan in
-    (omega (arith, parts.0, one.0, rest.0, more), omega (arith, parts.1, one.1, rest.1, more))
+    let step : (p : Part) → p.measure (flows_under q s.1.quarters) ≤ greatest_reading * limits.readings → p.measure (flows_under q (station_quarters stations)) ≤ greatest_reading * readings_of_plan plan → p.measure (flows_under q all) ≤ greatest_reading * readings_of_plan (limits ∷ plan) =
+    λ p a b. omega (arith, under-append p q s.1.quarters (station_quarters stations), a, b, more) in
+    record { of_up = step up one.of_up rest.of_up; of_down = step down one.of_down rest.of_down; of_export_up = step export_up one.of_export_up rest.of_export_up; of_export_down = step export_down one.of_export_down rest.of_export_down }
 
 -- the sums of each quarter fit for one plan
 pub plans_fit : (plan : List Bounds) (stations : List (List ℕ × Board)) → readings_of_plan plan ≤ most_plan_readings → AreBoardsWithin plan stations → QuartersFit (station_quarters stations)
 plans_fit plan stations few h = record {
-  up = λ q. omega (arith, few, (under-plan q plan stations h).0);
-  down = λ q. omega (arith, few, (under-plan q plan stations h).1);
+  up = λ q. omega (arith, few, (under-plan q plan stations h).of_up);
+  down = λ q. omega (arith, few, (under-plan q plan stations h).of_down);
+  export_up = λ q. omega (arith, few, (under-plan q plan stations h).of_export_up);
+  export_down = λ q. omega (arith, few, (under-plan q plan stations h).of_export_down);
 }
 
 -- one board more, within one more limits

@@ -8,39 +8,66 @@ use Rattle.std.proofs.lemmas.List.{take_more}
 use Rattle.std.proofs.lemmas.Grind.{flat_map-append}
 use Rattle.std.proofs.lemmas.List.Sums.{sum_by-cons}
 use Rattle.std.proofs.lemmas.List.Sorted.{sum_by-IsPermutation, IsPermutation-sym}
-use Rattle.energy_flow.specs.Flow.{Energy, plus, no_energy, CanPlus}
-use Rattle.ledger_model.specs.Board.{Board, Flowed, energy_under}
-use Rattle.ledger_model.specs.Energy.{put_in, rising}
+use Rattle.ledger_model.specs.Board.{Board, Flowed, flows_under}
+use Rattle.ledger_model.specs.Energy.{Flows, no_flows, plus_flows, put_in, rising}
 use Rattle.ledger_model.specs.Quarter.{IsQuarterOf}
 use Rattle.ledger_model.specs.BoardLaws.{AreRising, IsIn}
 use Rattle.ledger_model.proofs.Callers.{put_in-same, put_in-below, put_in-above, rising-AreRising, rising-IsIn}
-use Rattle.board_report.specs.Lines.{quarter_sums, AreInOrder, put_line, CanLead}
+use Rattle.board_report.specs.Lines.{quarter_sums, AreInOrder, put_line, CanLead, CanPlusFlows}
 use Rattle.board_report.specs.Sums.{AreQuartersOf, QuartersFit, station_quarters}
 
-same_energy : (a b : Energy) → a.up ≡ b.up → a.down ≡ b.down → a ≡ b
-same_energy a b up down = λ i. record { up = up i; down = down i }
+-- one of the four sums of energies of both directions: it adds up by itself
+pub record Part : Type 0 where
+  pub measure : Flows → ℕ
+  pub plus_of : (a b : Flows) → measure (plus_flows a b) ≡ measure a + measure b
+  pub none_of : measure no_flows ≡ 0
 
-plus_none : (f : Energy) → plus f no_energy ≡ f
-plus_none f = same_energy (plus f no_energy) f (omega arith) (omega arith)
+abbrev pub up : Part
+up = record { measure = λ f. f.flow.up; plus_of = λ a b. refl; none_of = refl }
+
+abbrev pub down : Part
+down = record { measure = λ f. f.flow.down; plus_of = λ a b. refl; none_of = refl }
+
+abbrev pub export_up : Part
+export_up = record { measure = λ f. f.export.up; plus_of = λ a b. refl; none_of = refl }
+
+abbrev pub export_down : Part
+export_down = record { measure = λ f. f.export.down; plus_of = λ a b. refl; none_of = refl }
+
+-- energies that agree in each of them are the same
+same_flows : (a b : Flows) → ((p : Part) → p.measure a ≡ p.measure b) → a ≡ b
+same_flows a b each =
+    let up_is : a.flow.up ≡ b.flow.up = each up in
+    let down_is : a.flow.down ≡ b.flow.down = each down in
+    let export_up_is : a.export.up ≡ b.export.up = each export_up in
+    let export_down_is : a.export.down ≡ b.export.down = each export_down in
+    λ i. record { flow = record { up = up_is i; down = down_is i }; export = record { up = export_up_is i; down = export_down_is i } }
+
+-- no energies have nothing
+pub part_none : (p : Part) → p.measure no_flows ≡ 0
+part_none p = p.none_of
+
+plus_none : (f : Flows) → plus_flows f no_flows ≡ f
+plus_none f = same_flows (plus_flows f no_flows) f (λ p. p.plus_of f no_flows ∙ (let none = part_none p in omega (arith, none)))
 
 -- the quarters of lines
 abbrev pub numbers : List Flowed → List ℕ
 numbers lines = map (λ (line : Flowed). line.0) lines
 
 -- the energy of a quarter, with one line more
-pub under-own : (x : Flowed) (xs : List Flowed) (q : ℕ) → x.0 ≡ q → energy_under q (x ∷ xs) ≡ plus x.1 (energy_under q xs)
+pub under-own : (x : Flowed) (xs : List Flowed) (q : ℕ) → x.0 ≡ q → flows_under q (x ∷ xs) ≡ plus_flows x.1 (flows_under q xs)
 under-own x xs q e = rw (eq-eqb x.0 q e) refl
 
-pub under-other : (x : Flowed) (xs : List Flowed) (q : ℕ) → (x.0 ≡ q → ⊥) → energy_under q (x ∷ xs) ≡ energy_under q xs
+pub under-other : (x : Flowed) (xs : List Flowed) (q : ℕ) → (x.0 ≡ q → ⊥) → flows_under q (x ∷ xs) ≡ flows_under q xs
 under-other x xs q apart = rw (ne_eqb x.0 q apart) refl
 
 -- a quarter that no line is of has no energy
-pub under-none : (q : ℕ) (xs : List Flowed) → (IsIn q (numbers xs) → ⊥) → energy_under q xs ≡ no_energy
+pub under-none : (q : ℕ) (xs : List Flowed) → (IsIn q (numbers xs) → ⊥) → flows_under q xs ≡ no_flows
 under-none q [] none = refl
 under-none q (x ∷ xs) none = under-other x xs q (λ e. none (inl (sym e))) ∙ under-none q xs (λ h. none (inr h))
 
 -- the three cases of a line that is put in
-put_same : (x l : Flowed) (ls : List Flowed) → x.0 ≡ l.0 → put_line x (l ∷ ls) ≡ (l.0, plus x.1 l.1) ∷ ls
+put_same : (x l : Flowed) (ls : List Flowed) → x.0 ≡ l.0 → put_line x (l ∷ ls) ≡ (l.0, plus_flows x.1 l.1) ∷ ls
 put_same x l ls e = rw (eq-eqb x.0 l.0 e) refl
 
 put_below : (x l : Flowed) (ls : List Flowed) → x.0 < l.0 → put_line x (l ∷ ls) ≡ x ∷ l ∷ ls
@@ -57,11 +84,11 @@ below_not_in n m (k ∷ ms) less up (inl e) = absurd (omega arith)
 below_not_in n m (k ∷ ms) less up (inr h) = below_not_in n k ms (let a : m < k = up.0 in omega arith) up.1 h
 
 tail_rises : (m : ℕ) (ms : List ℕ) → AreRising (m ∷ ms) → AreRising ms
-tail_rises m [] up = tt
-tail_rises m (k ∷ ms) up = up.1
+tail_rises m [] rise = tt
+tail_rises m (k ∷ ms) rise = rise.1
 
-module _ (x : Flowed) (was is : ℕ → Energy) (agree : (k : ℕ) → (x.0 ≡ k → ⊥) → is k ≡ was k) (here : is x.0 ≡ plus x.1 (was x.0)) where
-  abbrev lines : (ℕ → Energy) → List ℕ → List Flowed
+module _ (x : Flowed) (was is : ℕ → Flows) (agree : (k : ℕ) → (x.0 ≡ k → ⊥) → is k ≡ was k) (here : is x.0 ≡ plus_flows x.1 (was x.0)) where
+  abbrev lines : (ℕ → Flows) → List ℕ → List Flowed
   lines e ks = map (λ k. (k, e k)) ks
 
   -- what is above the number keeps its energy
@@ -72,19 +99,19 @@ module _ (x : Flowed) (was is : ℕ → Energy) (agree : (k : ℕ) → (x.0 ≡ 
       let same : was k ≡ is k = sym (agree k (λ e. absurd (omega arith))) in
       λ i. (k, same i) ∷ above_same k ms (omega arith) up.1 i
 
-  put_rising : (ks : List ℕ) → AreRising ks → ((IsIn x.0 ks → ⊥) → was x.0 ≡ no_energy) → put_line x (lines was ks) ≡ lines is (put_in x.0 ks)
+  put_rising : (ks : List ℕ) → AreRising ks → ((IsIn x.0 ks → ⊥) → was x.0 ≡ no_flows) → put_line x (lines was ks) ≡ lines is (put_in x.0 ks)
   put_rising [] up none =
-      let one : x.1 ≡ is x.0 = sym (here ∙ ap (plus x.1) (none (λ h. h)) ∙ plus_none x.1) in
+      let one : x.1 ≡ is x.0 = sym (here ∙ ap (plus_flows x.1) (none (λ h. h)) ∙ plus_none x.1) in
       λ i. (x.0, one i) ∷ []
   put_rising (m ∷ ms) up none = ⊎_elim
       (λ (e : x.0 ≡ m).
-      let at : plus x.1 (was m) ≡ is m = ap (λ k. plus x.1 (was k)) (sym e) ∙ sym here ∙ ap is e in
+      let at : plus_flows x.1 (was m) ≡ is m = ap (λ k. plus_flows x.1 (was k)) (sym e) ∙ sym here ∙ ap is e in
       put_same x (m, was m) (lines was ms) e
       ∙ (λ i. (m, at i) ∷ above_same m ms (omega arith) up i)
       ∙ ap (lines is) (sym (put_in-same x.0 m ms e)))
       (λ (o : (x.0 < m) ⊎ (m < x.0)). ⊎_elim
       (λ (below : x.0 < m).
-      let one : x.1 ≡ is x.0 = sym (here ∙ ap (plus x.1) (none (below_not_in x.0 m ms below up)) ∙ plus_none x.1) in
+      let one : x.1 ≡ is x.0 = sym (here ∙ ap (plus_flows x.1) (none (below_not_in x.0 m ms below up)) ∙ plus_none x.1) in
       put_below x (m, was m) (lines was ms) below
       ∙ (λ i. (x.0, one i) ∷ above_same x.0 (m ∷ ms) (omega arith) (below, up) i)
       ∙ ap (lines is) (sym (put_in-below x.0 m ms below)))
@@ -99,22 +126,19 @@ module _ (x : Flowed) (was is : ℕ → Energy) (agree : (k : ℕ) → (x.0 ≡ 
 
 -- a line put into the sums of lines gives the sums of one line more
 pub sums_more : (x : Flowed) (xs : List Flowed) → put_line x (quarter_sums xs) ≡ quarter_sums (x ∷ xs)
-sums_more x xs = put_rising x (λ k. energy_under k xs) (λ k. energy_under k (x ∷ xs)) (λ k apart. under-other x xs k apart) (under-own x xs x.0 refl)
+sums_more x xs = put_rising x (λ k. flows_under k xs) (λ k. flows_under k (x ∷ xs)) (λ k apart. under-other x xs k apart) (under-own x xs x.0 refl)
     (rising (numbers xs)) (rising-AreRising (numbers xs)) (λ no. under-none x.0 xs (λ h. no ((rising-IsIn x.0 (numbers xs)).1 h)))
 
 -- lines at the end have no more energy than all
-under-more : (q : ℕ) (x : Flowed) (xs : List Flowed) → ((energy_under q xs).up ≤ (energy_under q (x ∷ xs)).up) × ((energy_under q xs).down ≤ (energy_under q (x ∷ xs)).down)
-under-more q x xs = ⊎_elim
-    (λ (e : x.0 ≡ q). let own = under-own x xs q e in (omega (arith, ap (λ (f : Energy). f.up) own), omega (arith, ap (λ (f : Energy). f.down) own)))
-    (λ (o : x.0 ≡ q → ⊥). let other = under-other x xs q o in (omega (arith, ap (λ (f : Energy). f.up) other), omega (arith, ap (λ (f : Energy). f.down) other)))
+under-more : (p : Part) (q : ℕ) (x : Flowed) (xs : List Flowed) → p.measure (flows_under q xs) ≤ p.measure (flows_under q (x ∷ xs))
+under-more p q x xs = ⊎_elim
+    (λ (e : x.0 ≡ q). omega (arith, ap p.measure (under-own x xs q e), p.plus_of x.1 (flows_under q xs)))
+    (λ (o : x.0 ≡ q → ⊥). omega (arith, ap p.measure (under-other x xs q o)))
     (cases_eq x.0 q)
 
-under-end : (q : ℕ) (front xs : List Flowed) → ((energy_under q xs).up ≤ (energy_under q (front ++ xs)).up) × ((energy_under q xs).down ≤ (energy_under q (front ++ xs)).down)
-under-end q [] xs = (omega arith, omega arith)
-under-end q (y ∷ front) xs =
-    let rest = under-end q front xs in
-    let more = under-more q y (front ++ xs) in
-    (omega (arith, rest.0, more.0), omega (arith, rest.1, more.1))
+under-end : (p : Part) (q : ℕ) (front xs : List Flowed) → p.measure (flows_under q xs) ≤ p.measure (flows_under q (front ++ xs))
+under-end p q [] xs = omega arith
+under-end p q (y ∷ front) xs = omega (arith, under-end p q front xs, under-more p q y (front ++ xs))
 
 -- lines at the end of lines in order are in order
 order-tail : (x : Flowed) (xs : List Flowed) → AreInOrder (x ∷ xs) → AreInOrder xs
@@ -131,7 +155,7 @@ order-first x [] k order h = absurd h
 order-first x (y ∷ xs) k order (inl e) = let low : x.0 ≤ y.0 = order.0 in omega arith
 order-first x (y ∷ xs) k order (inr h) = let low : x.0 ≤ y.0 = order.0 in let rest : y.0 ≤ k = order-first y xs k order.1 h in omega arith
 
-leads : (x : Flowed) (xs : List Flowed) (ks : List ℕ) → ((k : ℕ) → IsIn k ks → x.0 ≤ k) → ((k : ℕ) → x.0 ≡ k → CanPlus x.1 (energy_under k xs)) → CanLead x (map (λ k. (k, energy_under k xs)) ks)
+leads : (x : Flowed) (xs : List Flowed) (ks : List ℕ) → ((k : ℕ) → IsIn k ks → x.0 ≤ k) → ((k : ℕ) → x.0 ≡ k → CanPlusFlows x.1 (flows_under k xs)) → CanLead x (map (λ k. (k, flows_under k xs)) ks)
 leads x xs [] low room = tt
 leads x xs (k ∷ ks) low room = (low k (inl refl), room k)
 
@@ -143,10 +167,11 @@ can_lead front x xs all parts order fit =
     (λ k h. order-first x xs k here ((rising-IsIn k (numbers xs)).0 h))
     (λ k e.
     let own = under-own x xs k e in
-    let few = under-end k front (x ∷ xs) in
+    let room : (p : Part) → p.measure (flows_under k all) < 2 ^ 64 → p.measure x.1 + p.measure (flows_under k xs) < 2 ^ 64 =
+    λ p few. omega (arith, ap p.measure own, p.plus_of x.1 (flows_under k xs), under-end p k front (x ∷ xs), ap (λ (ls : List Flowed). p.measure (flows_under k ls)) parts, few) in
     record {
-      up = omega (arith, ap (λ (f : Energy). f.up) own, few.0, ap (λ (ls : List Flowed). (energy_under k ls).up) parts, fit.up k);
-      down = omega (arith, ap (λ (f : Energy). f.down) own, few.1, ap (λ (ls : List Flowed). (energy_under k ls).down) parts, fit.down k);
+      flow = record { up = room up (fit.up k); down = room down (fit.down k) };
+      export = record { up = room export_up (fit.export_up k); down = room export_down (fit.export_down k) };
     })
 
 -- the last line, and what stands before it
@@ -187,31 +212,23 @@ in_permuted : (k : ℕ) (xs ys : List Flowed) → IsPermutation xs ys → IsIn k
 in_permuted k xs ys same h = in_if_hits k ys (omega (arith, sum_by-IsPermutation (hit k) xs ys same, hits_if_in k xs h))
 
 -- the energy of a quarter as a sum
-at : (Energy → ℕ) → ℕ → Flowed → ℕ
+at : (Flows → ℕ) → ℕ → Flowed → ℕ
 at part q line = cond (eqb line.0 q) (part line.1) 0
 
-under_is : (q : ℕ) (xs : List Flowed) → energy_under q xs ≡ record { up = sum_by (at (λ e. e.up) q) xs; down = sum_by (at (λ e. e.down) q) xs }
+under_is : (p : Part) (q : ℕ) (xs : List Flowed) → p.measure (flows_under q xs) ≡ sum_by (at p.measure q) xs
 unfolding at
-under_is q [] = refl
-under_is q (x ∷ xs) =
-    let rest = under_is q xs in
-    let up_more = sum_by-cons (at (λ e. e.up) q) x xs in
-    let down_more = sum_by-cons (at (λ e. e.down) q) x xs in
+under_is p q [] = part_none p
+under_is p q (x ∷ xs) =
+    let rest = under_is p q xs in
+    let more = sum_by-cons (at p.measure q) x xs in
     ⊎_elim
-    (λ (e : x.0 ≡ q). same_energy _ _
-    (omega (arith, ap (λ (f : Energy). f.up) (under-own x xs q e), ap (λ (f : Energy). f.up) rest, up_more, ap {B = ℕ} (λ b. cond b x.1.up 0) (eq-eqb x.0 q e)))
-    (omega (arith, ap (λ (f : Energy). f.down) (under-own x xs q e), ap (λ (f : Energy). f.down) rest, down_more, ap {B = ℕ} (λ b. cond b x.1.down 0) (eq-eqb x.0 q e))))
-    (λ (o : x.0 ≡ q → ⊥). same_energy _ _
-    (omega (arith, ap (λ (f : Energy). f.up) (under-other x xs q o), ap (λ (f : Energy). f.up) rest, up_more, ap {B = ℕ} (λ b. cond b x.1.up 0) (ne_eqb x.0 q o)))
-    (omega (arith, ap (λ (f : Energy). f.down) (under-other x xs q o), ap (λ (f : Energy). f.down) rest, down_more, ap {B = ℕ} (λ b. cond b x.1.down 0) (ne_eqb x.0 q o))))
+    (λ (e : x.0 ≡ q). omega (arith, ap p.measure (under-own x xs q e), p.plus_of x.1 (flows_under q xs), rest, more, ap {B = ℕ} (λ b. cond b (p.measure x.1) 0) (eq-eqb x.0 q e)))
+    (λ (o : x.0 ≡ q → ⊥). omega (arith, ap p.measure (under-other x xs q o), rest, more, ap {B = ℕ} (λ b. cond b (p.measure x.1) 0) (ne_eqb x.0 q o)))
     (cases_eq x.0 q)
 
--- the energy of a quarter does not depend on the order of lines
-under_permuted : (q : ℕ) (xs ys : List Flowed) → IsPermutation xs ys → energy_under q ys ≡ energy_under q xs
-under_permuted q xs ys same =
-    let up : sum_by (at (λ e. e.up) q) ys ≡ sum_by (at (λ e. e.up) q) xs = sum_by-IsPermutation (at (λ e. e.up) q) xs ys same in
-    let down : sum_by (at (λ e. e.down) q) ys ≡ sum_by (at (λ e. e.down) q) xs = sum_by-IsPermutation (at (λ e. e.down) q) xs ys same in
-    under_is q ys ∙ (λ i. record { up = up i; down = down i }) ∙ sym (under_is q xs)
+-- the energies of a quarter do not depend on the order of lines
+under_permuted : (q : ℕ) (xs ys : List Flowed) → IsPermutation xs ys → flows_under q ys ≡ flows_under q xs
+under_permuted q xs ys same = same_flows (flows_under q ys) (flows_under q xs) (λ p. under_is p q ys ∙ sum_by-IsPermutation (at p.measure q) xs ys same ∙ sym (under_is p q xs))
 
 -- no rising number is below the first
 first_is_lowest : (n : ℕ) (ns : List ℕ) → AreRising (n ∷ ns) → (k : ℕ) → IsIn k (n ∷ ns) → n ≤ k
@@ -242,7 +259,7 @@ same_rising (m ∷ ms) (n ∷ ns) up other to from =
     (λ k h. let above : n < k = above_first n ns other k h in behind_first m ms k (omega arith) (from k (inr h))) in
     λ i. first i ∷ rest i
 
-same_energies : (e f : ℕ → Energy) → ((k : ℕ) → e k ≡ f k) → (ks : List ℕ) → map {B = Flowed} (λ k. (k, e k)) ks ≡ map {B = Flowed} (λ k. (k, f k)) ks
+same_energies : (e f : ℕ → Flows) → ((k : ℕ) → e k ≡ f k) → (ks : List ℕ) → map {B = Flowed} (λ k. (k, e k)) ks ≡ map {B = Flowed} (λ k. (k, f k)) ks
 same_energies e f same [] = refl
 same_energies e f same (k ∷ ks) = λ i. (k, same k i) ∷ same_energies e f same ks i
 
@@ -253,14 +270,16 @@ sums_permuted xs ys same =
     let keys : rising (numbers ys) ≡ rising (numbers xs) = same_rising (rising (numbers ys)) (rising (numbers xs)) (rising-AreRising (numbers ys)) (rising-AreRising (numbers xs))
     (λ k h. (rising-IsIn k (numbers xs)).1 (in_permuted k ys xs back ((rising-IsIn k (numbers ys)).0 h)))
     (λ k h. (rising-IsIn k (numbers ys)).1 (in_permuted k xs ys same ((rising-IsIn k (numbers xs)).0 h))) in
-    same_energies (λ k. energy_under k ys) (λ k. energy_under k xs) (λ k. under_permuted k xs ys same) (rising (numbers ys))
-    ∙ ap (λ (ks : List ℕ). map {B = Flowed} (λ k. (k, energy_under k xs)) ks) keys
+    same_energies (λ k. flows_under k ys) (λ k. flows_under k xs) (λ k. under_permuted k xs ys same) (rising (numbers ys))
+    ∙ ap (λ (ks : List ℕ). map {B = Flowed} (λ k. (k, flows_under k xs)) ks) keys
 
 -- nor does the condition on them
 pub fit_permuted : (xs ys : List Flowed) → IsPermutation xs ys → QuartersFit xs → QuartersFit ys
 fit_permuted xs ys same fit = record {
-  up = λ q. subst (λ (e : Energy). e.up < 2 ^ 64) (sym (under_permuted q xs ys same)) (fit.up q);
-  down = λ q. subst (λ (e : Energy). e.down < 2 ^ 64) (sym (under_permuted q xs ys same)) (fit.down q);
+  up = λ q. subst (λ (e : Flows). e.flow.up < 2 ^ 64) (sym (under_permuted q xs ys same)) (fit.up q);
+  down = λ q. subst (λ (e : Flows). e.flow.down < 2 ^ 64) (sym (under_permuted q xs ys same)) (fit.down q);
+  export_up = λ q. subst (λ (e : Flows). e.export.up < 2 ^ 64) (sym (under_permuted q xs ys same)) (fit.export_up q);
+  export_down = λ q. subst (λ (e : Flows). e.export.down < 2 ^ 64) (sym (under_permuted q xs ys same)) (fit.export_down q);
 }
 
 -- the quarters of lines are the period's
@@ -269,13 +288,13 @@ line_own period [] k own h = absurd h
 line_own period (x ∷ xs) k own (inl e) = subst (IsQuarterOf period) (sym e) (own 0 x (omega arith))
 line_own period (x ∷ xs) k own (inr h) = line_own period xs k (λ n d lt. own (suc n) d (omega arith)) h
 
-lines_own : (period : ℕ) (e : ℕ → Energy) (ks : List ℕ) → ((k : ℕ) → IsIn k ks → IsQuarterOf period k) → AreQuartersOf period (map {B = Flowed} (λ k. (k, e k)) ks)
+lines_own : (period : ℕ) (e : ℕ → Flows) (ks : List ℕ) → ((k : ℕ) → IsIn k ks → IsQuarterOf period k) → AreQuartersOf period (map {B = Flowed} (λ k. (k, e k)) ks)
 lines_own period e [] each = All-nil (λ (line : Flowed). IsQuarterOf period line.0)
 lines_own period e (k ∷ ks) each = All-cons (λ (line : Flowed). IsQuarterOf period line.0) (k, e k) (map {B = Flowed} (λ j. (j, e j)) ks) (each k (inl refl)) (lines_own period e ks (λ j h. each j (inr h)))
 
 -- and so are those of their sums
 pub sums_own : (period : ℕ) (xs : List Flowed) → AreQuartersOf period xs → AreQuartersOf period (quarter_sums xs)
-sums_own period xs own = lines_own period (λ k. energy_under k xs) (rising (numbers xs)) (λ k h. line_own period xs k own ((rising-IsIn k (numbers xs)).0 h))
+sums_own period xs own = lines_own period (λ k. flows_under k xs) (rising (numbers xs)) (λ k h. line_own period xs k own ((rising-IsIn k (numbers xs)).0 h))
 
 -- the lines of one station more
 pub stations_more : (stations : List (List ℕ × Board)) (k : ℕ) (s : List ℕ × Board) → k < length stations → s ≡ get_or stations k s → station_quarters (take (k + 1) stations) ≡ station_quarters (take k stations) ++ s.1.quarters

@@ -1,12 +1,12 @@
 -- How lines of quarters are added up.
 use Rattle.std.specs.Prelude.{◌≤◌, ◌≡◌, ◌==◌, nat_lt, if◌then◌else◌, List, [], ◌∷◌, map}
-use Rattle.energy_flow.specs.Flow.{plus, CanPlus}
-use Rattle.ledger_model.specs.Board.{Flowed, energy_under}
-use Rattle.ledger_model.specs.Energy.{rising}
+use Rattle.energy_flow.specs.Flow.{CanPlus}
+use Rattle.ledger_model.specs.Board.{Flowed, flows_under}
+use Rattle.ledger_model.specs.Energy.{Flows, plus_flows, rising}
 
--- Each quarter of these lines once, rising, with the sum of its energies.
+-- Each quarter of these lines once, rising, with the sums of its energies.
 abbrev pub quarter_sums : List Flowed → List Flowed
-quarter_sums lines = map (λ quarter. (quarter, energy_under quarter lines)) (rising (map (λ line. line.0) lines))
+quarter_sums lines = map (λ quarter. (quarter, flows_under quarter lines)) (rising (map (λ line. line.0) lines))
 
 -- No line is before the one before it.
 abbrev pub AreInOrder : List Flowed → Type 0
@@ -18,10 +18,15 @@ AreInOrder (line ∷ next ∷ lines) = (line.0 ≤ next.0) × AreInOrder (next �
 abbrev pub put_line : Flowed → List Flowed → List Flowed
 put_line new [] = new ∷ []
 put_line new (line ∷ lines) =
-    if new.0 == line.0 then (line.0, plus new.1 line.1) ∷ lines
+    if new.0 == line.0 then (line.0, plus_flows new.1 line.1) ∷ lines
     else (if nat_lt new.0 line.0 then new ∷ line ∷ lines else line ∷ put_line new lines)
 
--- A line can be added before rising lines: its number is not above the first, and its energy can be added where they are equal.
+-- Energies can be added, direction by direction.
+pub record CanPlusFlows (a b : Flows) : Type 0 where
+  pub flow : CanPlus a.flow b.flow
+  pub export : CanPlus a.export b.export
+
+-- A line can be added before rising lines: its number is not above the first, and its energies can be added where they are equal.
 abbrev pub CanLead : Flowed → List Flowed → Type 0
 CanLead new [] = Unit {0}
-CanLead new (line ∷ lines) = (new.0 ≤ line.0) × (new.0 ≡ line.0 → CanPlus new.1 line.1)
+CanLead new (line ∷ lines) = (new.0 ≤ line.0) × (new.0 ≡ line.0 → CanPlusFlows new.1 line.1)

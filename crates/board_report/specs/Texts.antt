@@ -22,28 +22,38 @@ line text = text ++ 10 ∷ []
 abbrev pub flow_fields : ℕ → ℕ → List ℕ
 flow_fields up down = field (codes " up=") up ++ field (codes " down=") down
 
+-- ` up=<n> down=<n> export_up=<n> export_down=<n>`
+unfoldable pub flows_fields : ℕ → ℕ → ℕ → ℕ → List ℕ
+flows_fields up down export_up export_down =
+    field (codes " up=") up ++ (field (codes " down=") down
+    ++ (field (codes " export_up=") export_up ++ field (codes " export_down=") export_down))
+
 -- `energy up=<n> down=<n>`
 abbrev pub energy_text : Energy → List ℕ
 energy_text flow = codes "energy" ++ flow_fields flow.up flow.down
 
--- `total events=<n> voided=<n> transactions=<n> complete=<n> missing=<n> up=<n> down=<n>`
+-- `export up=<n> down=<n>`
+abbrev pub export_text : Energy → List ℕ
+export_text flow = codes "export" ++ flow_fields flow.up flow.down
+
+-- `total events=<n> voided=<n> transactions=<n> complete=<n> missing=<n> up=<n> down=<n> export_up=<n> export_down=<n>`
 unfoldable pub total_text : Figures → List ℕ
 total_text f =
     field (codes "total events=") f.events ++ (field (codes " voided=") f.voided
     ++ (field (codes " transactions=") f.transactions ++ (field (codes " complete=") f.complete
-    ++ (field (codes " missing=") f.missing ++ flow_fields f.up f.down))))
+    ++ (field (codes " missing=") f.missing ++ flows_fields f.up f.down f.export_up f.export_down))))
 
 -- The text of a quarter's first moment, by this settlement period.
 unfoldable pub start_text : ℕ → ℕ → List ℕ
 start_text period quarter = text_of (quarter_start period quarter)
 
--- `period <start> up=<n> down=<n>`
+-- `period <start> up=<n> down=<n> export_up=<n> export_down=<n>`
 unfoldable pub quarter_line : ℕ → Flowed → List ℕ
-quarter_line period q = line (codes "period " ++ (start_text period q.0 ++ flow_fields q.1.up q.1.down))
+quarter_line period q = line (codes "period " ++ (start_text period q.0 ++ flows_fields q.1.flow.up q.1.flow.down q.1.export.up q.1.export.down))
 
--- `evse <n> up=<n> down=<n>`
+-- `evse <n> up=<n> down=<n> export_up=<n> export_down=<n>`
 unfoldable pub evse_line : Flowed → List ℕ
-evse_line e = line (field (codes "evse ") e.0 ++ flow_fields e.1.up e.1.down)
+evse_line e = line (field (codes "evse ") e.0 ++ flows_fields e.1.flow.up e.1.flow.down e.1.export.up e.1.export.down)
 
 -- `yes` or `no`
 abbrev pub yes_or_no : Bool → List ℕ
@@ -59,9 +69,9 @@ events_fields t =
 unfoldable pub completeness_fields : Shown → List ℕ
 completeness_fields t = codes " complete=" ++ (yes_or_no t.complete ++ field (codes " missing=") t.missing)
 
--- `tx <id> evse=<n> events=<n> first=<n> last=<n> complete=<yes or no> missing=<n> up=<n> down=<n>`
+-- `tx <id> evse=<n> events=<n> first=<n> last=<n> complete=<yes or no> missing=<n> up=<n> down=<n> export_up=<n> export_down=<n>`
 unfoldable pub transaction_line : Shown → List ℕ
-transaction_line t = line (codes "tx " ++ (t.tx ++ (events_fields t ++ (completeness_fields t ++ flow_fields t.flow.up t.flow.down))))
+transaction_line t = line (codes "tx " ++ (t.tx ++ (events_fields t ++ (completeness_fields t ++ flows_fields t.flow.up t.flow.down t.export.up t.export.down))))
 
 -- `gap <from>..<to>`
 unfoldable pub gap_line : Gap → List ℕ

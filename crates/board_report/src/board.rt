@@ -8,7 +8,7 @@ use station_ledger::{QuarterLine, StationBoard};
 use std::alloc::{AllocError, Global};
 use std::marker::Model;
 
-/// The board of a site: its name, its settlement period, its figures, its quarters with their energy, rising, and its
+/// The board of a site: its name, its settlement period, its figures, its quarters with their energies, rising, and its
 /// stations' boards by name, in the order of declaration.
 #[derive(Debug, Drop)]
 pub struct SiteBoard {
@@ -45,7 +45,7 @@ impl SiteBoard {
         self.period
     }
 
-    /// The seven figures of the site.
+    /// The nine figures of the site.
     pub fn figures(&self) -> Figures
         ensures { result ≡ self.now.figures }
     {
@@ -53,7 +53,7 @@ impl SiteBoard {
     }
 
     /// The quarters that a station of the site shows, rising, each one of the site's period and with its
-    /// energy over all stations.
+    /// energies over all stations.
     pub fn quarters(&self) -> &[QuarterLine]
         ensures value { result.now ≡ self.now.quarters }
         ensures own { AreQuartersOf self.now.period result.now }

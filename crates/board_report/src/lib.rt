@@ -3,8 +3,8 @@
 //! [`site_board`] puts the boards of a site's stations together under the site's name: it adds up
 //! their energies quarter by quarter, and keeps the figures and the stations' boards as they are handed
 //! in. [`write_board`] writes such a [`SiteBoard`] as lines of plain text, for people and for programs.
-//! [`total_text`] and [`energy_text`] write the seven figures and an energy alone, without memory, so a
-//! live total and the total line of a board are one text.
+//! [`total_text`], [`energy_text`] and [`export_text`] write the figures and an energy alone, without
+//! memory, so a live total and the total line of a board are one text.
 //!
 //! The crate's one contract: each text has exactly the bytes that a short definition gives for the
 //! values, one definition for each kind of line; and a site's board shows each quarter that one of its
@@ -17,7 +17,7 @@
 //! let board = site_board(alloc, &name, period, figures, stations)?;
 //! write_board(alloc, &board)?   // board north period=900
 //!                               // total events=2 voided=0 transactions=1 complete=0 ..
-//!                               // period 2026-03-01T10:30:00Z up=600000 down=0
+//!                               // period 2026-03-01T10:30:00Z up=600000 down=0 export_up=0 export_down=0
 //!                               // station A
 //!                               // ..
 //!                               // end
@@ -32,6 +32,6 @@ mod sums;
 mod write;
 
 pub use board::{SiteBoard, site_board};
-pub use fixed::{energy_text, total_text};
+pub use fixed::{energy_text, export_text, total_text};
 pub use laws::plans_fit;
 pub use write::write_board;

@@ -42,7 +42,8 @@ fn add_line(falling: &mut Vec<QuarterLine>, added: QuarterLine) -> Result<(), Al
     };
     if last.quarter() == added.quarter() {
         let flow = added.flow().plus(last.flow());
-        falling.push(QuarterLine::new(last.quarter(), flow))?;
+        let export = added.export().plus(last.export());
+        falling.push(QuarterLine::new(last.quarter(), flow, export))?;
     } else {
         falling.push(last)?;
         falling.push(added)?;

@@ -3,7 +3,7 @@ ghost use Rattle.std.specs.Prelude.{◌≡◌, ◌++◌, OnOk, IfOk};
 ghost use Rattle.std.specs.List.{flat_map};
 ghost use Rattle.ledger_model.specs.Quarter.{IsQuarterOf};
 ghost use Rattle.board_report.specs.Sums.{AreQuartersOf};
-ghost use Rattle.board_report.specs.Texts.{field, line, flow_fields, start_text, events_fields, completeness_fields, total_text as total_text_of, quarter_line, evse_line, yes_or_no, transaction_line, gap_line, transaction_text, station_text, heading, board_text};
+ghost use Rattle.board_report.specs.Texts.{field, line, flows_fields, start_text, events_fields, completeness_fields, total_text as total_text_of, quarter_line, evse_line, yes_or_no, transaction_line, gap_line, transaction_text, station_text, heading, board_text};
 
 use crate::board::SiteBoard;
 use crate::fixed::total_text;
@@ -34,12 +34,22 @@ fn put_text(text: &mut Vec<u8>, word: &str, shown: &str) -> Result<(), AllocErro
     Ok(())
 }
 
-// Appends ` up=<n> down=<n>` and a line feed.
-fn put_flow(text: &mut Vec<u8>, flow: Flow) -> Result<(), AllocError>
-    ensures { OnOk result (text.new.items ≡ text.old.items ++ line (flow_fields flow.up flow.down)) }
+// Appends ` up=<n> down=<n> export_up=<n> export_down=<n>`.
+#[tactic(auto, unfolding(crate::specs::Texts::flows_fields))]
+fn put_fields(text: &mut Vec<u8>, flow: Flow, export: Flow) -> Result<(), AllocError>
+    ensures { OnOk result (text.new.items ≡ text.old.items ++ flows_fields flow.up flow.down export.up export.down) }
 {
     put_field(text, " up=", flow.up())?;
     put_field(text, " down=", flow.down())?;
+    put_field(text, " export_up=", export.up())?;
+    put_field(text, " export_down=", export.down())
+}
+
+// The same, and a line feed.
+fn put_flows(text: &mut Vec<u8>, flow: Flow, export: Flow) -> Result<(), AllocError>
+    ensures { OnOk result (text.new.items ≡ text.old.items ++ line (flows_fields flow.up flow.down export.up export.down)) }
+{
+    put_fields(text, flow, export)?;
     text.push(b'\n')?;
     Ok(())
 }
@@ -70,7 +80,7 @@ fn put_quarter(text: &mut Vec<u8>, period: Period, shown: &QuarterLine) -> Resul
 {
     text.extend_from_slice(b"period ")?;
     text.extend_from_slice(start_text(shown.quarter(), period).as_str().as_bytes())?;
-    put_flow(text, shown.flow())
+    put_flows(text, shown.flow(), shown.export())
 }
 
 // Appends the line of an EVSE.
@@ -79,7 +89,7 @@ fn put_evse(text: &mut Vec<u8>, shown: &EvseLine) -> Result<(), AllocError>
     ensures { OnOk result (text.new.items ≡ text.old.items ++ evse_line shown.now) }
 {
     put_field(text, "evse ", u64::from(shown.evse().number()))?;
-    put_flow(text, shown.flow())
+    put_flows(text, shown.flow(), shown.export())
 }
 
 // Appends the line of a gap.
@@ -130,7 +140,7 @@ fn put_transaction(text: &mut Vec<u8>, shown: &TxLine) -> Result<(), AllocError>
     text.extend_from_slice(shown.tx().text().as_bytes())?;
     put_events(text, shown)?;
     put_completeness(text, shown)?;
-    put_flow(text, shown.flow())
+    put_flows(text, shown.flow(), shown.export())
 }
 
 // Appends the lines of gaps.

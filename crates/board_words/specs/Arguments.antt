@@ -1,12 +1,16 @@
 -- What the program can be asked to do, and what its words ask for.
-use Rattle.std.specs.Prelude.{◌≡◌, ℕ, ◌<◌, ◌≤◌, ◌^◌, ⊤, List, [], None, Some, codes, nat_lt, if◌then◌else◌, option_map, unwrap_or}
+use Rattle.std.specs.Prelude.{◌≡◌, ℕ, ◌<◌, ◌≤◌, ◌^◌, ⊤, Bool, true, false, List, [], Option, None, Some, codes, nat_lt, if◌then◌else◌, option_map, unwrap_or}
 use Rattle.core.specs.Str.Parse.{IsNumeral, digits_value, without_leading_plus}
 use Rattle.clap.specs.Matches.{matched_of, one_text, raw_values}
 use Rattle.clap.specs.declared.parser.matches.Found.{Found}
+use Rattle.std.specs.declared.result.Result.{Result}
+use Rattle.site_desk.specs.declared.plan.Plan.{Plan}
 use Rattle.board_words.specs.declared.asked.Asked.{Asked}
-use Rattle.board_words.specs.declared.asked.Asked.TheVariants.{Replay, Serve, Simulate}
+use Rattle.board_words.specs.declared.asked.Asked.TheVariants.{Replay, Serve, ServeLive, Simulate}
+use Rattle.live_server.specs.declared.service.Live.{Live}
 use Rattle.ledger_model.specs.Quarter.{IsPeriod, default_period}
 use Rattle.board_words.specs.StationWords.{AnswersWords}
+use Rattle.board_words.specs.declared.station_words.WordFault.{WordFault}
 use Rattle.site_server.specs.declared.service.Service.{Service}
 use Rattle.simulated_station.specs.Sim.{IsSimulated}
 
@@ -14,6 +18,7 @@ use Rattle.simulated_station.specs.Sim.{IsSimulated}
 abbrev pub IsAskable : Asked → Type 0
 IsAskable Replay = ⊤
 IsAskable (Serve plan service) = (1 ≤ service.connections) × (service.connections ≤ 64)
+IsAskable (ServeLive plan live) = ⊤
 IsAskable (Simulate stations events) = IsSimulated stations events
 
 -- An option gives this number: what its text says, where that is a decimal below this power of 2, and the other where it has no text.
@@ -28,7 +33,33 @@ pub record GivesWithin (found : Found) (option : List ℕ) (bits other least mos
   pub gives : Gives found option bits other given
   pub within : least ≤ given → given ≤ most → number ≡ given
 
--- What the options of `serve` ask for.
+-- A flag is set where it is used, and else not.
+pub record IsFlag (found : Found) (option : List ℕ) (flag : Bool) : Type 0 where
+  pub none : one_text found option ≡ None → flag ≡ false
+  pub set : one_text found option ≡ Some (codes "true") → flag ≡ true
+  pub unset : one_text found option ≡ Some (codes "false") → flag ≡ false
+
+-- An option gives a number where it has a text: what that says, where it is a decimal below this power of 2.
+pub record GivesSome (found : Found) (option : List ℕ) (bits : ℕ) (number : Option ℕ) : Type 0 where
+  pub read : (text : List ℕ) → one_text found option ≡ Some text → IsNumeral 10 (without_leading_plus text) → digits_value 10 (without_leading_plus text) < 2 ^ bits
+      → number ≡ Some (digits_value 10 (without_leading_plus text))
+  pub none : one_text found option ≡ None → number ≡ None
+
+-- What the options of `serve --live` ask for.
+pub record AsksLive (found : Found) (live : Live) : Type 0 where
+  pub port : Gives found (codes "port") 16 0 live.port
+  pub watch : Gives found (codes "watch") 16 0 live.glances
+  pub log : IsFlag found (codes "log") live.is_logged
+  pub boards : GivesSome found (codes "board-port") 16 live.board_port
+
+-- A server that lives is asked for.
+abbrev pub is_live : Asked → Bool
+is_live Replay = false
+is_live (Serve plan service) = false
+is_live (ServeLive plan live) = true
+is_live (Simulate stations events) = false
+
+-- What the options of `serve` ask for where it does not live.
 pub record AsksService (found : Found) (service : Service) : Type 0 where
   pub port : Gives found (codes "port") 16 0 service.port
   pub connections : GivesWithin found (codes "connections") 8 1 1 64 service.connections
@@ -44,14 +75,20 @@ pub record AsksPeriod (found : Found) (period : ℕ) : Type 0 where
 abbrev pub words_of : Found → List (List ℕ)
 words_of found = unwrap_or (option_map raw_values (matched_of found (codes "stations"))) []
 
--- A server is asked for with the plan of its words, in which each site has the settlement period that is asked for, and a viewer where its totals are watched.
+-- The plan of a server is that of its words, in which each site has the settlement period that is asked for, and a viewer where its totals are watched.
+abbrev pub AsksPlan : Found → ℕ → Result Plan WordFault → Type 0
+AsksPlan found glances plan = (period : ℕ) × (AsksPeriod found period × AnswersWords plan (if nat_lt 0 glances then 1 else 0) period (words_of found))
+
+-- A server is asked for with what its options say, and the plan of its words.
 abbrev pub AsksServe : Found → Asked → Type 0
 AsksServe found Replay = ⊥
-AsksServe found (Serve plan service) = AsksService found service × (period : ℕ) × (AsksPeriod found period × AnswersWords plan (if nat_lt 0 service.glances then 1 else 0) period (words_of found))
+AsksServe found (Serve plan service) = AsksService found service × AsksPlan found service.glances plan
+AsksServe found (ServeLive plan live) = AsksLive found live × AsksPlan found live.glances plan
 AsksServe found (Simulate stations events) = ⊥
 
 -- A simulation is asked for.
 abbrev pub AsksSimulate : Found → Asked → Type 0
 AsksSimulate found Replay = ⊥
 AsksSimulate found (Serve plan service) = ⊥
+AsksSimulate found (ServeLive plan live) = ⊥
 AsksSimulate found (Simulate stations events) = GivesWithin found (codes "stations") 16 2 1 64 stations × GivesWithin found (codes "events") 32 3 2 64 events

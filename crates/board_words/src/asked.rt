@@ -1,11 +1,12 @@
 //! What the options of a command ask for.
-ghost use Rattle.std.specs.Prelude.{◌≤◌};
+ghost use Rattle.std.specs.Prelude.{◌≤◌, codes};
 ghost use Rattle.clap.specs.Matches.{found_of};
-ghost use Rattle.board_words.specs.Arguments.{AsksPeriod, AsksServe, AsksService, AsksSimulate, IsAskable};
+ghost use Rattle.board_words.specs.Arguments.{AsksLive, AsksPeriod, AsksPlan, AsksServe, AsksService, AsksSimulate, IsAskable, IsFlag, is_live};
 
 use crate::station_words::{WordFault, plan_of};
 use clap::ArgMatches;
 use ledger_model::{MAX_STATIONS, Period};
+use live_server::Live;
 use site_desk::Plan;
 use site_server::{MAX_CONNECTIONS, MAX_SIMULATED_EVENTS, Service};
 
@@ -18,6 +19,8 @@ pub enum Asked<'a> {
     Replay,
     /// To serve the stations of a plan, over 1 to 64 connections; or what is wrong with their words.
     Serve(Result<Plan, WordFault<'a>>, Service),
+    /// To serve the stations of a plan for as long as an operator's lines come; or what is wrong with their words.
+    ServeLive(Result<Plan, WordFault<'a>>, Live),
     /// To play so many simulated stations, 1 to 64, each with so many events, 2 to 64.
     Simulate(u16, u32),
 }
@@ -26,12 +29,39 @@ pub enum Asked<'a> {
 pub fn serve_asked<'a>(matches: &ArgMatches<'a>) -> Asked<'a>
     ensures range { IsAskable result }
     ensures asked { AsksServe (found_of matches.now) result }
+    ensures lives { IsFlag (found_of matches.now) (codes "live") (is_live result) }
 {
-    let service = service_of(matches);
+    if matches.get_flag("live") {
+        let live = live_of(matches);
+        Asked::ServeLive(plan_asked(matches, live.glances), live)
+    } else {
+        let service = service_of(matches);
+        Asked::Serve(plan_asked(matches, service.glances), service)
+    }
+}
+
+// The plan of the words of `serve`, with a viewer for each site where its totals are glanced at so often.
+fn plan_asked<'a>(matches: &ArgMatches<'a>, glances: u16) -> Result<Plan, WordFault<'a>>
+    ensures { AsksPlan (found_of matches.now) glances result }
+{
     let words = matches.get_strs("stations").unwrap_or(&[]);
-    let viewers = if service.glances > 0 { 1 } else { 0 };
-    let period = period_of(matches);
-    Asked::Serve(plan_of(words, viewers, period), service)
+    let viewers = if glances > 0 { 1 } else { 0 };
+    plan_of(words, viewers, period_of(matches))
+}
+
+/// What the options of `serve --live` ask for.
+pub fn live_of(matches: &ArgMatches<'_>) -> Live
+    ensures { AsksLive (found_of matches.now) result }
+{
+    let port = matches.get_one::<u16>("port");
+    let watch = matches.get_one::<u16>("watch");
+    let glances = watch.unwrap_or(0);
+    Live {
+        port: port.unwrap_or(0),
+        glances,
+        is_logged: matches.get_flag("log"),
+        board_port: matches.get_one::<u16>("board-port"),
+    }
 }
 
 /// What the options of `serve` ask for. The number of connections is in range already, which the checker sees by

@@ -7,5 +7,7 @@
 mod asked;
 mod station_words;
 
-pub use asked::{Asked, MAX_SIMULATED_STATIONS, period_of, serve_asked, service_of, sim_asked};
+pub use asked::{
+    Asked, MAX_SIMULATED_STATIONS, live_of, period_of, serve_asked, service_of, sim_asked,
+};
 pub use station_words::{WordFault, plan_of, station_word};

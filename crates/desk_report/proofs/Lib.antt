@@ -1,2 +1,3 @@
 pub mod SiteBoards
 pub mod ClosedSites
+pub mod RunningBoards

@@ -16,6 +16,8 @@
 
 mod boards;
 mod closed;
+mod running;
 
 pub use boards::site_text;
 pub use closed::{BoardsFault, closed_board, write_boards, write_out};
+pub use running::running_board;

@@ -1,12 +1,13 @@
 -- What chains know before an operation.
-use Rattle.std.proofs.Common.{◌≡◌, ℕ, zero, suc, ◌+◌, ◌<◌, ◌≤◌, ◌^◌, ◌==◌, nat_lt, nat_le, Bool, true, false, not, cond, ◌&&◌, List, [], ◌∷◌, Option, Some, None, is_some, length, sum_by, replicate, refl, sym, ap, ◌∙◌, subst, arith, inl, inr, le-leb, leb-true}
+use Rattle.std.proofs.Common.{◌≡◌, ℕ, zero, suc, ◌+◌, ◌<◌, ◌≤◌, ◌^◌, nat_lt, nat_le, Bool, true, false, not, cond, ◌&&◌, List, [], ◌∷◌, Option, Some, None, is_some, length, sum_by, replicate, refl, sym, ap, ◌∙◌, subst, arith, inl, inr, le-leb, leb-true}
 use Rattle.std.specs.Str.{bytes_eq}
 use Rattle.std.specs.FinMap as finite
 use Rattle.std.specs.FinMap.{FinMap}
 use Rattle.std.proofs.lemmas.Bool.{cases_lt}
 use Rattle.std.proofs.lemmas.List.{length-map, length-replicate}
-use Rattle.std.proofs.lemmas.Bool.Decides.{Decides-ltb, Decides-eqb}
+use Rattle.std.proofs.lemmas.Bool.Decides.{Decides-ltb}
 use Rattle.std.proofs.lemmas.List.Sums.{sum_by-cons}
+use Rattle.ledger_model.specs.declared.reading.Direction.{Direction}
 use Rattle.slot_arena.specs.Arena.{held_count}
 use Rattle.key_index.specs.Key.{rank}
 use Rattle.event_chain.specs.Placed.{Index, index}
@@ -33,16 +34,16 @@ use Rattle.event_chain.proofs.Figures.{known_figures}
 use Rattle.event_chain.proofs.Ids.{ids_flat, has_flat}
 
 -- Chains of equal parts.
-pub seal : (limits : Bounds) (t : Table) (s : Slots) (st l c n : Index) (rows : List Row) (transactions : ℕ) (slots : List (Option Held)) (readings room : ℕ) (es le ce ne : List Place) (events : ℕ)
-    → t.rows ≡ rows → t.capacity ≡ transactions → s.slots ≡ slots → s.readings ≡ readings → s.capacity ≡ room → st.entries ≡ es → l.entries ≡ le → c.entries ≡ ce → n.entries ≡ ne → st.capacity ≡ events → l.capacity ≡ events → c.capacity ≡ events → n.capacity ≡ events
-    → IsChains limits (record { rows = rows; capacity = transactions }) (record { slots = slots; readings = readings; capacity = room }) (index es events) (index le events) (index ce events) (index ne events) → IsChains limits t s st l c n
+pub seal : (limits : Bounds) (t : Table) (s : Slots) (st l : Index) (c : Direction → Index) (n : Index) (rows : List Row) (transactions : ℕ) (slots : List (Option Held)) (readings room : ℕ) (es le : List Place) (ce : Direction → List Place) (ne : List Place) (events : ℕ)
+    → t.rows ≡ rows → t.capacity ≡ transactions → s.slots ≡ slots → s.readings ≡ readings → s.capacity ≡ room → st.entries ≡ es → l.entries ≡ le → ((d : Direction) → (c d).entries ≡ ce d) → n.entries ≡ ne → st.capacity ≡ events → l.capacity ≡ events → ((d : Direction) → (c d).capacity ≡ events) → n.capacity ≡ events
+    → IsChains limits (record { rows = rows; capacity = transactions }) (record { slots = slots; readings = readings; capacity = room }) (index es events) (index le events) (λ d. index (ce d) events) (index ne events) → IsChains limits t s st l c n
 seal limits t s st l c n rows transactions slots readings room es le ce ne events tr tc ss sr sc ste le_is ce_is ne_is stc lc cc_is nc h =
     subst (λ (x : Table). IsChains limits x s st l c n) (sym (λ i. record { rows = tr i; capacity = tc i }))
     (subst (λ (x : Slots). IsChains limits (record { rows = rows; capacity = transactions }) x st l c n) (sym (λ i. record { slots = ss i; readings = sr i; capacity = sc i }))
     (subst (λ (x : Index). IsChains limits (record { rows = rows; capacity = transactions }) (record { slots = slots; readings = readings; capacity = room }) x l c n) (sym (λ i. record { entries = ste i; capacity = stc i }))
     (subst (λ (x : Index). IsChains limits (record { rows = rows; capacity = transactions }) (record { slots = slots; readings = readings; capacity = room }) (index es events) x c n) (sym (λ i. record { entries = le_is i; capacity = lc i }))
-    (subst (λ (x : Index). IsChains limits (record { rows = rows; capacity = transactions }) (record { slots = slots; readings = readings; capacity = room }) (index es events) (index le events) x n) (sym (λ i. record { entries = ce_is i; capacity = cc_is i }))
-    (subst (λ (x : Index). IsChains limits (record { rows = rows; capacity = transactions }) (record { slots = slots; readings = readings; capacity = room }) (index es events) (index le events) (index ce events) x) (sym (λ i. record { entries = ne_is i; capacity = nc i })) h)))))
+    (subst (λ (x : Direction → Index). IsChains limits (record { rows = rows; capacity = transactions }) (record { slots = slots; readings = readings; capacity = room }) (index es events) (index le events) x n) (sym (λ i d. record { entries = ce_is d i; capacity = cc_is d i }))
+    (subst (λ (x : Index). IsChains limits (record { rows = rows; capacity = transactions }) (record { slots = slots; readings = readings; capacity = room }) (index es events) (index le events) (λ d. index (ce d) events) x) (sym (λ i. record { entries = ne_is i; capacity = nc i })) h)))))
 
 -- No limit is reached.
 fits_all : (a b c : Bool) → cond a NoTransaction (cond b NoEvent (cond c NoReading Fits)) ≡ Fits → (a ≡ false) × ((b ≡ false) × (c ≡ false))
@@ -78,11 +79,6 @@ entered_named rows mid tx row entered = record {
   known = elim entered [ inl was ↦ inl was.0 | inr fresh ↦ inr fresh.0 ];
 }
 
--- Whether there are readings.
-pub some_readings : (n : ℕ) → not (n == 0) ≡ nat_lt 0 n
-some_readings zero = refl
-some_readings (suc n) = ap not (not_so _ (Decides-eqb (suc n) 0) (λ e. absurd (omega arith))) ∙ sym ((Decides-ltb 0 (suc n)).1 (omega arith))
-
 -- A found event is live or voided as it is marked.
 pub found_live : (o : Option Stored) → found_of o ≡ Some Live → (s : Stored) × ((o ≡ Some s) × (s.voided ≡ false))
 found_live None h = cc
@@ -93,7 +89,7 @@ pub found_voided : (o : Option Stored) → found_of o ≡ Some Voided → (s : S
 found_voided None h = cc
 found_voided (Some s) h = elim s.voided as (λ v. s.voided ≡ v → Some (cond v Voided Live) ≡ Some Voided → (t : Stored) × ((Some s ≡ Some t) × (t.voided ≡ true))) [ false ↦ λ _ f. cc | true ↦ λ e _. (s, (refl, e)) ] refl h
 
-module _ (limits : Bounds) (table : Table) (store : Slots) (stored live carriers naming : Index) (chains : IsChains limits table store stored live carriers naming) where
+module _ (limits : Bounds) (table : Table) (store : Slots) (stored live : Index) (carriers : Direction → Index) (naming : Index) (chains : IsChains limits table store stored live carriers naming) where
   -- All events.
   abbrev all : List Entry
   all = flat table.rows stored.entries store.slots
@@ -183,13 +179,13 @@ none_held zero = refl
 none_held (suc n) = omega (arith, sum_by-cons (λ (o : Option Held). cond {A = ℕ} (is_some o) 1 0) None (replicate n None), none_held n)
 
 -- Chains without events.
-pub opened_chains : (limits : Bounds) → limits.events ≤ 65536 → IsChains limits (record { rows = []; capacity = limits.transactions }) (record { slots = replicate limits.events None; readings = 0; capacity = limits.readings }) (index [] limits.events) (index [] limits.events) (index [] limits.events) (index [] limits.events)
+pub opened_chains : (limits : Bounds) → limits.events ≤ 65536 → IsChains limits (record { rows = []; capacity = limits.transactions }) (record { slots = replicate limits.events None; readings = 0; capacity = limits.readings }) (index [] limits.events) (index [] limits.events) (λ _. index [] limits.events) (index [] limits.events)
 opened_chains limits few = record {
   keyed = record { rising = tt; apart = λ tx other a b at there same. cc; ranks = tt; homes = λ r s is. absurd (no_place r s is); filled = λ tx row is. absurd (no_row tx row is) };
-  indexed = record { lives = record { rising = tt; each = λ r. refl }; carry = record { rising = tt; each = λ r. refl }; names = record { rising = tt; each = λ r. refl } };
+  indexed = record { lives = record { rising = tt; each = λ r. refl }; carry = λ d. record { rising = tt; each = λ r. refl }; names = record { rising = tt; each = λ r. refl } };
   figured = λ tx row is. absurd (no_row tx row is);
   counted = record { all_are = refl; held_are = none_held limits.events; readings_are = refl; transactions_are = refl; slots_are = length-replicate limits.events None; room_is = refl; events_few = few };
-  roomy = record { for_stored = refl; for_live = refl; for_carriers = refl; for_naming = refl };
+  roomy = record { for_stored = refl; for_live = refl; for_carriers = λ d. refl; for_naming = refl };
 } where
   no_place : (r s : ℕ) → place_of r [] ≡ Some s → ⊥
   no_place r s is = cc

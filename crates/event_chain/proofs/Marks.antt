@@ -3,6 +3,9 @@ use Rattle.std.proofs.Common.{◌≡◌, ℕ, zero, suc, ◌+◌, ◌<◌, ◌�
 use Rattle.std.proofs.lemmas.List.Sums.{count_by-le-length}
 use Rattle.std.specs.FinMap as finite
 use Rattle.std.specs.FinMap.{find}
+use Rattle.ledger_model.specs.Deltas.{first_reading}
+use Rattle.ledger_model.specs.Event.{toward}
+use Rattle.ledger_model.specs.declared.reading.Direction.{Direction}
 use Rattle.slot_arena.specs.Arena.{value_at}
 use Rattle.key_index.specs.Key.{rank}
 use Rattle.event_chain.specs.Placed.{Index}
@@ -43,7 +46,7 @@ some_place : (slots : List (Option Held)) (o : Option ℕ) (s : Stored) → even
 some_place slots None s h = cc
 some_place slots (Some n) s h = refl
 
-module _ (limits : Bounds) (table : Table) (store : Slots) (stored live carriers naming : Index) (chains : IsChains limits table store stored live carriers naming) (key : KeyName) where
+module _ (limits : Bounds) (table : Table) (store : Slots) (stored live : Index) (carriers : Direction → Index) (naming : Index) (chains : IsChains limits table store stored live carriers naming) (key : KeyName) where
   -- A key that is found has a place.
   pub is_placed : (s : Stored) → finite.get (events_of table store stored) key ≡ Some s → is_some (place_at table.rows stored.entries key) ≡ true
   is_placed s is = some_place store.slots (place_at table.rows stored.entries key) s (sym (get_place limits table store stored live carriers naming chains key) ∙ is)
@@ -128,34 +131,34 @@ module _ (limits : Bounds) (table : Table) (store : Slots) (stored live carriers
       -- An index that takes the place.
       spot_in : (test : Stored → Bool) (sub is' : List Place) (b : Bool) → is' ≡ put_if b r0 s0 sub → b ≡ test now → test spot_event ≡ false → IsSub test stored.entries store.slots sub → IsSub test stored.entries held is'
       spot_in test sub is' b is b_is never was = subst (IsSub test stored.entries held) (sym is)
-          (mark_in limits table.rows new stored.entries live.entries carriers.entries naming.entries store.slots key row after r0 s0 table.capacity store.readings store.capacity chains.keyed chains.indexed chains.figured chains.counted named_now number rank_is rising apart
+          (mark_in limits table.rows new stored.entries live.entries (λ d. (carriers d).entries) naming.entries store.slots key row after r0 s0 table.capacity store.readings store.capacity chains.keyed chains.indexed chains.figured chains.counted named_now number rank_is rising apart
           spot_event now spot_here spot_within at test sub b b_is never was)
 
       -- An index that gives the place up.
       spot_out : (test : Stored → Bool) (sub is' : List Place) → is' ≡ out r0 sub → test now ≡ false → IsSub test stored.entries store.slots sub → IsSub test stored.entries held is'
       spot_out test sub is' is never was = subst (IsSub test stored.entries held) (sym is)
-          (mark_out limits table.rows new stored.entries live.entries carriers.entries naming.entries store.slots key row after r0 s0 table.capacity store.readings store.capacity chains.keyed chains.indexed chains.figured chains.counted named_now number rank_is rising apart
+          (mark_out limits table.rows new stored.entries live.entries (λ d. (carriers d).entries) naming.entries store.slots key row after r0 s0 table.capacity store.readings store.capacity chains.keyed chains.indexed chains.figured chains.counted named_now number rank_is rising apart
           spot_event now spot_here spot_within at test sub never was)
 
       -- The indexes of an event that is live again.
-      pub in_indexes : (l c n : List Place) (carries names : Bool) → voided ≡ false → spot_event.voided ≡ true → l ≡ put_if true r0 s0 live.entries → c ≡ put_if carries r0 s0 carriers.entries → n ≡ put_if names r0 s0 naming.entries
-          → carries ≡ nat_lt 0 (length spot_event.event.readings) → names ≡ is_some spot_event.event.evse → AreIndexed stored.entries held l c n
+      pub in_indexes : (l : List Place) (c : Direction → List Place) (n : List Place) (carries : Direction → Bool) (names : Bool) → voided ≡ false → spot_event.voided ≡ true → l ≡ put_if true r0 s0 live.entries → ((d : Direction) → c d ≡ put_if (carries d) r0 s0 (carriers d).entries) → n ≡ put_if names r0 s0 naming.entries
+          → ((d : Direction) → carries d ≡ is_some (first_reading (toward d spot_event.event.readings))) → names ≡ is_some spot_event.event.evse → AreIndexed stored.entries held l c n
       in_indexes l c n carries names no_more was l_is c_is n_is carries_is names_is = record {
         lives = spot_in is_live live.entries l true l_is (sym (ap not no_more)) (ap not was) chains.indexed.lives;
-        carry = spot_in is_carrier carriers.entries c carries c_is (carries_is ∙ sym (ap (λ v. not v && nat_lt 0 (length spot_event.event.readings)) no_more)) (ap (λ v. not v && nat_lt 0 (length spot_event.event.readings)) was) chains.indexed.carry;
+        carry = λ d. spot_in (is_carrier d) (carriers d).entries (c d) (carries d) (c_is d) (carries_is d ∙ sym (ap (λ v. not v && is_some (first_reading (toward d spot_event.event.readings))) no_more)) (ap (λ v. not v && is_some (first_reading (toward d spot_event.event.readings))) was) (chains.indexed.carry d);
         names = spot_in is_naming naming.entries n names n_is (names_is ∙ sym (ap (λ v. not v && is_some spot_event.event.evse) no_more)) (ap (λ v. not v && is_some spot_event.event.evse) was) chains.indexed.names;
       }
 
       -- The indexes of an event that was voided.
-      pub out_indexes : (l c n : List Place) → voided ≡ true → l ≡ out r0 live.entries → c ≡ out r0 carriers.entries → n ≡ out r0 naming.entries → AreIndexed stored.entries held l c n
+      pub out_indexes : (l : List Place) (c : Direction → List Place) (n : List Place) → voided ≡ true → l ≡ out r0 live.entries → ((d : Direction) → c d ≡ out r0 (carriers d).entries) → n ≡ out r0 naming.entries → AreIndexed stored.entries held l c n
       out_indexes l c n now_void l_is c_is n_is = record {
         lives = spot_out is_live live.entries l l_is (ap not now_void) chains.indexed.lives;
-        carry = spot_out is_carrier carriers.entries c c_is (ap (λ v. not v && nat_lt 0 (length spot_event.event.readings)) now_void) chains.indexed.carry;
+        carry = λ d. spot_out (is_carrier d) (carriers d).entries (c d) (c_is d) (ap (λ v. not v && is_some (first_reading (toward d spot_event.event.readings))) now_void) (chains.indexed.carry d);
         names = spot_out is_naming naming.entries n n_is (ap (λ v. not v && is_some spot_event.event.evse) now_void) chains.indexed.names;
       }
 
     -- What a mark did to each part.
-    pub record Marked (t : Table) (s : Slots) (l c n : Index) (after : TableRow) (voided : Bool) : Type 0 where
+    pub record Marked (t : Table) (s : Slots) (l : Index) (c : Direction → Index) (n : Index) (after : TableRow) (voided : Bool) : Type 0 where
       pub rows : t.rows ≡ with_row key.tx after table.rows
       pub transactions : t.capacity ≡ table.capacity
       pub rising : AreRising t.rows
@@ -163,15 +166,15 @@ module _ (limits : Bounds) (table : Table) (store : Slots) (stored live carriers
       pub slots : s.slots ≡ voided_at store.slots s0 voided
       pub readings : s.readings ≡ store.readings
       pub room : s.capacity ≡ store.capacity
-      pub indexes : AreIndexed stored.entries (set store.slots s0 (Some (r0, record { event = spot_event.event; voided = voided }))) l.entries c.entries n.entries
+      pub indexes : AreIndexed stored.entries (set store.slots s0 (Some (r0, record { event = spot_event.event; voided = voided }))) l.entries (λ d. (c d).entries) n.entries
       pub live_cap : l.capacity ≡ live.capacity
-      pub carriers_cap : c.capacity ≡ carriers.capacity
+      pub carriers_cap : (d : Direction) → (c d).capacity ≡ (carriers d).capacity
       pub naming_cap : n.capacity ≡ naming.capacity
       pub same : after.slot ≡ row.slot
       pub lives : after.live + cond (not spot_event.voided) 1 0 ≡ row.live + cond (not voided) 1 0
       pub ends : after.ends + cond (not spot_event.voided && is_end spot_event.event.kind) 1 0 ≡ row.ends + cond (not voided && is_end spot_event.event.kind) 1 0
 
-    module _ (t : Table) (s : Slots) (l c n : Index) (after : TableRow) (voided : Bool) (did : Marked t s l c n after voided) where
+    module _ (t : Table) (s : Slots) (l : Index) (c : Direction → Index) (n : Index) (after : TableRow) (voided : Bool) (did : Marked t s l c n after voided) where
       abbrev st : Stored
       st = record { event = spot_event.event; voided = voided }
 
@@ -184,21 +187,21 @@ module _ (limits : Bounds) (table : Table) (store : Slots) (stored live carriers
       -- Chains are kept.
       pub marked_chains : IsChains limits t s stored l c n
       marked_chains = let r = chains.roomy in
-          seal limits t s stored l c n t.rows table.capacity (set store.slots s0 (Some (r0, st))) store.readings store.capacity stored.entries l.entries c.entries n.entries limits.events
-          refl did.transactions slots_are did.readings did.room refl refl refl refl r.for_stored (did.live_cap ∙ r.for_live) (did.carriers_cap ∙ r.for_carriers) (did.naming_cap ∙ r.for_naming)
-          (mark_chains limits table.rows t.rows stored.entries live.entries carriers.entries naming.entries store.slots key row after r0 s0 table.capacity store.readings store.capacity chains.keyed chains.indexed chains.figured chains.counted named number rank_is did.rising did.apart
-          spot_event st spot_here spot_within at l.entries c.entries n.entries did.indexes refl did.lives did.ends (record { for_stored = refl; for_live = refl; for_carriers = refl; for_naming = refl }))
+          seal limits t s stored l c n t.rows table.capacity (set store.slots s0 (Some (r0, st))) store.readings store.capacity stored.entries l.entries (λ d. (c d).entries) n.entries limits.events
+          refl did.transactions slots_are did.readings did.room refl refl (λ d. refl) refl r.for_stored (did.live_cap ∙ r.for_live) (λ d. did.carriers_cap d ∙ r.for_carriers d) (did.naming_cap ∙ r.for_naming)
+          (mark_chains limits table.rows t.rows stored.entries live.entries (λ d. (carriers d).entries) naming.entries store.slots key row after r0 s0 table.capacity store.readings store.capacity chains.keyed chains.indexed chains.figured chains.counted named number rank_is did.rising did.apart
+          spot_event st spot_here spot_within at l.entries (λ d. (c d).entries) n.entries did.indexes refl did.lives did.ends (record { for_stored = refl; for_live = refl; for_carriers = λ d. refl; for_naming = refl }))
 
       -- The event was marked.
       pub marked_events : events_of t s stored ≡ marked (events_of table store stored) key voided
       marked_events =
           (λ i. finite.from_sorted {R = key_cmp} (flat t.rows stored.entries (slots_are i)))
           ∙ map_put all (flat t.rows stored.entries (set store.slots s0 (Some (r0, st)))) key st (all_rising limits table store stored live carriers naming chains)
-          (mark_all limits table.rows t.rows stored.entries live.entries carriers.entries naming.entries store.slots key row after r0 s0 table.capacity store.readings store.capacity chains.keyed chains.indexed chains.figured chains.counted named number rank_is did.rising did.apart
+          (mark_all limits table.rows t.rows stored.entries live.entries (λ d. (carriers d).entries) naming.entries store.slots key row after r0 s0 table.capacity store.readings store.capacity chains.keyed chains.indexed chains.figured chains.counted named number rank_is did.rising did.apart
           spot_event st spot_here spot_within at)
           ∙ sym (ap (marked_at (events_of table store stored) key voided) spot_get)
 
-module _ (limits : Bounds) (table : Table) (store : Slots) (stored live carriers naming : Index) (chains : IsChains limits table store stored live carriers naming) (key : KeyName) (s0 : ℕ) where
+module _ (limits : Bounds) (table : Table) (store : Slots) (stored live : Index) (carriers : Direction → Index) (naming : Index) (chains : IsChains limits table store stored live carriers naming) (key : KeyName) (s0 : ℕ) where
   -- The slot of a key's place holds an event.
   pub held_place : place_at table.rows stored.entries key ≡ Some s0 → is_some (value_at store.slots s0) ≡ true
   held_place is = found (row_of key.tx table.rows) is where

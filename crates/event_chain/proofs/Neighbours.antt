@@ -1,13 +1,13 @@
 -- The readings on either side of a key's place, by the places of the live events that have readings.
-use Rattle.std.proofs.Common.{◌≡◌, ℕ, suc, ◌-◌, ◌<◌, ◌/◌, ◌%◌, ◌^◌, ◌==◌, nat_lt, Bool, true, false, not, cond, ◌&&◌, List, [], ◌∷◌, ◌++◌, Option, Some, None, length, map, slice_get, refl, sym, ap, ◌∙◌, arith, append-nil, length-append}
+use Rattle.std.proofs.Common.{◌≡◌, ℕ, suc, ◌-◌, ◌<◌, ◌/◌, ◌%◌, ◌^◌, ◌==◌, nat_lt, Bool, true, false, not, cond, ◌&&◌, List, [], ◌∷◌, ◌++◌, Option, Some, None, is_some, length, map, slice_get, refl, sym, ap, ◌∙◌, arith, append-nil, length-append}
 use Rattle.std.specs.List.{filter, flat_map}
 use Rattle.std.specs.Str.{bytes_eq}
-use Rattle.std.proofs.lemmas.Bool.Decides.{Decides-ltb}
 use Rattle.slot_arena.specs.Arena.{IsHeld}
 use Rattle.event_chain.specs.Ranked.{last_of}
 use Rattle.key_index.specs.Key.{rank, slot_back}
 use Rattle.ledger_model.specs.Key.{KeyName}
-use Rattle.ledger_model.specs.Event.{MeterReading}
+use Rattle.ledger_model.specs.declared.reading.Direction.{Direction}
+use Rattle.ledger_model.specs.Event.{MeterReading, toward}
 use Rattle.ledger_model.specs.Content.{Entry, Stored}
 use Rattle.ledger_model.specs.Deltas.{first_reading, last_reading, own_readings, before_key, behind_key}
 use Rattle.ledger_model.proofs.Callers.{own_before_key, own_behind_key}
@@ -22,136 +22,141 @@ use Rattle.event_chain.proofs.Places.{last_cons}
 use Rattle.event_chain.proofs.Members.{AllPlaces, all_left, all_chosen, all_held, stored_first, stored_last}
 use Rattle.event_chain.proofs.Cuts.{map_cut, less_rank, more_rank}
 
--- The readings of an entry.
-abbrev readings_of : Entry → List MeterReading
-readings_of e = e.1.event.readings
+module _ (d : Direction) where
+  -- The readings of an entry.
+  abbrev readings_of : Entry → List MeterReading
+  readings_of e = toward d e.1.event.readings
 
--- The event of the place has a reading.
-abbrev HasReading : List (Option Held) → Place → Type 0
-HasReading slots p = 0 < length (stored_at slots p.1).event.readings
+  -- The event of the place has a reading.
+  abbrev HasReading : List (Option Held) → Place → Type 0
+  HasReading slots p = 0 < length (toward d (stored_at slots p.1).event.readings)
 
--- An event that carries has a reading.
-carries_some : (s : Stored) → is_carrier s ≡ true → 0 < length s.event.readings
-carries_some s is = (Decides-ltb 0 (length s.event.readings)).0 (both (not s.voided) (nat_lt 0 (length s.event.readings)) is) where
-  both : (a b : Bool) → (a && b) ≡ true → b ≡ true
-  both true b h = h
-  both false b h = cc
+  -- Readings of which there is a first are some.
+  some_there : (rs : List MeterReading) → is_some (first_reading rs) ≡ true → 0 < length rs
+  some_there [] is = cc
+  some_there (r ∷ rs) is = omega arith
 
--- The events of all places have readings.
-all_carry : (slots : List (Option Held)) (ps : List Place) → AllPlaces (λ p. is_carrier (stored_at slots p.1) ≡ true) ps → AllPlaces (HasReading slots) ps
-all_carry slots [] h = tt
-all_carry slots (p ∷ ps) h = (carries_some (stored_at slots p.1) h.0, all_carry slots ps h.1)
+  -- An event that carries has a reading.
+  carries_some : (s : Stored) → is_carrier d s ≡ true → 0 < length (toward d s.event.readings)
+  carries_some s is = some_there (toward d s.event.readings) (both (not s.voided) (is_some (first_reading (toward d s.event.readings))) is) where
+    both : (a b : Bool) → (a && b) ≡ true → b ≡ true
+    both true b h = h
+    both false b h = cc
 
--- The first reading of two lists is that of the first, where it has one.
-first_front : (xs ys : List MeterReading) → 0 < length xs → first_reading (xs ++ ys) ≡ first_reading xs
-first_front [] ys some = absurd (omega arith)
-first_front (x ∷ xs) ys some = refl
+  -- The events of all places have readings.
+  all_carry : (slots : List (Option Held)) (ps : List Place) → AllPlaces (λ p. (is_carrier d) (stored_at slots p.1) ≡ true) ps → AllPlaces (HasReading slots) ps
+  all_carry slots [] h = tt
+  all_carry slots (p ∷ ps) h = (carries_some (stored_at slots p.1) h.0, all_carry slots ps h.1)
 
--- The last reading is that of the rest, where it has one.
-last_rest : (x : MeterReading) (xs : List MeterReading) → 0 < length xs → last_reading (x ∷ xs) ≡ last_reading xs
-last_rest x [] some = absurd (omega arith)
-last_rest x (y ∷ ys) some =
-    let a : length (x ∷ y ∷ ys) - 1 ≡ suc (length ys) = omega arith in let b : length (y ∷ ys) - 1 ≡ length ys = omega arith in
-    ap (slice_get (x ∷ y ∷ ys)) a ∙ sym (ap (slice_get (y ∷ ys)) b)
+  -- The first reading of two lists is that of the first, where it has one.
+  first_front : (xs ys : List MeterReading) → 0 < length xs → first_reading (xs ++ ys) ≡ first_reading xs
+  first_front [] ys some = absurd (omega arith)
+  first_front (x ∷ xs) ys some = refl
 
--- The last reading of two lists is that of the second, where it has one.
-last_back : (xs ys : List MeterReading) → 0 < length ys → last_reading (xs ++ ys) ≡ last_reading ys
-last_back [] ys some = refl
-last_back (x ∷ xs) ys some = last_rest x (xs ++ ys) (omega (arith, length-append xs ys)) ∙ last_back xs ys some
+  -- The last reading is that of the rest, where it has one.
+  last_rest : (x : MeterReading) (xs : List MeterReading) → 0 < length xs → last_reading (x ∷ xs) ≡ last_reading xs
+  last_rest x [] some = absurd (omega arith)
+  last_rest x (y ∷ ys) some =
+      let a : length (x ∷ y ∷ ys) - 1 ≡ suc (length ys) = omega arith in let b : length (y ∷ ys) - 1 ≡ length ys = omega arith in
+      ap (slice_get (x ∷ y ∷ ys)) a ∙ sym (ap (slice_get (y ∷ ys)) b)
 
--- The first reading of events that have one each.
-first_flat : (tx : List ℕ) (slots : List (Option Held)) (ps : List Place) → AllPlaces (HasReading slots) ps → first_reading (flat_map readings_of (map (entry_of tx slots) ps)) ≡ first_at slots (slice_get ps 0)
-first_flat tx slots [] h = refl
-first_flat tx slots (p ∷ ps) h = first_front (stored_at slots p.1).event.readings (flat_map readings_of (map (entry_of tx slots) ps)) h.0
+  -- The last reading of two lists is that of the second, where it has one.
+  last_back : (xs ys : List MeterReading) → 0 < length ys → last_reading (xs ++ ys) ≡ last_reading ys
+  last_back [] ys some = refl
+  last_back (x ∷ xs) ys some = last_rest x (xs ++ ys) (omega (arith, length-append xs ys)) ∙ last_back xs ys some
 
--- The last one.
-last_flat : (tx : List ℕ) (slots : List (Option Held)) (ps : List Place) → AllPlaces (HasReading slots) ps → last_reading (flat_map readings_of (map (entry_of tx slots) ps)) ≡ last_at slots (last_of ps)
-last_flat tx slots [] h = refl
-last_flat tx slots (p ∷ []) h = ap last_reading (append-nil (stored_at slots p.1).event.readings)
-last_flat tx slots (p ∷ q ∷ ps) h =
-    let more = flat_map readings_of (map (entry_of tx slots) ps) in let own = (stored_at slots q.1).event.readings in
-    last_back (stored_at slots p.1).event.readings (own ++ more) (omega (arith, length-append own more, h.1.0)) ∙ last_flat tx slots (q ∷ ps) h.1 ∙ ap (last_at slots) (sym (last_cons p q ps))
+  -- The first reading of events that have one each.
+  first_flat : (tx : List ℕ) (slots : List (Option Held)) (ps : List Place) → AllPlaces (HasReading slots) ps → first_reading (flat_map readings_of (map (entry_of tx slots) ps)) ≡ first_at slots d (slice_get ps 0)
+  first_flat tx slots [] h = refl
+  first_flat tx slots (p ∷ ps) h = first_front (toward d (stored_at slots p.1).event.readings) (flat_map readings_of (map (entry_of tx slots) ps)) h.0
 
--- One event more, which has no reading or carries.
-one_carrying : (f : Entry → Bool) (e : Entry) (mine voided : Bool) (rs : List MeterReading) → e.1.event.readings ≡ rs → (lives carries : List Entry) → flat_map readings_of (filter f lives) ≡ flat_map readings_of (filter f carries)
-    → flat_map readings_of (filter f (cond (mine && not voided) (e ∷ lives) lives)) ≡ flat_map readings_of (filter f (cond (mine && (not voided && nat_lt 0 (length rs))) (e ∷ carries) carries))
-one_carrying f e false voided rs is lives carries rest = rest
-one_carrying f e true true rs is lives carries rest = rest
-one_carrying f e true false [] is lives carries rest =
-    elim (f e) as (λ b. flat_map readings_of (cond b (e ∷ filter f lives) (filter f lives)) ≡ flat_map readings_of (filter f carries)) [ true ↦ ap (λ (xs : List MeterReading). xs ++ flat_map readings_of (filter f lives)) is ∙ rest | false ↦ rest ]
-one_carrying f e true false (r ∷ rs) is lives carries rest =
-    elim (f e) as (λ b. flat_map readings_of (cond b (e ∷ filter f lives) (filter f lives)) ≡ flat_map readings_of (cond b (e ∷ filter f carries) (filter f carries))) [ true ↦ ap (λ (xs : List MeterReading). readings_of e ++ xs) rest | false ↦ rest ]
-    ∙ sym (ap (λ b. flat_map readings_of (filter f (cond b (e ∷ carries) carries))) ((Decides-ltb 0 (length (r ∷ rs))).1 (omega arith)))
+  -- The last one.
+  last_flat : (tx : List ℕ) (slots : List (Option Held)) (ps : List Place) → AllPlaces (HasReading slots) ps → last_reading (flat_map readings_of (map (entry_of tx slots) ps)) ≡ last_at slots d (last_of ps)
+  last_flat tx slots [] h = refl
+  last_flat tx slots (p ∷ []) h = ap last_reading (append-nil (toward d (stored_at slots p.1).event.readings))
+  last_flat tx slots (p ∷ q ∷ ps) h =
+      let more = flat_map readings_of (map (entry_of tx slots) ps) in let own = toward d (stored_at slots q.1).event.readings in
+      last_back (toward d (stored_at slots p.1).event.readings) (own ++ more) (omega (arith, length-append own more, h.1.0)) ∙ last_flat tx slots (q ∷ ps) h.1 ∙ ap (last_at slots d) (sym (last_cons p q ps))
 
--- The readings of live events are those of the events that have any.
-carrying : (f : Entry → Bool) (tx : List ℕ) (es : List Entry) → flat_map readings_of (filter f (passing_of is_live tx es)) ≡ flat_map readings_of (filter f (passing_of is_carrier tx es))
-carrying f tx [] = refl
-carrying f tx (e ∷ es) = one_carrying f e (bytes_eq tx e.0.tx) e.1.voided e.1.event.readings refl (passing_of is_live tx es) (passing_of is_carrier tx es) (carrying f tx es)
+  -- One event more, which has no reading or carries.
+  one_carrying : (f : Entry → Bool) (e : Entry) (mine voided : Bool) (rs : List MeterReading) → toward d e.1.event.readings ≡ rs → (lives carries : List Entry) → flat_map readings_of (filter f lives) ≡ flat_map readings_of (filter f carries)
+      → flat_map readings_of (filter f (cond (mine && not voided) (e ∷ lives) lives)) ≡ flat_map readings_of (filter f (cond (mine && (not voided && is_some (first_reading rs))) (e ∷ carries) carries))
+  one_carrying f e false voided rs is lives carries rest = rest
+  one_carrying f e true true rs is lives carries rest = rest
+  one_carrying f e true false [] is lives carries rest =
+      elim (f e) as (λ b. flat_map readings_of (cond b (e ∷ filter f lives) (filter f lives)) ≡ flat_map readings_of (filter f carries)) [ true ↦ ap (λ (xs : List MeterReading). xs ++ flat_map readings_of (filter f lives)) is ∙ rest | false ↦ rest ]
+  one_carrying f e true false (r ∷ rs) is lives carries rest =
+      elim (f e) as (λ b. flat_map readings_of (cond b (e ∷ filter f lives) (filter f lives)) ≡ flat_map readings_of (cond b (e ∷ filter f carries) (filter f carries))) [ true ↦ ap (λ (xs : List MeterReading). readings_of e ++ xs) rest | false ↦ rest ]
 
-module _ (rows : List Row) (es carriers : List Place) (slots : List (Option Held)) (keyed : IsKeyed rows es slots) (sub : IsSub is_carrier es slots carriers) (key : KeyName) where
-  -- All events.
-  abbrev all : List Entry
-  all = flat rows es slots
+  -- The readings of live events are those of the events that have any.
+  carrying : (f : Entry → Bool) (tx : List ℕ) (es : List Entry) → flat_map readings_of (filter f (passing_of is_live tx es)) ≡ flat_map readings_of (filter f (passing_of (is_carrier d) tx es))
+  carrying f tx [] = refl
+  carrying f tx (e ∷ es) = one_carrying f e (bytes_eq tx e.0.tx) e.1.voided (toward d e.1.event.readings) refl (passing_of is_live tx es) (passing_of (is_carrier d) tx es) (carrying f tx es)
 
-  -- Live events that pass a test of their numbers, by their readings.
-  abbrev left : (ℕ → Bool) → List Entry → List MeterReading
-  left f xs = flat_map readings_of (filter (λ e. f e.0.seq) xs)
+  module _ (rows : List Row) (es carriers : List Place) (slots : List (Option Held)) (keyed : IsKeyed rows es slots) (sub : IsSub (is_carrier d) es slots carriers) (key : KeyName) where
+    -- All events.
+    abbrev all : List Entry
+    all = flat rows es slots
 
-  -- The readings in front of the key are those of live events of smaller numbers.
-  own_before : own_readings key.tx (before_key key all) ≡ left (λ n. nat_lt n key.seq) (passing_of is_live key.tx all)
-  own_before = ap (flat_map readings_of) (own_before_key key all) ∙ ap (left (λ n. nat_lt n key.seq)) (live_of_is key.tx all)
+    -- Live events that pass a test of their numbers, by their readings.
+    abbrev left : (ℕ → Bool) → List Entry → List MeterReading
+    left f xs = flat_map readings_of (filter (λ e. f e.0.seq) xs)
 
-  -- Those behind it are of greater ones.
-  own_behind : own_readings key.tx (behind_key key all) ≡ left (λ n. nat_lt key.seq n) (passing_of is_live key.tx all)
-  own_behind = ap (flat_map readings_of) (own_behind_key key all) ∙ ap (left (λ n. nat_lt key.seq n)) (live_of_is key.tx all)
+    -- The readings in front of the key are those of live events of smaller numbers.
+    own_before : own_readings d key.tx (before_key key all) ≡ left (λ n. nat_lt n key.seq) (passing_of is_live key.tx all)
+    own_before = ap (flat_map readings_of) (own_before_key key all) ∙ ap (left (λ n. nat_lt n key.seq)) (live_of_is key.tx all)
 
-  module _ (absent : row_of key.tx rows ≡ None) where
-    -- Of an absent transaction there is no reading in front.
-    pub none_before : last_reading (own_readings key.tx (before_key key all)) ≡ None
-    none_before = ap last_reading (own_before ∙ ap (left (λ n. nat_lt n key.seq)) (none_passing rows es slots keyed.rising keyed.ranks is_live key.tx absent))
+    -- Those behind it are of greater ones.
+    own_behind : own_readings d key.tx (behind_key key all) ≡ left (λ n. nat_lt key.seq n) (passing_of is_live key.tx all)
+    own_behind = ap (flat_map readings_of) (own_behind_key key all) ∙ ap (left (λ n. nat_lt key.seq n)) (live_of_is key.tx all)
 
-    -- And none behind.
-    pub none_behind : first_reading (own_readings key.tx (behind_key key all)) ≡ None
-    none_behind = ap first_reading (own_behind ∙ ap (left (λ n. nat_lt key.seq n)) (none_passing rows es slots keyed.rising keyed.ranks is_live key.tx absent))
+    module _ (absent : row_of key.tx rows ≡ None) where
+      -- Of an absent transaction there is no reading in front.
+      pub none_before : last_reading (own_readings d key.tx (before_key key all)) ≡ None
+      none_before = ap last_reading (own_before ∙ ap (left (λ n. nat_lt n key.seq)) (none_passing rows es slots keyed.rising keyed.ranks is_live key.tx absent))
 
-  module _ (row : TableRow) (r : ℕ) (row_is : row_of key.tx rows ≡ Some row) (number : key.seq < 2 ^ 31) (is : r ≡ rank row.slot key.seq) where
-    home : r / 2 ^ 31 ≡ row.slot
-    home = ap (λ k. k / 2 ^ 31) is ∙ slot_back row.slot key.seq number
+      -- And none behind.
+      pub none_behind : first_reading (own_readings d key.tx (behind_key key all)) ≡ None
+      none_behind = ap first_reading (own_behind ∙ ap (left (λ n. nat_lt key.seq n)) (none_passing rows es slots keyed.rising keyed.ranks is_live key.tx absent))
 
-    -- What holds of all places holds of those in front.
-    in_front : (P : Place → Type 0) → AllPlaces P carriers → AllPlaces P (places_before r carriers)
-    in_front P h = all_left P (λ e. nat_lt e.0 r) (segment (r / 2 ^ 31) carriers) (all_left P (λ e. e.0 / 2 ^ 31 == r / 2 ^ 31) carriers h)
+    module _ (row : TableRow) (r : ℕ) (row_is : row_of key.tx rows ≡ Some row) (number : key.seq < 2 ^ 31) (is : r ≡ rank row.slot key.seq) where
+      home : r / 2 ^ 31 ≡ row.slot
+      home = ap (λ k. k / 2 ^ 31) is ∙ slot_back row.slot key.seq number
 
-    -- And of those behind.
-    at_back : (P : Place → Type 0) → AllPlaces P carriers → AllPlaces P (places_behind r carriers)
-    at_back P h = all_left P (λ e. nat_lt r e.0) (segment (r / 2 ^ 31) carriers) (all_left P (λ e. e.0 / 2 ^ 31 == r / 2 ^ 31) carriers h)
+      -- What holds of all places holds of those in front.
+      in_front : (P : Place → Type 0) → AllPlaces P carriers → AllPlaces P (places_before r carriers)
+      in_front P h = all_left P (λ e. nat_lt e.0 r) (segment (r / 2 ^ 31) carriers) (all_left P (λ e. e.0 / 2 ^ 31 == r / 2 ^ 31) carriers h)
 
-    -- All places are those of events with readings.
-    carry : AllPlaces (HasReading slots) carriers
-    carry = all_carry slots carriers (all_chosen is_carrier es carriers slots sub)
+      -- And of those behind.
+      at_back : (P : Place → Type 0) → AllPlaces P carriers → AllPlaces P (places_behind r carriers)
+      at_back P h = all_left P (λ e. nat_lt r e.0) (segment (r / 2 ^ 31) carriers) (all_left P (λ e. e.0 / 2 ^ 31 == r / 2 ^ 31) carriers h)
 
-    -- The last place in front of the key is that of an event.
-    pub before_stored : IsStored slots (last_of (places_before r carriers))
-    before_stored = stored_last slots (places_before r carriers) (in_front (λ p. IsHeld slots p.1) (all_held is_carrier rows es carriers slots keyed sub))
+      -- All places are those of events with readings.
+      carry : AllPlaces (HasReading slots) carriers
+      carry = all_carry slots carriers (all_chosen (is_carrier d) es carriers slots sub)
 
-    -- The first place behind it is.
-    pub behind_stored : IsStored slots (slice_get (places_behind r carriers) 0)
-    behind_stored = stored_first slots (places_behind r carriers) (at_back (λ p. IsHeld slots p.1) (all_held is_carrier rows es carriers slots keyed sub))
+      -- The last place in front of the key is that of an event.
+      pub before_stored : IsStored slots (last_of (places_before r carriers))
+      before_stored = stored_last slots (places_before r carriers) (in_front (λ p. IsHeld slots p.1) (all_held (is_carrier d) rows es carriers slots keyed sub))
 
-    -- Events cut by their numbers, by the places cut at the key's rank.
-    cut : (f g : ℕ → Bool) → ((x : ℕ) → x / 2 ^ 31 ≡ row.slot → f (x % 2 ^ 31) ≡ g x) → left f (passing_of is_live key.tx all) ≡ flat_map readings_of (map (entry_of key.tx slots) (filter (λ e. g e.0) (segment (r / 2 ^ 31) carriers)))
-    cut f g same =
-        carrying (λ e. f e.0.seq) key.tx all ∙ ap (left f) (segment_passing rows es slots keyed.rising keyed.ranks is_carrier carriers sub key.tx row row_is)
-        ∙ ap (flat_map readings_of) (map_cut (entry_of key.tx slots) (λ e. f e.0.seq) g row.slot carriers (λ e at. same e.0 at)) ∙ ap (λ t. flat_map readings_of (map (entry_of key.tx slots) (filter (λ (e : Place). g e.0) (segment t carriers)))) (sym home)
+      -- The first place behind it is.
+      pub behind_stored : IsStored slots (slice_get (places_behind r carriers) 0)
+      behind_stored = stored_first slots (places_behind r carriers) (at_back (λ p. IsHeld slots p.1) (all_held (is_carrier d) rows es carriers slots keyed sub))
 
-    -- The last reading in front of the key.
-    pub before_is : last_reading (own_readings key.tx (before_key key all)) ≡ last_at slots (last_of (places_before r carriers))
-    before_is =
-        ap last_reading (own_before ∙ cut (λ n. nat_lt n key.seq) (λ x. nat_lt x r) (λ x at. less_rank row.slot key.seq x at ∙ ap (λ k. nat_lt x k) (sym is)))
-        ∙ last_flat key.tx slots (places_before r carriers) (in_front (HasReading slots) carry)
+      -- Events cut by their numbers, by the places cut at the key's rank.
+      cut : (f g : ℕ → Bool) → ((x : ℕ) → x / 2 ^ 31 ≡ row.slot → f (x % 2 ^ 31) ≡ g x) → left f (passing_of is_live key.tx all) ≡ flat_map readings_of (map (entry_of key.tx slots) (filter (λ e. g e.0) (segment (r / 2 ^ 31) carriers)))
+      cut f g same =
+          carrying (λ e. f e.0.seq) key.tx all ∙ ap (left f) (segment_passing rows es slots keyed.rising keyed.ranks (is_carrier d) carriers sub key.tx row row_is)
+          ∙ ap (flat_map readings_of) (map_cut (entry_of key.tx slots) (λ e. f e.0.seq) g row.slot carriers (λ e at. same e.0 at)) ∙ ap (λ t. flat_map readings_of (map (entry_of key.tx slots) (filter (λ (e : Place). g e.0) (segment t carriers)))) (sym home)
 
-    -- The first reading behind it.
-    pub behind_is : first_reading (own_readings key.tx (behind_key key all)) ≡ first_at slots (slice_get (places_behind r carriers) 0)
-    behind_is =
-        ap first_reading (own_behind ∙ cut (λ n. nat_lt key.seq n) (λ x. nat_lt r x) (λ x at. more_rank row.slot key.seq x at ∙ ap (λ k. nat_lt k x) (sym is)))
-        ∙ first_flat key.tx slots (places_behind r carriers) (at_back (HasReading slots) carry)
+      -- The last reading in front of the key.
+      pub before_is : last_reading (own_readings d key.tx (before_key key all)) ≡ last_at slots d (last_of (places_before r carriers))
+      before_is =
+          ap last_reading (own_before ∙ cut (λ n. nat_lt n key.seq) (λ x. nat_lt x r) (λ x at. less_rank row.slot key.seq x at ∙ ap (λ k. nat_lt x k) (sym is)))
+          ∙ last_flat key.tx slots (places_before r carriers) (in_front (HasReading slots) carry)
+
+      -- The first reading behind it.
+      pub behind_is : first_reading (own_readings d key.tx (behind_key key all)) ≡ first_at slots d (slice_get (places_behind r carriers) 0)
+      behind_is =
+          ap first_reading (own_behind ∙ cut (λ n. nat_lt key.seq n) (λ x. nat_lt r x) (λ x at. more_rank row.slot key.seq x at ∙ ap (λ k. nat_lt k x) (sym is)))
+          ∙ first_flat key.tx slots (places_behind r carriers) (at_back (HasReading slots) carry)

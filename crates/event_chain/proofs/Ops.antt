@@ -1,16 +1,18 @@
 -- What chains keep after each operation.
-use Rattle.std.proofs.Common.{◌≡◌, ℕ, ◌+◌, ◌<◌, ◌/◌, ◌^◌, Bool, true, false, not, cond, ◌&&◌, nat_lt, List, Option, Some, None, is_some, length, set, sum_by, refl, sym, ap, ◌∙◌, subst, arith, inl, inr, length-set, get_or-set_same}
+use Rattle.std.proofs.Common.{◌≡◌, ℕ, ◌+◌, ◌<◌, ◌/◌, ◌^◌, Bool, true, false, not, cond, ◌&&◌, List, Option, Some, None, is_some, length, set, sum_by, refl, sym, ap, ◌∙◌, subst, arith, inl, inr, length-set, get_or-set_same}
 use Rattle.std.specs.Ordering.{eq_by_cmp, nat_cmp}
 use Rattle.std.specs.Cmp.{nat_cmp_total}
 use Rattle.std.specs.FinMap.{find, put}
 use Rattle.std.specs.FinMap.Entries.{is_sorted-put, length-put, length_without}
 use Rattle.std.proofs.lemmas.Slice.Eq.{bytes_eq-Decides}
 use Rattle.std.proofs.lemmas.List.Sums.{sum_by-set}
+use Rattle.ledger_model.specs.Deltas.{first_reading}
+use Rattle.ledger_model.specs.declared.reading.Direction.{Direction}
 use Rattle.event_chain.proofs.Decided.{id_test, denied}
 use Rattle.slot_arena.specs.Arena.{value_at, held_count}
 use Rattle.key_index.specs.Key.{rank}
 use Rattle.event_chain.specs.Placed.{Index, index}
-use Rattle.ledger_model.specs.Event.{EventContent}
+use Rattle.ledger_model.specs.Event.{EventContent, toward}
 use Rattle.ledger_model.specs.Key.{KeyName, key_cmp}
 use Rattle.ledger_model.specs.Limits.{Bounds}
 use Rattle.ledger_model.specs.Content.{Entry, Stored}
@@ -20,12 +22,12 @@ use Rattle.event_store.specs.Slots.{Held, Slots}
 use Rattle.transaction_table.specs.declared.row.TableRow.{TableRow}
 use Rattle.transaction_table.specs.Table.{Table, Row, AreRising, AreApart, id_cmp, row_of}
 use Rattle.event_chain.specs.Flat.{Place, place_of, stored_in, stored_at, event_at, flat}
-use Rattle.event_chain.specs.Edits.{put_if, out, out_if}
+use Rattle.event_chain.specs.Edits.{put_if, out}
 use Rattle.event_chain.specs.Kept.{AreRanks, IsSub, is_live, is_carrier, is_naming, is_end, live_one, end_one, IsKeyed, AreIndexed, AreFigured, IsCounted, AreRoomy, IsChains, IsNamed, IsLeft, chosen}
 use Rattle.event_chain.proofs.Flats.{flat_rising}
 use Rattle.event_chain.proofs.Looks.{IsMove}
 use Rattle.event_chain.proofs.Moves.{put_move, mark_move, out_move, put_keyed, mark_keyed, out_keyed, put_here, out_here}
-use Rattle.event_chain.proofs.Subs.{sub_move, put_if_ranks, put_if_others, put_if_here, out_if_ranks, out_if_others, out_if_here}
+use Rattle.event_chain.proofs.Subs.{sub_move, put_if_ranks, put_if_others, put_if_here, out_if_ranks, out_if_others}
 use Rattle.event_chain.proofs.Figures.{figured_put, figured_out}
 use Rattle.event_chain.proofs.Sums.{at_key, sum_put, sum_without}
 use Rattle.event_chain.proofs.Effects.{found_before, flat_put, flat_out}
@@ -36,7 +38,7 @@ pub record Made : Type 0 where
   pub store : Slots
   pub stored : Index
   pub live : Index
-  pub carriers : Index
+  pub carriers : Direction → Index
   pub naming : Index
 
 -- Chains made of the same.
@@ -75,7 +77,7 @@ count_take xs i x there lt = omega (arith, sum_by-set one xs i None None lt, ap 
 no_row : (o : Option TableRow) (a : TableRow) → o ≡ Some a → o ≡ None → ⊥
 no_row o a x y = cc
 
-module _ (limits : Bounds) (rows new : List Row) (es live carriers naming : List Place) (slots : List (Option Held)) (key : KeyName) (row after : TableRow) (r0 s0 transactions readings room : ℕ)
+module _ (limits : Bounds) (rows new : List Row) (es live : List Place) (carriers : Direction → List Place) (naming : List Place) (slots : List (Option Held)) (key : KeyName) (row after : TableRow) (r0 s0 transactions readings room : ℕ)
     (keyed : IsKeyed rows es slots) (indexed : AreIndexed es slots live carriers naming) (figured : AreFigured rows (flat rows es slots)) (counted : IsCounted limits transactions slots readings room es (flat rows es slots))
     (named : IsNamed rows new key.tx row after) (number : key.seq < 2 ^ 31) (rank_is : r0 ≡ rank row.slot key.seq) (rising : AreRising new) (apart : AreApart new) where
   -- All events before.
@@ -124,11 +126,11 @@ module _ (limits : Bounds) (rows new : List Row) (es live carriers naming : List
         (put_if_here b r0 s0 sub (was.each r0 ∙ ap (chosen test slots) none) ∙ ap (λ c. cond c (Some s0) None) (is ∙ sym (ap test put_stored)) ∙ sym (ap (chosen test held) (put_here r0 s0 es)))
 
     -- Chains with an event put in.
-    pub put_chains : (carries names : Bool) → carries ≡ is_carrier st → names ≡ is_naming st → after.live ≡ row.live + 1 → after.ends ≡ row.ends + cond (is_end event.kind) 1 0 → AreRoomy limits.events limits.events limits.events limits.events limits.events
-        → IsChains limits (record { rows = new; capacity = transactions }) (record { slots = held; readings = readings + length event.readings; capacity = room }) (index more limits.events) (index (put_if true r0 s0 live) limits.events) (index (put_if carries r0 s0 carriers) limits.events) (index (put_if names r0 s0 naming) limits.events)
+    pub put_chains : (carries : Direction → Bool) (names : Bool) → ((d : Direction) → carries d ≡ is_carrier d st) → names ≡ is_naming st → after.live ≡ row.live + 1 → after.ends ≡ row.ends + cond (is_end event.kind) 1 0 → AreRoomy limits.events limits.events limits.events (λ _. limits.events) limits.events
+        → IsChains limits (record { rows = new; capacity = transactions }) (record { slots = held; readings = readings + length event.readings; capacity = room }) (index more limits.events) (index (put_if true r0 s0 live) limits.events) (λ d. index (put_if (carries d) r0 s0 (carriers d)) limits.events) (index (put_if names r0 s0 naming) limits.events)
     put_chains carries names carries_is names_is live_is ends_is roomy = record {
       keyed = put_keyed rows es slots keyed new key.tx row after r0 s0 st named home free within rising apart put_ranks;
-      indexed = record { lives = put_sub is_live live true refl indexed.lives; carry = put_sub is_carrier carriers carries carries_is indexed.carry; names = put_sub is_naming naming names names_is indexed.names };
+      indexed = record { lives = put_sub is_live live true refl indexed.lives; carry = λ d. put_sub (is_carrier d) (carriers d) (carries d) (carries_is d) (indexed.carry d); names = put_sub is_naming naming names names_is indexed.names };
       figured = subst (AreFigured new) (sym put_flat) (figured_put rows new es slots key st row after all_rising figured named
           (omega (arith, ap (at_key (live_one key.tx) key) put_absent, live_mine key st, live_is)) (omega (arith, ap (at_key (end_one key.tx) key) put_absent, end_mine key st, ends_is)));
       counted = record {
@@ -196,9 +198,9 @@ module _ (limits : Bounds) (rows new : List Row) (es live carriers naming : List
         (out_here r0 sub ∙ sym (mark_chosen test ∙ ap (λ c. cond c (Some s0) None) not_new))
 
     -- Chains with an event marked.
-    pub mark_chains : (l c n : List Place) → AreIndexed es marked_slots l c n → st.event ≡ old.event → after.live + cond (not old.voided) 1 0 ≡ row.live + cond (not st.voided) 1 0
-        → after.ends + cond (not old.voided && is_end old.event.kind) 1 0 ≡ row.ends + cond (not st.voided && is_end st.event.kind) 1 0 → AreRoomy limits.events limits.events limits.events limits.events limits.events
-        → IsChains limits (record { rows = new; capacity = transactions }) (record { slots = marked_slots; readings = readings; capacity = room }) (index es limits.events) (index l limits.events) (index c limits.events) (index n limits.events)
+    pub mark_chains : (l : List Place) (c : Direction → List Place) (n : List Place) → AreIndexed es marked_slots l c n → st.event ≡ old.event → after.live + cond (not old.voided) 1 0 ≡ row.live + cond (not st.voided) 1 0
+        → after.ends + cond (not old.voided && is_end old.event.kind) 1 0 ≡ row.ends + cond (not st.voided && is_end st.event.kind) 1 0 → AreRoomy limits.events limits.events limits.events (λ _. limits.events) limits.events
+        → IsChains limits (record { rows = new; capacity = transactions }) (record { slots = marked_slots; readings = readings; capacity = room }) (index es limits.events) (index l limits.events) (λ d. index (c d) limits.events) (index n limits.events)
     mark_chains l c n indexes same live_is ends_is roomy = record {
       keyed = mark_keyed rows es slots keyed new key.tx row after r0 s0 old st named home at here within rising apart;
       indexed = indexes;
@@ -216,7 +218,7 @@ module _ (limits : Bounds) (rows new : List Row) (es live carriers naming : List
       roomy = roomy;
     }
 
-module _ (limits : Bounds) (rows new : List Row) (es live carriers naming : List Place) (slots : List (Option Held)) (key : KeyName) (row : TableRow) (r0 s0 transactions readings left room : ℕ) (st : Stored)
+module _ (limits : Bounds) (rows new : List Row) (es live : List Place) (carriers : Direction → List Place) (naming : List Place) (slots : List (Option Held)) (key : KeyName) (row : TableRow) (r0 s0 transactions readings left room : ℕ) (st : Stored)
     (keyed : IsKeyed rows es slots) (indexed : AreIndexed es slots live carriers naming) (figured : AreFigured rows (flat rows es slots)) (counted : IsCounted limits transactions slots readings room es (flat rows es slots))
     (gone : IsLeft rows new (out r0 es) key.tx row) (number : key.seq < 2 ^ 31) (rank_is : r0 ≡ rank row.slot key.seq) (rising : AreRising new) (apart : AreApart new)
     (here : value_at slots s0 ≡ Some (r0, st)) (within : s0 < length slots) (at : place_of r0 es ≡ Some s0) (voided : st.voided ≡ true) where
@@ -261,15 +263,15 @@ module _ (limits : Bounds) (rows new : List Row) (es live carriers naming : List
   ] refl
 
   -- Chains with a voided event taken out.
-  pub out_chains : left + length st.event.readings ≡ readings → AreRoomy limits.events limits.events limits.events limits.events limits.events
-      → IsChains limits (record { rows = new; capacity = transactions }) (record { slots = bare; readings = left; capacity = room }) (index (out r0 es) limits.events) (index live limits.events) (index carriers limits.events) (index naming limits.events)
+  pub out_chains : left + length st.event.readings ≡ readings → AreRoomy limits.events limits.events limits.events (λ _. limits.events) limits.events
+      → IsChains limits (record { rows = new; capacity = transactions }) (record { slots = bare; readings = left; capacity = room }) (index (out r0 es) limits.events) (index live limits.events) (λ d. index (carriers d) limits.events) (index naming limits.events)
   out_chains fewer roomy =
       let n = length_without nat_cmp nat_cmp_total r0 es keyed.ranks in let one = ap (λ (o : Option ℕ). cond {A = ℕ} (is_some o) 1 0) at in
       record {
         keyed = out_keyed rows es slots keyed new key.tx row r0 s0 st gone out_home here rising apart out_ranks;
         indexed = record {
           lives = out_sub is_live live (ap not voided) indexed.lives;
-          carry = out_sub is_carrier carriers (ap (λ v. not v && nat_lt 0 (length st.event.readings)) voided) indexed.carry;
+          carry = λ d. out_sub (is_carrier d) (carriers d) (ap (λ v. not v && is_some (first_reading (toward d st.event.readings))) voided) (indexed.carry d);
           names = out_sub is_naming naming (ap (λ v. not v && is_some st.event.evse) voided) indexed.names;
         };
         figured = subst (AreFigured new) (sym out_all) (figured_out rows new before key st before_rising figured out_found voided (λ q of is. left_back q of is));

@@ -7,7 +7,10 @@ use Rattle.slot_arena.specs.Arena.{IsHeld}
 use Rattle.event_chain.specs.Ranked.{last_of}
 use Rattle.ledger_model.specs.declared.kind.Kind.{Kind}
 use Rattle.ledger_model.specs.Key.{KeyName}
-use Rattle.ledger_model.specs.Event.{MeterReading}
+use Rattle.ledger_model.specs.declared.reading.Direction.{Direction}
+use Rattle.ledger_model.specs.declared.reading.Direction.TheVariants.{Import, Export}
+use Rattle.event_chain.specs.declared.carries.Carries.{Carries}
+use Rattle.ledger_model.specs.Event.{MeterReading, toward}
 use Rattle.ledger_model.specs.Deltas.{first_reading, last_reading}
 use Rattle.transaction_table.specs.declared.row.TableRow.{TableRow}
 use Rattle.transaction_table.specs.Table.{Row, row_of}
@@ -17,6 +20,11 @@ use Rattle.event_store.specs.Slots.{Held}
 -- Places with one put in where a test says so.
 abbrev pub put_if : Bool → ℕ → ℕ → List Place → List Place
 put_if b r0 s0 es = cond b (put nat_cmp r0 s0 es) es
+
+-- Tells whether there is a reading of this direction.
+abbrev pub carried : Direction → Carries → Bool
+carried Import c = c.imports
+carried Export c = c.exports
 
 -- Places without that of a rank.
 abbrev pub out : ℕ → List Place → List Place
@@ -68,15 +76,15 @@ abbrev pub IsStored : List (Option Held) → Option Place → Type 0
 IsStored slots None = Unit {0}
 IsStored slots (Some e) = IsHeld slots e.1
 
--- The first reading of the event of a place.
-abbrev pub first_at : List (Option Held) → Option Place → Option MeterReading
-first_at slots None = None
-first_at slots (Some e) = first_reading (stored_at slots e.1).event.readings
+-- The first reading of a direction of the event of a place.
+abbrev pub first_at : List (Option Held) → Direction → Option Place → Option MeterReading
+first_at slots d None = None
+first_at slots d (Some e) = first_reading (toward d (stored_at slots e.1).event.readings)
 
 -- The last one.
-abbrev pub last_at : List (Option Held) → Option Place → Option MeterReading
-last_at slots None = None
-last_at slots (Some e) = last_reading (stored_at slots e.1).event.readings
+abbrev pub last_at : List (Option Held) → Direction → Option Place → Option MeterReading
+last_at slots d None = None
+last_at slots d (Some e) = last_reading (toward d (stored_at slots e.1).event.readings)
 
 -- The kind of the event of a place.
 abbrev pub kind_in : List (Option Held) → Place → Kind

@@ -1,5 +1,5 @@
 -- What chains keep.
-use Rattle.std.specs.Prelude.{◌≡◌, ℕ, ◌/◌, ◌^◌, ◌≤◌, nat_lt, Bool, true, false, not, cond, ◌&&◌, List, Option, Some, None, is_some, T, length, sum_by, ◌⊎◌}
+use Rattle.std.specs.Prelude.{◌≡◌, ℕ, ◌/◌, ◌^◌, ◌≤◌, Bool, true, false, not, cond, ◌&&◌, List, Option, Some, None, is_some, T, length, sum_by, ◌⊎◌}
 use Rattle.std.specs.Str.{bytes_eq}
 use Rattle.std.specs.Ordering.{nat_cmp}
 use Rattle.std.specs.FinMap as finite
@@ -7,6 +7,9 @@ use Rattle.std.specs.FinMap.{FinMap, is_sorted}
 use Rattle.slot_arena.specs.Arena.{value_at, held_count}
 use Rattle.ledger_model.specs.declared.kind.Kind.{Kind}
 use Rattle.ledger_model.specs.declared.kind.Kind.TheVariants.{Started, Updated, Ended}
+use Rattle.ledger_model.specs.declared.reading.Direction.{Direction}
+use Rattle.ledger_model.specs.Event.{toward}
+use Rattle.ledger_model.specs.Deltas.{first_reading}
 use Rattle.ledger_model.specs.Key.{key_cmp}
 use Rattle.ledger_model.specs.Limits.{Bounds}
 use Rattle.ledger_model.specs.Content.{Entry, Stored}
@@ -21,9 +24,9 @@ use Rattle.event_chain.specs.Flat.{Place, place_of, stored_at, flat}
 abbrev pub is_live : Stored → Bool
 is_live s = not s.voided
 
--- The event is live and has a reading.
-abbrev pub is_carrier : Stored → Bool
-is_carrier s = not s.voided && nat_lt 0 (length s.event.readings)
+-- The event is live and has a reading of this direction.
+abbrev pub is_carrier : Direction → Stored → Bool
+is_carrier d s = not s.voided && is_some (first_reading (toward d s.event.readings))
 
 -- The event is live and names an EVSE.
 abbrev pub is_naming : Stored → Bool
@@ -95,9 +98,9 @@ abbrev pub AreFigured : List Row → List Entry → Type 0
 AreFigured rows all = (tx : List ℕ) (row : TableRow) → row_of tx rows ≡ Some row → IsFigured rows all tx row
 
 -- The indexes of the live events.
-pub record AreIndexed (es : List Place) (slots : List (Option Held)) (live carriers naming : List Place) : Type 0 where
+pub record AreIndexed (es : List Place) (slots : List (Option Held)) (live : List Place) (carriers : Direction → List Place) (naming : List Place) : Type 0 where
   pub lives : IsSub is_live es slots live
-  pub carry : IsSub is_carrier es slots carriers
+  pub carry : (d : Direction) → IsSub (is_carrier d) es slots (carriers d)
   pub names : IsSub is_naming es slots naming
 
 -- The counts and the rooms.
@@ -111,19 +114,19 @@ pub record IsCounted (limits : Bounds) (transactions : ℕ) (slots : List (Optio
   pub events_few : limits.events ≤ 65536
 
 -- The room of the indexes.
-pub record AreRoomy (events stored live carriers naming : ℕ) : Type 0 where
+pub record AreRoomy (events stored live : ℕ) (carriers : Direction → ℕ) (naming : ℕ) : Type 0 where
   pub for_stored : stored ≡ events
   pub for_live : live ≡ events
-  pub for_carriers : carriers ≡ events
+  pub for_carriers : (d : Direction) → carriers d ≡ events
   pub for_naming : naming ≡ events
 
 -- What chains keep, part by part.
-pub record IsChains (limits : Bounds) (table : Table) (store : Slots) (stored live carriers naming : Index) : Type 0 where
+pub record IsChains (limits : Bounds) (table : Table) (store : Slots) (stored live : Index) (carriers : Direction → Index) (naming : Index) : Type 0 where
   pub keyed : IsKeyed table.rows stored.entries store.slots
-  pub indexed : AreIndexed stored.entries store.slots live.entries carriers.entries naming.entries
+  pub indexed : AreIndexed stored.entries store.slots live.entries (λ d. (carriers d).entries) naming.entries
   pub figured : AreFigured table.rows (flat table.rows stored.entries store.slots)
   pub counted : IsCounted limits table.capacity store.slots store.readings store.capacity stored.entries (flat table.rows stored.entries store.slots)
-  pub roomy : AreRoomy limits.events stored.capacity live.capacity carriers.capacity naming.capacity
+  pub roomy : AreRoomy limits.events stored.capacity live.capacity (λ d. (carriers d).capacity) naming.capacity
 
 -- The events that these hold, by their keys.
 abbrev pub events_of : Table → Slots → Index → FinMap key_cmp Stored

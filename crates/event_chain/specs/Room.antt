@@ -1,6 +1,7 @@
 -- Whether there is room for an event under a new key.
 use Rattle.std.specs.Prelude.{ℕ, ◌+◌, ◌&&◌, not, nat_le, nat_lt, if◌then◌else◌, List, [], Option, Some, None, length}
-use Rattle.ledger_model.specs.Event.{MeterReading}
+use Rattle.ledger_model.specs.declared.reading.Direction.{Direction}
+use Rattle.ledger_model.specs.Event.{MeterReading, toward}
 use Rattle.ledger_model.specs.Limits.{Bounds}
 use Rattle.ledger_model.specs.Content.{Entry, Stored, transactions_of, has_transaction}
 use Rattle.ledger_model.specs.Step.{readings_stored}
@@ -22,7 +23,7 @@ abbrev pub found_of : Option Stored → Option Found
 found_of None = None
 found_of (Some s) = Some (if s.voided then Voided else Live)
 
--- The readings of a stored event.
-abbrev pub readings_under : Option Stored → List MeterReading
-readings_under None = []
-readings_under (Some s) = s.event.readings
+-- The readings of a stored event in a direction.
+abbrev pub readings_under : Direction → Option Stored → List MeterReading
+readings_under d None = []
+readings_under d (Some s) = toward d s.event.readings

@@ -13,19 +13,22 @@ ghost use Rattle.transaction_table.specs.Table.{row_of};
 ghost use Rattle.event_chain.specs.Chains.{stored};
 ghost use Rattle.event_chain.specs.Room.{room_of, found_of, readings_under};
 ghost use Rattle.event_chain.specs.Kept.{end_count, is_end};
-ghost use Rattle.event_chain.specs.Edits.{counts_under};
+ghost use Rattle.ledger_model.specs.declared.reading.Direction.{Direction};
+ghost use Rattle.ledger_model.specs.Event.{toward};
+ghost use Rattle.event_chain.specs.Edits.{carried as carried_by, counts_under};
 
 use crate::answers::{Found, Room, TxStanding};
+use crate::carries::Carries;
 use crate::place_index::PlaceIndex;
 use crate::spots::{
     carrier_before, carrier_behind, enter, evse_at, first_at, first_live, first_naming, kind_at,
-    last_at, last_live, leave, locate, look_up, number_of, slot_sought,
+    last_at, last_live, leave, locate, look_up, number_of, renew, slot_sought,
 };
 use crate::tx_ids::TxIds;
 use crate::tx_walk::TxWalk;
 use event_store::{EventRef, EventStore, Readings};
 use key_index::{IndexKey, Place};
-use ledger_model::{Event, EvseId, Key, Kind, Limits, Reading, TxId};
+use ledger_model::{Direction, Event, EvseId, Key, Kind, Limits, Reading, TxId};
 use std::alloc::{AllocError, Global};
 use std::marker::Model;
 use transaction_table::{TableRow, TransactionTable};
@@ -47,10 +50,11 @@ impl Model for Chains {
     ghost coded = { chained_code };
 
     ghost use Rattle.event_chain.specs.Kept.{IsChains, events_of};
+    ghost use Rattle.event_chain.specs.Placed.{carriers_of};
 
     ghost view = { λ c. record { limits = c.limits; events = events_of c.table c.store c.places.stored } };
 
-    ghost invariant = { λ c. IsChains c.limits c.table c.store c.places.stored c.places.live c.places.carriers c.places.naming };
+    ghost invariant = { λ c. IsChains c.limits c.table c.store c.places.stored c.places.live (carriers_of c.places) c.places.naming };
 }
 
 // Counts an event that is Started or Ended.
@@ -61,6 +65,16 @@ fn ends_of(kind: Kind) -> u32
     match kind {
         Kind::Updated => 0,
         Kind::Started | Kind::Ended => 1,
+    }
+}
+
+// In which directions an event has a reading.
+fn carried(event: &EventRef<'_>) -> Carries
+    ensures { (d : Direction) → carried_by d result ≡ is_some (first_reading (toward d event.now.1.event.readings)) }
+{
+    Carries {
+        imports: event.first_reading(Direction::Import).is_some(),
+        exports: event.first_reading(Direction::Export).is_some(),
     }
 }
 
@@ -182,10 +196,11 @@ impl Chains {
         ensures limits { self.new.limits ≡ self.old.limits }
         ensures events { self.new.events ≡ finite.insert self.old.events key (record { event = event.now; voided = false }) }
     {
-        let row = enter(&mut self.table, key.tx());
+        let (row, known) = enter(&mut self.table, key.tx());
         let at = IndexKey::new(row.slot, key.seq());
         let slot = self.store.put(at, event);
-        let (carries, names) = (!event.readings().is_empty(), event.evse().is_some());
+        let carries = Carries::of(event.readings());
+        let names = event.evse().is_some();
         let place = self.places.near();
         self.places.insert(place, at, slot, carries, names);
         let after = TableRow {
@@ -193,7 +208,7 @@ impl Chains {
             live: row.live + 1,
             ends: row.ends + ends_of(event.kind()),
         };
-        self.table.set(key.tx(), after);
+        renew(&mut self.table, known, key.tx(), after);
         self.table.rows_rise();
     }
 
@@ -225,7 +240,8 @@ impl Chains {
     {
         let at = locate(&self.table, &self.places, key);
         let event = self.store.get(at.slot);
-        let (carries, names) = (event.reading_count() > 0, event.evse().is_some());
+        let carries = carried(&event);
+        let names = event.evse().is_some();
         let ends = ends_of(event.kind());
         self.store.set_voided(at.slot, false);
         self.places.restore(at.key, at.slot, carries, names);
@@ -251,29 +267,42 @@ impl Chains {
         self.table.rows_rise();
     }
 
-    /// The readings of the event of a key, in the order in which they were sent; none where the key is
-    /// absent.
-    pub fn readings(&self, key: &Key) -> Readings<'_>
-        ensures { result ≡ readings_under (finite.get self.now.events key.now) }
+    /// The readings of a direction of the event of a key, in the order in which they were sent; none
+    /// where the key is absent.
+    pub fn readings(&self, key: &Key, direction: Direction) -> Readings<'_>
+        ensures { result ≡ readings_under direction (finite.get self.now.events key.now) }
     {
         match self.event_sought(key) {
-            Some(event) => event.readings(),
+            Some(event) => event.readings(direction),
             None => self.store.no_readings(),
         }
     }
 
-    /// The live readings on either side of the place of a key in its transaction, whether the key is
-    /// live, voided or absent: the last one in front of it, and the first one behind it.
-    pub fn neighbours(&self, key: &Key) -> (Option<Reading>, Option<Reading>)
-        ensures before { result.0 ≡ last_reading (own_readings key.now.tx (before_key key.now (stored self.now))) }
-        ensures behind { result.1 ≡ first_reading (own_readings key.now.tx (behind_key key.now (stored self.now))) }
+    /// In which directions the event of a key has a reading; in neither where the key is absent.
+    pub fn carries(&self, key: &Key) -> Carries
+        ensures { (d : Direction) → carried_by d result ≡ is_some (first_reading (readings_under d (finite.get self.now.events key.now))) }
+    {
+        match self.event_sought(key) {
+            Some(event) => carried(&event),
+            None => Carries::of(&[]),
+        }
+    }
+
+    /// The live readings of a direction on either side of the place of a key in its transaction, whether
+    /// the key is live, voided or absent: the last one in front of it, and the first one behind it.
+    #[inline(always)]
+    pub fn neighbours(&self, key: &Key, direction: Direction) -> (Option<Reading>, Option<Reading>)
+        ensures before { result.0 ≡ last_reading (own_readings direction key.now.tx (before_key key.now (stored self.now))) }
+        ensures behind { result.1 ≡ first_reading (own_readings direction key.now.tx (behind_key key.now (stored self.now))) }
     {
         match self.table.get(key.tx()) {
             Some(row) => {
                 let at = IndexKey::new(row.slot, key.seq());
                 let place = self.places.near();
-                let before = last_at(&self.store, carrier_before(&self.places, place, at));
-                let behind = first_at(&self.store, carrier_behind(&self.places, place, at));
+                let before = carrier_before(&self.places, direction, place, at);
+                let behind = carrier_behind(&self.places, direction, place, at);
+                let before = last_at(&self.store, direction, before);
+                let behind = first_at(&self.store, direction, behind);
                 (before, behind)
             }
             None => (None, None),

@@ -61,6 +61,7 @@ impl<'a> Lane<'a> {
     }
 
     // The first place whose key is the one given or greater.
+    #[inline(always)]
     pub(crate) fn at_or_after(&self, key: IndexKey) -> Option<(IndexKey, u32)>
         ensures { result ≡ first_of (from key self.now.entries) }
     {
@@ -72,6 +73,7 @@ impl<'a> Lane<'a> {
     }
 
     // The last place whose key is smaller than the one given.
+    #[inline(always)]
     pub(crate) fn before(&self, key: IndexKey) -> Option<(IndexKey, u32)>
         ensures { result ≡ last_of (below key self.now.entries) }
     {

@@ -24,6 +24,7 @@
 #![tactic(auto)]
 
 mod answers;
+mod carries;
 mod chains;
 mod lane;
 mod place_index;
@@ -32,6 +33,7 @@ mod tx_ids;
 mod tx_walk;
 
 pub use answers::{Found, Room, TxStanding};
+pub use carries::Carries;
 pub use chains::Chains;
 pub use tx_ids::TxIds;
 pub use tx_walk::{TxPlace, TxWalk};

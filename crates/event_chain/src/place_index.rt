@@ -5,21 +5,24 @@ ghost use Rattle.std.specs.FinMap.{put};
 ghost use Rattle.event_chain.specs.Ranked.{first_of, from, last_of, slot_at, AreRising};
 ghost use Rattle.slot_links.specs.Links.{linked_in};
 ghost use Rattle.key_index.specs.declared.filed.Mark.TheVariants.{Live};
-ghost use Rattle.event_chain.specs.Placed.{index, lane_of};
+ghost use Rattle.ledger_model.specs.declared.reading.Direction.{Direction};
+ghost use Rattle.event_chain.specs.Placed.{carriers_of, index, lane_of, mark_of as placed_mark};
 ghost use Rattle.event_chain.specs.Flat.{place_of};
-ghost use Rattle.event_chain.specs.Edits.{put_if, out, places_before, places_behind};
+ghost use Rattle.event_chain.specs.Edits.{carried, put_if, out, places_before, places_behind};
 ghost use Rattle.event_chain.specs.Lists.{slot_in, HasRank, AreOwn, AreListed, slot_before, slot_after};
 
+use crate::carries::Carries;
 use crate::lane::{Lane, slot_under};
 use crate::spots::{place_before, place_behind};
 use key_index::{Filed, IndexKey, KeyIndex, Mark, Marks, Place};
+use ledger_model::Direction;
 use slot_links::SlotLinks;
 use std::alloc::{AllocError, Global};
 use std::marker::Model;
 
 // All events by their keys, each with its slot and its marks, and a doubly linked list of each
 // transaction's live ones over their slots. The index finds where an event is linked in, the links lead
-// from one to the next. Contracts see four indexes: of all places, and of those with each mark.
+// from one to the next. Contracts see an index of all places, and one of those with each mark.
 #[derive(Drop)]
 pub(crate) struct PlaceIndex {
     index: KeyIndex,
@@ -43,6 +46,16 @@ impl Model for PlaceIndex {
     ghost view = { λ p. placed p.index };
 
     ghost invariant = { λ p. AreListed (lane_of (Some Live) p.index) p.links };
+}
+
+// The mark of the live events that have a reading of this direction.
+fn mark_of(direction: Direction) -> Mark
+    ensures { result ≡ placed_mark direction }
+{
+    match direction {
+        Direction::Import => Mark::Imports,
+        Direction::Export => Mark::Exports,
+    }
 }
 
 // The slot of a place.
@@ -95,7 +108,7 @@ impl PlaceIndex {
     pub(crate) fn open(alloc: Global, events: u32) -> Result<Self, AllocError>
         ensures stored { IfOk result (λ p. p.stored ≡ index [] events) }
         ensures live { IfOk result (λ p. p.live ≡ index [] events) }
-        ensures carriers { IfOk result (λ p. p.carriers ≡ index [] events) }
+        ensures carriers { IfOk result (λ p. (d : Direction) → carriers_of p d ≡ index [] events) }
         ensures naming { IfOk result (λ p. p.naming ≡ index [] events) }
     {
         Ok(PlaceIndex {
@@ -120,18 +133,15 @@ impl PlaceIndex {
         ensures { self.new ≡ self.old }
     {
         let slot = key.transaction();
-        let end = if slot == self.sought.transaction() {
-            self.end
-        } else {
+        if slot != self.sought.transaction() || self.start == Place::UNKNOWN {
             // A transaction's events mostly come in order.
-            place
-        };
+            self.start = self.index.place_near(place, IndexKey::new(slot, 0));
+            self.end = self
+                .index
+                .place_near(place, IndexKey::new(slot.saturating_add(1), 0));
+        }
         self.near = place;
         self.sought = key;
-        self.start = self.index.place_near(self.start, IndexKey::new(slot, 0));
-        self.end = self
-            .index
-            .place_near(end, IndexKey::new(slot.saturating_add(1), 0));
     }
 
     // The first place from a key on, and where the key stands or belongs.
@@ -203,11 +213,11 @@ impl PlaceIndex {
         live
     }
 
-    // The live events that have a reading.
-    pub(crate) fn carriers(&self, place: Place) -> Lane<'_>
-        ensures { result ≡ self.now.carriers }
+    // The live events that have a reading of a direction.
+    pub(crate) fn carriers(&self, direction: Direction, place: Place) -> Lane<'_>
+        ensures { result ≡ carriers_of self.now direction }
     {
-        Lane::over(&self.index, Some(Mark::Carries), place)
+        Lane::over(&self.index, Some(mark_of(direction)), place)
     }
 
     // The live events that name an EVSE.
@@ -223,7 +233,7 @@ impl PlaceIndex {
         place: Place,
         key: IndexKey,
         slot: u32,
-        carries: bool,
+        carries: Carries,
         names: bool,
     )
         requires absent { place_of key self.old.stored.entries ≡ None }
@@ -232,14 +242,15 @@ impl PlaceIndex {
         requires unused { (rank : ℕ) → place_of rank self.old.live.entries ≡ Some slot → ⊥ }
         ensures stored { self.new.stored ≡ index (put nat_cmp key slot self.old.stored.entries) self.old.stored.capacity }
         ensures live { self.new.live ≡ index (put nat_cmp key slot self.old.live.entries) self.old.live.capacity }
-        ensures carriers { self.new.carriers ≡ index (put_if carries key slot self.old.carriers.entries) self.old.carriers.capacity }
+        ensures carriers { (d : Direction) → carriers_of self.new d ≡ index (put_if (carried d carries) key slot (carriers_of self.old d).entries) (carriers_of self.old d).capacity }
         ensures naming { self.new.naming ≡ index (put_if names key slot self.old.naming.entries) self.old.naming.capacity }
     {
         self.index.keys_rise();
         link_live(&self.index, &mut self.links, place, key, slot);
         let marks = Marks {
             live: true,
-            carries,
+            imports: carries.imports,
+            exports: carries.exports,
             names,
         };
         self.index.insert(place, key, Filed { slot, marks });
@@ -254,7 +265,7 @@ impl PlaceIndex {
         requires live { place_of key self.old.live.entries ≡ Some slot }
         ensures stored { self.new.stored ≡ self.old.stored }
         ensures live { self.new.live ≡ index (out key self.old.live.entries) self.old.live.capacity }
-        ensures carriers { self.new.carriers ≡ index (out key self.old.carriers.entries) self.old.carriers.capacity }
+        ensures carriers { (d : Direction) → carriers_of self.new d ≡ index (out key (carriers_of self.old d).entries) (carriers_of self.old d).capacity }
         ensures naming { self.new.naming ≡ index (out key self.old.naming.entries) self.old.naming.capacity }
     {
         self.index.keys_rise();
@@ -265,16 +276,16 @@ impl PlaceIndex {
     }
 
     // Makes a voided event live again.
-    pub(crate) fn restore(&mut self, key: IndexKey, slot: u32, carries: bool, names: bool)
+    pub(crate) fn restore(&mut self, key: IndexKey, slot: u32, carries: Carries, names: bool)
         requires stored { place_of key self.old.stored.entries ≡ Some slot }
         requires live { place_of key self.old.live.entries ≡ None }
-        requires carriers { place_of key self.old.carriers.entries ≡ None }
+        requires carriers { (d : Direction) → place_of key (carriers_of self.old d).entries ≡ None }
         requires naming { place_of key self.old.naming.entries ≡ None }
         requires slot { slot < self.old.live.capacity }
         requires unused { (rank : ℕ) → place_of rank self.old.live.entries ≡ Some slot → ⊥ }
         ensures stored { self.new.stored ≡ self.old.stored }
         ensures live { self.new.live ≡ index (put nat_cmp key slot self.old.live.entries) self.old.live.capacity }
-        ensures carriers { self.new.carriers ≡ index (put_if carries key slot self.old.carriers.entries) self.old.carriers.capacity }
+        ensures carriers { (d : Direction) → carriers_of self.new d ≡ index (put_if (carried d carries) key slot (carriers_of self.old d).entries) (carriers_of self.old d).capacity }
         ensures naming { self.new.naming ≡ index (put_if names key slot self.old.naming.entries) self.old.naming.capacity }
     {
         self.index.keys_rise();
@@ -282,7 +293,8 @@ impl PlaceIndex {
         link_live(&self.index, &mut self.links, place, key, slot);
         let marks = Marks {
             live: true,
-            carries,
+            imports: carries.imports,
+            exports: carries.exports,
             names,
         };
         self.index.set_marks(key, marks);
@@ -292,11 +304,11 @@ impl PlaceIndex {
     pub(crate) fn remove(&mut self, key: IndexKey)
         requires stored { IsSome (place_of key self.old.stored.entries) }
         requires live { place_of key self.old.live.entries ≡ None }
-        requires carriers { place_of key self.old.carriers.entries ≡ None }
+        requires carriers { (d : Direction) → place_of key (carriers_of self.old d).entries ≡ None }
         requires naming { place_of key self.old.naming.entries ≡ None }
         ensures stored { self.new.stored ≡ index (out key self.old.stored.entries) self.old.stored.capacity }
         ensures live { self.new.live ≡ self.old.live }
-        ensures carriers { self.new.carriers ≡ self.old.carriers }
+        ensures carriers { (d : Direction) → carriers_of self.new d ≡ carriers_of self.old d }
         ensures naming { self.new.naming ≡ self.old.naming }
     {
         self.index.keys_rise();

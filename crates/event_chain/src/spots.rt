@@ -1,10 +1,11 @@
 //! The places of events: their transactions, their ranks, and the slots that hold them.
-ghost use Rattle.std.specs.Prelude.{◌≡◌, ◌<◌, true, false, length, None, Some, IsSome, slice_get, option_map};
+ghost use Rattle.std.specs.Prelude.{◌≡◌, ◌<◌, true, false, length, None, Some, IsSome, IfSome, slice_get, option_map};
 ghost use Rattle.std.specs.Option.{ForSome};
+ghost use Rattle.event_chain.specs.Placed.{carriers_of};
 ghost use Rattle.event_chain.specs.Ranked.{last_of};
 ghost use Rattle.key_index.specs.Key.{rank};
 ghost use Rattle.ledger_model.specs.Ranges.{sequence_end};
-ghost use Rattle.transaction_table.specs.Table.{row_of};
+ghost use Rattle.transaction_table.specs.Table.{row_of, with_row, IsRowAt};
 ghost use Rattle.event_chain.specs.Flat.{place_of, segment};
 ghost use Rattle.event_chain.specs.Kept.{HasPlace, IsBare, IsEntered, IsLeft};
 ghost use Rattle.event_chain.specs.Edits.{place_at, first_under, last_under, at_home, places_before, places_behind, first_at, last_at, kind_in, evse_at, IsStored};
@@ -14,7 +15,7 @@ use crate::lane::Lane;
 use crate::place_index::PlaceIndex;
 use event_store::EventStore;
 use key_index::{IndexKey, Place};
-use ledger_model::{EvseId, Key, Kind, Reading, TxId};
+use ledger_model::{Direction, EvseId, Key, Kind, Reading, TxId};
 use transaction_table::{TableRow, TransactionTable};
 
 // The greatest sequence number.
@@ -84,15 +85,29 @@ pub(crate) fn locate(table: &TransactionTable, places: &PlaceIndex, key: &Key) -
     Spot { row, key: at, slot }
 }
 
-// The row of a transaction, put in where it is new.
-pub(crate) fn enter(table: &mut TransactionTable, tx: &TxId) -> TableRow
+// The row of a transaction, put in where it is new, else with its place.
+pub(crate) fn enter(table: &mut TransactionTable, tx: &TxId) -> (TableRow, Option<usize>)
     requires { row_of tx.now table.old.rows ≡ None → length table.old.rows < table.old.capacity }
-    ensures entered { IsEntered table.old.rows table.new.rows tx.now result }
+    ensures entered { IsEntered table.old.rows table.new.rows tx.now result.0 }
+    ensures at { IfSome result.1 (λ i. IsRowAt tx.now table.new.rows i) }
     ensures capacity { table.new.capacity ≡ table.old.capacity }
 {
-    match table.get(tx) {
-        Some(row) => row,
-        None => table.add(tx),
+    match table.find(tx) {
+        Some((at, row)) => (row, Some(at)),
+        None => (table.add(tx), None),
+    }
+}
+
+// Changes what is counted of a transaction, which is there; the place of its row may be known.
+pub(crate) fn renew(table: &mut TransactionTable, at: Option<usize>, tx: &TxId, row: TableRow)
+    requires at { IfSome at (λ i. IsRowAt tx.now table.old.rows i) }
+    requires slot { option_map (λ r. r.slot) (row_of tx.now table.old.rows) ≡ Some row.slot }
+    ensures rows { table.new.rows ≡ with_row tx.now row table.old.rows }
+    ensures capacity { table.new.capacity ≡ table.old.capacity }
+{
+    match at {
+        Some(at) => table.set_at(at, tx, row),
+        None => table.set(tx, row),
     }
 }
 
@@ -199,48 +214,60 @@ pub(crate) fn first_naming(places: &PlaceIndex, row: Option<TableRow>) -> Option
     first_in(&naming, row)
 }
 
-// The last place in front of a key of an event with a reading, of the key's transaction.
+// The last place in front of a key of an event with a reading of a direction, of the key's
+// transaction.
 pub(crate) fn carrier_before(
     places: &PlaceIndex,
+    direction: Direction,
     place: Place,
     key: IndexKey,
 ) -> Option<(IndexKey, u32)>
-    ensures { result ≡ last_of (places_before key places.now.carriers.entries) }
+    ensures { result ≡ last_of (places_before key (carriers_of places.now direction).entries) }
 {
-    let carriers = places.carriers(place);
+    let carriers = places.carriers(direction, place);
     place_before(&carriers, key)
 }
 
-// The first place behind a key of an event with a reading, of the key's transaction.
+// The first place behind a key of an event with a reading of a direction, of the key's
+// transaction.
 pub(crate) fn carrier_behind(
     places: &PlaceIndex,
+    direction: Direction,
     place: Place,
     key: IndexKey,
 ) -> Option<(IndexKey, u32)>
-    ensures { result ≡ slice_get (places_behind key places.now.carriers.entries) 0 }
+    ensures { result ≡ slice_get (places_behind key (carriers_of places.now direction).entries) 0 }
 {
-    let carriers = places.carriers(place);
+    let carriers = places.carriers(direction, place);
     place_behind(&carriers, key)
 }
 
-// The last reading of the event of a place, where there is one.
-pub(crate) fn last_at(store: &EventStore, place: Option<(IndexKey, u32)>) -> Option<Reading>
+// The last reading of a direction of the event of a place, where there is one.
+pub(crate) fn last_at(
+    store: &EventStore,
+    direction: Direction,
+    place: Option<(IndexKey, u32)>,
+) -> Option<Reading>
     requires { IsStored store.now.slots place }
-    ensures { result ≡ last_at store.now.slots place }
+    ensures { result ≡ last_at store.now.slots direction place }
 {
     match place {
-        Some(place) => store.get(place.1).last_reading(),
+        Some(place) => store.get(place.1).last_reading(direction),
         None => None,
     }
 }
 
-// The first reading of the event of a place, where there is one.
-pub(crate) fn first_at(store: &EventStore, place: Option<(IndexKey, u32)>) -> Option<Reading>
+// The first reading of a direction of the event of a place, where there is one.
+pub(crate) fn first_at(
+    store: &EventStore,
+    direction: Direction,
+    place: Option<(IndexKey, u32)>,
+) -> Option<Reading>
     requires { IsStored store.now.slots place }
-    ensures { result ≡ first_at store.now.slots place }
+    ensures { result ≡ first_at store.now.slots direction place }
 {
     match place {
-        Some(place) => store.get(place.1).first_reading(),
+        Some(place) => store.get(place.1).first_reading(direction),
         None => None,
     }
 }

@@ -1,2 +1,3 @@
+mod Lasts
 mod Runs
 mod Views

@@ -148,7 +148,7 @@ put_step start links new id first n more owner link rest all m up long free lt p
     }))
 
 -- The last of readings is that of the rest, where there is one.
-last_more : (x y : MeterReading) (ys : List MeterReading) → last_reading (x ∷ y ∷ ys) ≡ last_reading (y ∷ ys)
+pub last_more : (x y : MeterReading) (ys : List MeterReading) → last_reading (x ∷ y ∷ ys) ≡ last_reading (y ∷ ys)
 last_more x y ys =
     let a : length (x ∷ y ∷ ys) - 1 ≡ suc (length ys) = omega arith in let b : length (y ∷ ys) - 1 ≡ length ys = omega arith in
     ap (slice_get (x ∷ y ∷ ys)) a ∙ sym (ap (slice_get (y ∷ ys)) b)

@@ -1,13 +1,14 @@
 -- How the readings of an event are chained.
 use Rattle.std.specs.Prelude.{◌≡◌, ℕ, zero, suc, true, List, [], ◌∷◌, Option, Some, None, is_some}
 use Rattle.slot_arena.specs.Arena.{value_at}
+use Rattle.ledger_model.specs.declared.reading.Direction.TheVariants.{Import}
 use Rattle.ledger_model.specs.Event.{MeterReading}
 use Rattle.ledger_model.specs.Deltas.{last_reading}
 use Rattle.event_store.specs.declared.links.ReadingLink.{ReadingLink}
 
 -- What is read where there is no reading.
 abbrev pub no_reading : MeterReading
-no_reading = record { moment = 0; mwh = 0 }
+no_reading = record { moment = 0; mwh = 0; direction = Import }
 
 -- The reading of a link.
 abbrev pub reading_of : Option ReadingLink → MeterReading

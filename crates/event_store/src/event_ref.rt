@@ -1,11 +1,12 @@
 ghost use Rattle.std.specs.Prelude.{◌≡◌, ◌↔◌, length, IsTrue};
 ghost use Rattle.ledger_model.specs.Deltas.{first_reading, last_reading};
+ghost use Rattle.ledger_model.specs.Event.{toward};
 
 use crate::event_slot::EventSlot;
 use crate::links::ReadingLink;
-use crate::readings::{Readings, are_same};
+use crate::readings::{AllReadings, Readings, are_same};
 use key_index::IndexKey;
-use ledger_model::{Event, EvseId, Kind, Moment, Reading};
+use ledger_model::{Direction, Event, EvseId, Kind, Moment, Reading};
 use slot_arena::{SlotArena, SlotId};
 use std::marker::Model;
 
@@ -87,31 +88,52 @@ impl<'a> EventRef<'a> {
         usize::from(self.slot.count)
     }
 
-    /// Its counted readings, in the order in which they were sent.
-    pub fn readings(&self) -> Readings<'a>
-        ensures { result ≡ self.now.1.event.readings }
+    /// Its counted readings of a direction, in the order in which they were sent.
+    pub fn readings(&self, direction: Direction) -> Readings<'a>
+        ensures { result ≡ toward direction self.now.1.event.readings }
     {
-        Readings::of(self.links, self.slot.first, self.slot.count)
+        let all = AllReadings::of(self.links, self.slot.first, self.slot.count);
+        Readings::of(all, direction)
     }
 
-    /// The first of its counted readings; none where it has none.
-    pub fn first_reading(&self) -> Option<Reading>
-        ensures { result ≡ first_reading self.now.1.event.readings }
+    /// The first of its counted readings of a direction; none where it has none.
+    pub fn first_reading(&self, direction: Direction) -> Option<Reading>
+        ensures { result ≡ first_reading (toward direction self.now.1.event.readings) }
     {
-        if self.slot.count == 0 {
-            return None;
-        }
-        Some(self.links.get(SlotId::new(self.slot.first)).reading)
+        self.readings(direction).next()
     }
 
-    /// The last of its counted readings; none where it has none.
-    pub fn last_reading(&self) -> Option<Reading>
+    // The last of its counted readings of both directions; none where it has none.
+    fn last_of_all(&self) -> Option<Reading>
         ensures { result ≡ last_reading self.now.1.event.readings }
     {
         if self.slot.count == 0 {
             return None;
         }
         Some(self.links.get(SlotId::new(self.slot.last)).reading)
+    }
+
+    // The last of its counted readings of a direction, found by going over them.
+    fn last_by_all(&self, direction: Direction) -> Option<Reading>
+        ensures { result ≡ last_reading (toward direction self.now.1.event.readings) }
+    {
+        let mut left = self.readings(direction);
+        let mut last = None;
+        while let Some(reading) = left.next() {
+            last = Some(reading);
+        }
+        last
+    }
+
+    /// The last of its counted readings of a direction; none where it has none.
+    pub fn last_reading(&self, direction: Direction) -> Option<Reading>
+        ensures { result ≡ last_reading (toward direction self.now.1.event.readings) }
+    {
+        // Nearly all events have readings of one direction.
+        match self.last_of_all() {
+            Some(reading) if reading.direction() == direction => Some(reading),
+            _ => self.last_by_all(direction),
+        }
     }
 
     /// Tells whether it has the same content as this event.

@@ -27,5 +27,7 @@ pub use event_ref::EventRef;
 pub use event_slot::EventSlot;
 #[doc(hidden)]
 pub use links::ReadingLink;
+#[doc(hidden)]
+pub use readings::AllReadings;
 pub use readings::Readings;
 pub use store::EventStore;

@@ -6,9 +6,9 @@ ghost use Rattle.event_store.specs.Store.{new_slot, run_set};
 use crate::event_ref::EventRef;
 use crate::event_slot::EventSlot;
 use crate::links::{ChainEnds, ReadingLink, put_all, take_all};
-use crate::readings::Readings;
+use crate::readings::{AllReadings, Readings};
 use key_index::IndexKey;
-use ledger_model::Event;
+use ledger_model::{Direction, Event};
 use slot_arena::{MAX_SLOTS, SlotArena, SlotId};
 use std::alloc::{AllocError, Global};
 use std::marker::Model;
@@ -114,7 +114,7 @@ impl EventStore {
     pub fn no_readings(&self) -> Readings<'_>
         ensures { result ≡ [] }
     {
-        Readings::of(&self.links, 0, 0)
+        Readings::of(AllReadings::of(&self.links, 0, 0), Direction::Import)
     }
 
     /// The event of a slot.

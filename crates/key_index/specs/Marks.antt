@@ -2,16 +2,16 @@
 use Rattle.std.specs.Prelude.{◌≡◌, ℕ, zero, suc, Bool, if◌then◌else◌, List, [], ◌∷◌, length}
 use Rattle.std.specs.List.{filter}
 use Rattle.key_index.specs.declared.filed.Mark.{Mark}
-use Rattle.key_index.specs.declared.filed.Mark.TheVariants.{Live, Carries, Names}
+use Rattle.key_index.specs.declared.filed.Mark.TheVariants.{Live, Imports, Exports, Names}
 use Rattle.key_index.specs.declared.filed.Marks.{Marks}
-use Rattle.key_index.specs.declared.filed.Filed.{Filed}
 use Rattle.key_index.specs.declared.counts.Counts.{Counts}
 use Rattle.key_index.specs.Entries.{Entry}
 
 -- The mark is set.
 abbrev pub has_mark : Mark → Marks → Bool
 has_mark Live m = m.live
-has_mark Carries m = m.carries
+has_mark Imports m = m.imports
+has_mark Exports m = m.exports
 has_mark Names m = m.names
 
 -- Counts a mark that is set.
@@ -21,7 +21,8 @@ weigh b = if b then 1 else 0
 -- How many have the mark.
 abbrev pub count_of : Mark → Counts → ℕ
 count_of Live c = c.live
-count_of Carries c = c.carries
+count_of Imports c = c.imports
+count_of Exports c = c.exports
 count_of Names c = c.names
 
 -- The entries that have the mark, in order.

@@ -10,7 +10,8 @@ use crate::key::IndexKey;
 #[derive(Clone, Copy)]
 pub struct Counts {
     live: u8,
-    carries: u8,
+    imports: u8,
+    exports: u8,
     names: u8,
 }
 
@@ -28,7 +29,8 @@ impl Counts {
     {
         Counts {
             live: 0,
-            carries: 0,
+            imports: 0,
+            exports: 0,
             names: 0,
         }
     }
@@ -39,7 +41,8 @@ impl Counts {
     {
         match mark {
             Mark::Live => self.live,
-            Mark::Carries => self.carries,
+            Mark::Imports => self.imports,
+            Mark::Exports => self.exports,
             Mark::Names => self.names,
         }
     }
@@ -51,7 +54,8 @@ impl Counts {
     {
         Counts {
             live: self.live + weight(marks.live),
-            carries: self.carries + weight(marks.carries),
+            imports: self.imports + weight(marks.imports),
+            exports: self.exports + weight(marks.exports),
             names: self.names + weight(marks.names),
         }
     }
@@ -63,7 +67,8 @@ impl Counts {
     {
         Counts {
             live: self.live - weight(marks.live),
-            carries: self.carries - weight(marks.carries),
+            imports: self.imports - weight(marks.imports),
+            exports: self.exports - weight(marks.exports),
             names: self.names - weight(marks.names),
         }
     }
@@ -75,7 +80,8 @@ impl Counts {
     {
         Counts {
             live: self.live + other.live,
-            carries: self.carries + other.carries,
+            imports: self.imports + other.imports,
+            exports: self.exports + other.exports,
             names: self.names + other.names,
         }
     }
@@ -87,7 +93,8 @@ impl Counts {
     {
         Counts {
             live: self.live - other.live,
-            carries: self.carries - other.carries,
+            imports: self.imports - other.imports,
+            exports: self.exports - other.exports,
             names: self.names - other.names,
         }
     }

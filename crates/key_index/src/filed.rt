@@ -7,8 +7,10 @@ ghost use Rattle.key_index.specs.Marks.{has_mark};
 pub struct Marks {
     /// The entry counts.
     pub live: bool,
-    /// It counts, and carries a reading.
-    pub carries: bool,
+    /// It counts, and has an import.
+    pub imports: bool,
+    /// It counts, and has an export.
+    pub exports: bool,
     /// It counts, and names a place.
     pub names: bool,
 }
@@ -18,8 +20,10 @@ pub struct Marks {
 pub enum Mark {
     /// `Marks::live`.
     Live,
-    /// `Marks::carries`.
-    Carries,
+    /// `Marks::imports`.
+    Imports,
+    /// `Marks::exports`.
+    Exports,
     /// `Marks::names`.
     Names,
 }
@@ -37,7 +41,8 @@ impl Marks {
     /// No mark.
     pub const NONE: Marks = Marks {
         live: false,
-        carries: false,
+        imports: false,
+        exports: false,
         names: false,
     };
 
@@ -47,7 +52,8 @@ impl Marks {
     {
         match mark {
             Mark::Live => self.live,
-            Mark::Carries => self.carries,
+            Mark::Imports => self.imports,
+            Mark::Exports => self.exports,
             Mark::Names => self.names,
         }
     }

@@ -1,16 +1,18 @@
 -- The energy of a station, parted by quarters, by EVSEs and by transactions.
-use Rattle.std.proofs.Common.{◌≡◌, ◌↔◌, ℕ, ◌+◌, ◌*◌, Bool, true, false, cond, List, [], ◌∷◌, refl, ap, sym, ◌∙◌, ⊎_elim, arith, map, eqb}
+use Rattle.std.proofs.Common.{◌≡◌, ◌↔◌, ℕ, ◌+◌, ◌*◌, Bool, true, false, cond, List, [], ◌∷◌, ◌++◌, refl, ap, sym, ◌∙◌, ⊎_elim, arith, map, eqb}
 use Rattle.std.proofs.lemmas.Bool.{eq-eqb, ne_eqb, cases_eq}
 use Rattle.std.specs.Prelude.{sum_by}
-use Rattle.std.specs.List.{flat_map}
+use Rattle.std.specs.List.{filter, flat_map}
 use Rattle.std.proofs.lemmas.List.Sums.{sum_by-cons}
-use Rattle.energy_flow.specs.Flow.{Energy, plus}
+use Rattle.energy_flow.specs.Flow.{Energy}
+use Rattle.ledger_model.specs.declared.reading.Direction.{Direction}
+use Rattle.ledger_model.specs.declared.reading.Direction.TheVariants.{Import, Export}
 use Rattle.ledger_model.specs.Content.{Entry, live, transactions_of}
-use Rattle.ledger_model.specs.Energy.{Pair, difference, pairs, pairs_of, energy, energy_of, energy_in, quarter_of, quarters}
+use Rattle.ledger_model.specs.Energy.{Flows, Pair, difference, flows_in, no_flows, plus_flows, pairs, pairs_of, energy, energy_of, energy_in, quarter_of, quarters}
 use Rattle.ledger_model.specs.Evse.{evse_of, evses, energy_at, transactions_at}
-use Rattle.ledger_model.specs.Board.{Flowed, board, energy_under}
+use Rattle.ledger_model.specs.Board.{Flowed, board, flows_under}
 use Rattle.ledger_model.specs.BoardLaws.{AreRising, IsIn, sum_of_energies}
-use Rattle.ledger_model.proofs.SumLemmas.{sum_by_rising, sum_by-flat_map, sum_by-same, sum_by-map, sum_by-times, times, times-rising_sum, rising-AreRising, rising-IsIn}
+use Rattle.ledger_model.proofs.SumLemmas.{among_back, among_front, sum_by_among, sum_by_rising, sum_by-flat_map, sum_by-same, sum_by-map, sum_by-times, times, times-among_sum, rising-AreRising, rising-IsIn}
 
 sum_of-up : {X : Type 0} (e : X → Energy) (xs : List X) → (sum_of_energies (map e xs)).up ≡ sum_by (λ x. (e x).up) xs
 sum_of-up e [] = refl
@@ -23,46 +25,32 @@ sum_of-down e (x ∷ xs) = ap (λ n. (e x).down + n) (sum_of-down e xs) ∙ sym 
 same_energy : (a b : Energy) → a.up ≡ b.up → a.down ≡ b.down → a ≡ b
 same_energy a b up down = λ i. record { up = up i; down = down i }
 
-pub by_quarter : (period : ℕ) (es : List Entry) → energy es ≡ sum_of_energies (map (λ quarter. energy_in period quarter es) (quarters period es))
-by_quarter period es = same_energy _ _
-    (sym (sum_of-up (λ quarter. energy_in period quarter es) (quarters period es) ∙ sum_by_rising (λ p. (difference p).up) (quarter_of period) (pairs es)))
-    (sym (sum_of-down (λ quarter. energy_in period quarter es) (quarters period es) ∙ sum_by_rising (λ p. (difference p).down) (quarter_of period) (pairs es)))
+-- the quarters of one direction's pairs are among those of both
+shown_pairs : (d : Direction) (period : ℕ) (es : List Entry) (n : ℕ) → IsIn n (map (quarter_of period) (pairs d es)) → IsIn n (map (quarter_of period) (pairs Import es ++ pairs Export es))
+shown_pairs Import period es n there = among_front (quarter_of period) (pairs Import es) (pairs Export es) n there
+shown_pairs Export period es n there = among_back (quarter_of period) (pairs Import es) (pairs Export es) n there
+
+pub by_quarter : (d : Direction) (period : ℕ) (es : List Entry) → energy d es ≡ sum_of_energies (map (λ quarter. energy_in d period quarter es) (quarters period es))
+by_quarter d period es = same_energy _ _
+    (sym (sum_of-up (λ quarter. energy_in d period quarter es) (quarters period es) ∙ sum_by_among (λ p. (difference p).up) (quarter_of period) (pairs d es) (pairs Import es ++ pairs Export es) (shown_pairs d period es)))
+    (sym (sum_of-down (λ quarter. energy_in d period quarter es) (quarters period es) ∙ sum_by_among (λ p. (difference p).down) (quarter_of period) (pairs d es) (pairs Import es ++ pairs Export es) (shown_pairs d period es)))
 
 -- a sum over the pairs of each EVSE's transactions
-evse_sum : (f : Pair → ℕ) (es : List Entry) → sum_by (λ evse. sum_by f (flat_map (λ tx. pairs_of tx es) (transactions_at evse es))) (evses es) ≡ sum_by f (pairs es)
-evse_sum f es =
-    sum_by-same _ _ (λ evse. sum_by-flat_map f (λ tx. pairs_of tx es) (transactions_at evse es)) (evses es)
-    ∙ sum_by_rising (λ tx. sum_by f (pairs_of tx es)) (λ tx. evse_of tx es) (transactions_of (live es))
-    ∙ sym (sum_by-flat_map f (λ tx. pairs_of tx es) (transactions_of (live es)))
+evse_sum : (d : Direction) (f : Pair → ℕ) (es : List Entry) → sum_by (λ evse. sum_by f (flat_map (λ tx. pairs_of d tx es) (transactions_at evse es))) (evses es) ≡ sum_by f (pairs d es)
+evse_sum d f es =
+    sum_by-same _ _ (λ evse. sum_by-flat_map f (λ tx. pairs_of d tx es) (transactions_at evse es)) (evses es)
+    ∙ sum_by_rising (λ tx. sum_by f (pairs_of d tx es)) (λ tx. evse_of tx es) (transactions_of (live es))
+    ∙ sym (sum_by-flat_map f (λ tx. pairs_of d tx es) (transactions_of (live es)))
 
-pub by_evse : (es : List Entry) → energy es ≡ sum_of_energies (map (λ evse. energy_at evse es) (evses es))
-by_evse es = same_energy _ _
-    (sym (sum_of-up (λ evse. energy_at evse es) (evses es) ∙ evse_sum (λ p. (difference p).up) es))
-    (sym (sum_of-down (λ evse. energy_at evse es) (evses es) ∙ evse_sum (λ p. (difference p).down) es))
+pub by_evse : (d : Direction) (es : List Entry) → energy d es ≡ sum_of_energies (map (λ evse. energy_at d evse es) (evses es))
+by_evse d es = same_energy _ _
+    (sym (sum_of-up (λ evse. energy_at d evse es) (evses es) ∙ evse_sum d (λ p. (difference p).up) es))
+    (sym (sum_of-down (λ evse. energy_at d evse es) (evses es) ∙ evse_sum d (λ p. (difference p).down) es))
 
-pub by_transaction : (es : List Entry) → energy es ≡ sum_of_energies (map (λ tx. energy_of tx es) (transactions_of (live es)))
-by_transaction es = same_energy _ _
-    (sum_by-flat_map (λ p. (difference p).up) (λ tx. pairs_of tx es) (transactions_of (live es)) ∙ sym (sum_of-up (λ tx. energy_of tx es) (transactions_of (live es))))
-    (sum_by-flat_map (λ p. (difference p).down) (λ tx. pairs_of tx es) (transactions_of (live es)) ∙ sym (sum_of-down (λ tx. energy_of tx es) (transactions_of (live es))))
-
--- the energy of a quarter over lines: the sum over those lines of it
-under-up : (quarter : ℕ) (lines : List Flowed) → (energy_under quarter lines).up ≡ sum_by (λ line. cond (eqb line.0 quarter) line.1.up 0) lines
-under-up quarter [] = refl
-under-up quarter (line ∷ lines) = step (eqb line.0 quarter) line.1 (energy_under quarter lines)
-    ∙ ap (λ n. cond (eqb line.0 quarter) line.1.up 0 + n) (under-up quarter lines) ∙ sym (sum_by-cons (λ (l : Flowed). cond (eqb l.0 quarter) l.1.up 0) line lines)
-  where
-    step : (b : Bool) (e rest : Energy) → (cond b (plus e rest) rest).up ≡ cond b e.up 0 + rest.up
-    step true e rest = refl
-    step false e rest = omega arith
-
-under-down : (quarter : ℕ) (lines : List Flowed) → (energy_under quarter lines).down ≡ sum_by (λ line. cond (eqb line.0 quarter) line.1.down 0) lines
-under-down quarter [] = refl
-under-down quarter (line ∷ lines) = step (eqb line.0 quarter) line.1 (energy_under quarter lines)
-    ∙ ap (λ n. cond (eqb line.0 quarter) line.1.down 0 + n) (under-down quarter lines) ∙ sym (sum_by-cons (λ (l : Flowed). cond (eqb l.0 quarter) l.1.down 0) line lines)
-  where
-    step : (b : Bool) (e rest : Energy) → (cond b (plus e rest) rest).down ≡ cond b e.down 0 + rest.down
-    step true e rest = refl
-    step false e rest = omega arith
+pub by_transaction : (d : Direction) (es : List Entry) → energy d es ≡ sum_of_energies (map (λ tx. energy_of d tx es) (transactions_of (live es)))
+by_transaction d es = same_energy _ _
+    (sum_by-flat_map (λ p. (difference p).up) (λ tx. pairs_of d tx es) (transactions_of (live es)) ∙ sym (sum_of-up (λ tx. energy_of d tx es) (transactions_of (live es))))
+    (sum_by-flat_map (λ p. (difference p).down) (λ tx. pairs_of d tx es) (transactions_of (live es)) ∙ sym (sum_of-down (λ tx. energy_of d tx es) (transactions_of (live es))))
 
 -- a term that is taken where two numbers agree may be taken at either
 taken_at : (g : ℕ → ℕ) (q k : ℕ) → cond (eqb k q) (g k) 0 ≡ cond (eqb q k) (g q) 0
@@ -75,36 +63,56 @@ taken_at g q k = ⊎_elim
 lines_sum : (g : ℕ → ℕ) (q : ℕ) (ks : List ℕ) → sum_by (λ k. cond (eqb k q) (g k) 0) ks ≡ times q ks * g q
 lines_sum g q ks = sum_by-same _ _ (taken_at g q) ks ∙ sum_by-times q (g q) ks
 
--- a quarter that is not shown has no energy, and one that is shown has its own
-station_up : (period q : ℕ) (es : List Entry) → sum_by (λ line. cond (eqb line.0 q) line.1.up 0) (board period es).quarters ≡ (energy_in period q es).up
-station_up period q es =
-    sum_by-map (λ (line : Flowed). cond (eqb line.0 q) line.1.up 0) (λ k. (k, energy_in period k es)) (quarters period es)
-    ∙ lines_sum (λ k. (energy_in period k es).up) q (quarters period es)
-    ∙ times-rising_sum (λ p. (difference p).up) (quarter_of period) q (pairs es)
+-- a measure of energies that adds up
+module _ (measure : Flows → ℕ) (none : measure no_flows ≡ 0) (both : (a b : Flows) → measure (plus_flows a b) ≡ measure a + measure b) where
+  -- the energies of a quarter over lines: the sum over those lines of it
+  under-part : (quarter : ℕ) (lines : List Flowed) → measure (flows_under quarter lines) ≡ sum_by (λ line. cond (eqb line.0 quarter) (measure line.1) 0) lines
+  under-part quarter [] = none
+  under-part quarter (line ∷ lines) = step (eqb line.0 quarter) line.1 (flows_under quarter lines)
+      ∙ ap (λ n. cond (eqb line.0 quarter) (measure line.1) 0 + n) (under-part quarter lines) ∙ sym (sum_by-cons (λ (l : Flowed). cond (eqb l.0 quarter) (measure l.1) 0) line lines)
+    where
+      step : (b : Bool) (e rest : Flows) → measure (cond b (plus_flows e rest) rest) ≡ cond b (measure e) 0 + measure rest
+      step true e rest = both e rest
+      step false e rest = omega arith
 
-station_down : (period q : ℕ) (es : List Entry) → sum_by (λ line. cond (eqb line.0 q) line.1.down 0) (board period es).quarters ≡ (energy_in period q es).down
-station_down period q es =
-    sum_by-map (λ (line : Flowed). cond (eqb line.0 q) line.1.down 0) (λ k. (k, energy_in period k es)) (quarters period es)
-    ∙ lines_sum (λ k. (energy_in period k es).down) q (quarters period es)
-    ∙ times-rising_sum (λ p. (difference p).down) (quarter_of period) q (pairs es)
+  -- a quarter that is not shown has no energy, and one that is shown has its own
+  station_part : (d : Direction) (f : Pair → ℕ) (period : ℕ) (es : List Entry) → ((q : ℕ) → measure (flows_in period q es) ≡ sum_by f (filter (λ p. eqb (quarter_of period p) q) (pairs d es)))
+      → (q : ℕ) → sum_by (λ line. cond (eqb line.0 q) (measure line.1) 0) (board period es).quarters ≡ measure (flows_in period q es)
+  station_part d f period es part q =
+      sum_by-map (λ (line : Flowed). cond (eqb line.0 q) (measure line.1) 0) (λ k. (k, flows_in period k es)) (quarters period es)
+      ∙ lines_sum (λ k. measure (flows_in period k es)) q (quarters period es)
+      ∙ ap (λ n. times q (quarters period es) * n) (part q)
+      ∙ times-among_sum f (quarter_of period) q (pairs d es) (pairs Import es ++ pairs Export es) (shown_pairs d period es)
+      ∙ sym (part q)
 
-pub site_quarter : (period quarter : ℕ) (stations : List (List Entry)) → energy_under quarter (flat_map (λ es. (board period es).quarters) stations) ≡ sum_of_energies (map (energy_in period quarter) stations)
-site_quarter period quarter stations = same_energy _ _
-    (under-up quarter (flat_map (λ es. (board period es).quarters) stations)
-    ∙ sum_by-flat_map (λ (line : Flowed). cond (eqb line.0 quarter) line.1.up 0) (λ es. (board period es).quarters) stations
-    ∙ sum_by-same _ _ (station_up period quarter) stations ∙ sym (sum_of-up (energy_in period quarter) stations))
-    (under-down quarter (flat_map (λ es. (board period es).quarters) stations)
-    ∙ sum_by-flat_map (λ (line : Flowed). cond (eqb line.0 quarter) line.1.down 0) (λ es. (board period es).quarters) stations
-    ∙ sum_by-same _ _ (station_down period quarter) stations ∙ sym (sum_of-down (energy_in period quarter) stations))
+  -- over the lines of stations it is the sum over the stations
+  site_part : (d : Direction) (f : Pair → ℕ) (period quarter : ℕ) (stations : List (List Entry)) → ((es : List Entry) (q : ℕ) → measure (flows_in period q es) ≡ sum_by f (filter (λ p. eqb (quarter_of period p) q) (pairs d es)))
+      → measure (flows_under quarter (flat_map (λ es. (board period es).quarters) stations)) ≡ sum_by (λ es. measure (flows_in period quarter es)) stations
+  site_part d f period quarter stations part =
+      under-part quarter (flat_map (λ es. (board period es).quarters) stations)
+      ∙ sum_by-flat_map (λ (line : Flowed). cond (eqb line.0 quarter) (measure line.1) 0) (λ es. (board period es).quarters) stations
+      ∙ sum_by-same _ _ (λ es. station_part d f period es (part es) quarter) stations
 
-pub quarters_shown : (period : ℕ) (es : List Entry) (quarter : ℕ) → IsIn quarter (quarters period es) ↔ IsIn quarter (map (quarter_of period) (pairs es))
-quarters_shown period es quarter = rising-IsIn quarter (map (quarter_of period) (pairs es))
+pub site_quarter : (period quarter : ℕ) (stations : List (List Entry))
+    → flows_under quarter (flat_map (λ es. (board period es).quarters) stations) ≡ record { flow = sum_of_energies (map (energy_in Import period quarter) stations); export = sum_of_energies (map (energy_in Export period quarter) stations) }
+site_quarter period quarter stations =
+    let all = flows_under quarter (flat_map (λ es. (board period es).quarters) stations) in
+    let imported : all.flow ≡ sum_of_energies (map (energy_in Import period quarter) stations) = same_energy _ _
+    (site_part (λ f. f.flow.up) refl (λ a b. refl) Import (λ p. (difference p).up) period quarter stations (λ es q. refl) ∙ sym (sum_of-up (energy_in Import period quarter) stations))
+    (site_part (λ f. f.flow.down) refl (λ a b. refl) Import (λ p. (difference p).down) period quarter stations (λ es q. refl) ∙ sym (sum_of-down (energy_in Import period quarter) stations)) in
+    let exported : all.export ≡ sum_of_energies (map (energy_in Export period quarter) stations) = same_energy _ _
+    (site_part (λ f. f.export.up) refl (λ a b. refl) Export (λ p. (difference p).up) period quarter stations (λ es q. refl) ∙ sym (sum_of-up (energy_in Export period quarter) stations))
+    (site_part (λ f. f.export.down) refl (λ a b. refl) Export (λ p. (difference p).down) period quarter stations (λ es q. refl) ∙ sym (sum_of-down (energy_in Export period quarter) stations)) in
+    λ i. record { flow = imported i; export = exported i }
+
+pub quarters_shown : (period : ℕ) (es : List Entry) (quarter : ℕ) → IsIn quarter (quarters period es) ↔ IsIn quarter (map (quarter_of period) (pairs Import es ++ pairs Export es))
+quarters_shown period es quarter = rising-IsIn quarter (map (quarter_of period) (pairs Import es ++ pairs Export es))
 
 pub evses_shown : (es : List Entry) (evse : ℕ) → IsIn evse (evses es) ↔ IsIn evse (map (λ tx. evse_of tx es) (transactions_of (live es)))
 evses_shown es evse = rising-IsIn evse (map (λ tx. evse_of tx es) (transactions_of (live es)))
 
 pub quarters_rise : (period : ℕ) (es : List Entry) → AreRising (quarters period es)
-quarters_rise period es = rising-AreRising (map (quarter_of period) (pairs es))
+quarters_rise period es = rising-AreRising (map (quarter_of period) (pairs Import es ++ pairs Export es))
 
 pub evses_rise : (es : List Entry) → AreRising (evses es)
 evses_rise es = rising-AreRising (map (λ tx. evse_of tx es) (transactions_of (live es)))

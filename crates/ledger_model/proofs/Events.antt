@@ -5,7 +5,9 @@ use Rattle.std.proofs.lemmas.Bool.{false≢true}
 use Rattle.std.proofs.lemmas.Bool.Decides.{Decides-eqb, Decides-and, Decides-like}
 use Rattle.ledger_model.specs.declared.kind.Kind.{Kind}
 use Rattle.ledger_model.specs.declared.kind.Kind.TheVariants.{Started, Updated, Ended}
-use Rattle.ledger_model.specs.Event.{MeterReading, EventContent, same_kind, same_evse, same_reading, same_readings, same_event}
+use Rattle.ledger_model.specs.declared.reading.Direction.{Direction}
+use Rattle.ledger_model.specs.declared.reading.Direction.TheVariants.{Import, Export}
+use Rattle.ledger_model.specs.Event.{MeterReading, EventContent, same_kind, same_evse, same_direction, same_reading, same_readings, same_event}
 
 same_kind-Decides : (a b : Kind) → Decides (same_kind a b) (a ≡ b)
 same_kind-Decides Started Started = (λ _. refl, λ _. refl)
@@ -24,10 +26,17 @@ same_evse-Decides None (Some n) = (λ h. absurd (false≢true h), λ e. cc)
 same_evse-Decides (Some n) None = (λ h. absurd (false≢true h), λ e. cc)
 same_evse-Decides (Some m) (Some n) = Decides-like _ (λ e. ap Some e) (λ e. cc) (Decides-eqb m n)
 
+same_direction-Decides : (a b : Direction) → Decides (same_direction a b) (a ≡ b)
+same_direction-Decides Import Import = (λ _. refl, λ _. refl)
+same_direction-Decides Import Export = (λ h. absurd (false≢true h), λ e. cc)
+same_direction-Decides Export Import = (λ h. absurd (false≢true h), λ e. cc)
+same_direction-Decides Export Export = (λ _. refl, λ _. refl)
+
 pub same_reading-Decides : (a b : MeterReading) → Decides (same_reading a b) (a ≡ b)
 same_reading-Decides a b =
-    Decides-like _ (λ parts i. record { moment = parts.0 i; mwh = parts.1 i }) (λ e. (ap (λ (r : MeterReading). r.moment) e, ap (λ (r : MeterReading). r.mwh) e))
-    (Decides-and _ _ (Decides-eqb a.moment b.moment) (Decides-eqb a.mwh b.mwh))
+    Decides-like _ (λ parts i. record { moment = parts.0 i; mwh = parts.1.0 i; direction = parts.1.1 i })
+    (λ e. (ap (λ (r : MeterReading). r.moment) e, (ap (λ (r : MeterReading). r.mwh) e, ap (λ (r : MeterReading). r.direction) e)))
+    (Decides-and _ _ (Decides-eqb a.moment b.moment) (Decides-and _ _ (Decides-eqb a.mwh b.mwh) (same_direction-Decides a.direction b.direction)))
 
 same_readings-Decides : (rs ss : List MeterReading) → Decides (same_readings rs ss) (rs ≡ ss)
 same_readings-Decides [] [] = (λ _. refl, λ _. refl)

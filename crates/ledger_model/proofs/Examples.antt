@@ -5,13 +5,14 @@ use Rattle.ledger_model.specs.declared.command.Command.{Command}
 use Rattle.ledger_model.specs.declared.answer.Answer.{Answer}
 use Rattle.ledger_model.specs.Limits.{Bounds}
 use Rattle.ledger_model.specs.Content.{entries, empty_content}
+use Rattle.ledger_model.specs.declared.reading.Direction.TheVariants.{Import}
 use Rattle.ledger_model.specs.Energy.{energy}
 use Rattle.ledger_model.specs.Laws.{answers, left_by}
 use Rattle.ledger_model.proofs.ListedRuns.{told_all, listed_left, told_from_empty, entries_from_empty}
 
 -- the energy after a list of commands
-pub energy_after : (limits : Bounds) (commands : List Command) (e : Energy) → energy (listed_left limits ([], 0) commands).0 ≡ e → energy (entries (left_by limits empty_content commands)) ≡ e
-energy_after limits commands e h = ap energy (entries_from_empty limits commands) ∙ h
+pub energy_after : (limits : Bounds) (commands : List Command) (e : Energy) → energy Import (listed_left limits ([], 0) commands).0 ≡ e → energy Import (entries (left_by limits empty_content commands)) ≡ e
+energy_after limits commands e h = ap (energy Import) (entries_from_empty limits commands) ∙ h
 
 -- the answers to a list of commands
 pub answers_to : (limits : Bounds) (commands : List Command) (told : List Answer) → told_all limits ([], 0) commands ≡ told → answers limits empty_content commands ≡ told

@@ -8,7 +8,9 @@ use Rattle.std.proofs.lemmas.List.{length-append, length-map}
 use Rattle.std.proofs.lemmas.List.Sums.{sum_by-cons, sum_by-le-sum_by, count_by-le-length, length-filter}
 use Rattle.std.proofs.lemmas.Slice.Eq.{bytes_eq-Decides}
 use Rattle.ledger_model.specs.Ranges.{greatest_reading, sequence_end}
-use Rattle.ledger_model.specs.Event.{MeterReading, IsMeterReading}
+use Rattle.ledger_model.specs.declared.reading.Direction.{Direction}
+use Rattle.ledger_model.specs.declared.reading.Direction.TheVariants.{Import, Export}
+use Rattle.ledger_model.specs.Event.{MeterReading, IsMeterReading, same_direction, toward}
 use Rattle.ledger_model.specs.Limits.{Bounds}
 use Rattle.ledger_model.specs.Content.{Content, Entry, entries, live, live_of, distinct, transactions_of}
 use Rattle.ledger_model.specs.Energy.{difference, followed, pairs, pairs_of, readings_of}
@@ -119,9 +121,16 @@ low-all : (rs : List MeterReading) → All IsMeterReading rs → AreLow rs
 low-all [] h = tt
 low-all (r ∷ rs) h = ((h 0 r (omega arith)).mwh, low-all rs (λ k d lt. h (suc k) d (omega arith)))
 
-low-entries : (es : List Entry) → AreEntries es → AreLow (flat_map (λ e. e.1.event.readings) es)
-low-entries [] h = tt
-low-entries (e ∷ es) h = low-append e.1.event.readings (flat_map (λ f. f.1.event.readings) es) (low-all e.1.event.readings h.0.event.readings) (low-entries es h.1)
+low-some : (d : Direction) (rs : List MeterReading) → AreLow rs → AreLow (toward d rs)
+low-some d [] h = tt
+low-some d (r ∷ rs) h =
+    let rest = low-some d rs h.1 in
+    elim (same_direction d r.direction) as (λ b. AreLow (cond b (r ∷ toward d rs) (toward d rs))) [ true ↦ (h.0, rest) | false ↦ rest ]
+
+low-entries : (d : Direction) (es : List Entry) → AreEntries es → AreLow (flat_map (λ e. toward d e.1.event.readings) es)
+low-entries d [] h = tt
+low-entries d (e ∷ es) h =
+    low-append (toward d e.1.event.readings) (flat_map (λ f. toward d f.1.event.readings) es) (low-some d e.1.event.readings (low-all e.1.event.readings h.0.event.readings)) (low-entries d es h.1)
 
 -- readings that follow one another rise and fall by no more than each can show
 rises : (rs : List MeterReading) → AreLow rs → sum_by (λ p. (difference p).up) (followed rs) ≤ greatest_reading * length rs
@@ -140,9 +149,14 @@ falls (r ∷ s ∷ rs) h =
     let low : r.mwh ≤ greatest_reading = h.0 in
     omega (arith, sum_by-cons (λ p. (difference p).down) (r, s) (followed (s ∷ rs)))
 
-length-readings : (es : List Entry) → length (flat_map (λ e. e.1.event.readings) es) ≡ readings_stored es
-length-readings [] = refl
-length-readings (e ∷ es) = omega (arith, length-append e.1.event.readings (flat_map (λ f. f.1.event.readings) es), length-readings es, sum_by-cons (λ f. length f.1.event.readings) e es)
+-- no more readings of one direction than of both
+pub few_toward : (d : Direction) (rs : List MeterReading) → length (toward d rs) ≤ length rs
+few_toward d rs = omega (arith, length-filter (λ r. same_direction d r.direction) rs, count_by-le-length (λ r. same_direction d r.direction) rs)
+
+few_readings : (d : Direction) (es : List Entry) → length (flat_map (λ e. toward d e.1.event.readings) es) ≤ readings_stored es
+few_readings d [] = omega arith
+few_readings d (e ∷ es) =
+    omega (arith, length-append (toward d e.1.event.readings) (flat_map (λ f. toward d f.1.event.readings) es), few_toward d e.1.event.readings, few_readings d es, sum_by-cons (λ f. length f.1.event.readings) e es)
 
 readings-filter : (p : Entry → Bool) (es : List Entry) → readings_stored (filter p es) ≤ readings_stored es
 readings-filter p [] = omega arith
@@ -162,15 +176,15 @@ sum_by-times m g (t ∷ ts) =
     spread m a b = omega arith
 
 -- what each transaction has at most, all have at most
-energy_bound : (f : MeterReading × MeterReading → ℕ) (es : List Entry) → ((rs : List MeterReading) → AreLow rs → sum_by f (followed rs) ≤ greatest_reading * length rs) → AreEntries es → sum_by f (pairs es) ≤ greatest_reading * readings_stored es
-energy_bound f es each range =
+energy_bound : (d : Direction) (f : MeterReading × MeterReading → ℕ) (es : List Entry) → ((rs : List MeterReading) → AreLow rs → sum_by f (followed rs) ≤ greatest_reading * length rs) → AreEntries es → sum_by f (pairs d es) ≤ greatest_reading * readings_stored es
+energy_bound d f es each range =
     let ts = transactions_of (live es) in
     let size : Entry → ℕ = λ e. length e.1.event.readings in
     let live_range : AreEntries (live es) = AreEntries-filter (λ e. not e.1.voided) es range in
-    let one : (t : List ℕ) → sum_by f (pairs_of t es) ≤ greatest_reading * sum_by size (of_one t (live es)) =
-    λ t. omega (arith, each (readings_of t es) (low-entries (live_of t es) (AreEntries-filter (λ e. bytes_eq t e.0.tx) (live es) live_range)), length-readings (live_of t es)) in
-    let bound : sum_by (λ t. sum_by f (pairs_of t es)) ts ≤ sum_by (λ t. greatest_reading * sum_by size (of_one t (live es))) ts = sum_by-le-sum_by (λ t. sum_by f (pairs_of t es)) (λ t. greatest_reading * sum_by size (of_one t (live es))) ts one in
-    omega (arith, sum_by-flat_map f (λ t. pairs_of t es) ts, bound, sum_by-times greatest_reading (λ t. sum_by size (of_one t (live es))) ts, sum_by_transactions size (live es), readings-filter (λ e. not e.1.voided) es)
+    let one : (t : List ℕ) → sum_by f (pairs_of d t es) ≤ greatest_reading * sum_by size (of_one t (live es)) =
+    λ t. omega (arith, each (readings_of d t es) (low-entries d (live_of t es) (AreEntries-filter (λ e. bytes_eq t e.0.tx) (live es) live_range)), few_readings d (live_of t es)) in
+    let bound : sum_by (λ t. sum_by f (pairs_of d t es)) ts ≤ sum_by (λ t. greatest_reading * sum_by size (of_one t (live es))) ts = sum_by-le-sum_by (λ t. sum_by f (pairs_of d t es)) (λ t. greatest_reading * sum_by size (of_one t (live es))) ts one in
+    omega (arith, sum_by-flat_map f (λ t. pairs_of d t es) ts, bound, sum_by-times greatest_reading (λ t. sum_by size (of_one t (live es))) ts, sum_by_transactions size (live es), readings-filter (λ e. not e.1.voided) es)
 
 -- numbers below the end of sequence numbers
 abbrev AreBelow : List ℕ → Type 0
@@ -239,6 +253,8 @@ figures_within limits n c reached =
       transactions = few;
       complete = omega (arith, count_by-le-length (λ t. is_complete t es) ts);
       missing = omega (arith, few_missing es (entries_sorted c.events) kept.in_range, mul-le-mul_left sequence_end few);
-      up = omega (arith, energy_bound (λ p. (difference p).up) es rises kept.in_range, mul-le-mul_left greatest_reading kept.readings);
-      down = omega (arith, energy_bound (λ p. (difference p).down) es falls kept.in_range, mul-le-mul_left greatest_reading kept.readings);
+      up = omega (arith, energy_bound Import (λ p. (difference p).up) es rises kept.in_range, mul-le-mul_left greatest_reading kept.readings);
+      down = omega (arith, energy_bound Import (λ p. (difference p).down) es falls kept.in_range, mul-le-mul_left greatest_reading kept.readings);
+      export_up = omega (arith, energy_bound Export (λ p. (difference p).up) es rises kept.in_range, mul-le-mul_left greatest_reading kept.readings);
+      export_down = omega (arith, energy_bound Export (λ p. (difference p).down) es falls kept.in_range, mul-le-mul_left greatest_reading kept.readings);
     }

@@ -21,6 +21,8 @@ figures-AreSums fs = record {
   missing = figure_of_sum (λ f. f.missing) refl (λ a b. refl) fs;
   up = figure_of_sum (λ f. f.up) refl (λ a b. refl) fs;
   down = figure_of_sum (λ f. f.down) refl (λ a b. refl) fs;
+  export_up = figure_of_sum (λ f. f.export_up) refl (λ a b. refl) fs;
+  export_down = figure_of_sum (λ f. f.export_down) refl (λ a b. refl) fs;
 }
 
 pub site-AreSums : (period : ℕ) (stations : List (List ℕ × Board)) → AreSums (site_board period stations).figures (map (λ s. s.1.figures) stations)
@@ -36,4 +38,6 @@ same_figures a b each =
     let missing = each (λ f. f.missing) refl (λ c d. refl) in
     let up = each (λ f. f.up) refl (λ c d. refl) in
     let down = each (λ f. f.down) refl (λ c d. refl) in
-    λ i. record { events = events i; voided = voided i; transactions = transactions i; complete = complete i; missing = missing i; up = up i; down = down i }
+    let export_up = each (λ f. f.export_up) refl (λ c d. refl) in
+    let export_down = each (λ f. f.export_down) refl (λ c d. refl) in
+    λ i. record { events = events i; voided = voided i; transactions = transactions i; complete = complete i; missing = missing i; up = up i; down = down i; export_up = export_up i; export_down = export_down i }

@@ -1,7 +1,11 @@
 -- Boards depend on live events, but for how many are voided.
-use Rattle.std.proofs.Common.{◌≡◌, ℕ, Bool, List, map, filter, length, sum_by, ap, bytes_eq}
+use Rattle.std.proofs.Common.{◌≡◌, ℕ, Bool, List, ◌++◌, map, filter, length, sum_by, ap, bytes_eq}
 use Rattle.std.specs.Prelude.{◌&&◌, ◌==◌, count_by}
 use Rattle.std.specs.List.{filter_map, flat_map}
+use Rattle.energy_flow.specs.Flow.{Energy}
+use Rattle.ledger_model.specs.declared.reading.Direction.{Direction}
+use Rattle.ledger_model.specs.declared.reading.Direction.TheVariants.{Import, Export}
+use Rattle.ledger_model.specs.Event.{toward}
 use Rattle.ledger_model.specs.Board.{Board, Shown, board, figures, last_or_none}
 use Rattle.ledger_model.specs.Complete.{starts_and_ends}
 use Rattle.ledger_model.specs.Content.{Entry, live, transactions_of}
@@ -22,11 +26,17 @@ complete tx l = starts_and_ends (map (λ e. e.1.event.kind) (of_one tx l)) && (m
 abbrev evse : List ℕ → List Entry → ℕ
 evse tx l = first_or_none (filter_map (λ e. e.1.event.evse) (of_one tx l))
 
-abbrev pairs_of_one : List ℕ → List Entry → List Pair
-pairs_of_one tx l = followed (flat_map (λ e. e.1.event.readings) (of_one tx l))
+abbrev pairs_of_one : Direction → List ℕ → List Entry → List Pair
+pairs_of_one d tx l = followed (flat_map (λ e. toward d e.1.event.readings) (of_one tx l))
 
-abbrev all_pairs : List Entry → List Pair
-all_pairs l = flat_map (λ tx. pairs_of_one tx l) (transactions_of l)
+abbrev all_pairs : Direction → List Entry → List Pair
+all_pairs d l = flat_map (λ tx. pairs_of_one d tx l) (transactions_of l)
+
+abbrev at_evse : Direction → ℕ → List Entry → Energy
+at_evse d at l = energy_over (flat_map (λ tx. pairs_of_one d tx l) (filter (λ tx. evse tx l == at) (transactions_of l)))
+
+abbrev in_quarter : Direction → ℕ → ℕ → List Entry → Energy
+in_quarter d period quarter l = energy_over (filter (λ p. quarter_of period p == quarter) (all_pairs d l))
 
 abbrev shown_of : List Entry → List ℕ → Shown
 shown_of l tx = record {
@@ -37,7 +47,8 @@ shown_of l tx = record {
   last = last_or_none (numbers tx l);
   complete = complete tx l;
   missing = missing (numbers tx l);
-  flow = energy_over (pairs_of_one tx l);
+  flow = energy_over (pairs_of_one Import tx l);
+  export = energy_over (pairs_of_one Export tx l);
   gaps = gaps (numbers tx l);
 }
 
@@ -51,11 +62,13 @@ of_live period voided l = record {
     transactions = length (transactions_of l);
     complete = count_by (λ tx. complete tx l) (transactions_of l);
     missing = sum_by (λ tx. missing (numbers tx l)) (transactions_of l);
-    up = (energy_over (all_pairs l)).up;
-    down = (energy_over (all_pairs l)).down;
+    up = (energy_over (all_pairs Import l)).up;
+    down = (energy_over (all_pairs Import l)).down;
+    export_up = (energy_over (all_pairs Export l)).up;
+    export_down = (energy_over (all_pairs Export l)).down;
   };
-  evses = map (λ at. (at, energy_over (flat_map (λ tx. pairs_of_one tx l) (filter (λ tx. evse tx l == at) (transactions_of l))))) (rising (map (λ tx. evse tx l) (transactions_of l)));
-  quarters = map (λ quarter. (quarter, energy_over (filter (λ p. quarter_of period p == quarter) (all_pairs l)))) (rising (map (quarter_of period) (all_pairs l)));
+  evses = map (λ at. (at, record { flow = at_evse Import at l; export = at_evse Export at l })) (rising (map (λ tx. evse tx l) (transactions_of l)));
+  quarters = map (λ quarter. (quarter, record { flow = in_quarter Import period quarter l; export = in_quarter Export period quarter l })) (rising (map (quarter_of period) (all_pairs Import l ++ all_pairs Export l)));
   transactions = map (shown_of l) (transactions_of l);
 }
 

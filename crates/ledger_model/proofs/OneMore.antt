@@ -1,17 +1,18 @@
 -- What one live event more changes: in its transaction alone.
-use Rattle.std.proofs.Common.{◌≡◌, ℕ, ◌+◌, ◌==◌, Bool, true, false, cond, not, ◌||◌, List, [], ◌∷◌, ◌++◌, length, map, refl, sym, ap, ◌∙◌, bytes_eq, arith}
+use Rattle.std.proofs.Common.{◌≡◌, ℕ, ◌+◌, ◌==◌, ◌≤◌, Bool, true, false, cond, not, ◌||◌, List, [], ◌∷◌, ◌++◌, Option, length, map, refl, sym, ap, ◌∙◌, bytes_eq, arith}
 use Rattle.std.specs.List.{filter, filter_map, flat_map, list_any, sum_by}
 use Rattle.std.proofs.lemmas.List.Elements.{filter-append}
 use Rattle.std.proofs.lemmas.List.Sums.{sum_by-append, sum_by-cons, length-filter}
 use Rattle.std.proofs.lemmas.Grind.{flat_map-append}
 use Rattle.std.proofs.lemmas.Cmp.{nat_list_eq_equiv}
-use Rattle.ledger_model.specs.Event.{MeterReading}
+use Rattle.ledger_model.specs.declared.reading.Direction.{Direction}
+use Rattle.ledger_model.specs.Event.{MeterReading, toward}
 use Rattle.ledger_model.specs.Content.{Entry, has_transaction, live, live_of, transactions_of}
 use Rattle.ledger_model.specs.Energy.{Pair, followed, pairs, pairs_of}
 use Rattle.ledger_model.specs.Evse.{evse_of, transactions_at, first_or_none}
-use Rattle.ledger_model.specs.Deltas.{own_events, own_readings, IsOneMore, pairs_less, pairs_more, pairs_kept}
+use Rattle.ledger_model.specs.Deltas.{across, came_by, gone_by, if_read, kept_by, most_for, own_events, own_readings, pairs_between, IsOneMore, pairs_less, pairs_more, pairs_kept, read_or, reading_before, reading_behind}
 use Rattle.ledger_model.proofs.SumLemmas.{sum_by-flat_map, sum_by-filter_cons}
-use Rattle.ledger_model.proofs.Splices.{followed_cut}
+use Rattle.ledger_model.proofs.Splices.{few_across, few_between, followed_cut}
 use Rattle.ledger_model.proofs.SumsByTransaction.{others, same_text, sum_by_one, sums_differ_by_one, counts_differ_by_one}
 use Rattle.ledger_model.proofs.TransactionLemmas.{any-map}
 
@@ -61,39 +62,39 @@ live_with es more front e back one = ap (own_events e.0.tx) one.more_live ∙ ow
 pub live_else : (es more front : List Entry) (e : Entry) (back : List Entry) (u : List ℕ) → IsOneMore es more front e back → bytes_eq u e.0.tx ≡ false → live_of u more ≡ live_of u es
 live_else es more front e back u one apart = ap (own_events u) one.more_live ∙ own_else u e front back apart ∙ sym (ap (own_events u) one.less_live)
 
--- The readings of events.
-abbrev readings_among : List Entry → List MeterReading
-readings_among es = flat_map (λ e. e.1.event.readings) es
+-- The readings of events in one direction.
+abbrev readings_among : Direction → List Entry → List MeterReading
+readings_among d es = flat_map (λ e. toward d e.1.event.readings) es
 
 -- The pairs of the transaction, without the event.
-pub pairs_without : (es more front : List Entry) (e : Entry) (back : List Entry) → IsOneMore es more front e back
-    → pairs_of e.0.tx es ≡ followed (own_readings e.0.tx front) ++ (pairs_less front e back ++ followed (own_readings e.0.tx back))
-pairs_without es more front e back one =
+pub pairs_without : (d : Direction) (es more front : List Entry) (e : Entry) (back : List Entry) → IsOneMore es more front e back
+    → pairs_of d e.0.tx es ≡ followed (own_readings d e.0.tx front) ++ (pairs_less d front e back ++ followed (own_readings d e.0.tx back))
+pairs_without d es more front e back one =
     let t = e.0.tx in
-    ap (λ l. followed (readings_among l)) (live_without es more front e back one)
-    ∙ ap followed (flat_map-append (λ (x : Entry). x.1.event.readings) (own_events t front) (own_events t back))
-    ∙ followed_cut (own_readings t front) [] (own_readings t back)
+    ap (λ l. followed (readings_among d l)) (live_without es more front e back one)
+    ∙ ap followed (flat_map-append (λ (x : Entry). toward d x.1.event.readings) (own_events t front) (own_events t back))
+    ∙ followed_cut (own_readings d t front) [] (own_readings d t back)
 
 -- The pairs of the transaction, with it.
-pub pairs_with : (es more front : List Entry) (e : Entry) (back : List Entry) → IsOneMore es more front e back
-    → pairs_of e.0.tx more ≡ followed (own_readings e.0.tx front) ++ (pairs_more front e back ++ followed (own_readings e.0.tx back))
-pairs_with es more front e back one =
+pub pairs_with : (d : Direction) (es more front : List Entry) (e : Entry) (back : List Entry) → IsOneMore es more front e back
+    → pairs_of d e.0.tx more ≡ followed (own_readings d e.0.tx front) ++ (pairs_more d front e back ++ followed (own_readings d e.0.tx back))
+pairs_with d es more front e back one =
     let t = e.0.tx in
-    ap (λ l. followed (readings_among l)) (live_with es more front e back one)
-    ∙ ap followed (flat_map-append (λ (x : Entry). x.1.event.readings) (own_events t front) (e ∷ own_events t back))
-    ∙ followed_cut (own_readings t front) e.1.event.readings (own_readings t back)
+    ap (λ l. followed (readings_among d l)) (live_with es more front e back one)
+    ∙ ap followed (flat_map-append (λ (x : Entry). toward d x.1.event.readings) (own_events t front) (e ∷ own_events t back))
+    ∙ followed_cut (own_readings d t front) (toward d e.1.event.readings) (own_readings d t back)
 
 -- The pairs of another transaction.
-pub pairs_else : (es more front : List Entry) (e : Entry) (back : List Entry) (u : List ℕ) → IsOneMore es more front e back → bytes_eq u e.0.tx ≡ false → pairs_of u more ≡ pairs_of u es
-pairs_else es more front e back u one apart = ap (λ l. followed (readings_among l)) (live_else es more front e back u one apart)
+pub pairs_else : (d : Direction) (es more front : List Entry) (e : Entry) (back : List Entry) (u : List ℕ) → IsOneMore es more front e back → bytes_eq u e.0.tx ≡ false → pairs_of d u more ≡ pairs_of d u es
+pairs_else d es more front e back u one apart = ap (λ l. followed (readings_among d l)) (live_else es more front e back u one apart)
 
 -- A sum over the pairs of the transaction.
-pub transaction_sums : (f : Pair → ℕ) (es more front : List Entry) (e : Entry) (back : List Entry) → IsOneMore es more front e back
-    → sum_by f (pairs_of e.0.tx more) + sum_by f (pairs_less front e back) ≡ sum_by f (pairs_of e.0.tx es) + sum_by f (pairs_more front e back)
-transaction_sums f es more front e back one =
-    let t = e.0.tx in let p = followed (own_readings t front) in let q = followed (own_readings t back) in let a = pairs_less front e back in let m = pairs_more front e back in
-    let with_it = ap (sum_by f) (pairs_with es more front e back one) ∙ sum_by-append f p (m ++ q) ∙ ap (λ n. sum_by f p + n) (sum_by-append f m q) in
-    let without = ap (sum_by f) (pairs_without es more front e back one) ∙ sum_by-append f p (a ++ q) ∙ ap (λ n. sum_by f p + n) (sum_by-append f a q) in
+pub transaction_sums : (d : Direction) (f : Pair → ℕ) (es more front : List Entry) (e : Entry) (back : List Entry) → IsOneMore es more front e back
+    → sum_by f (pairs_of d e.0.tx more) + sum_by f (pairs_less d front e back) ≡ sum_by f (pairs_of d e.0.tx es) + sum_by f (pairs_more d front e back)
+transaction_sums d f es more front e back one =
+    let t = e.0.tx in let p = followed (own_readings d t front) in let q = followed (own_readings d t back) in let a = pairs_less d front e back in let m = pairs_more d front e back in
+    let with_it = ap (sum_by f) (pairs_with d es more front e back one) ∙ sum_by-append f p (m ++ q) ∙ ap (λ n. sum_by f p + n) (sum_by-append f m q) in
+    let without = ap (sum_by f) (pairs_without d es more front e back one) ∙ sum_by-append f p (a ++ q) ∙ ap (λ n. sum_by f p + n) (sum_by-append f a q) in
     omega (arith, with_it, without)
 
 turned_apart : (t u : List ℕ) → bytes_eq t u ≡ false → bytes_eq u t ≡ false
@@ -111,13 +112,13 @@ by_transaction_sums g h es more front e back one agree none_less none_more =
     (λ absent. none_more (none_own e.0.tx (live more) absent))
 
 -- A sum over the pairs of the station.
-pub station_sums : (f : Pair → ℕ) (es more front : List Entry) (e : Entry) (back : List Entry) → IsOneMore es more front e back
-    → sum_by f (pairs more) + sum_by f (pairs_less front e back) ≡ sum_by f (pairs es) + sum_by f (pairs_more front e back)
-station_sums f es more front e back one =
-    let g = λ (u : List ℕ). sum_by f (pairs_of u es) in let h = λ (u : List ℕ). sum_by f (pairs_of u more) in
-    let all = by_transaction_sums g h es more front e back one (λ u apart. ap (sum_by f) (pairs_else es more front e back u one apart)) (λ none. ap (λ l. sum_by f (followed (readings_among l))) none) (λ none. ap (λ l. sum_by f (followed (readings_among l))) none) in
-    let own = transaction_sums f es more front e back one in
-    let less = sum_by-flat_map f (λ u. pairs_of u es) (transactions_of (live es)) in let many = sum_by-flat_map f (λ u. pairs_of u more) (transactions_of (live more)) in
+pub station_sums : (d : Direction) (f : Pair → ℕ) (es more front : List Entry) (e : Entry) (back : List Entry) → IsOneMore es more front e back
+    → sum_by f (pairs d more) + sum_by f (pairs_less d front e back) ≡ sum_by f (pairs d es) + sum_by f (pairs_more d front e back)
+station_sums d f es more front e back one =
+    let g = λ (u : List ℕ). sum_by f (pairs_of d u es) in let h = λ (u : List ℕ). sum_by f (pairs_of d u more) in
+    let all = by_transaction_sums g h es more front e back one (λ u apart. ap (sum_by f) (pairs_else d es more front e back u one apart)) (λ none. ap (λ l. sum_by f (followed (readings_among d l))) none) (λ none. ap (λ l. sum_by f (followed (readings_among d l))) none) in
+    let own = transaction_sums d f es more front e back one in
+    let less = sum_by-flat_map f (λ u. pairs_of d u es) (transactions_of (live es)) in let many = sum_by-flat_map f (λ u. pairs_of d u more) (transactions_of (live more)) in
     omega (arith, all, own, less, many)
 
 -- Sums over three lists.
@@ -125,24 +126,69 @@ sum_of_three : (f : Pair → ℕ) (a b d : List Pair) → sum_by f (a ++ (b ++ d
 sum_of_three f a b d = sum_by-append f a (b ++ d) ∙ ap (λ n. sum_by f a + n) (sum_by-append f b d)
 
 -- The station's pairs without the event add up as those that are kept and the pair across its place.
-pub pairs_less_kept : (f : Pair → ℕ) (es more front : List Entry) (e : Entry) (back : List Entry) → IsOneMore es more front e back
-    → sum_by f (pairs es) ≡ sum_by f (pairs_less front e back ++ pairs_kept es front e back)
-pairs_less_kept f es more front e back one =
-    let t = e.0.tx in let p = followed (own_readings t front) in let q = followed (own_readings t back) in let a = pairs_less front e back in
-    let ts = others t (transactions_of (live es)) in let g = λ (u : List ℕ). sum_by f (pairs_of u es) in
-    let whole = sum_by-flat_map f (λ u. pairs_of u es) (transactions_of (live es)) ∙ sum_by_one g t (ids (live es)) (λ absent. ap (λ l. sum_by f (followed (readings_among l))) (none_own t (live es) absent)) in
-    let own = ap (sum_by f) (pairs_without es more front e back one) ∙ sum_of_three f p a q in
-    let rest = sum_by-flat_map f (λ u. pairs_of u es) ts in
-    let kept = sum_of_three f (flat_map (λ u. pairs_of u es) ts) p q in
-    omega (arith, whole, own, rest, kept, sum_by-append f a (pairs_kept es front e back))
+pub pairs_less_kept : (d : Direction) (f : Pair → ℕ) (es more front : List Entry) (e : Entry) (back : List Entry) → IsOneMore es more front e back
+    → sum_by f (pairs d es) ≡ sum_by f (pairs_less d front e back ++ pairs_kept d es front e back)
+pairs_less_kept d f es more front e back one =
+    let t = e.0.tx in let p = followed (own_readings d t front) in let q = followed (own_readings d t back) in let a = pairs_less d front e back in
+    let ts = others t (transactions_of (live es)) in let g = λ (u : List ℕ). sum_by f (pairs_of d u es) in
+    let whole = sum_by-flat_map f (λ u. pairs_of d u es) (transactions_of (live es)) ∙ sum_by_one g t (ids (live es)) (λ absent. ap (λ l. sum_by f (followed (readings_among d l))) (none_own t (live es) absent)) in
+    let own = ap (sum_by f) (pairs_without d es more front e back one) ∙ sum_of_three f p a q in
+    let rest = sum_by-flat_map f (λ u. pairs_of d u es) ts in
+    let kept = sum_of_three f (flat_map (λ u. pairs_of d u es) ts) p q in
+    omega (arith, whole, own, rest, kept, sum_by-append f a (pairs_kept d es front e back))
 
 -- With the event they add up as those that are kept and those that its readings make.
-pub pairs_more_kept : (f : Pair → ℕ) (es more front : List Entry) (e : Entry) (back : List Entry) → IsOneMore es more front e back
-    → sum_by f (pairs more) ≡ sum_by f (pairs_more front e back ++ pairs_kept es front e back)
-pairs_more_kept f es more front e back one =
-    let less = pairs_less_kept f es more front e back one ∙ sum_by-append f (pairs_less front e back) (pairs_kept es front e back) in
-    let many = sum_by-append f (pairs_more front e back) (pairs_kept es front e back) in
-    omega (arith, less, many, station_sums f es more front e back one)
+pub pairs_more_kept : (d : Direction) (f : Pair → ℕ) (es more front : List Entry) (e : Entry) (back : List Entry) → IsOneMore es more front e back
+    → sum_by f (pairs d more) ≡ sum_by f (pairs_more d front e back ++ pairs_kept d es front e back)
+pairs_more_kept d f es more front e back one =
+    let less = pairs_less_kept d f es more front e back one ∙ sum_by-append f (pairs_less d front e back) (pairs_kept d es front e back) in
+    let many = sum_by-append f (pairs_more d front e back) (pairs_kept d es front e back) in
+    omega (arith, less, many, station_sums d f es more front e back one)
+
+-- What is so of the pair that goes and of those that come is so of none where there is no reading.
+if_moved : (f : Pair → ℕ) (rs : List MeterReading) (before after : Option MeterReading) (m n : ℕ) → m + sum_by f (across before after) ≡ n + sum_by f (pairs_between before rs after)
+    → m + sum_by f (if_read rs (across before after)) ≡ n + sum_by f (if_read rs (pairs_between before rs after))
+if_moved f [] before after m n h = omega (arith, h)
+if_moved f (r ∷ rs) before after m n h = h
+
+-- A sum over the pairs of the transaction, by those that come and go.
+pub transaction_moved : (d : Direction) (f : Pair → ℕ) (es more front : List Entry) (e : Entry) (back : List Entry) → IsOneMore es more front e back
+    → sum_by f (pairs_of d e.0.tx more) + sum_by f (gone_by d front e back) ≡ sum_by f (pairs_of d e.0.tx es) + sum_by f (came_by d front e back)
+transaction_moved d f es more front e back one = if_moved f (toward d e.1.event.readings) _ _ _ _ (transaction_sums d f es more front e back one)
+
+-- A sum over the pairs of the station, by those that come and go.
+pub station_moved : (d : Direction) (f : Pair → ℕ) (es more front : List Entry) (e : Entry) (back : List Entry) → IsOneMore es more front e back
+    → sum_by f (pairs d more) + sum_by f (gone_by d front e back) ≡ sum_by f (pairs d es) + sum_by f (came_by d front e back)
+station_moved d f es more front e back one = if_moved f (toward d e.1.event.readings) _ _ _ _ (station_sums d f es more front e back one)
+
+-- Pairs that add up as the pair across a place and the rest do so as what goes and what is kept.
+if_less : (f : Pair → ℕ) (rs : List MeterReading) (all less rest : List Pair) → sum_by f all ≡ sum_by f (less ++ rest) → sum_by f all ≡ sum_by f (if_read rs less ++ read_or rs rest all)
+if_less f [] all less rest h = refl
+if_less f (r ∷ rs) all less rest h = h
+
+if_more : (f : Pair → ℕ) (rs : List MeterReading) (before after : Option MeterReading) (all many rest : List Pair) → sum_by f all ≡ sum_by f (across before after ++ rest) → sum_by f many ≡ sum_by f (pairs_between before rs after ++ rest)
+    → sum_by f many ≡ sum_by f (if_read rs (pairs_between before rs after) ++ read_or rs rest all)
+if_more f [] before after all many rest less h = h ∙ sym less
+if_more f (r ∷ rs) before after all many rest less h = h
+
+-- The station's pairs without the event add up as those that it leaves and the one that it takes away.
+pub less_kept : (d : Direction) (f : Pair → ℕ) (es more front : List Entry) (e : Entry) (back : List Entry) → IsOneMore es more front e back
+    → sum_by f (pairs d es) ≡ sum_by f (gone_by d front e back ++ kept_by d es front e back)
+less_kept d f es more front e back one = if_less f (toward d e.1.event.readings) (pairs d es) (pairs_less d front e back) (pairs_kept d es front e back) (pairs_less_kept d f es more front e back one)
+
+-- With it they add up as those that it leaves and those that it brings.
+pub more_kept : (d : Direction) (f : Pair → ℕ) (es more front : List Entry) (e : Entry) (back : List Entry) → IsOneMore es more front e back
+    → sum_by f (pairs d more) ≡ sum_by f (came_by d front e back ++ kept_by d es front e back)
+more_kept d f es more front e back one =
+    if_more f (toward d e.1.event.readings) (reading_before d front e) (reading_behind d e back) (pairs d es) (pairs d more) (pairs_kept d es front e back) (pairs_less_kept d f es more front e back one) (pairs_more_kept d f es more front e back one)
+
+few_read : (rs : List MeterReading) (before after : Option MeterReading) → length (if_read rs (across before after)) + length (if_read rs (pairs_between before rs after)) ≤ most_for (length rs)
+few_read [] before after = omega arith
+few_read (r ∷ rs) before after = omega (arith, few_across before after, few_between before (r ∷ rs) after)
+
+-- With r readings, r above 0, no more than r + 2 pairs come and go; with none, none.
+pub few_moved : (d : Direction) (front : List Entry) (e : Entry) (back : List Entry) → length (gone_by d front e back) + length (came_by d front e back) ≤ most_for (length (toward d e.1.event.readings))
+few_moved d front e back = few_read (toward d e.1.event.readings) (reading_before d front e) (reading_behind d e back)
 
 -- The EVSE of another transaction.
 pub evse_else : (es more front : List Entry) (e : Entry) (back : List Entry) (u : List ℕ) → IsOneMore es more front e back → bytes_eq u e.0.tx ≡ false → evse_of u more ≡ evse_of u es
@@ -164,17 +210,17 @@ nothing_taken true = refl
 nothing_taken false = refl
 
 -- A sum over the pairs of an EVSE: the transaction's are taken from where it was and brought to where it is.
-pub evse_sums : (f : Pair → ℕ) (evse : ℕ) (es more front : List Entry) (e : Entry) (back : List Entry) → IsOneMore es more front e back
-    → sum_by f (flat_map (λ u. pairs_of u more) (transactions_at evse more)) + taken (evse_of e.0.tx es == evse) (sum_by f (pairs_of e.0.tx es))
-    ≡ sum_by f (flat_map (λ u. pairs_of u es) (transactions_at evse es)) + taken (evse_of e.0.tx more == evse) (sum_by f (pairs_of e.0.tx more))
-evse_sums f evse es more front e back one =
-    let g = λ (u : List ℕ). taken (evse_of u es == evse) (sum_by f (pairs_of u es)) in let h = λ (u : List ℕ). taken (evse_of u more == evse) (sum_by f (pairs_of u more)) in
+pub evse_sums : (d : Direction) (f : Pair → ℕ) (evse : ℕ) (es more front : List Entry) (e : Entry) (back : List Entry) → IsOneMore es more front e back
+    → sum_by f (flat_map (λ u. pairs_of d u more) (transactions_at evse more)) + taken (evse_of e.0.tx es == evse) (sum_by f (pairs_of d e.0.tx es))
+    ≡ sum_by f (flat_map (λ u. pairs_of d u es) (transactions_at evse es)) + taken (evse_of e.0.tx more == evse) (sum_by f (pairs_of d e.0.tx more))
+evse_sums d f evse es more front e back one =
+    let g = λ (u : List ℕ). taken (evse_of u es == evse) (sum_by f (pairs_of d u es)) in let h = λ (u : List ℕ). taken (evse_of u more == evse) (sum_by f (pairs_of d u more)) in
     let all = by_transaction_sums g h es more front e back one
-    (λ u apart. ap (λ n. taken (n == evse) (sum_by f (pairs_of u more))) (evse_else es more front e back u one apart) ∙ ap (λ ps. taken (evse_of u es == evse) (sum_by f ps)) (pairs_else es more front e back u one apart))
-    (λ none. ap (λ l. taken (evse_of e.0.tx es == evse) (sum_by f (followed (readings_among l)))) none ∙ nothing_taken (evse_of e.0.tx es == evse))
-    (λ none. ap (λ l. taken (evse_of e.0.tx more == evse) (sum_by f (followed (readings_among l)))) none ∙ nothing_taken (evse_of e.0.tx more == evse)) in
-    let less = sum_by-flat_map f (λ u. pairs_of u es) (transactions_at evse es) ∙ passed_sum (λ u. sum_by f (pairs_of u es)) (λ u. evse_of u es == evse) (transactions_of (live es)) in
-    let many = sum_by-flat_map f (λ u. pairs_of u more) (transactions_at evse more) ∙ passed_sum (λ u. sum_by f (pairs_of u more)) (λ u. evse_of u more == evse) (transactions_of (live more)) in
+    (λ u apart. ap (λ n. taken (n == evse) (sum_by f (pairs_of d u more))) (evse_else es more front e back u one apart) ∙ ap (λ ps. taken (evse_of u es == evse) (sum_by f ps)) (pairs_else d es more front e back u one apart))
+    (λ none. ap (λ l. taken (evse_of e.0.tx es == evse) (sum_by f (followed (readings_among d l)))) none ∙ nothing_taken (evse_of e.0.tx es == evse))
+    (λ none. ap (λ l. taken (evse_of e.0.tx more == evse) (sum_by f (followed (readings_among d l)))) none ∙ nothing_taken (evse_of e.0.tx more == evse)) in
+    let less = sum_by-flat_map f (λ u. pairs_of d u es) (transactions_at evse es) ∙ passed_sum (λ u. sum_by f (pairs_of d u es)) (λ u. evse_of u es == evse) (transactions_of (live es)) in
+    let many = sum_by-flat_map f (λ u. pairs_of d u more) (transactions_at evse more) ∙ passed_sum (λ u. sum_by f (pairs_of d u more)) (λ u. evse_of u more == evse) (transactions_of (live more)) in
     omega (arith, all, less, many)
 
 -- The event's transaction has a live event with it.

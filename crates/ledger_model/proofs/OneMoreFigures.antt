@@ -7,6 +7,7 @@ use Rattle.std.specs.declared.cmp.Ordering.TheVariants.{Less, Equal, Greater}
 use Rattle.std.specs.FinMap.Entries.{find, below_all, length-put}
 use Rattle.std.proofs.lemmas.List.{length-append}
 use Rattle.energy_flow.specs.Flow.{Energy, plus}
+use Rattle.ledger_model.specs.declared.reading.Direction.{Direction}
 use Rattle.ledger_model.specs.declared.command.Command.TheVariants.{Deliver, Void, Restore, Erase}
 use Rattle.ledger_model.specs.Event.{EventContent}
 use Rattle.ledger_model.specs.Key.{KeyName, key_cmp}
@@ -16,12 +17,12 @@ use Rattle.ledger_model.specs.Energy.{Pair, difference, energy, energy_in, energ
 use Rattle.ledger_model.specs.Evse.{evse_of, energy_at}
 use Rattle.ledger_model.specs.Gaps.{missing, numbers_of}
 use Rattle.ledger_model.specs.Complete.{is_complete, starts_and_ends}
-use Rattle.ledger_model.specs.Deltas.{IsOneMore, flow_if, pairs_less, pairs_more}
+use Rattle.ledger_model.specs.Deltas.{IsOneMore, came_by, flow_if, gone_by}
 use Rattle.ledger_model.proofs.Keys.{key_total, exact_keys}
 use Rattle.ledger_model.proofs.Rising.{first, second, below_less, find_below}
 use Rattle.ledger_model.proofs.Transactions.{transactions_added}
 use Rattle.ledger_model.proofs.FigureBounds.{live_and_voided}
-use Rattle.ledger_model.proofs.OneMore.{live_else, by_transaction_sums, station_sums, transaction_sums, evse_sums, passed_sum, taken}
+use Rattle.ledger_model.proofs.OneMore.{live_else, by_transaction_sums, station_moved, transaction_moved, evse_sums, passed_sum, taken}
 use Rattle.ledger_model.proofs.OneMoreByCommand.{delivered_more, restored_more, voided_less, erased_same, kept_below}
 
 -- One event more is live.
@@ -58,36 +59,36 @@ same_energy : (a b : Energy) → a.up ≡ b.up → a.down ≡ b.down → a ≡ b
 same_energy a b up down = λ i. record { up = up i; down = down i }
 
 -- The energy of the station.
-pub energy_more : (es more front : List Entry) (e : Entry) (back : List Entry) → IsOneMore es more front e back
-    → plus (energy more) (energy_over (pairs_less front e back)) ≡ plus (energy es) (energy_over (pairs_more front e back))
-energy_more es more front e back one =
-    same_energy (plus (energy more) (energy_over (pairs_less front e back))) (plus (energy es) (energy_over (pairs_more front e back))) (station_sums (λ p. (difference p).up) es more front e back one) (station_sums (λ p. (difference p).down) es more front e back one)
+pub energy_more : (d : Direction) (es more front : List Entry) (e : Entry) (back : List Entry) → IsOneMore es more front e back
+    → plus (energy d more) (energy_over (gone_by d front e back)) ≡ plus (energy d es) (energy_over (came_by d front e back))
+energy_more d es more front e back one =
+    same_energy (plus (energy d more) (energy_over (gone_by d front e back))) (plus (energy d es) (energy_over (came_by d front e back))) (station_moved d (λ p. (difference p).up) es more front e back one) (station_moved d (λ p. (difference p).down) es more front e back one)
 
 -- The energy of the event's transaction.
-pub energy_of_more : (es more front : List Entry) (e : Entry) (back : List Entry) → IsOneMore es more front e back
-    → plus (energy_of e.0.tx more) (energy_over (pairs_less front e back)) ≡ plus (energy_of e.0.tx es) (energy_over (pairs_more front e back))
-energy_of_more es more front e back one =
-    same_energy (plus (energy_of e.0.tx more) (energy_over (pairs_less front e back))) (plus (energy_of e.0.tx es) (energy_over (pairs_more front e back))) (transaction_sums (λ p. (difference p).up) es more front e back one) (transaction_sums (λ p. (difference p).down) es more front e back one)
+pub energy_of_more : (d : Direction) (es more front : List Entry) (e : Entry) (back : List Entry) → IsOneMore es more front e back
+    → plus (energy_of d e.0.tx more) (energy_over (gone_by d front e back)) ≡ plus (energy_of d e.0.tx es) (energy_over (came_by d front e back))
+energy_of_more d es more front e back one =
+    same_energy (plus (energy_of d e.0.tx more) (energy_over (gone_by d front e back))) (plus (energy_of d e.0.tx es) (energy_over (came_by d front e back))) (transaction_moved d (λ p. (difference p).up) es more front e back one) (transaction_moved d (λ p. (difference p).down) es more front e back one)
 
 -- A sum over the pairs of a quarter.
-quarter_sums : (f : Pair → ℕ) (period q : ℕ) (es more front : List Entry) (e : Entry) (back : List Entry) → IsOneMore es more front e back
-    → sum_by f (filter (λ p. quarter_of period p == q) (pairs more)) + sum_by f (filter (λ p. quarter_of period p == q) (pairs_less front e back)) ≡ sum_by f (filter (λ p. quarter_of period p == q) (pairs es)) + sum_by f (filter (λ p. quarter_of period p == q) (pairs_more front e back))
-quarter_sums f period q es more front e back one =
+quarter_sums : (d : Direction) (f : Pair → ℕ) (period q : ℕ) (es more front : List Entry) (e : Entry) (back : List Entry) → IsOneMore es more front e back
+    → sum_by f (filter (λ p. quarter_of period p == q) (pairs d more)) + sum_by f (filter (λ p. quarter_of period p == q) (gone_by d front e back)) ≡ sum_by f (filter (λ p. quarter_of period p == q) (pairs d es)) + sum_by f (filter (λ p. quarter_of period p == q) (came_by d front e back))
+quarter_sums d f period q es more front e back one =
     let test = λ (p : Pair). quarter_of period p == q in
-    let all = station_sums (λ p. taken (test p) (f p)) es more front e back one in
-    omega (arith, all, passed_sum f test (pairs more), passed_sum f test (pairs_less front e back), passed_sum f test (pairs es), passed_sum f test (pairs_more front e back))
+    let all = station_moved d (λ p. taken (test p) (f p)) es more front e back one in
+    omega (arith, all, passed_sum f test (pairs d more), passed_sum f test (gone_by d front e back), passed_sum f test (pairs d es), passed_sum f test (came_by d front e back))
 
 -- The energy of a quarter.
-pub energy_in_more : (period q : ℕ) (es more front : List Entry) (e : Entry) (back : List Entry) → IsOneMore es more front e back
-    → plus (energy_in period q more) (energy_over (filter (λ p. quarter_of period p == q) (pairs_less front e back))) ≡ plus (energy_in period q es) (energy_over (filter (λ p. quarter_of period p == q) (pairs_more front e back)))
-energy_in_more period q es more front e back one =
+pub energy_in_more : (d : Direction) (period q : ℕ) (es more front : List Entry) (e : Entry) (back : List Entry) → IsOneMore es more front e back
+    → plus (energy_in d period q more) (energy_over (filter (λ p. quarter_of period p == q) (gone_by d front e back))) ≡ plus (energy_in d period q es) (energy_over (filter (λ p. quarter_of period p == q) (came_by d front e back)))
+energy_in_more d period q es more front e back one =
     let test = λ (p : Pair). quarter_of period p == q in
-    same_energy (plus (energy_in period q more) (energy_over (filter test (pairs_less front e back)))) (plus (energy_in period q es) (energy_over (filter test (pairs_more front e back)))) (quarter_sums (λ p. (difference p).up) period q es more front e back one) (quarter_sums (λ p. (difference p).down) period q es more front e back one)
+    same_energy (plus (energy_in d period q more) (energy_over (filter test (gone_by d front e back)))) (plus (energy_in d period q es) (energy_over (filter test (came_by d front e back)))) (quarter_sums d (λ p. (difference p).up) period q es more front e back one) (quarter_sums d (λ p. (difference p).down) period q es more front e back one)
 
 -- How many pairs a quarter has.
-pub pairs_in_more : (period q : ℕ) (es more front : List Entry) (e : Entry) (back : List Entry) → IsOneMore es more front e back
-    → count_by (λ p. quarter_of period p == q) (pairs more) + count_by (λ p. quarter_of period p == q) (pairs_less front e back) ≡ count_by (λ p. quarter_of period p == q) (pairs es) + count_by (λ p. quarter_of period p == q) (pairs_more front e back)
-pairs_in_more period q es more front e back one = station_sums (λ p. cond (quarter_of period p == q) 1 0) es more front e back one
+pub pairs_in_more : (d : Direction) (period q : ℕ) (es more front : List Entry) (e : Entry) (back : List Entry) → IsOneMore es more front e back
+    → count_by (λ p. quarter_of period p == q) (pairs d more) + count_by (λ p. quarter_of period p == q) (gone_by d front e back) ≡ count_by (λ p. quarter_of period p == q) (pairs d es) + count_by (λ p. quarter_of period p == q) (came_by d front e back)
+pairs_in_more d period q es more front e back one = station_moved d (λ p. cond (quarter_of period p == q) 1 0) es more front e back one
 
 if_up : (b : Bool) (flow : Energy) → (flow_if b flow).up ≡ taken b flow.up
 if_up true flow = refl
@@ -98,13 +99,13 @@ if_down true flow = refl
 if_down false flow = refl
 
 -- The energy of an EVSE: the transaction's is taken from where it was and brought to where it is.
-pub energy_at_more : (evse : ℕ) (es more front : List Entry) (e : Entry) (back : List Entry) → IsOneMore es more front e back
-    → plus (energy_at evse more) (flow_if (evse_of e.0.tx es == evse) (energy_of e.0.tx es)) ≡ plus (energy_at evse es) (flow_if (evse_of e.0.tx more == evse) (energy_of e.0.tx more))
-energy_at_more evse es more front e back one =
+pub energy_at_more : (d : Direction) (evse : ℕ) (es more front : List Entry) (e : Entry) (back : List Entry) → IsOneMore es more front e back
+    → plus (energy_at d evse more) (flow_if (evse_of e.0.tx es == evse) (energy_of d e.0.tx es)) ≡ plus (energy_at d evse es) (flow_if (evse_of e.0.tx more == evse) (energy_of d e.0.tx more))
+energy_at_more d evse es more front e back one =
     let was = evse_of e.0.tx es == evse in let is = evse_of e.0.tx more == evse in
-    same_energy (plus (energy_at evse more) (flow_if was (energy_of e.0.tx es))) (plus (energy_at evse es) (flow_if is (energy_of e.0.tx more)))
-    (ap (λ n. (energy_at evse more).up + n) (if_up was (energy_of e.0.tx es)) ∙ evse_sums (λ p. (difference p).up) evse es more front e back one ∙ ap (λ n. (energy_at evse es).up + n) (sym (if_up is (energy_of e.0.tx more))))
-    (ap (λ n. (energy_at evse more).down + n) (if_down was (energy_of e.0.tx es)) ∙ evse_sums (λ p. (difference p).down) evse es more front e back one ∙ ap (λ n. (energy_at evse es).down + n) (sym (if_down is (energy_of e.0.tx more))))
+    same_energy (plus (energy_at d evse more) (flow_if was (energy_of d e.0.tx es))) (plus (energy_at d evse es) (flow_if is (energy_of d e.0.tx more)))
+    (ap (λ n. (energy_at d evse more).up + n) (if_up was (energy_of d e.0.tx es)) ∙ evse_sums d (λ p. (difference p).up) evse es more front e back one ∙ ap (λ n. (energy_at d evse es).up + n) (sym (if_up is (energy_of d e.0.tx more))))
+    (ap (λ n. (energy_at d evse more).down + n) (if_down was (energy_of d e.0.tx es)) ∙ evse_sums d (λ p. (difference p).down) evse es more front e back one ∙ ap (λ n. (energy_at d evse es).down + n) (sym (if_down is (energy_of d e.0.tx more))))
 
 -- As many events are stored after a mark.
 marked_length : (es : List Entry) (key : KeyName) (voided : Bool) (s : Stored) → IsRising es → find key_cmp key es ≡ Some s → length (entries_marked_at es key voided (find key_cmp key es)) ≡ length es

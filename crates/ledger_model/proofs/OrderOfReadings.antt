@@ -11,7 +11,8 @@ use Rattle.std.proofs.lemmas.Bool.{lt-ltb, le-ltb}
 use Rattle.std.proofs.lemmas.List.Concat.{flat_map-append}
 use Rattle.std.proofs.lemmas.List.Elements.{recursion_from_All}
 use Rattle.std.proofs.lemmas.Map.Text.{is_eq-slice_cmp}
-use Rattle.ledger_model.specs.Event.{MeterReading}
+use Rattle.ledger_model.specs.declared.reading.Direction.{Direction}
+use Rattle.ledger_model.specs.Event.{MeterReading, toward}
 use Rattle.ledger_model.specs.Key.{KeyName, key_cmp}
 use Rattle.ledger_model.specs.Content.{Content, Entry, entries, live_of, live}
 use Rattle.ledger_model.specs.Energy.{readings_of}
@@ -70,10 +71,10 @@ this n = omega arith
 next : (n : ℕ) → suc n < n + 2
 next n = omega arith
 
-module _ (tx : List ℕ) where
+module _ (d : Direction) (tx : List ℕ) where
   -- the readings of an entry, where it is a live one of the transaction
   abbrev here : Entry → List MeterReading
-  here e = cond e.1.voided [] (cond (bytes_eq tx e.0.tx) e.1.event.readings [])
+  here e = cond e.1.voided [] (cond (bytes_eq tx e.0.tx) (toward d e.1.event.readings) [])
 
   -- the same, where its number is below n
   abbrev here_below : ℕ → Entry → List MeterReading
@@ -87,7 +88,7 @@ module _ (tx : List ℕ) where
   other_text e o h f = sym (is_eq-slice_cmp tx e.0.tx) ∙ ap is_eq h ∙ f
 
   other_here : (n : ℕ) (e : Entry) → bytes_eq tx e.0.tx ≡ false → here_below n e ≡ []
-  other_here n e h = another (nat_lt e.0.seq n) e.1.voided (bytes_eq tx e.0.tx) e.1.event.readings h
+  other_here n e h = another (nat_lt e.0.seq n) e.1.voided (bytes_eq tx e.0.tx) (toward d e.1.event.readings) h
 
   -- an entry above a number has nothing below the next
   none_after : (n m : ℕ) (e : Entry) → m < n + 2 → key_cmp (named n) e.0 ≡ Less → here_below m e ≡ []
@@ -108,11 +109,11 @@ module _ (tx : List ℕ) where
   ]
 
   -- the entry of a number has its readings below the next number, and none below its own
-  at_number : (n : ℕ) (e : Entry) → e.0 ≡ named n → (here_below (suc n) e ≡ readings_at (Some e.1)) × (here_below n e ≡ [])
+  at_number : (n : ℕ) (e : Entry) → e.0 ≡ named n → (here_below (suc n) e ≡ readings_at d (Some e.1)) × (here_below n e ≡ [])
   at_number n e same = (
     ap (λ (k : KeyName). here_below (suc n) (k, e.1)) same
         ∙ ap (λ b. cond b (here (named n, e.1)) []) (lt-ltb n (suc n) (omega arith))
-        ∙ ap (λ b. cond e.1.voided [] (cond b e.1.event.readings [])) (nat_list_eq_equiv.refl tx),
+        ∙ ap (λ b. cond e.1.voided [] (cond b (toward d e.1.event.readings) [])) (nat_list_eq_equiv.refl tx),
     ap (λ (k : KeyName). here_below n (k, e.1)) same ∙ ap (λ b. cond b (here (named n, e.1)) []) (le-ltb n n (omega arith)),
   )
 
@@ -121,52 +122,52 @@ module _ (tx : List ℕ) where
   none_after_all n m (e ∷ es) h b = ap (λ rs. rs ++ flat_map (here_below m) es) (none_after n m e h (less _ (first _ _ b))) ∙ none_after_all n m es h (second _ _ b)
 
   -- one number more adds the readings of its event
-  one_more : (n : ℕ) (es : List Entry) → T (is_sorted key_cmp es) → flat_map (here_below (suc n)) es ≡ flat_map (here_below n) es ++ readings_at (find key_cmp (named n) es)
+  one_more : (n : ℕ) (es : List Entry) → T (is_sorted key_cmp es) → flat_map (here_below (suc n)) es ≡ flat_map (here_below n) es ++ readings_at d (find key_cmp (named n) es)
   one_more n [] s = refl
   one_more n (e ∷ es) s =
       let rest = one_more n es (second _ _ s) in
-      elim (key_cmp (named n) e.0) as (λ o. key_cmp (named n) e.0 ≡ o → here_below (suc n) e ++ flat_map (here_below (suc n)) es ≡ (here_below n e ++ flat_map (here_below n) es) ++ readings_at (cond (is_eq o) (Some e.1) (find key_cmp (named n) es))) [
+      elim (key_cmp (named n) e.0) as (λ o. key_cmp (named n) e.0 ≡ o → here_below (suc n) e ++ flat_map (here_below (suc n)) es ≡ (here_below n e ++ flat_map (here_below n) es) ++ readings_at d (cond (is_eq o) (Some e.1) (find key_cmp (named n) es))) [
         | Less ↦ λ o.
             let b : T (below_all key_cmp (named n) es) = below_rest (named n) e es (λ x h. key_total.trans (named n) e.0 x o h) (first _ _ s) in
             (λ i. none_after n (suc n) e (next n) o i ++ none_after_all n (suc n) es (next n) b i)
-            ∙ sym (λ i. (none_after n n e (this n) o i ++ none_after_all n n es (this n) b i) ++ readings_at (not_found (named n) es b i))
+            ∙ sym (λ i. (none_after n n e (this n) o i ++ none_after_all n n es (this n) b i) ++ readings_at d (not_found (named n) es b i))
         | Equal ↦ λ o.
             let b : T (below_all key_cmp (named n) es) = below_rest (named n) e es (λ x h. key_total.congr (named n) e.0 x o ∙ h) (first _ _ s) in
             let at = at_number n e (sym (exact_keys (named n) e.0 o)) in
-            (λ i. at.0 i ++ none_after_all n (suc n) es (next n) b i) ∙ append-nil (readings_at (Some e.1))
-            ∙ sym (λ i. (at.1 i ++ none_after_all n n es (this n) b i) ++ readings_at (Some e.1))
-        | Greater ↦ λ o. (λ i. same_before n e o i ++ rest i) ∙ sym (append_assoc (here_below n e) (flat_map (here_below n) es) (readings_at (find key_cmp (named n) es)))
+            (λ i. at.0 i ++ none_after_all n (suc n) es (next n) b i) ∙ append-nil (readings_at d (Some e.1))
+            ∙ sym (λ i. (at.1 i ++ none_after_all n n es (this n) b i) ++ readings_at d (Some e.1))
+        | Greater ↦ λ o. (λ i. same_before n e o i ++ rest i) ∙ sym (append_assoc (here_below n e) (flat_map (here_below n) es) (readings_at d (find key_cmp (named n) es)))
       ] refl
 
   none_below_zero : (es : List Entry) → flat_map (here_below 0) es ≡ []
   none_below_zero [] = refl
   none_below_zero (e ∷ es) = ap (λ b. cond b (here e) [] ++ flat_map (here_below 0) es) (le-ltb e.0.seq 0 (omega arith)) ∙ none_below_zero es
 
-  all_numbers : (n : ℕ) (es : List Entry) → T (is_sorted key_cmp es) → flat_map (λ seq. readings_at (find key_cmp (named seq) es)) (upto n) ≡ flat_map (here_below n) es
+  all_numbers : (n : ℕ) (es : List Entry) → T (is_sorted key_cmp es) → flat_map (λ seq. readings_at d (find key_cmp (named seq) es)) (upto n) ≡ flat_map (here_below n) es
   all_numbers zero es s = sym (none_below_zero es)
   all_numbers (suc n) es s =
-      flat_map-append (λ seq. readings_at (find key_cmp (named seq) es)) (upto n) (n ∷ [])
-      ∙ (λ i. all_numbers n es s i ++ append-nil (readings_at (find key_cmp (named n) es)) i)
+      flat_map-append (λ seq. readings_at d (find key_cmp (named seq) es)) (upto n) (n ∷ [])
+      ∙ (λ i. all_numbers n es s i ++ append-nil (readings_at d (find key_cmp (named n) es)) i)
       ∙ sym (one_more n es s)
 
   -- one live entry more of `readings_of`
-  live_more : (b : Bool) (e : Entry) (es : List Entry) → cond b e.1.event.readings [] ++ readings_of tx es ≡ flat_map (λ (e : Entry). e.1.event.readings) (cond b (e ∷ live_of tx es) (live_of tx es))
+  live_more : (b : Bool) (e : Entry) (es : List Entry) → cond b (toward d e.1.event.readings) [] ++ readings_of d tx es ≡ flat_map (λ (e : Entry). toward d e.1.event.readings) (cond b (e ∷ live_of tx es) (live_of tx es))
   live_more true e es = refl
   live_more false e es = refl
 
-  entry_more : (v : Bool) (e : Entry) (es : List Entry) → cond v [] (cond (bytes_eq tx e.0.tx) e.1.event.readings []) ++ readings_of tx es ≡ flat_map (λ (e : Entry). e.1.event.readings) (filter (λ (e : Entry). bytes_eq tx e.0.tx) (cond (not v) (e ∷ live es) (live es)))
+  entry_more : (v : Bool) (e : Entry) (es : List Entry) → cond v [] (cond (bytes_eq tx e.0.tx) (toward d e.1.event.readings) []) ++ readings_of d tx es ≡ flat_map (λ (e : Entry). toward d e.1.event.readings) (filter (λ (e : Entry). bytes_eq tx e.0.tx) (cond (not v) (e ∷ live es) (live es)))
   entry_more true e es = refl
   entry_more false e es = live_more (bytes_eq tx e.0.tx) e es
 
-  below_all_numbers : (n : ℕ) (es : List Entry) → AllByRecursion (λ (e : Entry). e.0.seq < n) es → flat_map (here_below n) es ≡ readings_of tx es
+  below_all_numbers : (n : ℕ) (es : List Entry) → AllByRecursion (λ (e : Entry). e.0.seq < n) es → flat_map (here_below n) es ≡ readings_of d tx es
   below_all_numbers n [] h = refl
   below_all_numbers n (e ∷ es) h =
       (λ i. cond (lt-ltb e.0.seq n h.0 i) (here e) [] ++ below_all_numbers n es h.1 i)
       ∙ entry_more e.1.voided e es
 
-  pub readings_by_number : (c : Content) (n : ℕ) → All (λ (e : Entry). e.0.seq < n) (entries c) → by_number tx c n ≡ readings_of tx (entries c)
+  pub readings_by_number : (c : Content) (n : ℕ) → All (λ (e : Entry). e.0.seq < n) (entries c) → by_number d tx c n ≡ readings_of d tx (entries c)
   readings_by_number c n h =
-      let at = λ (seq : ℕ). ap readings_at (finite.get-entries c.events (named seq)) in
+      let at = λ (seq : ℕ). ap (readings_at d) (finite.get-entries c.events (named seq)) in
       (λ i. flat_map (λ seq. at seq i) (upto n))
       ∙ all_numbers n (entries c) (finite.entries_sorted c.events)
       ∙ below_all_numbers n (entries c) (recursion_from_All (λ (e : Entry). e.0.seq < n) (entries c) h)

@@ -1,5 +1,5 @@
 -- Sums over lists, and over the distinct keys of their elements.
-use Rattle.std.proofs.Common.{◌≡◌, ℕ, ◌<◌, ◌+◌, ◌*◌, ◌⊎◌, ◌↔◌, Bool, true, false, cond, List, [], ◌∷◌, refl, ap, sym, ◌∙◌, subst, ⊎_elim, inl, inr, arith, map, eqb}
+use Rattle.std.proofs.Common.{◌≡◌, ℕ, ◌<◌, ◌+◌, ◌*◌, ◌⊎◌, ◌↔◌, Bool, true, false, cond, List, [], ◌∷◌, ◌++◌, refl, ap, sym, ◌∙◌, subst, ⊎_elim, inl, inr, arith, map, eqb}
 use Rattle.std.specs.Prelude.{filter, sum_by, count_by}
 use Rattle.std.specs.List.{flat_map}
 use Rattle.std.proofs.Math.Path.{fun_ext}
@@ -166,9 +166,21 @@ once_each : {X : Type 0} (key : X → ℕ) (ks : List ℕ) (xs : List X) → ((n
 once_each key ks [] h = tt
 once_each key ks (x ∷ xs) h = (h (key x) (inl refl), once_each key ks xs (λ n there. h n (inr there)))
 
--- the same over the rising keys of a list
+-- the same over the rising keys of a list that has each of theirs
+pub sum_by_among : {X : Type 0} (f key : X → ℕ) (xs ys : List X) → ((n : ℕ) → IsIn n (map key xs) → IsIn n (map key ys)) → sum_by (λ k. sum_by f (filter (λ x. eqb (key x) k) xs)) (rising (map key ys)) ≡ sum_by f xs
+sum_by_among f key xs ys among = sum_by_keys f key (rising (map key ys)) xs (once_each key (rising (map key ys)) xs (λ n there. times-rising n (map key ys) (among n there)))
+
 pub sum_by_rising : {X : Type 0} (f key : X → ℕ) (xs : List X) → sum_by (λ k. sum_by f (filter (λ x. eqb (key x) k) xs)) (rising (map key xs)) ≡ sum_by f xs
-sum_by_rising f key xs = sum_by_keys f key (rising (map key xs)) xs (once_each key (rising (map key xs)) xs (λ n there. times-rising n (map key xs) there))
+sum_by_rising f key xs = sum_by_among f key xs xs (λ n there. there)
+
+-- the keys of a list are among those of it with another
+pub among_front : {X : Type 0} (key : X → ℕ) (xs ys : List X) (n : ℕ) → IsIn n (map key xs) → IsIn n (map key (xs ++ ys))
+among_front key [] ys n h = absurd h
+among_front key (x ∷ xs) ys n h = ⊎_elim {C = IsIn n (map key (x ∷ xs ++ ys))} (λ (e : n ≡ key x). inl e) (λ (there : IsIn n (map key xs)). inr (among_front key xs ys n there)) h
+
+pub among_back : {X : Type 0} (key : X → ℕ) (xs ys : List X) (n : ℕ) → IsIn n (map key ys) → IsIn n (map key (xs ++ ys))
+among_back key [] ys n h = h
+among_back key (x ∷ xs) ys n h = inr (among_back key xs ys n h)
 
 -- put_in adds one number
 put_in-IsIn : (n k : ℕ) (ms : List ℕ) → IsIn n (put_in k ms) ↔ ((n ≡ k) ⊎ IsIn n ms)
@@ -206,11 +218,12 @@ key_or_none f key k (x ∷ xs) = ⊎_elim {C = IsIn k (map key (x ∷ xs)) ⊎ (
     (key_or_none f key k xs))
     (cases_eq k (key x))
 
--- the sum of a key stands once among the sums by rising keys, or is nothing
-pub times-rising_sum : {X : Type 0} (f key : X → ℕ) (k : ℕ) (xs : List X) → times k (rising (map key xs)) * sum_by f (filter (λ x. eqb (key x) k) xs) ≡ sum_by f (filter (λ x. eqb (key x) k) xs)
-times-rising_sum f key k xs = ⊎_elim
-    (λ (there : IsIn k (map key xs)). ap (λ n. n * sum_by f (filter (λ x. eqb (key x) k) xs)) (times-rising k (map key xs) there) ∙ one_times (sum_by f (filter (λ x. eqb (key x) k) xs)))
-    (λ (none : sum_by f (filter (λ x. eqb (key x) k) xs) ≡ 0). ap (λ n. times k (rising (map key xs)) * n) none ∙ times_none (times k (rising (map key xs))) ∙ sym none)
+-- the sum of a key stands once among the sums by rising keys of a list that has them all, or is nothing
+pub times-among_sum : {X : Type 0} (f key : X → ℕ) (k : ℕ) (xs ys : List X) → ((n : ℕ) → IsIn n (map key xs) → IsIn n (map key ys))
+    → times k (rising (map key ys)) * sum_by f (filter (λ x. eqb (key x) k) xs) ≡ sum_by f (filter (λ x. eqb (key x) k) xs)
+times-among_sum f key k xs ys among = ⊎_elim
+    (λ (there : IsIn k (map key xs)). ap (λ n. n * sum_by f (filter (λ x. eqb (key x) k) xs)) (times-rising k (map key ys) (among k there)) ∙ one_times (sum_by f (filter (λ x. eqb (key x) k) xs)))
+    (λ (none : sum_by f (filter (λ x. eqb (key x) k) xs) ≡ 0). ap (λ n. times k (rising (map key ys)) * n) none ∙ times_none (times k (rising (map key ys))) ∙ sym none)
     (key_or_none f key k xs)
   where
     one_times : (n : ℕ) → 1 * n ≡ n

@@ -1,15 +1,16 @@
 use Rattle.std.specs.Prelude.{ℕ, Bool, List, [], ◌∷◌, ◌+◌, map, count_by, sum_by, length, ◌==◌, if◌then◌else◌}
 use Rattle.std.specs.List.{flat_map}
-use Rattle.energy_flow.specs.Flow.{Energy, no_energy, plus}
+use Rattle.energy_flow.specs.Flow.{Energy}
+use Rattle.ledger_model.specs.declared.reading.Direction.TheVariants.{Import, Export}
 use Rattle.ledger_model.specs.declared.figures.Figures.{Figures}
 use Rattle.ledger_model.specs.Figures.{no_figures}
 use Rattle.ledger_model.specs.Content.{Entry, live, live_of, transactions_of}
-use Rattle.ledger_model.specs.Energy.{energy, energy_of, energy_in, quarters, rising}
-use Rattle.ledger_model.specs.Evse.{evse_of, evses, energy_at, first_or_none}
+use Rattle.ledger_model.specs.Energy.{Flows, energy, energy_of, flows_in, no_flows, plus_flows, quarters, rising}
+use Rattle.ledger_model.specs.Evse.{evse_of, evses, flows_at, first_or_none}
 use Rattle.ledger_model.specs.Gaps.{Gap, numbers_of, gaps, missing}
 use Rattle.ledger_model.specs.Complete.{is_complete}
 
--- The figures of a station: live and voided events; transactions with a live event, how many of these are complete, what they miss, and their energy.
+-- The figures of a station: live and voided events; transactions with a live event, how many of these are complete, what they miss, and their energies: imported, and exported.
 abbrev pub figures : List Entry → Figures
 figures es = record {
   events = length (live es);
@@ -17,8 +18,10 @@ figures es = record {
   transactions = length (transactions_of (live es));
   complete = count_by (λ tx. is_complete tx es) (transactions_of (live es));
   missing = sum_by (λ tx. missing (numbers_of tx es)) (transactions_of (live es));
-  up = (energy es).up;
-  down = (energy es).down;
+  up = (energy Import es).up;
+  down = (energy Import es).down;
+  export_up = (energy Export es).up;
+  export_down = (energy Export es).down;
 }
 
 -- Both figures added up, number by number.
@@ -31,6 +34,8 @@ plus_figures a b = record {
   missing = a.missing + b.missing;
   up = a.up + b.up;
   down = a.down + b.down;
+  export_up = a.export_up + b.export_up;
+  export_down = a.export_down + b.export_down;
 }
 
 -- The figures of a site: the sums over its stations.
@@ -38,9 +43,9 @@ abbrev pub sum_of_figures : List Figures → Figures
 sum_of_figures [] = no_figures
 sum_of_figures (f ∷ fs) = plus_figures f (sum_of_figures fs)
 
--- An EVSE, or a quarter, with its energy.
+-- An EVSE, or a quarter, with its energies.
 abbrev pub Flowed : Type 0
-Flowed = ℕ × Energy
+Flowed = ℕ × Flows
 
 -- What a board shows of a transaction.
 pub record Shown : Type 0 where
@@ -52,6 +57,7 @@ pub record Shown : Type 0 where
   pub complete : Bool
   pub missing : ℕ
   pub flow : Energy
+  pub export : Energy
   pub gaps : List Gap
 
 -- The last of a list, or 0 where there is none.
@@ -70,11 +76,12 @@ shown es tx = record {
   last = last_or_none (numbers_of tx es);
   complete = is_complete tx es;
   missing = missing (numbers_of tx es);
-  flow = energy_of tx es;
+  flow = energy_of Import tx es;
+  export = energy_of Export tx es;
   gaps = gaps (numbers_of tx es);
 }
 
--- The board of a station: its settlement period in seconds, its figures, its EVSEs and its quarters with their energy, and its transactions with a live event.
+-- The board of a station: its settlement period in seconds, its figures, its EVSEs and its quarters with their energies, and its transactions with a live event.
 pub record Board : Type 0 where
   pub period : ℕ
   pub figures : Figures
@@ -87,15 +94,15 @@ abbrev pub board : ℕ → List Entry → Board
 board period es = record {
   period = period;
   figures = figures es;
-  evses = map (λ evse. (evse, energy_at evse es)) (evses es);
-  quarters = map (λ quarter. (quarter, energy_in period quarter es)) (quarters period es);
+  evses = map (λ evse. (evse, flows_at evse es)) (evses es);
+  quarters = map (λ quarter. (quarter, flows_in period quarter es)) (quarters period es);
   transactions = map (shown es) (transactions_of (live es));
 }
 
--- The energy of a quarter over lines of several stations.
-abbrev pub energy_under : ℕ → List Flowed → Energy
-energy_under quarter [] = no_energy
-energy_under quarter (line ∷ lines) = if line.0 == quarter then plus line.1 (energy_under quarter lines) else energy_under quarter lines
+-- The energies of a quarter over lines of several stations.
+abbrev pub flows_under : ℕ → List Flowed → Flows
+flows_under quarter [] = no_flows
+flows_under quarter (line ∷ lines) = if line.0 == quarter then plus_flows line.1 (flows_under quarter lines) else flows_under quarter lines
 
 -- The board of a site: its settlement period in seconds, the sums of its stations' figures and of their quarters, and its stations' boards by name in the order of declaration.
 pub record SiteBoard : Type 0 where
@@ -111,6 +118,6 @@ site_board period stations =
     record {
       period = period;
       figures = sum_of_figures (map (λ s. s.1.figures) stations);
-      quarters = map (λ quarter. (quarter, energy_under quarter lines)) (rising (map (λ line. line.0) lines));
+      quarters = map (λ quarter. (quarter, flows_under quarter lines)) (rising (map (λ line. line.0) lines));
       stations = stations;
     }

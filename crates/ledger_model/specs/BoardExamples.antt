@@ -1,9 +1,11 @@
 use Rattle.std.specs.Prelude.{ℕ, List, [], ◌∷◌, ◌+◌, ◌*◌, Option, None, Some, true, false, codes}
-use Rattle.energy_flow.specs.Flow.{Energy}
+use Rattle.energy_flow.specs.Flow.{Energy, no_energy}
 use Rattle.ledger_model.specs.declared.kind.Kind.{Kind}
 use Rattle.ledger_model.specs.declared.kind.Kind.TheVariants.{Started, Updated, Ended}
+use Rattle.ledger_model.specs.declared.reading.Direction.TheVariants.{Import, Export}
 use Rattle.ledger_model.specs.Event.{MeterReading}
 use Rattle.ledger_model.specs.Content.{Entry}
+use Rattle.ledger_model.specs.Energy.{Flows, flows_toward}
 use Rattle.ledger_model.specs.Board.{Board, SiteBoard}
 
 -- So many minutes after 2026-03-01T10:00:00Z, in nanoseconds from 1970.
@@ -12,7 +14,11 @@ minute n = (1_772_359_200 + 60 * n) * 1_000_000_000
 
 -- A reading of so many watt-hours at a minute.
 abbrev pub reading : ℕ → ℕ → MeterReading
-reading n wh = record { moment = minute n; mwh = 1_000 * wh }
+reading n wh = record { moment = minute n; mwh = 1_000 * wh; direction = Import }
+
+-- The same of the export register.
+abbrev pub fed_back : ℕ → ℕ → MeterReading
+fed_back n wh = record { moment = minute n; mwh = 1_000 * wh; direction = Export }
 
 -- An event of transaction t1: its kind, number and minute, the EVSE that it names, and its readings.
 abbrev pub told : Kind → ℕ → ℕ → Option ℕ → List MeterReading → Entry
@@ -30,6 +36,10 @@ voided e = (e.0, record { event = e.1.event; voided = true })
 abbrev pub rise : ℕ → Energy
 rise mwh = record { up = mwh; down = 0 }
 
+-- Rises of what was imported alone.
+abbrev pub took : ℕ → Flows
+took mwh = flows_toward Import (rise mwh)
+
 -- The quarter of 900 seconds that begins at 10:00 on that day; the next ones follow it.
 abbrev pub ten : ℕ
 ten = 1_969_288
@@ -41,10 +51,10 @@ first_run = metered Started 0 0 1_000 ∷ metered Updated 2 31 1_600 ∷ []
 abbrev pub first_run_board : Board
 first_run_board = record {
   period = 900;
-  figures = record { events = 2; voided = 0; transactions = 1; complete = 0; missing = 1; up = 600_000; down = 0 };
-  evses = (0, rise 600_000) ∷ [];
-  quarters = (ten + 2, rise 600_000) ∷ [];
-  transactions = record { tx = codes "t1"; evse = 0; events = 2; first = 0; last = 2; complete = false; missing = 1; flow = rise 600_000; gaps = (1, 1) ∷ [] } ∷ [];
+  figures = record { events = 2; voided = 0; transactions = 1; complete = 0; missing = 1; up = 600_000; down = 0; export_up = 0; export_down = 0 };
+  evses = (0, took 600_000) ∷ [];
+  quarters = (ten + 2, took 600_000) ∷ [];
+  transactions = record { tx = codes "t1"; evse = 0; events = 2; first = 0; last = 2; complete = false; missing = 1; flow = rise 600_000; export = no_energy; gaps = (1, 1) ∷ [] } ∷ [];
 }
 
 -- The board of a site that has this station alone.
@@ -58,10 +68,10 @@ late_event = metered Started 0 0 1_000 ∷ metered Updated 1 14 1_200 ∷ metere
 abbrev pub late_event_board : Board
 late_event_board = record {
   period = 900;
-  figures = record { events = 3; voided = 0; transactions = 1; complete = 0; missing = 0; up = 600_000; down = 0 };
-  evses = (0, rise 600_000) ∷ [];
-  quarters = (ten, rise 200_000) ∷ (ten + 2, rise 400_000) ∷ [];
-  transactions = record { tx = codes "t1"; evse = 0; events = 3; first = 0; last = 2; complete = false; missing = 0; flow = rise 600_000; gaps = [] } ∷ [];
+  figures = record { events = 3; voided = 0; transactions = 1; complete = 0; missing = 0; up = 600_000; down = 0; export_up = 0; export_down = 0 };
+  evses = (0, took 600_000) ∷ [];
+  quarters = (ten, took 200_000) ∷ (ten + 2, took 400_000) ∷ [];
+  transactions = record { tx = codes "t1"; evse = 0; events = 3; first = 0; last = 2; complete = false; missing = 0; flow = rise 600_000; export = no_energy; gaps = [] } ∷ [];
 }
 
 -- Then that one voided: the board is that of the first run, but for the voided event. Restored, the events are those before.
@@ -69,7 +79,7 @@ abbrev pub void_and_restore : List Entry
 void_and_restore = metered Started 0 0 1_000 ∷ voided (metered Updated 1 14 1_200) ∷ metered Updated 2 31 1_600 ∷ []
 
 abbrev pub void_and_restore_board : Board
-void_and_restore_board = record first_run_board { figures = record { events = 2; voided = 1; transactions = 1; complete = 0; missing = 1; up = 600_000; down = 0 } }
+void_and_restore_board = record first_run_board { figures = record { events = 2; voided = 1; transactions = 1; complete = 0; missing = 1; up = 600_000; down = 0; export_up = 0; export_down = 0 } }
 
 -- A later reading at the very beginning of a quarter.
 abbrev pub quarter_boundary : List Entry
@@ -96,3 +106,14 @@ start_voided = voided (metered Started 0 0 1_000) ∷ told Updated 1 5 (Some 2) 
 -- The lowest and the highest number that there can be, and the greatest fall.
 abbrev pub widest_gap : List Entry
 widest_gap = metered Started 0 0 10_000_000_000 ∷ metered Ended 2_147_483_647 5 0 ∷ []
+
+-- The register of what was fed back is read with the first event and with the last.
+abbrev pub exported : List Entry
+exported =
+    told Started 0 0 None (reading 0 1_000 ∷ fed_back 0 50 ∷ [])
+    ∷ metered Updated 1 5 1_100
+    ∷ told Ended 2 20 None (reading 20 1_100 ∷ fed_back 20 80 ∷ []) ∷ []
+
+-- One event with four readings, import and export in turn.
+abbrev pub in_turn : List Entry
+in_turn = told Updated 0 10 None (reading 1 10 ∷ fed_back 2 500 ∷ reading 3 30 ∷ fed_back 4 490 ∷ []) ∷ []

@@ -62,3 +62,5 @@ pub record AreSums (total : Figures) (fs : List Figures) : Type 0 where
   pub missing : total.missing ≡ sum_by (λ f. f.missing) fs
   pub up : total.up ≡ sum_by (λ f. f.up) fs
   pub down : total.down ≡ sum_by (λ f. f.down) fs
+  pub export_up : total.export_up ≡ sum_by (λ f. f.export_up) fs
+  pub export_down : total.export_down ≡ sum_by (λ f. f.export_down) fs

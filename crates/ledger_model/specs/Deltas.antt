@@ -1,13 +1,14 @@
 -- What one live event more changes.
-use Rattle.std.specs.Prelude.{Bool, if◌then◌else◌, ◌≡◌, ℕ, ◌-◌, not, List, [], ◌∷◌, ◌++◌, Option, None, Some, filter, length, slice_get}
+use Rattle.std.specs.Prelude.{Bool, if◌then◌else◌, ◌≡◌, ℕ, zero, suc, ◌+◌, ◌-◌, not, List, [], ◌∷◌, ◌++◌, Option, None, Some, filter, length, slice_get}
 use Rattle.std.specs.List.{flat_map}
 use Rattle.std.specs.Ordering.{is_lt}
 use Rattle.std.specs.Str.{bytes_eq}
 use Rattle.energy_flow.specs.Flow.{Energy, no_energy}
-use Rattle.ledger_model.specs.Event.{MeterReading}
+use Rattle.ledger_model.specs.declared.reading.Direction.{Direction}
+use Rattle.ledger_model.specs.Event.{MeterReading, toward}
 use Rattle.ledger_model.specs.Key.{KeyName, key_cmp}
 use Rattle.ledger_model.specs.Content.{Entry, live, transactions_of}
-use Rattle.ledger_model.specs.Energy.{Pair, followed, pairs_of}
+use Rattle.ledger_model.specs.Energy.{Pair, followed, pairs, pairs_of}
 
 -- The pair of two readings, where there are both.
 abbrev pub across : Option MeterReading → Option MeterReading → List Pair
@@ -32,9 +33,9 @@ last_reading rs = slice_get rs (length rs - 1)
 abbrev pub own_events : List ℕ → List Entry → List Entry
 own_events tx es = filter (λ e. bytes_eq tx e.0.tx) es
 
--- The readings of a transaction among events, in order.
-abbrev pub own_readings : List ℕ → List Entry → List MeterReading
-own_readings tx es = flat_map (λ e. e.1.event.readings) (own_events tx es)
+-- The readings of a transaction among events in one direction, in order.
+abbrev pub own_readings : Direction → List ℕ → List Entry → List MeterReading
+own_readings d tx es = flat_map (λ e. toward d e.1.event.readings) (own_events tx es)
 
 -- The live events in front of a key.
 abbrev pub before_key : KeyName → List Entry → List Entry
@@ -49,27 +50,54 @@ pub record IsOneMore (es more front : List Entry) (e : Entry) (back : List Entry
   pub less_live : live es ≡ front ++ back
   pub more_live : live more ≡ front ++ e ∷ back
 
--- The reading before the event's place in its transaction, where there is one.
-abbrev pub reading_before : List Entry → Entry → Option MeterReading
-reading_before front e = last_reading (own_readings e.0.tx front)
+-- The reading of one direction before the event's place in its transaction, where there is one.
+abbrev pub reading_before : Direction → List Entry → Entry → Option MeterReading
+reading_before d front e = last_reading (own_readings d e.0.tx front)
 
 -- The reading behind it.
-abbrev pub reading_behind : Entry → List Entry → Option MeterReading
-reading_behind e back = first_reading (own_readings e.0.tx back)
+abbrev pub reading_behind : Direction → Entry → List Entry → Option MeterReading
+reading_behind d e back = first_reading (own_readings d e.0.tx back)
 
--- The pair that stands only without the event: that across its place.
-abbrev pub pairs_less : List Entry → Entry → List Entry → List Pair
-pairs_less front e back = across (reading_before front e) (reading_behind e back)
+-- The pair of one direction across the event's place, which stands without the event.
+abbrev pub pairs_less : Direction → List Entry → Entry → List Entry → List Pair
+pairs_less d front e back = across (reading_before d front e) (reading_behind d e back)
 
--- The pairs that stand only with the event, of which its readings are.
-abbrev pub pairs_more : List Entry → Entry → List Entry → List Pair
-pairs_more front e back = pairs_between (reading_before front e) e.1.event.readings (reading_behind e back)
+-- The pairs of one direction that stand there with the event: those that its readings make.
+abbrev pub pairs_more : Direction → List Entry → Entry → List Entry → List Pair
+pairs_more d front e back = pairs_between (reading_before d front e) (toward d e.1.event.readings) (reading_behind d e back)
 
--- The station's pairs that stand with the event and without it: those of other transactions, and those of its own on either side of its place.
-abbrev pub pairs_kept : List Entry → List Entry → Entry → List Entry → List Pair
-pairs_kept es front e back =
-    flat_map (λ tx. pairs_of tx es) (filter (λ tx. not (bytes_eq e.0.tx tx)) (transactions_of (live es)))
-    ++ (followed (own_readings e.0.tx front) ++ followed (own_readings e.0.tx back))
+-- The station's pairs of one direction that stand with the event and without it: those of other transactions, and those of its own on either side of its place.
+abbrev pub pairs_kept : Direction → List Entry → List Entry → Entry → List Entry → List Pair
+pairs_kept d es front e back =
+    flat_map (λ tx. pairs_of d tx es) (filter (λ tx. not (bytes_eq e.0.tx tx)) (transactions_of (live es)))
+    ++ (followed (own_readings d e.0.tx front) ++ followed (own_readings d e.0.tx back))
+
+-- Pairs where there is a reading, else none.
+abbrev pub if_read : List MeterReading → List Pair → List Pair
+if_read [] ps = []
+if_read (r ∷ rs) ps = ps
+
+-- The first pairs where there is a reading, else the second.
+abbrev pub read_or : List MeterReading → List Pair → List Pair → List Pair
+read_or [] ps qs = qs
+read_or (r ∷ rs) ps qs = ps
+
+-- The pair of one direction that the event takes away: that across its place. Where it has no reading of that direction it takes none.
+abbrev pub gone_by : Direction → List Entry → Entry → List Entry → List Pair
+gone_by d front e back = if_read (toward d e.1.event.readings) (pairs_less d front e back)
+
+-- The pairs of one direction that the event brings, of which its readings are. Where it has none of that direction it brings none.
+abbrev pub came_by : Direction → List Entry → Entry → List Entry → List Pair
+came_by d front e back = if_read (toward d e.1.event.readings) (pairs_more d front e back)
+
+-- The station's pairs of one direction that the event leaves: all, where it has no reading of that direction.
+abbrev pub kept_by : Direction → List Entry → List Entry → Entry → List Entry → List Pair
+kept_by d es front e back = read_or (toward d e.1.event.readings) (pairs_kept d es front e back) (pairs d es)
+
+-- At most how many pairs of one direction come and go with an event of so many readings of it.
+abbrev pub most_for : ℕ → ℕ
+most_for zero = 0
+most_for (suc n) = n + 3
 
 -- An energy where a test holds, else none.
 abbrev pub flow_if : Bool → Energy → Energy

@@ -1,13 +1,15 @@
-use Rattle.std.specs.Prelude.{ℕ, List, [], ◌∷◌, ◌==◌, nat_lt, if◌then◌else◌, map, filter, sum_by, drop}
+use Rattle.std.specs.Prelude.{ℕ, List, [], ◌∷◌, ◌++◌, ◌==◌, nat_lt, if◌then◌else◌, map, filter, sum_by, drop}
 use Rattle.std.specs.List.{flat_map, zip}
-use Rattle.energy_flow.specs.Flow.{Energy, difference_of}
-use Rattle.ledger_model.specs.Event.{MeterReading}
+use Rattle.energy_flow.specs.Flow.{Energy, difference_of, minus, no_energy, plus}
+use Rattle.ledger_model.specs.declared.reading.Direction.{Direction}
+use Rattle.ledger_model.specs.declared.reading.Direction.TheVariants.{Import, Export}
+use Rattle.ledger_model.specs.Event.{MeterReading, toward}
 use Rattle.ledger_model.specs.Quarter.{quarter_at}
 use Rattle.ledger_model.specs.Content.{Entry, live, live_of, transactions_of}
 
--- The readings of a transaction in order: of each live event in the order of its number, its readings in their order.
-abbrev pub readings_of : List ℕ → List Entry → List MeterReading
-readings_of tx es = flat_map (λ e. e.1.event.readings) (live_of tx es)
+-- The readings of a transaction in one direction, in order: of each live event in the order of its number, its readings of that direction in their order.
+abbrev pub readings_of : Direction → List ℕ → List Entry → List MeterReading
+readings_of d tx es = flat_map (λ e. toward d e.1.event.readings) (live_of tx es)
 
 -- A reading, and the one that follows it.
 abbrev pub Pair : Type 0
@@ -25,29 +27,55 @@ difference p = difference_of p.0.mwh p.1.mwh
 abbrev pub energy_over : List Pair → Energy
 energy_over ps = record { up = sum_by (λ p. (difference p).up) ps; down = sum_by (λ p. (difference p).down) ps }
 
--- The pairs of a transaction.
-abbrev pub pairs_of : List ℕ → List Entry → List Pair
-pairs_of tx es = followed (readings_of tx es)
+-- The pairs of a transaction in one direction.
+abbrev pub pairs_of : Direction → List ℕ → List Entry → List Pair
+pairs_of d tx es = followed (readings_of d tx es)
 
--- The pairs of a station: those of each of its transactions.
-abbrev pub pairs : List Entry → List Pair
-pairs es = flat_map (λ tx. pairs_of tx es) (transactions_of (live es))
+-- The pairs of a station in one direction: those of each of its transactions.
+abbrev pub pairs : Direction → List Entry → List Pair
+pairs d es = flat_map (λ tx. pairs_of d tx es) (transactions_of (live es))
 
--- The energy of a transaction.
-abbrev pub energy_of : List ℕ → List Entry → Energy
-energy_of tx es = energy_over (pairs_of tx es)
+-- The energy of a transaction in one direction.
+abbrev pub energy_of : Direction → List ℕ → List Entry → Energy
+energy_of d tx es = energy_over (pairs_of d tx es)
 
--- The energy of a station, over all its transactions.
-abbrev pub energy : List Entry → Energy
-energy es = energy_over (pairs es)
+-- The energy of a station in one direction, over all its transactions.
+abbrev pub energy : Direction → List Entry → Energy
+energy d es = energy_over (pairs d es)
 
 -- The quarter of a pair, by settlement periods of so many seconds: that of its later reading.
 abbrev pub quarter_of : ℕ → Pair → ℕ
 quarter_of period p = quarter_at period p.1.moment
 
--- The energy of a quarter of a station.
-abbrev pub energy_in : ℕ → ℕ → List Entry → Energy
-energy_in period quarter es = energy_over (filter (λ p. quarter_of period p == quarter) (pairs es))
+-- The energy of a quarter of a station in one direction.
+abbrev pub energy_in : Direction → ℕ → ℕ → List Entry → Energy
+energy_in d period quarter es = energy_over (filter (λ p. quarter_of period p == quarter) (pairs d es))
+
+-- The energies of both directions.
+pub record Flows : Type 0 where
+  pub flow : Energy
+  pub export : Energy
+
+-- No energy in either direction.
+abbrev pub no_flows : Flows
+no_flows = record { flow = no_energy; export = no_energy }
+
+-- An energy in one direction, and none in the other.
+abbrev pub flows_toward : Direction → Energy → Flows
+flows_toward Import e = record { flow = e; export = no_energy }
+flows_toward Export e = record { flow = no_energy; export = e }
+
+-- Both added up, direction by direction.
+abbrev pub plus_flows : Flows → Flows → Flows
+plus_flows a b = record { flow = plus a.flow b.flow; export = plus a.export b.export }
+
+-- The first without the second, direction by direction.
+abbrev pub minus_flows : Flows → Flows → Flows
+minus_flows a b = record { flow = minus a.flow b.flow; export = minus a.export b.export }
+
+-- The energies of a quarter of a station.
+abbrev pub flows_in : ℕ → ℕ → List Entry → Flows
+flows_in period quarter es = record { flow = energy_in Import period quarter es; export = energy_in Export period quarter es }
 
 -- A number put into a rising list, where it does not stand in it already.
 abbrev pub put_in : ℕ → List ℕ → List ℕ
@@ -59,6 +87,6 @@ abbrev pub rising : List ℕ → List ℕ
 rising [] = []
 rising (n ∷ ns) = put_in n (rising ns)
 
--- The quarters of a station that are shown: each that has a pair, even one of difference zero.
+-- The quarters of a station that are shown: each that has a pair of either direction, even one of difference zero.
 abbrev pub quarters : ℕ → List Entry → List ℕ
-quarters period es = rising (map (quarter_of period) (pairs es))
+quarters period es = rising (map (quarter_of period) (pairs Import es ++ pairs Export es))

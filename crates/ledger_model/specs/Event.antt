@@ -1,13 +1,16 @@
-use Rattle.std.specs.Prelude.{ℕ, Bool, true, false, List, [], ◌∷◌, ◌≢◌, ◌≤◌, ◌&&◌, ◌==◌, Option, None, Some, IfSome, All, length}
+use Rattle.std.specs.Prelude.{ℕ, Bool, true, false, List, [], ◌∷◌, ◌≢◌, ◌≤◌, ◌&&◌, ◌==◌, Option, None, Some, IfSome, All, filter, length}
 use Rattle.ledger_model.specs.declared.kind.Kind.{Kind}
 use Rattle.ledger_model.specs.declared.kind.Kind.TheVariants.{Started, Updated, Ended}
+use Rattle.ledger_model.specs.declared.reading.Direction.{Direction}
+use Rattle.ledger_model.specs.declared.reading.Direction.TheVariants.{Import, Export}
 use Rattle.ledger_model.specs.Moment.{IsMoment}
 use Rattle.ledger_model.specs.Ranges.{greatest_evse, greatest_reading, most_event_readings}
 
--- A counted reading of the energy register: its moment in nanoseconds from 1970, and its milliwatt-hours.
+-- A counted reading of an active energy register: its moment in nanoseconds from 1970, its milliwatt-hours, and its direction.
 pub record MeterReading : Type 0 where
   pub moment : ℕ
   pub mwh : ℕ
+  pub direction : Direction
 
 -- The content of an event: its kind, moment, EVSE or none, and its counted readings in the order sent.
 pub record EventContent : Type 0 where
@@ -29,9 +32,19 @@ same_evse None None = true
 same_evse (Some a) (Some b) = a == b
 same_evse _ _ = false
 
--- Tells whether two readings agree in moment and value.
+-- Tells whether two directions are one.
+abbrev pub same_direction : Direction → Direction → Bool
+same_direction Import Import = true
+same_direction Export Export = true
+same_direction _ _ = false
+
+-- Tells whether two readings agree in moment, value and direction.
 abbrev pub same_reading : MeterReading → MeterReading → Bool
-same_reading a b = (a.moment == b.moment) && (a.mwh == b.mwh)
+same_reading a b = (a.moment == b.moment) && ((a.mwh == b.mwh) && same_direction a.direction b.direction)
+
+-- The readings of one direction, in their order.
+abbrev pub toward : Direction → List MeterReading → List MeterReading
+toward d rs = filter (λ r. same_direction d r.direction) rs
 
 -- Tells whether two lists have the same readings in the same order.
 abbrev pub same_readings : List MeterReading → List MeterReading → Bool

@@ -1,6 +1,8 @@
 use Rattle.std.specs.Prelude.{ℕ, ◌+◌, ◌*◌, List, [], ◌∷◌, ◌++◌, None, codes}
 use Rattle.ledger_model.specs.declared.kind.Kind.{Kind}
 use Rattle.ledger_model.specs.declared.kind.Kind.TheVariants.{Started, Updated}
+use Rattle.ledger_model.specs.declared.reading.Direction.{Direction}
+use Rattle.ledger_model.specs.declared.reading.Direction.TheVariants.{Import, Export}
 use Rattle.ledger_model.specs.declared.command.Command.{Command}
 use Rattle.ledger_model.specs.declared.command.Command.TheVariants.{Deliver, Void, Restore, Erase}
 use Rattle.ledger_model.specs.Key.{KeyName}
@@ -24,8 +26,21 @@ delivery kind seq minutes wh = Deliver (numbered seq) (record {
   kind = kind;
   moment = after_ten minutes;
   evse = None;
-  readings = record { moment = after_ten minutes; mwh = 1_000 * wh } ∷ [];
+  readings = record { moment = after_ten minutes; mwh = 1_000 * wh; direction = Import } ∷ [];
 })
+
+-- The delivery of an event of t1 with one reading of this direction's register, of 1,000 watt-hours at ten.
+abbrev pub of_direction : Direction → Command
+of_direction d = Deliver (numbered 0) (record {
+  kind = Started;
+  moment = after_ten 0;
+  evse = None;
+  readings = record { moment = after_ten 0; mwh = 1_000_000; direction = d } ∷ [];
+})
+
+-- An event, and then the same with its value in the other direction.
+abbrev pub other_direction : List Command
+other_direction = of_direction Import ∷ of_direction Export ∷ []
 
 -- Events 0 and 2 of a transaction; event 1 is missing.
 abbrev pub first_run : List Command

@@ -5,7 +5,7 @@ use Rattle.ledger_model.specs.Ranges.{greatest_reading, sequence_end}
 
 -- The figures of a station without events.
 abbrev pub no_figures : Figures
-no_figures = record { events = 0; voided = 0; transactions = 0; complete = 0; missing = 0; up = 0; down = 0 }
+no_figures = record { events = 0; voided = 0; transactions = 0; complete = 0; missing = 0; up = 0; down = 0; export_up = 0; export_down = 0 }
 
 -- Figures that a station of these limits can have.
 pub record AreWithin (limits : Bounds) (f : Figures) : Type 0 where
@@ -15,3 +15,5 @@ pub record AreWithin (limits : Bounds) (f : Figures) : Type 0 where
   pub missing : f.missing ≤ sequence_end * limits.transactions
   pub up : f.up ≤ greatest_reading * limits.readings
   pub down : f.down ≤ greatest_reading * limits.readings
+  pub export_up : f.export_up ≤ greatest_reading * limits.readings
+  pub export_down : f.export_down ≤ greatest_reading * limits.readings

@@ -7,7 +7,8 @@ use Rattle.ledger_model.specs.declared.answer.Answer.{Answer}
 use Rattle.ledger_model.specs.declared.answer.Answer.TheVariants.{Accepted, Repeat, Refused}
 use Rattle.ledger_model.specs.Limits.{Bounds}
 use Rattle.ledger_model.specs.Key.{KeyName}
-use Rattle.ledger_model.specs.Event.{MeterReading, EventContent}
+use Rattle.ledger_model.specs.declared.reading.Direction.{Direction}
+use Rattle.ledger_model.specs.Event.{MeterReading, EventContent, toward}
 use Rattle.ledger_model.specs.Content.{Content, Stored, empty_content}
 use Rattle.ledger_model.specs.Admissible.{IsAdmissible}
 use Rattle.ledger_model.specs.Step.{step}
@@ -38,14 +39,14 @@ abbrev pub upto : ℕ → List ℕ
 upto zero = []
 upto (suc n) = upto n ++ n ∷ []
 
--- The readings of what stands under a key: those of its event, where there is one and it is live.
-abbrev pub readings_at : Option Stored → List MeterReading
-readings_at None = []
-readings_at (Some stored) = if stored.voided then [] else stored.event.readings
+-- The readings of one direction of what stands under a key: those of its event, where there is one and it is live.
+abbrev pub readings_at : Direction → Option Stored → List MeterReading
+readings_at d None = []
+readings_at d (Some stored) = if stored.voided then [] else toward d stored.event.readings
 
--- The readings of a transaction that are met by looking at its numbers below a number, one by one from 0 on.
-abbrev pub by_number : List ℕ → Content → ℕ → List MeterReading
-by_number tx c n = flat_map (λ seq. readings_at (finite.get c.events (record { tx = tx; seq = seq }))) (upto n)
+-- The readings of a transaction in one direction that are met by looking at its numbers below a number, one by one from 0 on.
+abbrev pub by_number : Direction → List ℕ → Content → ℕ → List MeterReading
+by_number d tx c n = flat_map (λ seq. readings_at d (finite.get c.events (record { tx = tx; seq = seq }))) (upto n)
 
 -- An event with its key, as a station sends it.
 abbrev pub Sent : Type 0

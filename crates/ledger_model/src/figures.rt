@@ -2,7 +2,7 @@ ghost use Rattle.std.specs.Prelude.{◌≡◌, ◌↔◌, IsTrue};
 
 use crate::{GREATEST_READING, Limits};
 
-/// Seven numbers that sum up a station or a site.
+/// Nine numbers that sum up a station or a site.
 #[derive(Clone, Copy, Debug, PartialEq, Eq)]
 pub struct Figures {
     /// Events that are stored and not voided.
@@ -15,10 +15,14 @@ pub struct Figures {
     pub complete: u64,
     /// Sequence numbers that are missing, over these transactions.
     pub missing: u64,
-    /// The rises of the register over all transactions, in milliwatt-hours.
+    /// The rises of the import register over all transactions, in milliwatt-hours.
     pub up: u64,
-    /// The falls of the register over all transactions, in milliwatt-hours.
+    /// The falls of the import register over all transactions, in milliwatt-hours.
     pub down: u64,
+    /// The rises of the export register over all transactions, in milliwatt-hours.
+    pub export_up: u64,
+    /// The falls of the export register over all transactions, in milliwatt-hours.
+    pub export_down: u64,
 }
 
 impl Figures {
@@ -36,6 +40,8 @@ impl Figures {
             missing: 0,
             up: 0,
             down: 0,
+            export_up: 0,
+            export_down: 0,
         }
     }
 
@@ -49,6 +55,8 @@ impl Figures {
         let are_events = self.events <= events && self.voided <= events - self.events;
         let are_transactions = self.transactions <= transactions && self.complete <= transactions;
         let is_energy = self.up <= energy && self.down <= energy;
-        are_events && are_transactions && is_energy && self.missing <= transactions << 31
+        let is_export = self.export_up <= energy && self.export_down <= energy;
+        let are_few = are_events && are_transactions;
+        are_few && is_energy && is_export && self.missing <= transactions << 31
     }
 }

@@ -2,7 +2,7 @@
 //!
 //! A station sends transaction events ([`Event`]), each named by a [`Key`]: the id of its transaction
 //! and a sequence number (TransactionEventRequest, OCPP 2.0.1 Part 2, block E). An event carries
-//! counted [`Reading`]s of the imported energy register (MeterValueType, block J). A [`Command`] on a
+//! counted [`Reading`]s of the active energy registers, each of a [`Direction`] (MeterValueType, block J). A [`Command`] on a
 //! station's ledger gets one [`Answer`]; what the ledger may keep is bounded by its [`Limits`], and
 //! [`Figures`] sum it up.
 //!
@@ -48,5 +48,5 @@ pub use listed::Listed;
 pub use moment::{FIRST_MOMENT, FIRST_QUARTER, LAST_QUARTER, MOMENTS_END, Moment, Quarter};
 pub use name::{MAX_NAME, Name};
 pub use period::Period;
-pub use reading::{GREATEST_READING, Reading};
+pub use reading::{Direction, GREATEST_READING, Reading};
 pub use tx_id::{MAX_TX_ID, TxId};

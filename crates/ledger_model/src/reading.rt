@@ -8,12 +8,23 @@ use std::marker::Model;
 /// The greatest reading, in milliwatt-hours: 10^13, ten gigawatt-hours (this product's profile).
 pub const GREATEST_READING: u64 = 10_000_000_000_000;
 
-/// A counted reading of the imported energy register: its moment, and its level in milliwatt-hours
-/// (MeterValueType, OCPP 2.0.1 Part 2, J02).
+/// Which active energy register a reading is of (the measurand of a SampledValueType, OCPP 2.0.1
+/// Part 2, J02).
+#[derive(Clone, Copy, Debug, PartialEq, Eq)]
+pub enum Direction {
+    /// What the vehicle took: `Energy.Active.Import.Register`.
+    Import,
+    /// What the vehicle fed back: `Energy.Active.Export.Register`.
+    Export,
+}
+
+/// A counted reading of an active energy register: its moment, its level in milliwatt-hours, and its
+/// direction (MeterValueType, OCPP 2.0.1 Part 2, J02).
 #[derive(Clone, Copy, Debug, PartialEq, Eq)]
 pub struct Reading {
     moment: Moment,
     level: Level,
+    direction: Direction,
 }
 
 impl Model for Reading {
@@ -23,24 +34,27 @@ impl Model for Reading {
 
     ghost Value = { MeterReading };
 
-    ghost view = { λ r. record { moment = r.moment; mwh = r.level } };
+    ghost view = { λ r. record { moment = r.moment; mwh = r.level; direction = r.direction } };
 
     ghost invariant = { λ r. r.level ≤ greatest_reading };
 
-    ghost inverse = { λ m. record { moment = m.moment; level = m.mwh } };
+    ghost inverse = { λ m. record { moment = m.moment; level = m.mwh; direction = m.direction } };
 }
 
 impl Reading {
-    /// The reading of so many milliwatt-hours at a moment; `None` above 10^13.
-    pub fn new(moment: Moment, mwh: u64) -> Option<Self>
+    /// The reading of so many milliwatt-hours at a moment, of this direction's register; `None` above
+    /// 10^13.
+    pub fn new(moment: Moment, mwh: u64, direction: Direction) -> Option<Self>
         ensures valid { IsSome result ↔ (mwh ≤ greatest_reading) }
         ensures moment { IfSome result (λ r. r.moment ≡ moment) }
         ensures mwh { IfSome result (λ r. r.mwh ≡ mwh) }
+        ensures direction { IfSome result (λ r. r.direction ≡ direction) }
     {
         if mwh <= GREATEST_READING {
             Some(Reading {
                 moment,
                 level: Level::new(mwh),
+                direction,
             })
         } else {
             None
@@ -60,5 +74,12 @@ impl Reading {
         ensures range { result ≤ greatest_reading }
     {
         self.level
+    }
+
+    /// Which register was read.
+    pub fn direction(self) -> Direction
+        ensures { result ≡ self.direction }
+    {
+        self.direction
     }
 }

@@ -32,7 +32,9 @@ A script has one line for each step, and each answer is one line, or a board:
   msg <station> <text>       an OCPP-J message of the station; writes the reply, or `silent`
   void, restore or erase, with <station> <transaction id> <seqNo>
                              an operator's command; writes `accepted <n>` or `refused <name>`
-  energy <station>           writes `energy up=<n> down=<n>`, in milliwatt-hours
+  energy <station>           writes `energy up=<n> down=<n>`, what was imported, in
+                             milliwatt-hours
+  export <station>           writes `export up=<n> down=<n>`, what was exported
   total <station>            writes the station's figures
   board <site>               writes the board of the site, from its name to `end`
 Empty lines and lines that begin with # write nothing. A line with a fault writes
@@ -55,8 +57,13 @@ seconds in which it takes nothing.
 Example: two stations of one site, the totals each second for a minute, four connections:
   ocpp_board serve --port 9000 --connections 4 --watch 60 north/CS-01 north/CS-02
 
-Exit status: 0; 1 with `fault <name>` (ListenFailed, WriteFault, OutOfMemory, Torn); 2 for a
-fault of the arguments, or with `fault BadStation`, `fault PlanLimit` or `fault StationTwice`.
+With --live it serves connections without end, two of each station at once: a third ends the
+oldest. Meanwhile it answers lines on standard input, as `ocpp_board --help` lists them, but for
+declarations and `now`; it ends when its input ends or says `close`, and writes the boards.
+  ocpp_board serve --live --port 9000 --log --board-port 9080 north/CS-01 north/CS-02
+
+Exit status: 0; 1 with `fault <name>` (ListenFailed, ReadFault, WriteFault, OutOfMemory,
+Torn); 2 for a fault of the arguments, or with `fault BadStation`, `fault PlanLimit` or `fault StationTwice`.
 A second line tells the cause: the word, the station, or the system's words for the port.";
 
 const SIM_EXAMPLE: &str = "\
@@ -105,6 +112,9 @@ fn serve_command<'a>(alloc: Global) -> Result<Command<'a>, AllocError> {
         .arg(connections_option(alloc))?
         .arg(watch_option(alloc))?
         .arg(period_option(alloc))?
+        .arg(live_option(alloc)?)?
+        .arg(log_option(alloc)?)?
+        .arg(board_port_option(alloc)?)?
         .arg(station_words(alloc))
 }
 
@@ -144,6 +154,33 @@ fn period_option<'a>(alloc: Global) -> Arg<'a> {
         .value_parser(PERIODS.as_slice())
         .default_value("900")
         .help("The settlement period of all sites' boards, in seconds")
+}
+
+fn live_option<'a>(alloc: Global) -> Result<Arg<'a>, AllocError> {
+    Arg::new(alloc, "live")
+        .long("live")
+        .action(ArgAction::SetTrue)
+        .help("Serve until standard input ends or says `close`, and answer its lines meanwhile")
+        .conflicts_with("connections")
+}
+
+fn log_option<'a>(alloc: Global) -> Result<Arg<'a>, AllocError> {
+    Arg::new(alloc, "log")
+        .long("log")
+        .action(ArgAction::SetTrue)
+        .help("With --live, tell on standard error which sessions begin and end")
+        .requires_arg("live")
+}
+
+fn board_port_option<'a>(alloc: Global) -> Result<Arg<'a>, AllocError> {
+    Arg::new(alloc, "board-port")
+        .long("board-port")
+        .value_name("PORT")
+        .value_parser(value_parser!(u16))
+        .help(
+            "With --live, the port of 127.0.0.1 where browsers find boards; 0 lets the system choose",
+        )
+        .requires_arg("live")
 }
 
 fn station_words<'a>(alloc: Global) -> Arg<'a> {

@@ -5,9 +5,10 @@ use board_words::{Asked, WordFault};
 use clap::Error;
 use clap::error::ErrorKind;
 use ledger_model::{MAX_SITES, MAX_STATIONS};
+use live_server::serve_live;
 use script_replay::{ReplayFault, replay_buffered};
 use site_desk::Plan;
-use site_server::{Service, ServiceFault, serve_plan, simulate};
+use site_server::{ServiceFault, serve_plan, simulate};
 use std::convert::AsStr;
 use std::fmt::Display;
 use std::io;
@@ -49,7 +50,16 @@ pub fn run_command_line<
             Ok(plan) => {
                 let ended = serve_plan(rt, rt.alloc(), &plan, service, writer, lines);
                 let status = tell_end(errors, ended);
-                tell_cause(errors, &plan, service, ended);
+                tell_cause(errors, &plan, service.port, ended);
+                status
+            }
+            Err(fault) => tell_word(errors, fault),
+        },
+        Ok(Asked::ServeLive(plan, live)) => match plan {
+            Ok(plan) => {
+                let ended = serve_live(rt, rt.alloc(), &plan, live, reader, writer, lines);
+                let status = tell_end(errors, ended);
+                tell_cause(errors, &plan, live.port, ended);
                 status
             }
             Err(fault) => tell_word(errors, fault),
@@ -80,12 +90,7 @@ fn tell_end<E: Write>(errors: &mut E, ended: Result<(), ServiceFault>) -> u8 {
 }
 
 // Writes why a server did not begin, where its stations or its port tell it.
-fn tell_cause<E: Write>(
-    errors: &mut E,
-    plan: &Plan,
-    service: Service,
-    ended: Result<(), ServiceFault>,
-) {
+fn tell_cause<E: Write>(errors: &mut E, plan: &Plan, port: u16, ended: Result<(), ServiceFault>) {
     match ended {
         Err(ServiceFault::StationTwice) => {
             if let Some(name) = plan.station_twice() {
@@ -94,7 +99,7 @@ fn tell_cause<E: Write>(
         }
         Err(ServiceFault::ListenFailed(Some(code))) => {
             let error = io::Error::from_raw_os_error(code);
-            let _ = writeln!(errors, "127.0.0.1:{}: {error}", service.port);
+            let _ = writeln!(errors, "127.0.0.1:{port}: {error}");
         }
         _ => {}
     }

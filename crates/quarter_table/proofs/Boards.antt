@@ -1,41 +1,70 @@
 -- The rows of pairs of readings, and the quarters of a board.
-use Rattle.std.proofs.Common.{◌≡◌, ℕ, ◌==◌, cond, List, [], ◌∷◌, map, refl, sym, ap, ◌∙◌}
+use Rattle.std.proofs.Common.{◌≡◌, ℕ, ◌+◌, ◌==◌, cond, List, [], ◌∷◌, ◌++◌, map, refl, sym, ap, ◌∙◌, arith}
 use Rattle.std.specs.List.{filter, sum_by}
+use Rattle.std.proofs.lemmas.List.{map-append}
+use Rattle.std.proofs.lemmas.List.Elements.{filter-append}
+use Rattle.std.proofs.lemmas.List.Sums.{sum_by-append}
 use Rattle.std.proofs.Math.Path.{fun_ext}
-use Rattle.energy_flow.specs.Flow.{Energy}
+use Rattle.ledger_model.specs.declared.reading.Direction.{Direction}
+use Rattle.ledger_model.specs.declared.reading.Direction.TheVariants.{Import, Export}
 use Rattle.ledger_model.specs.Board.{Flowed, board}
 use Rattle.ledger_model.specs.Content.{Entry}
-use Rattle.ledger_model.specs.Energy.{Pair, difference, energy_over, pairs, quarter_of, rising}
+use Rattle.ledger_model.specs.Energy.{Flows, Pair, difference, flows_in, flows_toward, pairs, quarter_of, quarters, rising}
 use Rattle.ledger_model.proofs.Callers.{sum_by-map, passed_sum}
-use Rattle.quarter_table.specs.Pairs.{row_of, rows_of, flows_of, line_of}
+use Rattle.ledger_model.proofs.SumLemmas.{sum_by-none}
+use Rattle.quarter_table.specs.Pairs.{total, row_of, rows_of, flows_of, station_flows, line_of}
 
 map_map : {X Y Z : Type 0} (f : Y → Z) (g : X → Y) (xs : List X) → map f (map g xs) ≡ map (λ x. f (g x)) xs
 map_map f g [] = refl
 map_map f g (x ∷ xs) = ap (λ ys. f (g x) ∷ ys) (map_map f g xs)
 
--- What the pairs of a quarter add up to, by a measure of what they show.
-quarter_sum : (measure : Energy → ℕ) (period q : ℕ) (ps : List Pair) → sum_by (λ f. measure f.1) (filter (λ f. f.0 == q) (flows_of period ps)) ≡ sum_by (λ p. measure (difference p)) (filter (λ p. quarter_of period p == q) ps)
-quarter_sum measure period q ps =
-    passed_sum (λ (f : Flowed). measure f.1) (λ f. f.0 == q) (flows_of period ps)
-    ∙ sum_by-map (λ (f : Flowed). cond (f.0 == q) (measure f.1) 0) (λ p. (quarter_of period p, difference p)) ps
-    ∙ sym (passed_sum (λ p. measure (difference p)) (λ p. quarter_of period p == q) ps)
+-- What the pairs of a quarter in one direction add up to, by a measure of what they show.
+quarter_sum : (measure : Flows → ℕ) (period : ℕ) (d : Direction) (q : ℕ) (ps : List Pair)
+    → sum_by (λ f. measure f.1) (filter (λ f. f.0 == q) (flows_of period d ps)) ≡ sum_by (λ p. measure (flows_toward d (difference p))) (filter (λ p. quarter_of period p == q) ps)
+quarter_sum measure period d q ps =
+    passed_sum (λ (f : Flowed). measure f.1) (λ f. f.0 == q) (flows_of period d ps)
+    ∙ sum_by-map (λ (f : Flowed). cond (f.0 == q) (measure f.1) 0) (λ p. (quarter_of period p, flows_toward d (difference p))) ps
+    ∙ sym (passed_sum (λ p. measure (flows_toward d (difference p))) (λ p. quarter_of period p == q) ps)
 
--- The line of a quarter with this energy.
-abbrev line : ℕ → Energy → Flowed
-line q flow = (q, flow)
+-- The pairs of a quarter in one direction.
+abbrev of_quarter : ℕ → ℕ → Direction → List Entry → List Pair
+of_quarter period q d es = filter (λ p. quarter_of period p == q) (pairs d es)
 
--- Lines with the same numbers.
-same_line : (q : ℕ) (a b : Energy) → a.up ≡ b.up → a.down ≡ b.down → line q a ≡ line q b
-same_line q a b up down = λ i. line q (record { up = up i; down = down i })
+-- The same of both directions: each adds up by itself.
+part_sum : (measure : Flows → ℕ) (period q : ℕ) (es : List Entry) → sum_by (λ f. measure f.1) (filter (λ f. f.0 == q) (station_flows period es))
+    ≡ sum_by (λ p. measure (flows_toward Import (difference p))) (of_quarter period q Import es) + sum_by (λ p. measure (flows_toward Export (difference p))) (of_quarter period q Export es)
+part_sum measure period q es =
+    let a = flows_of period Import (pairs Import es) in let b = flows_of period Export (pairs Export es) in
+    ap (sum_by (λ (f : Flowed). measure f.1)) (filter-append (λ (f : Flowed). f.0 == q) a b)
+    ∙ sum_by-append (λ (f : Flowed). measure f.1) (filter (λ f. f.0 == q) a) (filter (λ f. f.0 == q) b)
+    ∙ (λ i. quarter_sum measure period Import q (pairs Import es) i + quarter_sum measure period Export q (pairs Export es) i)
 
--- The rows of pairs of readings are their quarters, each with the energy of its pairs.
-pub lines_of_pairs : (period : ℕ) (ps : List Pair) → map line_of (rows_of (flows_of period ps)) ≡ map (λ q. line q (energy_over (filter (λ p. quarter_of period p == q) ps))) (rising (map (quarter_of period) ps))
-lines_of_pairs period ps =
-    let fs = flows_of period ps in
-    map_map line_of (λ q. row_of q fs) (rising (map (λ f. f.0) fs))
-    ∙ ap (λ qs. map (λ q. line q (row_of q fs).flow) (rising qs)) (map_map (λ (f : Flowed). f.0) (λ p. line (quarter_of period p) (difference p)) ps)
-    ∙ ap (λ (l : ℕ → Flowed). map l (rising (map (quarter_of period) ps))) (fun_ext (λ q. same_line q (row_of q fs).flow (energy_over (filter (λ p. quarter_of period p == q) ps)) (quarter_sum (λ e. e.up) period q ps) (quarter_sum (λ e. e.down) period q ps)))
+-- The line of a quarter with these energies.
+abbrev line : ℕ → Flows → Flowed
+line q flows = (q, flows)
+
+-- The sums over a quarter's pairs are the energies of the quarter: pairs of one direction count nothing in the other.
+quarter_flows : (period : ℕ) (es : List Entry) (q : ℕ) → total (filter (λ f. f.0 == q) (station_flows period es)) ≡ flows_in period q es
+quarter_flows period es q =
+    let own = filter (λ f. f.0 == q) (station_flows period es) in
+    let none_in = sum_by-none (of_quarter period q Import es) in let none_out = sum_by-none (of_quarter period q Export es) in
+    let up : (total own).flow.up ≡ (flows_in period q es).flow.up = omega (arith, part_sum (λ f. f.flow.up) period q es, none_out) in
+    let down : (total own).flow.down ≡ (flows_in period q es).flow.down = omega (arith, part_sum (λ f. f.flow.down) period q es, none_out) in
+    let export_up : (total own).export.up ≡ (flows_in period q es).export.up = omega (arith, part_sum (λ f. f.export.up) period q es, none_in) in
+    let export_down : (total own).export.down ≡ (flows_in period q es).export.down = omega (arith, part_sum (λ f. f.export.down) period q es, none_in) in
+    λ i. record { flow = record { up = up i; down = down i }; export = record { up = export_up i; down = export_down i } }
+
+-- The quarters of a station's pairs, of both directions.
+quarters_of : (period : ℕ) (es : List Entry) → map (λ f. f.0) (station_flows period es) ≡ map (quarter_of period) (pairs Import es ++ pairs Export es)
+quarters_of period es =
+    map-append (λ (f : Flowed). f.0) (flows_of period Import (pairs Import es)) (flows_of period Export (pairs Export es))
+    ∙ (λ i. map_map (λ (f : Flowed). f.0) (λ p. line (quarter_of period p) (flows_toward Import (difference p))) (pairs Import es) i ++ map_map (λ (f : Flowed). f.0) (λ p. line (quarter_of period p) (flows_toward Export (difference p))) (pairs Export es) i)
+    ∙ sym (map-append (quarter_of period) (pairs Import es) (pairs Export es))
 
 -- The rows of a station's pairs are the quarters of its board.
-pub lines_of_station : (period : ℕ) (es : List Entry) → map line_of (rows_of (flows_of period (pairs es))) ≡ (board period es).quarters
-lines_of_station period es = lines_of_pairs period (pairs es)
+pub lines_of_station : (period : ℕ) (es : List Entry) → map line_of (rows_of (station_flows period es)) ≡ (board period es).quarters
+lines_of_station period es =
+    let fs = station_flows period es in
+    map_map line_of (λ q. row_of q fs) (rising (map (λ f. f.0) fs))
+    ∙ ap (λ qs. map (λ q. line q (total (filter (λ f. f.0 == q) fs))) (rising qs)) (quarters_of period es)
+    ∙ ap (λ (l : ℕ → Flowed). map l (quarters period es)) (fun_ext (λ q. ap (line q) (quarter_flows period es q)))

@@ -3,6 +3,7 @@ pub mod Changes
 pub mod Determined
 pub mod Made
 pub mod Orders
+pub mod Parts
 pub mod Places
 pub mod Replaced
 pub mod Held

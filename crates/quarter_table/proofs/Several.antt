@@ -1,13 +1,15 @@
 -- Rows after several pairs, and after one event.
-use Rattle.std.proofs.Common.{◌≡◌, ℕ, List, [], ◌∷◌, ◌++◌, refl, sym, ap, ◌∙◌}
+use Rattle.std.proofs.Common.{◌≡◌, ℕ, ◌+◌, List, [], ◌∷◌, ◌++◌, refl, sym, ap, ◌∙◌, arith}
 use Rattle.std.specs.List.{sum_by}
-use Rattle.std.proofs.lemmas.List.{map-append}
+use Rattle.std.proofs.lemmas.List.Sums.{sum_by-append}
+use Rattle.ledger_model.specs.declared.reading.Direction.{Direction}
+use Rattle.ledger_model.specs.declared.reading.Direction.TheVariants.{Import, Export}
 use Rattle.ledger_model.specs.Board.{Flowed}
 use Rattle.ledger_model.specs.Content.{Entry}
-use Rattle.ledger_model.specs.Deltas.{IsOneMore, pairs_kept, pairs_less, pairs_more}
-use Rattle.ledger_model.specs.Energy.{Pair, difference, pairs, quarter_of}
-use Rattle.ledger_model.proofs.Callers.{sum_by-map, pairs_less_kept, pairs_more_kept}
-use Rattle.quarter_table.specs.Pairs.{rows_of, rows_with, rows_without, flows_of}
+use Rattle.ledger_model.specs.Deltas.{IsOneMore, came_by, gone_by, kept_by}
+use Rattle.ledger_model.specs.Energy.{Pair, difference, flows_toward, pairs, quarter_of}
+use Rattle.ledger_model.proofs.Callers.{sum_by-map, less_kept, more_kept}
+use Rattle.quarter_table.specs.Pairs.{rows_of, rows_with, rows_without, flows_of, station_flows, gone_flows, came_flows}
 use Rattle.quarter_table.proofs.Made.{made_added, made_removed, made_alike, moved_front}
 
 -- The rows of pairs, with others added one after the other, are those of all.
@@ -20,37 +22,50 @@ pub made_without : (fs gs : List Flowed) → rows_without fs (rows_of (fs ++ gs)
 made_without [] gs = refl
 made_without (f ∷ fs) gs = ap (rows_without fs) (made_removed [] f.0 f.1 (fs ++ gs)) ∙ made_without fs gs
 
--- Pairs of readings that add up the same make the same rows.
-pub pairs_alike : (period : ℕ) (ps qs : List Pair) → ((f : Pair → ℕ) → sum_by f ps ≡ sum_by f qs) → rows_of (flows_of period ps) ≡ rows_of (flows_of period qs)
-pairs_alike period ps qs same = made_alike (flows_of period ps) (flows_of period qs) (λ measure.
-    sum_by-map measure (λ p. (quarter_of period p, difference p)) ps ∙ same (λ p. measure (quarter_of period p, difference p)) ∙ sym (sum_by-map measure (λ p. (quarter_of period p, difference p)) qs))
+-- Pairs of one direction that add up as two lists do.
+pub one_side : (period : ℕ) (d : Direction) (all some rest : List Pair) → ((f : Pair → ℕ) → sum_by f all ≡ sum_by f (some ++ rest))
+    → (measure : Flowed → ℕ) → sum_by measure (flows_of period d all) ≡ sum_by measure (flows_of period d some) + sum_by measure (flows_of period d rest)
+one_side period d all some rest same measure =
+    let shown : Pair → Flowed = λ p. (quarter_of period p, flows_toward d (difference p)) in
+    let f : Pair → ℕ = λ p. measure (shown p) in
+    omega (arith, sum_by-map measure shown all, same f, sum_by-append f some rest, sum_by-map measure shown some, sum_by-map measure shown rest)
 
--- The rows of pairs in two lists.
-rows_of_both : (period : ℕ) (ps qs : List Pair) → rows_of (flows_of period (ps ++ qs)) ≡ rows_of (flows_of period ps ++ flows_of period qs)
-rows_of_both period ps qs = ap rows_of (map-append (λ p. (quarter_of period p, difference p)) ps qs)
+-- Both directions together.
+pub both_sides : (measure : Flowed → ℕ) (all some rest others few more : List Flowed) → sum_by measure all ≡ sum_by measure some + sum_by measure rest → sum_by measure others ≡ sum_by measure few + sum_by measure more
+    → sum_by measure (all ++ others) ≡ sum_by measure ((some ++ few) ++ (rest ++ more))
+both_sides measure all some rest others few more one other =
+    omega (arith, one, other, sum_by-append measure all others, sum_by-append measure (some ++ few) (rest ++ more), sum_by-append measure some few, sum_by-append measure rest more)
 
--- The rows of a station's pairs without an event: the pair across its place, and those that are kept.
+-- The pairs that an event leaves, of both directions.
+abbrev kept_flows : ℕ → List Entry → List Entry → Entry → List Entry → List Flowed
+kept_flows period es front e back = flows_of period Import (kept_by Import es front e back) ++ flows_of period Export (kept_by Export es front e back)
+
+-- The rows of a station's pairs without an event: those that it takes away, and those that it leaves.
 pub rows_less : (period : ℕ) (es more front : List Entry) (e : Entry) (back : List Entry) → IsOneMore es more front e back
-    → rows_of (flows_of period (pairs es)) ≡ rows_of (flows_of period (pairs_less front e back) ++ flows_of period (pairs_kept es front e back))
+    → rows_of (station_flows period es) ≡ rows_of (gone_flows period front e back ++ kept_flows period es front e back)
 rows_less period es more front e back one =
-    pairs_alike period (pairs es) (pairs_less front e back ++ pairs_kept es front e back) (λ f. pairs_less_kept f es more front e back one) ∙ rows_of_both period (pairs_less front e back) (pairs_kept es front e back)
+    let side = λ (d : Direction). one_side period d (pairs d es) (gone_by d front e back) (kept_by d es front e back) (λ f. less_kept d f es more front e back one) in
+    made_alike (station_flows period es) (gone_flows period front e back ++ kept_flows period es front e back) (λ measure.
+    both_sides measure (flows_of period Import (pairs Import es)) (flows_of period Import (gone_by Import front e back)) (flows_of period Import (kept_by Import es front e back)) (flows_of period Export (pairs Export es)) (flows_of period Export (gone_by Export front e back)) (flows_of period Export (kept_by Export es front e back)) (side Import measure) (side Export measure))
 
--- With it: those that its readings make, and those that are kept.
+-- With it: those that it brings, and those that it leaves.
 pub rows_more : (period : ℕ) (es more front : List Entry) (e : Entry) (back : List Entry) → IsOneMore es more front e back
-    → rows_of (flows_of period (pairs more)) ≡ rows_of (flows_of period (pairs_more front e back) ++ flows_of period (pairs_kept es front e back))
+    → rows_of (station_flows period more) ≡ rows_of (came_flows period front e back ++ kept_flows period es front e back)
 rows_more period es more front e back one =
-    pairs_alike period (pairs more) (pairs_more front e back ++ pairs_kept es front e back) (λ f. pairs_more_kept f es more front e back one) ∙ rows_of_both period (pairs_more front e back) (pairs_kept es front e back)
+    let side = λ (d : Direction). one_side period d (pairs d more) (came_by d front e back) (kept_by d es front e back) (λ f. more_kept d f es more front e back one) in
+    made_alike (station_flows period more) (came_flows period front e back ++ kept_flows period es front e back) (λ measure.
+    both_sides measure (flows_of period Import (pairs Import more)) (flows_of period Import (came_by Import front e back)) (flows_of period Import (kept_by Import es front e back)) (flows_of period Export (pairs Export more)) (flows_of period Export (came_by Export front e back)) (flows_of period Export (kept_by Export es front e back)) (side Import measure) (side Export measure))
 
--- One live event more: the pair across its place is taken out, and those that its readings make are added.
+-- One live event more: the pairs that it takes away are taken out, and those that it brings are added.
 pub rows_event_more : (period : ℕ) (es more front : List Entry) (e : Entry) (back : List Entry) → IsOneMore es more front e back
-    → rows_with (flows_of period (pairs_more front e back)) (rows_without (flows_of period (pairs_less front e back)) (rows_of (flows_of period (pairs es)))) ≡ rows_of (flows_of period (pairs more))
+    → rows_with (came_flows period front e back) (rows_without (gone_flows period front e back) (rows_of (station_flows period es))) ≡ rows_of (station_flows period more)
 rows_event_more period es more front e back one =
-    let a = flows_of period (pairs_less front e back) in let m = flows_of period (pairs_more front e back) in let k = flows_of period (pairs_kept es front e back) in
+    let a = gone_flows period front e back in let m = came_flows period front e back in let k = kept_flows period es front e back in
     ap (λ rows. rows_with m (rows_without a rows)) (rows_less period es more front e back one) ∙ ap (rows_with m) (made_without a k) ∙ made_with m k ∙ sym (rows_more period es more front e back one)
 
 -- One live event less: the other way round.
 pub rows_event_less : (period : ℕ) (es more front : List Entry) (e : Entry) (back : List Entry) → IsOneMore es more front e back
-    → rows_with (flows_of period (pairs_less front e back)) (rows_without (flows_of period (pairs_more front e back)) (rows_of (flows_of period (pairs more)))) ≡ rows_of (flows_of period (pairs es))
+    → rows_with (gone_flows period front e back) (rows_without (came_flows period front e back) (rows_of (station_flows period more))) ≡ rows_of (station_flows period es)
 rows_event_less period es more front e back one =
-    let a = flows_of period (pairs_less front e back) in let m = flows_of period (pairs_more front e back) in let k = flows_of period (pairs_kept es front e back) in
+    let a = gone_flows period front e back in let m = came_flows period front e back in let k = kept_flows period es front e back in
     ap (λ rows. rows_with a (rows_without m rows)) (rows_more period es more front e back one) ∙ ap (rows_with a) (made_without m k) ∙ made_with a k ∙ sym (rows_less period es more front e back one)

@@ -1,32 +1,50 @@
 -- The rows that pairs make.
-use Rattle.std.specs.Prelude.{ℕ, ◌==◌, List, [], ◌∷◌, map, filter, length, sum_by}
-use Rattle.energy_flow.specs.Flow.{Energy}
+use Rattle.std.specs.Prelude.{ℕ, ◌==◌, List, [], ◌∷◌, ◌++◌, map, filter, length, sum_by}
+use Rattle.ledger_model.specs.declared.reading.Direction.{Direction}
+use Rattle.ledger_model.specs.declared.reading.Direction.TheVariants.{Import, Export}
 use Rattle.ledger_model.specs.Board.{Flowed}
-use Rattle.ledger_model.specs.Energy.{Pair, difference, quarter_of, rising}
+use Rattle.ledger_model.specs.Content.{Entry}
+use Rattle.ledger_model.specs.Deltas.{came_by, gone_by}
+use Rattle.ledger_model.specs.Energy.{Flows, Pair, difference, flows_toward, pairs, quarter_of, rising}
 use Rattle.quarter_table.specs.declared.row.QuarterRow.{QuarterRow}
 use Rattle.quarter_table.specs.Rows.{row_at, set_row, with_pair, without_pair}
 
--- Differences added up, field by field.
-abbrev pub total : List Flowed → Energy
-total flows = record { up = sum_by (λ f. f.1.up) flows; down = sum_by (λ f. f.1.down) flows }
+-- Differences added up, field by field, in each direction.
+abbrev pub total : List Flowed → Flows
+total flows = record {
+  flow = record { up = sum_by (λ f. f.1.flow.up) flows; down = sum_by (λ f. f.1.flow.down) flows };
+  export = record { up = sum_by (λ f. f.1.export.up) flows; down = sum_by (λ f. f.1.export.down) flows };
+}
 
 -- The row of a quarter: how many of the pairs are of it, and what they add up to.
 abbrev pub row_of : ℕ → List Flowed → QuarterRow
 row_of quarter flows =
     let own = filter (λ f. f.0 == quarter) flows in
-    record { quarter = quarter; pairs = length own; flow = total own }
+    record { quarter = quarter; pairs = length own; flow = (total own).flow; export = (total own).export }
 
 -- The rows of pairs, each given by its quarter and its difference: one for each quarter that has a pair, rising.
 abbrev pub rows_of : List Flowed → List QuarterRow
 rows_of flows = map (λ quarter. row_of quarter flows) (rising (map (λ f. f.0) flows))
 
--- Pairs of readings, each by its quarter and its difference.
-abbrev pub flows_of : ℕ → List Pair → List Flowed
-flows_of period pairs = map (λ p. (quarter_of period p, difference p)) pairs
+-- Pairs of readings of one direction, each by its quarter and its difference.
+abbrev pub flows_of : ℕ → Direction → List Pair → List Flowed
+flows_of period d pairs = map (λ p. (quarter_of period p, flows_toward d (difference p))) pairs
+
+-- The pairs of a station, of both directions.
+abbrev pub station_flows : ℕ → List Entry → List Flowed
+station_flows period es = flows_of period Import (pairs Import es) ++ flows_of period Export (pairs Export es)
+
+-- The pairs that go with one live event more.
+abbrev pub gone_flows : ℕ → List Entry → Entry → List Entry → List Flowed
+gone_flows period front e back = flows_of period Import (gone_by Import front e back) ++ flows_of period Export (gone_by Export front e back)
+
+-- The pairs that come with it.
+abbrev pub came_flows : ℕ → List Entry → Entry → List Entry → List Flowed
+came_flows period front e back = flows_of period Import (came_by Import front e back) ++ flows_of period Export (came_by Export front e back)
 
 -- What a board shows of a row.
 abbrev pub line_of : QuarterRow → Flowed
-line_of row = (row.quarter, row.flow)
+line_of row = (row.quarter, record { flow = row.flow; export = row.export })
 
 -- Rows after these pairs were added, one after the other.
 abbrev pub rows_with : List Flowed → List QuarterRow → List QuarterRow

@@ -1,24 +1,25 @@
 -- Rows of a table, one for each quarter that has a pair.
 use Rattle.std.specs.Prelude.{ℕ, ◌+◌, ◌-◌, ◌<◌, ◌==◌, nat_lt, if◌then◌else◌, List, [], ◌∷◌, ◌++◌, filter}
-use Rattle.energy_flow.specs.Flow.{Energy, no_energy, plus, minus}
+use Rattle.energy_flow.specs.Flow.{no_energy, plus, minus}
+use Rattle.ledger_model.specs.Energy.{Flows}
 use Rattle.quarter_table.specs.declared.row.QuarterRow.{QuarterRow}
 
 -- What stands for a quarter that has no pair.
 abbrev pub no_row : ℕ → QuarterRow
-no_row quarter = record { quarter = quarter; pairs = 0; flow = no_energy }
+no_row quarter = record { quarter = quarter; pairs = 0; flow = no_energy; export = no_energy }
 
 -- The row of a quarter.
 abbrev pub row_at : ℕ → List QuarterRow → QuarterRow
 row_at quarter [] = no_row quarter
 row_at quarter (row ∷ rows) = if row.quarter == quarter then row else row_at quarter rows
 
--- A row with one pair more, of this difference.
-abbrev pub with_pair : Energy → QuarterRow → QuarterRow
-with_pair flow row = record { quarter = row.quarter; pairs = row.pairs + 1; flow = plus row.flow flow }
+-- A row with one pair more, of this difference in each direction.
+abbrev pub with_pair : Flows → QuarterRow → QuarterRow
+with_pair flows row = record { quarter = row.quarter; pairs = row.pairs + 1; flow = plus row.flow flows.flow; export = plus row.export flows.export }
 
--- A row with one pair less, of this difference.
-abbrev pub without_pair : Energy → QuarterRow → QuarterRow
-without_pair flow row = record { quarter = row.quarter; pairs = row.pairs - 1; flow = minus row.flow flow }
+-- A row with one pair less, of this difference in each direction.
+abbrev pub without_pair : Flows → QuarterRow → QuarterRow
+without_pair flows row = record { quarter = row.quarter; pairs = row.pairs - 1; flow = minus row.flow flows.flow; export = minus row.export flows.export }
 
 -- The rows of earlier quarters.
 abbrev pub earlier : ℕ → List QuarterRow → List QuarterRow

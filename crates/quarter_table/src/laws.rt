@@ -1,12 +1,12 @@
 //! Laws of rows, each the contract of a function with nothing to do. A pair is given by its quarter
-//! and its difference.
+//! and its difference in each direction.
 ghost use Rattle.std.specs.Prelude.{◌≡◌, ◌≢◌, ◌<◌, ◌≤◌, ℕ, List, [], ◌∷◌, ◌++◌, length, map, sum_by};
-ghost use Rattle.energy_flow.specs.Flow.{Energy, CanMinus};
+ghost use Rattle.energy_flow.specs.Flow.{CanMinus};
 ghost use Rattle.ledger_model.specs.Board.{Flowed, board};
 ghost use Rattle.ledger_model.specs.Content.{Entry};
-ghost use Rattle.ledger_model.specs.Deltas.{pairs_less, pairs_more, IsOneMore};
-ghost use Rattle.ledger_model.specs.Energy.{pairs};
-ghost use Rattle.quarter_table.specs.Pairs.{total, row_of, rows_of, rows_with, rows_without, flows_of, line_of};
+ghost use Rattle.ledger_model.specs.Deltas.{IsOneMore};
+ghost use Rattle.ledger_model.specs.Energy.{Flows};
+ghost use Rattle.quarter_table.specs.Pairs.{total, row_of, rows_of, rows_with, rows_without, station_flows, gone_flows, came_flows, line_of};
 ghost use Rattle.quarter_table.specs.Rows.{no_row, row_at, set_row, with_pair, without_pair};
 
 /// The rows of pairs, after a pair was added or taken out wherever it stood among them, are those of
@@ -14,8 +14,8 @@ ghost use Rattle.quarter_table.specs.Rows.{no_row, row_at, set_row, with_pair, w
 /// no sum over them shows.
 pub fn rows_follow_pairs()
     ensures empty { rows_of [] ≡ [] }
-    ensures added { (front : List Flowed) (quarter : ℕ) (flow : Energy) (back : List Flowed) → set_row (with_pair flow (row_at quarter (rows_of (front ++ back)))) (rows_of (front ++ back)) ≡ rows_of (front ++ (quarter, flow) ∷ back) }
-    ensures removed { (front : List Flowed) (quarter : ℕ) (flow : Energy) (back : List Flowed) → set_row (without_pair flow (row_at quarter (rows_of (front ++ (quarter, flow) ∷ back)))) (rows_of (front ++ (quarter, flow) ∷ back)) ≡ rows_of (front ++ back) }
+    ensures added { (front : List Flowed) (quarter : ℕ) (flow : Flows) (back : List Flowed) → set_row (with_pair flow (row_at quarter (rows_of (front ++ back)))) (rows_of (front ++ back)) ≡ rows_of (front ++ (quarter, flow) ∷ back) }
+    ensures removed { (front : List Flowed) (quarter : ℕ) (flow : Flows) (back : List Flowed) → set_row (without_pair flow (row_at quarter (rows_of (front ++ (quarter, flow) ∷ back)))) (rows_of (front ++ (quarter, flow) ∷ back)) ≡ rows_of (front ++ back) }
     ensures alike { (xs ys : List Flowed) → ((measure : Flowed → ℕ) → sum_by measure xs ≡ sum_by measure ys) → rows_of xs ≡ rows_of ys }
 {}
 
@@ -24,37 +24,42 @@ pub fn rows_follow_pairs()
 /// sum where it has no pair.
 pub fn each_row_is_of_its_pairs()
     ensures row { (quarter : ℕ) (flows : List Flowed) → row_at quarter (rows_of flows) ≡ row_of quarter flows }
-    ensures same_quarter { (front : List Flowed) (quarter : ℕ) (flow : Energy) (back : List Flowed) → row_of quarter (front ++ (quarter, flow) ∷ back) ≡ with_pair flow (row_of quarter (front ++ back)) }
-    ensures other_quarter { (front : List Flowed) (quarter other : ℕ) (flow : Energy) (back : List Flowed) → quarter ≢ other → row_of quarter (front ++ (other, flow) ∷ back) ≡ row_of quarter (front ++ back) }
+    ensures same_quarter { (front : List Flowed) (quarter : ℕ) (flow : Flows) (back : List Flowed) → row_of quarter (front ++ (quarter, flow) ∷ back) ≡ with_pair flow (row_of quarter (front ++ back)) }
+    ensures other_quarter { (front : List Flowed) (quarter other : ℕ) (flow : Flows) (back : List Flowed) → quarter ≢ other → row_of quarter (front ++ (other, flow) ∷ back) ≡ row_of quarter (front ++ back) }
     ensures none { (quarter : ℕ) (flows : List Flowed) → (row_of quarter flows).pairs ≡ 0 → row_of quarter flows ≡ no_row quarter }
 {}
 
 /// A pair that is there may be taken out: the row of its quarter counts it, its sum holds the
 /// difference, and that is all of it where no other pair is left.
 pub fn pair_may_be_taken_out()
-    ensures there { (front : List Flowed) (quarter : ℕ) (flow : Energy) (back : List Flowed) → 0 < (row_at quarter (rows_of (front ++ (quarter, flow) ∷ back))).pairs }
-    ensures within { (front : List Flowed) (quarter : ℕ) (flow : Energy) (back : List Flowed) → CanMinus (row_at quarter (rows_of (front ++ (quarter, flow) ∷ back))).flow flow }
-    ensures last { (front : List Flowed) (quarter : ℕ) (flow : Energy) (back : List Flowed) → (row_at quarter (rows_of (front ++ (quarter, flow) ∷ back))).pairs ≡ 1 → (row_at quarter (rows_of (front ++ (quarter, flow) ∷ back))).flow ≡ flow }
+    ensures there { (front : List Flowed) (quarter : ℕ) (flow : Flows) (back : List Flowed) → 0 < (row_at quarter (rows_of (front ++ (quarter, flow) ∷ back))).pairs }
+    ensures within { (front : List Flowed) (quarter : ℕ) (flow : Flows) (back : List Flowed) → CanMinus (row_at quarter (rows_of (front ++ (quarter, flow) ∷ back))).flow flow.flow }
+    ensures within_export { (front : List Flowed) (quarter : ℕ) (flow : Flows) (back : List Flowed) → CanMinus (row_at quarter (rows_of (front ++ (quarter, flow) ∷ back))).export flow.export }
+    ensures last { (front : List Flowed) (quarter : ℕ) (flow : Flows) (back : List Flowed) → (row_at quarter (rows_of (front ++ (quarter, flow) ∷ back))).pairs ≡ 1 → (row_at quarter (rows_of (front ++ (quarter, flow) ∷ back))).flow ≡ flow.flow }
+    ensures last_export { (front : List Flowed) (quarter : ℕ) (flow : Flows) (back : List Flowed) → (row_at quarter (rows_of (front ++ (quarter, flow) ∷ back))).pairs ≡ 1 → (row_at quarter (rows_of (front ++ (quarter, flow) ∷ back))).export ≡ flow.export }
 {}
 
 /// There are no more rows than pairs, and no row counts or adds up to more than all pairs.
 pub fn rows_are_within_pairs()
     ensures rows { (flows : List Flowed) → length (rows_of flows) ≤ length flows }
     ensures pairs { (quarter : ℕ) (flows : List Flowed) → (row_of quarter flows).pairs ≤ length flows }
-    ensures up { (quarter : ℕ) (flows : List Flowed) → (row_of quarter flows).flow.up ≤ (total flows).up }
-    ensures down { (quarter : ℕ) (flows : List Flowed) → (row_of quarter flows).flow.down ≤ (total flows).down }
+    ensures up { (quarter : ℕ) (flows : List Flowed) → (row_of quarter flows).flow.up ≤ (total flows).flow.up }
+    ensures down { (quarter : ℕ) (flows : List Flowed) → (row_of quarter flows).flow.down ≤ (total flows).flow.down }
+    ensures export_up { (quarter : ℕ) (flows : List Flowed) → (row_of quarter flows).export.up ≤ (total flows).export.up }
+    ensures export_down { (quarter : ℕ) (flows : List Flowed) → (row_of quarter flows).export.down ≤ (total flows).export.down }
 {}
 
-/// The rows of a station's pairs follow its events. With one live event more, the pair that goes is
-/// taken out and those that come are added, one after the other; with one less, the other way round.
+/// The rows of a station's pairs, of both directions, follow its events. With one live event more, the
+/// pairs that go are taken out and those that come are added, one after the other; with one less, the
+/// other way round. Of a direction of which the event has no reading none goes or comes.
 pub fn rows_follow_events()
     ensures several_added { (flows others : List Flowed) → rows_with flows (rows_of others) ≡ rows_of (flows ++ others) }
     ensures several_removed { (flows others : List Flowed) → rows_without flows (rows_of (flows ++ others)) ≡ rows_of others }
-    ensures more { (period : ℕ) (es more front : List Entry) (e : Entry) (back : List Entry) → IsOneMore es more front e back → rows_with (flows_of period (pairs_more front e back)) (rows_without (flows_of period (pairs_less front e back)) (rows_of (flows_of period (pairs es)))) ≡ rows_of (flows_of period (pairs more)) }
-    ensures less { (period : ℕ) (es more front : List Entry) (e : Entry) (back : List Entry) → IsOneMore es more front e back → rows_with (flows_of period (pairs_less front e back)) (rows_without (flows_of period (pairs_more front e back)) (rows_of (flows_of period (pairs more)))) ≡ rows_of (flows_of period (pairs es)) }
+    ensures more { (period : ℕ) (es more front : List Entry) (e : Entry) (back : List Entry) → IsOneMore es more front e back → rows_with (came_flows period front e back) (rows_without (gone_flows period front e back) (rows_of (station_flows period es))) ≡ rows_of (station_flows period more) }
+    ensures less { (period : ℕ) (es more front : List Entry) (e : Entry) (back : List Entry) → IsOneMore es more front e back → rows_with (gone_flows period front e back) (rows_without (came_flows period front e back) (rows_of (station_flows period more))) ≡ rows_of (station_flows period es) }
 {}
 
 /// The rows of a station's pairs are the quarters of its board.
 pub fn rows_are_quarters_of_board()
-    ensures { (period : ℕ) (es : List Entry) → map line_of (rows_of (flows_of period (pairs es))) ≡ (board period es).quarters }
+    ensures { (period : ℕ) (es : List Entry) → map line_of (rows_of (station_flows period es)) ≡ (board period es).quarters }
 {}

@@ -1,6 +1,7 @@
-//! How many pairs of readings each quarter has, and what their differences add up to.
+//! How many pairs of readings each quarter has, and what their differences add up to in each direction.
 //!
-//! A pair is a reading and the one that follows it; it counts for the quarter of the later one. A
+//! A pair is a reading and the one that follows it in its direction; it counts for the quarter of the
+//! later one. A
 //! quarter has a row exactly while it has a pair, even one of difference zero, and rows stand in
 //! rising order. All memory is taken by [`QuarterTable::reserve`]. A pair of a quarter that has a row
 //! costs one binary search; a row that comes or goes moves those behind it, and none where quarters
@@ -13,11 +14,11 @@
 //!
 //! ```text
 //! let mut table = QuarterTable::reserve(rt.alloc(), 1)?;
-//! table.add(quarter, rise);
-//! table.add(quarter, fall);
-//! // table.rows() is one row of 2 pairs, with the rise and the fall
-//! table.remove(quarter, rise);
-//! table.remove(quarter, fall);
+//! table.add(quarter, Direction::Import, rise);
+//! table.add(quarter, Direction::Export, fall);
+//! // table.rows() is one row of 2 pairs, with the rise among imports and the fall among exports
+//! table.remove(quarter, Direction::Import, rise);
+//! table.remove(quarter, Direction::Export, fall);
 //! // table.rows() is empty
 //! ```
 #![tactic(auto)]

@@ -1,14 +1,16 @@
 use energy_flow::Flow;
 use ledger_model::Quarter;
 
-/// A quarter with the number of its pairs and what their differences add up to. In a table the number
-/// is above 0.
+/// A quarter with the number of its pairs, of both directions together, and what their differences add
+/// up to in each direction. In a table the number is above 0.
 #[derive(Clone, Copy, Debug, PartialEq, Eq)]
 pub struct QuarterRow {
     /// The quarter of the later reading of each pair.
     pub quarter: Quarter,
     /// How many pairs there are.
     pub pairs: u32,
-    /// The rises and the falls of the pairs, in milliwatt-hours.
+    /// The rises and the falls of the import register, in milliwatt-hours.
     pub flow: Flow,
+    /// The rises and the falls of the export register, in milliwatt-hours.
+    pub export: Flow,
 }

@@ -1,16 +1,18 @@
 ghost use Rattle.std.specs.Prelude.{◌≡◌, ◌↔◌, ◌<◌, ◌≤◌, ◌+◌, ◌^◌, [], IfOk, IsTrue, length};
 ghost use Rattle.energy_flow.specs.Flow.{CanPlus, CanMinus};
+ghost use Rattle.ledger_model.specs.Energy.{flows_toward};
 ghost use Rattle.quarter_table.specs.Rows.{row_at, with_pair, without_pair, set_row, AreInOrder, HavePairs};
 ghost use Rattle.quarter_table.specs.Table.{table};
 
 use crate::place::place_of;
 use crate::row::QuarterRow;
 use energy_flow::Flow;
-use ledger_model::Quarter;
+use ledger_model::{Direction, Quarter};
 use std::alloc::{AllocError, Global};
 use std::marker::Model;
 
-/// The quarters that have pairs, each with their number and their sum. Contracts see the rows by
+/// The quarters that have pairs of readings, each with their number and their sums, of imports and of
+/// exports. Contracts see the rows by
 /// rising quarter, and how many there may be.
 #[derive(Drop)]
 pub struct QuarterTable {
@@ -64,6 +66,7 @@ impl QuarterTable {
                 quarter,
                 pairs: 0,
                 flow: Flow::zero(),
+                export: Flow::zero(),
             },
         }
     }
@@ -75,29 +78,35 @@ impl QuarterTable {
         self.row(quarter).pairs > 0
     }
 
-    /// Adds a pair of this difference. The quarter has a row, or there is room for one; the number
-    /// and the sum stay in range. [`QuarterTable::row`] and [`QuarterTable::room`] tell.
-    pub fn add(&mut self, quarter: Quarter, flow: Flow)
+    /// Adds a pair of this direction and difference. The quarter has a row, or there is room for one;
+    /// the number and the sums stay in range. [`QuarterTable::row`] and [`QuarterTable::room`] tell.
+    pub fn add(&mut self, quarter: Quarter, direction: Direction, flow: Flow)
         requires room { (row_at quarter self.old.rows).pairs ≡ 0 → length self.old.rows < self.old.capacity }
         requires number { (row_at quarter self.old.rows).pairs + 1 < 2 ^ 32 }
-        requires sum { CanPlus (row_at quarter self.old.rows).flow flow }
-        ensures rows { self.new.rows ≡ set_row (with_pair flow (row_at quarter self.old.rows)) self.old.rows }
+        requires import { CanPlus (row_at quarter self.old.rows).flow (flows_toward direction flow).flow }
+        requires export { CanPlus (row_at quarter self.old.rows).export (flows_toward direction flow).export }
+        ensures rows { self.new.rows ≡ set_row (with_pair (flows_toward direction flow) (row_at quarter self.old.rows)) self.old.rows }
         ensures capacity { self.new.capacity ≡ self.old.capacity }
     {
+        let (imported, exported) = parted(direction, flow);
         match place_of(&self.rows, quarter) {
             Ok(at) => {
                 let row = self.rows[at];
+                let flow = row.flow.plus(imported);
+                let export = row.export.plus(exported);
                 self.rows[at] = QuarterRow {
                     quarter,
                     pairs: row.pairs + 1,
-                    flow: row.flow.plus(flow),
+                    flow,
+                    export,
                 };
             }
             Err(at) => {
                 let row = QuarterRow {
                     quarter,
                     pairs: 1,
-                    flow,
+                    flow: imported,
+                    export: exported,
                 };
                 match self.rows.insert(at, row) {
                     Ok(()) => (),
@@ -107,29 +116,47 @@ impl QuarterTable {
         }
     }
 
-    /// Takes a pair of this difference out. The quarter has a row, and its sum holds the difference,
-    /// which is all of it where no other pair is left. [`QuarterTable::row`] tells.
-    pub fn remove(&mut self, quarter: Quarter, flow: Flow)
+    /// Takes a pair of this direction and difference out. The quarter has a row, and its sum of the
+    /// direction holds the difference; where no other pair is left, the sums are all of it.
+    /// [`QuarterTable::row`] tells.
+    pub fn remove(&mut self, quarter: Quarter, direction: Direction, flow: Flow)
         requires there { 0 < (row_at quarter self.old.rows).pairs }
-        requires within { CanMinus (row_at quarter self.old.rows).flow flow }
-        requires last { (row_at quarter self.old.rows).pairs ≡ 1 → (row_at quarter self.old.rows).flow ≡ flow }
-        ensures rows { self.new.rows ≡ set_row (without_pair flow (row_at quarter self.old.rows)) self.old.rows }
+        requires import { CanMinus (row_at quarter self.old.rows).flow (flows_toward direction flow).flow }
+        requires export { CanMinus (row_at quarter self.old.rows).export (flows_toward direction flow).export }
+        requires last_import { (row_at quarter self.old.rows).pairs ≡ 1 → (row_at quarter self.old.rows).flow ≡ (flows_toward direction flow).flow }
+        requires last_export { (row_at quarter self.old.rows).pairs ≡ 1 → (row_at quarter self.old.rows).export ≡ (flows_toward direction flow).export }
+        ensures rows { self.new.rows ≡ set_row (without_pair (flows_toward direction flow) (row_at quarter self.old.rows)) self.old.rows }
         ensures capacity { self.new.capacity ≡ self.old.capacity }
     {
+        let (imported, exported) = parted(direction, flow);
         match place_of(&self.rows, quarter) {
             Ok(at) => {
                 let row = self.rows[at];
                 if row.pairs == 1 {
                     self.rows.remove(at);
                 } else {
+                    let flow = row.flow.minus(imported);
+                    let export = row.export.minus(exported);
                     self.rows[at] = QuarterRow {
                         quarter,
                         pairs: row.pairs - 1,
-                        flow: row.flow.minus(flow),
+                        flow,
+                        export,
                     };
                 }
             }
             Err(_) => unreachable!(),
         }
+    }
+}
+
+// What a difference of this direction counts for among imports, and among exports.
+fn parted(direction: Direction, flow: Flow) -> (Flow, Flow)
+    ensures import { result.0 ≡ (flows_toward direction flow).flow }
+    ensures export { result.1 ≡ (flows_toward direction flow).export }
+{
+    match direction {
+        Direction::Import => (flow, Flow::zero()),
+        Direction::Export => (Flow::zero(), flow),
     }
 }

@@ -18,7 +18,7 @@ use Rattle.script_lines.specs.declared.script_line.Operation.{Operation}
 use Rattle.script_lines.specs.declared.script_line.Operation.TheVariants as operation
 use Rattle.script_lines.specs.Lines.{Line}
 
--- what a line says: nothing, a fault, the limits of the stations that follow, a station's declaration, the settlement period of a site, a moment, a message of a station, a command on a station, or a question for a station's energy or figures or for a site's board
+-- what a line says: nothing, a fault, the limits of the stations that follow, a station's declaration, the settlement period of a site, a moment, a message of a station, a command on a station, or a question for a station's imported or exported energy or its figures or for a site's board
 pub data LineMeaning : Type 0 where
   nothing : LineMeaning
   fails : LineFault → LineMeaning
@@ -29,6 +29,7 @@ pub data LineMeaning : Type 0 where
   sends : List ℕ → List ℕ → LineMeaning
   commands : List ℕ → Command → LineMeaning
   asks_energy : List ℕ → LineMeaning
+  asks_export : List ℕ → LineMeaning
   asks_total : List ℕ → LineMeaning
   asks_board : List ℕ → LineMeaning
 
@@ -132,12 +133,13 @@ asked question name = if is_name name then question name else fails BadLine
 abbrev pub by_other_word : List ℕ → List ℕ → LineMeaning
 by_other_word word rest =
     if bytes_eq word (codes "energy") then asked asks_energy rest
+    else (if bytes_eq word (codes "export") then asked asks_export rest
     else (if bytes_eq word (codes "total") then asked asks_total rest
     else (if bytes_eq word (codes "board") then asked asks_board rest
     else (if bytes_eq word (codes "void") then operated operation.Void (parted rest)
     else (if bytes_eq word (codes "restore") then operated operation.Restore (parted rest)
     else (if bytes_eq word (codes "erase") then operated operation.Erase (parted rest)
-    else fails BadLine)))))
+    else fails BadLine))))))
 
 -- the first word tells what the others are
 abbrev pub by_first_word : Option (List ℕ × List ℕ) → LineMeaning

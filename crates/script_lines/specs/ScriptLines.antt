@@ -1,7 +1,7 @@
 -- What a line that was read says.
 use Rattle.script_lines.specs.declared.script_line.ScriptLine.{ScriptLine}
-use Rattle.script_lines.specs.declared.script_line.ScriptLine.TheVariants.{Nothing, Fails, Limits, Declares, SetsPeriod, Tells, Sends, Commands, AsksEnergy, AsksTotal, AsksBoard}
-use Rattle.script_lines.specs.LineMeaning.{LineMeaning, nothing, fails, sets_limits, declares, sets_period, tells, sends, commands, asks_energy, asks_total, asks_board}
+use Rattle.script_lines.specs.declared.script_line.ScriptLine.TheVariants.{Nothing, Fails, Limits, Declares, SetsPeriod, Tells, Sends, Commands, AsksEnergy, AsksExport, AsksTotal, AsksBoard}
+use Rattle.script_lines.specs.LineMeaning.{LineMeaning, nothing, fails, sets_limits, declares, sets_period, tells, sends, commands, asks_energy, asks_export, asks_total, asks_board}
 
 -- The meaning of a line that was read.
 abbrev pub meaning_of : ScriptLine → LineMeaning
@@ -14,5 +14,6 @@ meaning_of (Tells moment) = tells moment
 meaning_of (Sends name text) = sends name text.now
 meaning_of (Commands name command) = commands name command
 meaning_of (AsksEnergy name) = asks_energy name
+meaning_of (AsksExport name) = asks_export name
 meaning_of (AsksTotal name) = asks_total name
 meaning_of (AsksBoard name) = asks_board name

@@ -89,8 +89,10 @@ pub enum ScriptLine<'a> {
     Sends(Name, &'a str),
     /// `void`, `restore` or `erase` with `<station> <transaction id> <seqNo>`: a command on a station.
     Commands(Name, Command),
-    /// `energy <station>`: a question for the energy of a station.
+    /// `energy <station>`: a question for the energy that a station imported.
     AsksEnergy(Name),
+    /// `export <station>`: a question for the energy that a station exported.
+    AsksExport(Name),
     /// `total <station>`: a question for the figures of a station.
     AsksTotal(Name),
     /// `board <site>`: a question for the board of a site.
@@ -145,6 +147,8 @@ fn by_other_word<'a>(word: &str, rest: &'a str) -> ScriptLine<'a>
 {
     if word == "energy" {
         asked_energy(rest)
+    } else if word == "export" {
+        asked_export(rest)
     } else if word == "total" {
         asked_total(rest)
     } else if word == "board" {
@@ -315,6 +319,15 @@ fn asked_energy(rest: &str) -> ScriptLine<'_>
 {
     match Name::new(rest) {
         Some(name) => ScriptLine::AsksEnergy(name),
+        None => ScriptLine::Fails(LineFault::BadLine),
+    }
+}
+
+fn asked_export(rest: &str) -> ScriptLine<'_>
+    ensures { meaning_of result ≡ spec.asked spec.asks_export rest.now }
+{
+    match Name::new(rest) {
+        Some(name) => ScriptLine::AsksExport(name),
         None => ScriptLine::Fails(LineFault::BadLine),
     }
 }

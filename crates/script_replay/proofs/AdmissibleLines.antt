@@ -15,7 +15,7 @@ use Rattle.script_lines.specs.declared.script_line.LineFault.TheVariants.{BadLin
 use Rattle.script_lines.specs.declared.script_line.Operation.{Operation}
 use Rattle.script_lines.specs.declared.script_line.Operation.TheVariants as operation
 use Rattle.script_lines.specs.Lines.{Line}
-use Rattle.script_lines.specs.LineMeaning.{LineMeaning, nothing, fails, sets_limits, declares, sets_period, tells, sends, commands, asks_energy, asks_total, asks_board, by_bytes, by_first_word, by_other_word, by_words, command_of, declared_names, declared_period, period_of, four_numbers, limited, limited_last, limited_next, line_meaning, number, operated, operated_at, operated_key, operated_last, parted, sent, told, told_moment}
+use Rattle.script_lines.specs.LineMeaning.{LineMeaning, nothing, fails, sets_limits, declares, sets_period, tells, sends, commands, asks_energy, asks_export, asks_total, asks_board, by_bytes, by_first_word, by_other_word, by_words, command_of, declared_names, declared_period, period_of, four_numbers, limited, limited_last, limited_next, line_meaning, number, operated, operated_at, operated_key, operated_last, parted, sent, told, told_moment}
 
 -- a command that the line asks is admissible
 abbrev pub IsFine : LineMeaning → Type 0
@@ -28,6 +28,7 @@ IsFine (tells _) = Unit {0}
 IsFine (sends _ _) = Unit {0}
 IsFine (commands name command) = IsAdmissible command
 IsFine (asks_energy _) = Unit {0}
+IsFine (asks_export _) = Unit {0}
 IsFine (asks_total _) = Unit {0}
 IsFine (asks_board _) = Unit {0}
 
@@ -105,11 +106,12 @@ fine_operated what (Some words) = fine_operated_last what words.0 (parted words.
 fine_other : (word rest : List ℕ) → IsFine (by_other_word word rest)
 fine_other word rest =
     either (bytes_eq word (codes "energy")) _ _ (either (is_name rest) (asks_energy rest) (fails BadLine) tt tt)
+    (either (bytes_eq word (codes "export")) _ _ (either (is_name rest) (asks_export rest) (fails BadLine) tt tt)
     (either (bytes_eq word (codes "total")) _ _ (either (is_name rest) (asks_total rest) (fails BadLine) tt tt)
     (either (bytes_eq word (codes "board")) _ _ (either (is_name rest) (asks_board rest) (fails BadLine) tt tt)
     (either (bytes_eq word (codes "void")) _ _ (fine_operated operation.Void (parted rest))
     (either (bytes_eq word (codes "restore")) _ _ (fine_operated operation.Restore (parted rest))
-    (either (bytes_eq word (codes "erase")) _ _ (fine_operated operation.Erase (parted rest)) tt)))))
+    (either (bytes_eq word (codes "erase")) _ _ (fine_operated operation.Erase (parted rest)) tt))))))
 
 fine_words : (words : Option (List ℕ × List ℕ)) → IsFine (by_first_word words)
 fine_words None = tt

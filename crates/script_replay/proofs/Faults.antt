@@ -11,7 +11,7 @@ use Rattle.script_lines.specs.declared.script_line.LineFault.TheVariants.{Declar
 use Rattle.script_replay.specs.Laws.{FaultsChangeNothing}
 use Rattle.script_lines.specs.Texts.{answer_text, ended_line, fault_line}
 use Rattle.script_replay.specs.Script.{Script, are_limits, by_meaning, commanded_to, declared_to, is_past_plan, is_period, joined_by, limited_to, period_to, sent_to, settled_by, site_number, station_named, step_by}
-use Rattle.script_lines.specs.LineMeaning.{LineMeaning, nothing, fails, sets_limits, declares, sets_period, tells, sends, commands, asks_energy, asks_total, asks_board, line_meaning}
+use Rattle.script_lines.specs.LineMeaning.{LineMeaning, nothing, fails, sets_limits, declares, sets_period, tells, sends, commands, asks_energy, asks_export, asks_total, asks_board, line_meaning}
 
 -- nothing has changed but whether the ledgers are opened
 abbrev Same : Script → Script × List ℕ → Type 0
@@ -93,6 +93,7 @@ steps s (tells nanos) fault e = absurd (some_text fault e)
 steps s (sends name text) fault e = sent_by (station_named name s.world) s text fault e
 steps s (commands name command) fault e = commanded (station_named name s.world) s command fault e
 steps s (asks_energy name) fault e = refl
+steps s (asks_export name) fault e = refl
 steps s (asks_total name) fault e = refl
 steps s (asks_board site) fault e = refl
 

@@ -16,12 +16,12 @@ use Rattle.ledger_model.proofs.ReachedContents.{is_counted}
 use Rattle.transaction_event.specs.Message.{Meaning, Event, Ready, Silence, message}
 use Rattle.transaction_event.specs.Request.{Request}
 use Rattle.transaction_event.proofs.AdmissibleRequests.{each_delivery_is_admissible}
-use Rattle.script_replay.specs.Laws.{script_after, StationsAreReached, EnergyIsFromScratch, TotalsAreFromScratch, BoardsAreFromScratch}
+use Rattle.script_replay.specs.Laws.{script_after, StationsAreReached, EnergyIsFromScratch, ExportIsFromScratch, TotalsAreFromScratch, BoardsAreFromScratch}
 use Rattle.script_lines.specs.Lines.{Line}
 use Rattle.script_lines.specs.Texts.{fault_line}
-use Rattle.script_replay.specs.Script.{Script, are_limits, by_meaning, commanded_to, declared_to, energy_answer, is_among, is_past_plan, is_period, joined_by, limited_to, line_step, new_station, period_named, period_to, sent_to, settled_by, shown_site, site_number, start, station_named, stations_of, step_by, total_answer}
+use Rattle.script_replay.specs.Script.{Script, are_limits, by_meaning, commanded_to, declared_to, energy_answer, export_answer, is_among, is_past_plan, is_period, joined_by, limited_to, line_step, new_station, period_named, period_to, sent_to, settled_by, shown_site, site_number, start, station_named, stations_of, step_by, total_answer}
 use Rattle.board_report.specs.Texts.{board_text}
-use Rattle.script_lines.specs.LineMeaning.{LineMeaning, nothing, fails, sets_limits, declares, sets_period, tells, sends, commands, asks_energy, asks_total, asks_board, line_meaning}
+use Rattle.script_lines.specs.LineMeaning.{LineMeaning, nothing, fails, sets_limits, declares, sets_period, tells, sends, commands, asks_energy, asks_export, asks_total, asks_board, line_meaning}
 use Rattle.script_lines.specs.declared.script_line.LineFault.TheVariants.{DeclaredLate, PlanLimit, UnknownSite}
 use Rattle.script_replay.proofs.AdmissibleLines.{IsFine, fine_line}
 
@@ -181,6 +181,7 @@ kept_step s (tells _) fine kept = kept
 kept_step s (sends name text) fine kept = kept_sent (station_named name s.world) s text kept
 kept_step s (commands name command) fine kept = kept_commanded (station_named name s.world) s command fine kept
 kept_step s (asks_energy name) fine kept = kept
+kept_step s (asks_export name) fine kept = kept
 kept_step s (asks_total name) fine kept = kept
 kept_step s (asks_board site) fine kept = kept
 
@@ -200,6 +201,11 @@ pub energy_is_from_scratch : EnergyIsFromScratch
 energy_is_from_scratch lines line name station says e =
     let s = script_after start lines in
     ap (λ meaning. (step_by s meaning).1) says ∙ ap energy_answer e
+
+pub export_is_from_scratch : ExportIsFromScratch
+export_is_from_scratch lines line name station says e =
+    let s = script_after start lines in
+    ap (λ meaning. (step_by s meaning).1) says ∙ ap export_answer e
 
 pub totals_are_from_scratch : TotalsAreFromScratch
 totals_are_from_scratch lines line name station says e =

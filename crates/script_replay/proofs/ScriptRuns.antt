@@ -13,7 +13,7 @@ use Rattle.transaction_event.specs.Message.{Meaning, Event, Ready, Silence, mess
 use Rattle.script_lines.specs.declared.script_line.LineFault.TheVariants.{DeclaredLate, PlanLimit}
 use Rattle.script_replay.specs.Laws.{script_after, asked_by, asked_of, commanded_by, emptied, happened, sent_by, IsNoOperation, OrderChangesNoBoard, UnacceptedChangesNothing, WorldsAreRuns}
 use Rattle.script_lines.specs.Lines.{Line}
-use Rattle.script_lines.specs.LineMeaning.{LineMeaning, nothing, fails, sets_limits, declares, sets_period, tells, sends, commands, asks_energy, asks_total, asks_board, line_meaning}
+use Rattle.script_lines.specs.LineMeaning.{LineMeaning, nothing, fails, sets_limits, declares, sets_period, tells, sends, commands, asks_energy, asks_export, asks_total, asks_board, line_meaning}
 use Rattle.script_lines.specs.Texts.{fault_line}
 use Rattle.script_replay.specs.Script.{Script, start, are_limits, board_answer, by_meaning, commanded_to, declared_to, is_past_plan, is_period, joined_by, limited_to, line_step, period_to, sent_to, settled_by, site_number, station_named, step_by}
 use Rattle.script_replay.proofs.ReachedStations.{kept_from_start, same_world}
@@ -103,6 +103,7 @@ run_step s (tells nanos) hs ran = still s (record s { moment = nanos }) hs refl 
 run_step s (sends name text) hs ran = run_sent (station_named name s.world) s text hs ran
 run_step s (commands name command) hs ran = run_commanded (station_named name s.world) s command hs ran
 run_step s (asks_energy name) hs ran = still s (record s { opened = true }) hs refl (λ f. absurd (false≢true (sym f))) ran
+run_step s (asks_export name) hs ran = still s (record s { opened = true }) hs refl (λ f. absurd (false≢true (sym f))) ran
 run_step s (asks_total name) hs ran = still s (record s { opened = true }) hs refl (λ f. absurd (false≢true (sym f))) ran
 run_step s (asks_board site) hs ran = still s (record s { opened = true }) hs refl (λ f. absurd (false≢true (sym f))) ran
 
@@ -147,6 +148,7 @@ asks_step s (tells _) name command e = cc e
 asks_step s (sends at text) name command e = asks_sent (station_named at s.world) s text name command e
 asks_step s (commands at asked) name command e = asks_commanded (station_named at s.world) s asked name command e
 asks_step s (asks_energy _) name command e = cc e
+asks_step s (asks_export _) name command e = cc e
 asks_step s (asks_total _) name command e = cc e
 asks_step s (asks_board _) name command e = cc e
 
@@ -176,6 +178,7 @@ delivers_line s (sets_period _ _) is = All-nil (λ h. IsDelivery h.1)
 delivers_line s (tells _) is = All-nil (λ h. IsDelivery h.1)
 delivers_line s (sends name text) is = delivers_sent (station_named name s.world) text s.moment
 delivers_line s (commands _ _) is = absurd is
+delivers_line s (asks_export _) is = All-nil (λ h. IsDelivery h.1)
 delivers_line s (asks_energy _) is = All-nil (λ h. IsDelivery h.1)
 delivers_line s (asks_total _) is = All-nil (λ h. IsDelivery h.1)
 delivers_line s (asks_board _) is = All-nil (λ h. IsDelivery h.1)

@@ -2,14 +2,16 @@
 use Rattle.std.proofs.Common.{◌≡◌, ℕ, List, [], ◌∷◌, ◌++◌, All, map, refl, ap, subst, ◌∙◌}
 use Rattle.std.specs.List.{flat_map}
 use Rattle.std.proofs.lemmas.List.Elements.{All-cons, All-nil}
-use Rattle.ledger_model.specs.Board.{Board, Flowed, board, energy_under, figures, site_board}
+use Rattle.ledger_model.specs.Board.{Board, Flowed, board, flows_under, figures, site_board}
 use Rattle.ledger_model.specs.BoardLaws.{AreSums, sum_of_energies}
+use Rattle.ledger_model.specs.declared.reading.Direction.{Direction}
+use Rattle.ledger_model.specs.declared.reading.Direction.TheVariants.{Import, Export}
 use Rattle.ledger_model.specs.Content.{entries}
 use Rattle.ledger_model.specs.Energy.{energy_in, rising}
 use Rattle.ledger_model.specs.World.{Station, World}
 use Rattle.ledger_model.proofs.EnergyLemmas.{site_quarter}
 use Rattle.ledger_model.proofs.FigureLemmas.{site-AreSums}
-use Rattle.script_replay.specs.Laws.{SitesAreSums}
+use Rattle.script_replay.specs.Laws.{SitesAreSums, sums_in}
 use Rattle.script_replay.specs.Script.{shown_station}
 
 -- the figures of the stations' boards
@@ -23,14 +25,16 @@ shown_quarters period [] = refl
 shown_quarters period (s ∷ ss) = ap (λ l. (board period (entries s.content)).quarters ++ l) (shown_quarters period ss)
 
 -- the energies of the stations in a quarter
-shown_energies : (period quarter : ℕ) (w : World) → map (energy_in period quarter) (map (λ (s : Station). entries s.content) w) ≡ map (λ s. energy_in period quarter (entries s.content)) w
-shown_energies period quarter [] = refl
-shown_energies period quarter (s ∷ ss) = ap (λ l. energy_in period quarter (entries s.content) ∷ l) (shown_energies period quarter ss)
+shown_energies : (d : Direction) (period quarter : ℕ) (w : World) → map (energy_in d period quarter) (map (λ (s : Station). entries s.content) w) ≡ map (λ s. energy_in d period quarter (entries s.content)) w
+shown_energies d period quarter [] = refl
+shown_energies d period quarter (s ∷ ss) = ap (λ l. energy_in d period quarter (entries s.content) ∷ l) (shown_energies d period quarter ss)
 
--- the energy of a quarter over the stations' boards
-each_quarter : (period : ℕ) (w : World) (quarter : ℕ) → energy_under quarter (flat_map (λ (s : List ℕ × Board). s.1.quarters) (map (shown_station period) w)) ≡ sum_of_energies (map (λ s. energy_in period quarter (entries s.content)) w)
+-- the energies of a quarter over the stations' boards
+each_quarter : (period : ℕ) (w : World) (quarter : ℕ) → flows_under quarter (flat_map (λ (s : List ℕ × Board). s.1.quarters) (map (shown_station period) w)) ≡ sums_in period quarter w
 each_quarter period w quarter =
-    ap (energy_under quarter) (shown_quarters period w) ∙ site_quarter period quarter (map (λ (s : Station). entries s.content) w) ∙ ap sum_of_energies (shown_energies period quarter w)
+    let imported = ap sum_of_energies (shown_energies Import period quarter w) in
+    let exported = ap sum_of_energies (shown_energies Export period quarter w) in
+    ap (flows_under quarter) (shown_quarters period w) ∙ site_quarter period quarter (map (λ (s : Station). entries s.content) w) ∙ (λ i. record { flow = imported i; export = exported i })
 
 -- what holds of each element's image holds of all
 all_mapped : {X : Type 0} (P : X → Type 0) (f : ℕ → X) → ((n : ℕ) → P (f n)) → (ns : List ℕ) → All P (map f ns)
@@ -42,5 +46,5 @@ sites_are_sums site period stations =
     let lines : List Flowed = flat_map (λ (s : List ℕ × Board). s.1.quarters) (map (shown_station period) stations) in
     record {
       figures_are = subst (AreSums (site_board period (map (shown_station period) stations)).figures) (shown_figures period stations) (site-AreSums period (map (shown_station period) stations));
-      quarters_are = all_mapped (λ (line : Flowed). line.1 ≡ sum_of_energies (map (λ s. energy_in period line.0 (entries s.content)) stations)) (λ quarter. (quarter, energy_under quarter lines)) (each_quarter period stations) (rising (map (λ line. line.0) lines));
+      quarters_are = all_mapped (λ (line : Flowed). line.1 ≡ sums_in period line.0 stations) (λ quarter. (quarter, flows_under quarter lines)) (each_quarter period stations) (rising (map (λ line. line.0) lines));
     }

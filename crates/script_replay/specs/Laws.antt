@@ -5,7 +5,8 @@ use Rattle.ledger_model.specs.declared.command.Command.TheVariants.{Deliver}
 use Rattle.ledger_model.specs.Board.{figures}
 use Rattle.ledger_model.specs.BoardLaws.{AreSums, sum_of_energies}
 use Rattle.ledger_model.specs.Content.{empty_content, entries}
-use Rattle.ledger_model.specs.Energy.{energy, energy_in}
+use Rattle.ledger_model.specs.declared.reading.Direction.TheVariants.{Import, Export}
+use Rattle.ledger_model.specs.Energy.{Flows, energy, energy_in}
 use Rattle.ledger_model.specs.Laws.{IsAccepted}
 use Rattle.ledger_model.specs.Step.{Reached, answer}
 use Rattle.ledger_model.specs.World.{Station, World, Happens, run}
@@ -15,8 +16,8 @@ use Rattle.transaction_event.specs.Message.{Meaning, Event, Ready, Silence, mess
 use Rattle.script_lines.specs.declared.script_line.LineFault.{LineFault}
 use Rattle.script_lines.specs.Lines.{Line, lines_of}
 use Rattle.script_lines.specs.Texts.{ended_line, fault_line}
-use Rattle.script_replay.specs.Script.{Script, start, line_step, script_text, station_named, stations_of, is_among, energy_line, period_named, shown_site}
-use Rattle.script_lines.specs.LineMeaning.{LineMeaning, nothing, fails, sets_limits, declares, sets_period, tells, sends, commands, asks_energy, asks_total, asks_board, line_meaning}
+use Rattle.script_replay.specs.Script.{Script, start, line_step, script_text, station_named, stations_of, is_among, energy_line, export_line, period_named, shown_site}
+use Rattle.script_lines.specs.LineMeaning.{LineMeaning, nothing, fails, sets_limits, declares, sets_period, tells, sends, commands, asks_energy, asks_export, asks_total, asks_board, line_meaning}
 
 -- where a script stands after these lines
 abbrev pub script_after : Script → List Line → Script
@@ -37,11 +38,17 @@ abbrev pub StationsAreReached : Type 0
 StationsAreReached = (lines : List Line) (name : List ℕ) (station : Station) → station_named name (script_after start lines).world ≡ Some station
     → Reached station.limits station.content.changes station.content
 
--- after any lines, the answer to a question for a station's energy is the energy of its events that are accepted and not voided, computed from all of them
+-- after any lines, the answer to a question for a station's energy is the imported energy of its events that are accepted and not voided, computed from all of them
 abbrev pub EnergyIsFromScratch : Type 0
 EnergyIsFromScratch = (lines : List Line) (line : Line) (name : List ℕ) (station : Station) → line_meaning line ≡ asks_energy name
     → station_named name (script_after start lines).world ≡ Some station
-    → (line_step (script_after start lines) line).1 ≡ energy_line (energy (entries station.content))
+    → (line_step (script_after start lines) line).1 ≡ energy_line (energy Import (entries station.content))
+
+-- and the answer to a question for what a station exported is the exported energy of these events
+abbrev pub ExportIsFromScratch : Type 0
+ExportIsFromScratch = (lines : List Line) (line : Line) (name : List ℕ) (station : Station) → line_meaning line ≡ asks_export name
+    → station_named name (script_after start lines).world ≡ Some station
+    → (line_step (script_after start lines) line).1 ≡ export_line (energy Export (entries station.content))
 
 -- after any lines, the answer to a question for a station's total is its figures, computed from all its events
 abbrev pub TotalsAreFromScratch : Type 0
@@ -55,10 +62,17 @@ BoardsAreFromScratch = (lines : List Line) (line : Line) (site : List ℕ) → l
     → is_among site (script_after start lines).sites ≡ true
     → (line_step (script_after start lines) line).1 ≡ board_text (shown_site site (period_named (script_after start lines) site) (stations_of site (script_after start lines).world))
 
--- the figures of a site are the sums over these stations, and so, whatever the settlement period, is the energy of each quarter that it shows
+-- what stations imported and exported in a quarter, added up
+abbrev pub sums_in : ℕ → ℕ → World → Flows
+sums_in period quarter stations = record {
+  flow = sum_of_energies (map (λ s. energy_in Import period quarter (entries s.content)) stations);
+  export = sum_of_energies (map (λ s. energy_in Export period quarter (entries s.content)) stations);
+}
+
+-- the figures of a site are the sums over these stations, and so, whatever the settlement period, are the energies of each quarter that it shows
 pub record AreSitesSums (site : List ℕ) (period : ℕ) (stations : World) : Type 0 where
   pub figures_are : AreSums (shown_site site period stations).figures (map (λ s. figures (entries s.content)) stations)
-  pub quarters_are : All (λ line. line.1 ≡ sum_of_energies (map (λ s. energy_in period line.0 (entries s.content)) stations)) (shown_site site period stations).quarters
+  pub quarters_are : All (λ line. line.1 ≡ sums_in period line.0 stations) (shown_site site period stations).quarters
 
 -- the board of each site shows the sums over its stations
 abbrev pub SitesAreSums : Type 0
@@ -91,6 +105,7 @@ asked_of s (tells _) = []
 asked_of s (sends name text) = sent_by (station_named name s.world) text s.moment
 asked_of s (commands name command) = commanded_by (station_named name s.world) command
 asked_of s (asks_energy _) = []
+asked_of s (asks_export _) = []
 asked_of s (asks_total _) = []
 asked_of s (asks_board _) = []
 

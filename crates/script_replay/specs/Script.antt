@@ -8,6 +8,7 @@ use Rattle.ledger_model.specs.declared.command.Command.TheVariants.{Deliver}
 use Rattle.ledger_model.specs.Board.{Board, board, figures, site_board}
 use Rattle.ledger_model.specs.Content.{empty_content, entries}
 use Rattle.ledger_model.specs.Energy.{energy}
+use Rattle.ledger_model.specs.declared.reading.Direction.TheVariants.{Import, Export}
 use Rattle.ledger_model.specs.Limits.{Bounds, default_limits}
 use Rattle.ledger_model.specs.Moment.{first_moment}
 use Rattle.ledger_model.specs.Quarter.{default_period}
@@ -15,13 +16,13 @@ use Rattle.ledger_model.specs.Ranges.{most_transactions, most_events, most_readi
 use Rattle.ledger_model.specs.Step.{answer}
 use Rattle.ledger_model.specs.World.{Station, World, world_after}
 use Rattle.board_report.specs.Named.{NamedBoard}
-use Rattle.board_report.specs.Texts.{board_text, energy_text, total_text}
+use Rattle.board_report.specs.Texts.{board_text, energy_text, export_text, total_text}
 use Rattle.transaction_event.specs.Message.{Meaning, Event, Ready, Silence, message}
 use Rattle.transaction_event.specs.Reply.{event_reply_bytes}
 use Rattle.script_lines.specs.declared.script_line.LineFault.{LineFault}
 use Rattle.script_lines.specs.declared.script_line.LineFault.TheVariants.{DeclaredLate, PlanLimit, StationTwice, UnknownStation, UnknownSite}
 use Rattle.script_lines.specs.Lines.{Line, text_by}
-use Rattle.script_lines.specs.LineMeaning.{LineMeaning, nothing, fails, sets_limits, declares, sets_period, tells, sends, commands, asks_energy, asks_total, asks_board, line_meaning}
+use Rattle.script_lines.specs.LineMeaning.{LineMeaning, nothing, fails, sets_limits, declares, sets_period, tells, sends, commands, asks_energy, asks_export, asks_total, asks_board, line_meaning}
 use Rattle.script_lines.specs.Texts.{ended_line, fault_line, answer_text}
 
 -- where a script stands: the limits of the stations that are declared next; the sites of the plan so far in the order of their first mention, and the settlement period of each in seconds; the world, whose stations are those of the plan and have empty contents until the ledgers are opened; whether they are; and the moment
@@ -57,6 +58,10 @@ stations_of site w = filter (λ s. bytes_eq site s.site) w
 -- `energy up=<n> down=<n>`, in milliwatt-hours
 abbrev pub energy_line : Energy → List ℕ
 energy_line flow = ended_line (energy_text flow)
+
+-- `export up=<n> down=<n>`, in milliwatt-hours
+abbrev pub export_line : Energy → List ℕ
+export_line flow = ended_line (export_text flow)
 
 -- each limit lies in its range
 abbrev pub are_limits : ℕ → ℕ → ℕ → ℕ → Bool
@@ -125,10 +130,15 @@ commanded_to None s command = (record s { opened = true }, fault_line UnknownSta
 commanded_to (Some station) s command =
     (record s { opened = true; world = world_after s.world (station.name, command) }, ended_line (answer_text (answer station.limits station.content command)))
 
--- the energy of a station, computed from all its events
+-- the energy that a station imported, computed from all its events
 abbrev pub energy_answer : Option Station → List ℕ
 energy_answer None = fault_line UnknownStation
-energy_answer (Some station) = energy_line (energy (entries station.content))
+energy_answer (Some station) = energy_line (energy Import (entries station.content))
+
+-- the energy that a station exported, computed from all its events
+abbrev pub export_answer : Option Station → List ℕ
+export_answer None = fault_line UnknownStation
+export_answer (Some station) = export_line (energy Export (entries station.content))
 
 -- the figures of a station, computed from all its events
 abbrev pub total_answer : Option Station → List ℕ
@@ -177,6 +187,7 @@ step_by s (tells nanos) = (record s { moment = nanos }, [])
 step_by s (sends name text) = sent_to (station_named name s.world) s text
 step_by s (commands name command) = commanded_to (station_named name s.world) s command
 step_by s (asks_energy name) = (record s { opened = true }, energy_answer (station_named name s.world))
+step_by s (asks_export name) = (record s { opened = true }, export_answer (station_named name s.world))
 step_by s (asks_total name) = (record s { opened = true }, total_answer (station_named name s.world))
 step_by s (asks_board site) = (record s { opened = true }, board_answer s site)
 
@@ -199,5 +210,6 @@ opening (tells _) = false
 opening (sends _ _) = true
 opening (commands _ _) = true
 opening (asks_energy _) = true
+opening (asks_export _) = true
 opening (asks_total _) = true
 opening (asks_board _) = true

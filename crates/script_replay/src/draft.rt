@@ -102,6 +102,7 @@ impl Draft {
             ScriptLine::Sends(_, _)
             | ScriptLine::Commands(_, _)
             | ScriptLine::AsksEnergy(_)
+            | ScriptLine::AsksExport(_)
             | ScriptLine::AsksTotal(_)
             | ScriptLine::AsksBoard(_) => return Ok(LineOutcome::Opens),
         }

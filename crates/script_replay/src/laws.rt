@@ -1,5 +1,5 @@
 //! Laws of a script's text. Each function's contract is the law; the functions do nothing.
-ghost use Rattle.script_replay.specs.Laws.{AnEmptyScriptWritesNothing, FaultsChangeNothing, StationsAreReached, EnergyIsFromScratch, TotalsAreFromScratch, BoardsAreFromScratch, SitesAreSums, WorldsAreRuns, UnacceptedChangesNothing, OrderChangesNoBoard};
+ghost use Rattle.script_replay.specs.Laws.{AnEmptyScriptWritesNothing, FaultsChangeNothing, StationsAreReached, EnergyIsFromScratch, ExportIsFromScratch, TotalsAreFromScratch, BoardsAreFromScratch, SitesAreSums, WorldsAreRuns, UnacceptedChangesNothing, OrderChangesNoBoard};
 
 /// The text of an empty script is empty.
 pub fn empty_script()
@@ -17,9 +17,11 @@ pub fn stations()
     ensures { StationsAreReached }
 {}
 
-/// After any lines, the answer to `energy` is computed from all accepted events that are not voided.
+/// After any lines, the answers to `energy` and to `export` are computed from all accepted events that are not
+/// voided.
 pub fn energies()
-    ensures { EnergyIsFromScratch }
+    ensures imported { EnergyIsFromScratch }
+    ensures exported { ExportIsFromScratch }
 {}
 
 /// After any lines, the answer to `total` is the figures of the station, computed from all its events.

@@ -10,13 +10,13 @@ ghost use Rattle.script_replay.specs.Drafts.{planned};
 ghost use Rattle.script_lines.specs.Lines.{line_bytes};
 ghost use Rattle.script_replay.specs.Received.{ReceivesText, TakesMessage};
 ghost use Rattle.script_replay.specs.Running.{running, posts_in, IsRunning, Settles};
-ghost use Rattle.script_replay.specs.Script.{board_answer, commanded_to, energy_answer, line_step, period_named, script_text, sent_to, shown_site, station_named, stations_of, total_answer};
+ghost use Rattle.script_replay.specs.Script.{board_answer, commanded_to, energy_answer, export_answer, line_step, period_named, script_text, sent_to, shown_site, station_named, stations_of, total_answer};
 ghost use Rattle.transaction_event.specs.MessageMeaning.{HasShortId};
 
 use crate::draft::Draft;
 use crate::machine::Machine;
 use crate::messages::ScriptMessages;
-use board_report::{energy_text, total_text};
+use board_report::{energy_text, export_text, total_text};
 use desk_report::site_text;
 use ledger_model::{Answer, Command, Name};
 use message_ahead::{Delivery, Lookahead};
@@ -100,6 +100,7 @@ impl<J: Naming> Ledgers<J> {
             ScriptLine::Sends(name, text) => self.receive(&name, text, reply),
             ScriptLine::Commands(name, command) => self.command(&name, command, reply),
             ScriptLine::AsksEnergy(name) => self.put_energy(&name, reply),
+            ScriptLine::AsksExport(name) => self.put_export(&name, reply),
             ScriptLine::AsksTotal(name) => self.put_total(&name, reply),
             ScriptLine::AsksBoard(name) => self.put_board(&name, reply),
         }
@@ -240,7 +241,7 @@ impl<J: Naming> Ledgers<J> {
         answer
     }
 
-    // Puts the energy of a station into the reply.
+    // Puts the energy that a station imported into the reply.
     fn put_energy(&self, name: &Name, reply: &mut Vec<u8>) -> Result<(), AllocError>
         ensures { OnOk result (reply.new.items ≡ reply.old.items ++ energy_answer (station_named name.now (running self.now.draft self.now.cells.items).world)) }
     {
@@ -248,6 +249,19 @@ impl<J: Naming> Ledgers<J> {
             Some(number) => {
                 let energy = self.cells[number].ledger().energy();
                 put_line(reply, energy_text(energy).as_str())
+            }
+            None => put_fault(reply, LineFault::UnknownStation),
+        }
+    }
+
+    // Puts the energy that a station exported into the reply.
+    fn put_export(&self, name: &Name, reply: &mut Vec<u8>) -> Result<(), AllocError>
+        ensures { OnOk result (reply.new.items ≡ reply.old.items ++ export_answer (station_named name.now (running self.now.draft self.now.cells.items).world)) }
+    {
+        match self.draft.station(name) {
+            Some(number) => {
+                let energy = self.cells[number].ledger().export();
+                put_line(reply, export_text(energy).as_str())
             }
             None => put_fault(reply, LineFault::UnknownStation),
         }

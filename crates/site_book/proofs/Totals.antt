@@ -23,12 +23,14 @@ record AreUnder (stations readings : ℕ) (f : Figures) : Type 0 where
   missing : f.missing ≤ 8_796_093_022_208 * stations
   up : f.up ≤ 10_000_000_000_000 * readings
   down : f.down ≤ 10_000_000_000_000 * readings
+  export_up : f.export_up ≤ 10_000_000_000_000 * readings
+  export_down : f.export_down ≤ 10_000_000_000_000 * readings
 
 abbrev readings_of : List Row → ℕ
 readings_of rows = sum_by (λ l. l.readings) (map (λ r. r.limits) rows)
 
 sum-under : (rows : List Row) → AreUnder (length rows) (readings_of rows) (sum_of_figures (map (λ r. r.figures) rows))
-sum-under [] = record { events = omega arith; voided = omega arith; transactions = omega arith; complete = omega arith; missing = omega arith; up = omega arith; down = omega arith }
+sum-under [] = record { events = omega arith; voided = omega arith; transactions = omega arith; complete = omega arith; missing = omega arith; up = omega arith; down = omega arith; export_up = omega arith; export_down = omega arith }
 sum-under (r ∷ rows) =
     let rest = sum-under rows in
     let w = r.within in
@@ -43,6 +45,8 @@ sum-under (r ∷ rows) =
       missing = omega (arith, rest.missing, w.missing, transactions);
       up = omega (arith, rest.up, w.up, all);
       down = omega (arith, rest.down, w.down, all);
+      export_up = omega (arith, rest.export_up, w.export_up, all);
+      export_down = omega (arith, rest.export_down, w.export_down, all);
     }
 
 -- rows in their order, from the row a on
@@ -81,6 +85,8 @@ totals-words rows log r totals f kept is w =
       missing = omega (arith, u.missing, w.missing, transactions, few);
       up = omega (arith, u.up, w.up, own, readings);
       down = omega (arith, u.down, w.down, own, readings);
+      export_up = omega (arith, u.export_up, w.export_up, own, readings);
+      export_down = omega (arith, u.export_down, w.export_down, own, readings);
     }
 
 -- a part of a sum is at most the sum
@@ -93,6 +99,8 @@ part-at_most a old sum e = record {
   missing = let h : a.missing + old.missing ≡ sum.missing = ap (λ f. f.missing) e in omega (arith, h);
   up = let h : a.up + old.up ≡ sum.up = ap (λ f. f.up) e in omega (arith, h);
   down = let h : a.down + old.down ≡ sum.down = ap (λ f. f.down) e in omega (arith, h);
+  export_up = let h : a.export_up + old.export_up ≡ sum.export_up = ap (λ f. f.export_up) e in omega (arith, h);
+  export_down = let h : a.export_down + old.export_down ≡ sum.export_down = ap (λ f. f.export_down) e in omega (arith, h);
 }
 
 -- what is the same with a part more is the same
@@ -105,7 +113,9 @@ plus-cancel a b c e =
     let missing : a.missing ≡ b.missing = let h : a.missing + c.missing ≡ b.missing + c.missing = ap (λ f. f.missing) e in omega (arith, h) in
     let up : a.up ≡ b.up = let h : a.up + c.up ≡ b.up + c.up = ap (λ f. f.up) e in omega (arith, h) in
     let down : a.down ≡ b.down = let h : a.down + c.down ≡ b.down + c.down = ap (λ f. f.down) e in omega (arith, h) in
-    λ i. record { events = events i; voided = voided i; transactions = transactions i; complete = complete i; missing = missing i; up = up i; down = down i }
+    let export_up : a.export_up ≡ b.export_up = let h : a.export_up + c.export_up ≡ b.export_up + c.export_up = ap (λ f. f.export_up) e in omega (arith, h) in
+    let export_down : a.export_down ≡ b.export_down = let h : a.export_down + c.export_down ≡ b.export_down + c.export_down = ap (λ f. f.export_down) e in omega (arith, h) in
+    λ i. record { events = events i; voided = voided i; transactions = transactions i; complete = complete i; missing = missing i; up = up i; down = down i; export_up = export_up i; export_down = export_down i }
 
 -- the totals are the sums over as many rows as there are limits
 pub totals-sums : (rows : List Row) (log : List Post) → AreRows rows log

@@ -12,10 +12,10 @@ use Rattle.site_book.specs.Rule.{writing, seeing}
 abbrev pub Seated : Type 0
 Seated = Me (Unit {0}) View
 
--- A seat at this table of eight words.
+-- A seat at this table of ten words.
 pub record Sits (table seat : TableId) : Type 0 where
   pub same : seat ≡ table
-  pub eight : table.words ≡ 8
+  pub ten : table.words ≡ 10
 
 -- A table before its book is opened: its first seat knows that there are no posts.
 pub record IsUnused (table seat : TableId) (me : Seated) : Type 0 where

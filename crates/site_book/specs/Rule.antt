@@ -10,7 +10,7 @@ use Rattle.site_book.specs.declared.table.View.{View}
 
 -- The figures as the words after the version have them.
 abbrev pub numbers_of : Figures → List ℕ
-numbers_of f = f.events ∷ f.voided ∷ f.transactions ∷ f.complete ∷ f.missing ∷ f.up ∷ f.down ∷ []
+numbers_of f = f.events ∷ f.voided ∷ f.transactions ∷ f.complete ∷ f.missing ∷ f.up ∷ f.down ∷ f.export_up ∷ f.export_down ∷ []
 
 -- The totals after these posts as the words have them.
 abbrev pub shown : List Post → List ℕ

@@ -10,6 +10,8 @@ pub record AreWords (f : Figures) : Type 0 where
   pub missing : f.missing < 2 ^ 64
   pub up : f.up < 2 ^ 64
   pub down : f.down < 2 ^ 64
+  pub export_up : f.export_up < 2 ^ 64
+  pub export_down : f.export_down < 2 ^ 64
 
 -- Each figure of the one is at most that of the other.
 pub record AreAtMost (f g : Figures) : Type 0 where
@@ -20,3 +22,5 @@ pub record AreAtMost (f g : Figures) : Type 0 where
   pub missing : f.missing ≤ g.missing
   pub up : f.up ≤ g.up
   pub down : f.down ≤ g.down
+  pub export_up : f.export_up ≤ g.export_up
+  pub export_down : f.export_down ≤ g.export_down

@@ -146,7 +146,7 @@ impl<J: Naming> SiteBook<J> {
     }
 
     /// Writes a station's figures into its row, and tells all posts up to this one. It takes no memory
-    /// and waits for nobody: nine stores and one load.
+    /// and waits for nobody: eleven stores and one load.
     ///
     /// Conditions: the row is there ([`SiteBook::holds`] tells), the figures are within its limits
     /// ([`Figures::within`] tells), and fewer than 2^62 posts were made ([`SiteBook::can_post`] tells).

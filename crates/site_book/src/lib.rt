@@ -3,8 +3,8 @@
 //! A [`SiteBook`] keeps a row of [`Figures`](ledger_model::Figures) for each station of a site, and
 //! their totals. [`SiteBook::post`] writes a station's new figures into its row and gives a [`Told`]; a
 //! [`Viewer`] reads the totals from any thread by [`Viewer::glance`], and takes in what was told by
-//! [`Viewer::learn`]. None of these takes a lock or memory: the totals lie in a table of eight words, a
-//! version and the seven figures, which changes in single steps. [`Tables::make`] and
+//! [`Viewer::learn`]. None of these takes a lock or memory: the totals lie in a table of ten words, a
+//! version and the nine figures, which changes in single steps. [`Tables::make`] and
 //! [`SiteBook::open`] take all the memory.
 //!
 //! The crate's one contract: contracts see a book as the list of its posts, and a viewer and a `Told`

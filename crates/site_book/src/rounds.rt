@@ -1,4 +1,4 @@
-//! The steps on all seven totals, one after the other.
+//! The steps on all nine totals, one after the other.
 ghost use Rattle.std.specs.Prelude.{◌≡◌, ◌+◌, ◌*◌, ◌<◌, ◌^◌, [], ◌∷◌, ◌++◌, length};
 ghost use Rattle.site_book.specs.Kept.{Sits};
 ghost use Rattle.site_book.specs.Rule.{numbers_of, shown, writing, looking};
@@ -9,34 +9,34 @@ use ledger_model::Figures;
 use std::marker::Brand;
 
 // A viewer loads all totals.
-pub(crate) fn gather(words: &Words, seat: &mut TableSeat) -> [u64; 7]
+pub(crate) fn gather(words: &Words, seat: &mut TableSeat) -> [u64; 9]
     requires sits { Sits words.now.table_id seat.old.table_id }
     requires looks { seat.old.me ≡ (looking seat.old.me.0.log seat.old.me.0.version [], []) }
     ensures sits { Sits words.now.table_id seat.new.table_id }
     ensures read { seat.new.me ≡ (looking seat.old.me.0.log seat.old.me.0.version result, []) }
-    ensures all { length result ≡ 7 }
+    ensures all { length result ≡ 9 }
 {
-    let mut read = [0; 7];
-    for i in 0..7 {
+    let mut read = [0; 9];
+    for i in 0..9 {
         read[i] = load_total(words, seat, i);
     }
     read
 }
 
 // The book stores all totals of the post under way.
-fn publish(words: &Words, seat: &mut TableSeat, totals: &[u64; 7])
+fn publish(words: &Words, seat: &mut TableSeat, totals: &[u64; 9])
     requires sits { Sits words.now.table_id seat.old.table_id }
     requires writes { seat.old.me ≡ (writing seat.old.me.0.log [] seat.old.me.0.pending 0, []) }
     requires totals { totals.now ≡ shown (seat.old.me.0.log ++ seat.old.me.0.pending) }
     ensures sits { Sits words.now.table_id seat.new.table_id }
-    ensures stored { seat.new.me ≡ (writing seat.old.me.0.log [] seat.old.me.0.pending 7, []) }
+    ensures stored { seat.new.me ≡ (writing seat.old.me.0.log [] seat.old.me.0.pending 9, []) }
 {
-    for i in 0..7 {
+    for i in 0..9 {
         store_total(words, seat, i, totals[i]);
     }
 }
 
-// The book makes one post: nine stores.
+// The book makes one post: eleven stores.
 pub(crate) fn announce(
     words: &Words,
     seat: &mut TableSeat,
@@ -58,7 +58,7 @@ pub(crate) fn announce(
 }
 
 // The figures in the order of the words.
-fn numbers(figures: &Figures) -> [u64; 7]
+fn numbers(figures: &Figures) -> [u64; 9]
     ensures { result ≡ numbers_of figures.now }
 {
     [
@@ -69,5 +69,7 @@ fn numbers(figures: &Figures) -> [u64; 7]
         figures.missing,
         figures.up,
         figures.down,
+        figures.export_up,
+        figures.export_down,
     ]
 }

@@ -32,7 +32,7 @@ pub(crate) fn open_post<Q: ThePost>(
 pub(crate) fn store_total(words: &Words, seat: &mut TableSeat, index: usize, total: u64)
     requires sits { Sits words.now.table_id seat.old.table_id }
     requires writes { seat.old.me ≡ (writing seat.old.me.0.log [] seat.old.me.0.pending index, []) }
-    requires next { index < 7 }
+    requires next { index < 9 }
     requires total { total ≡ slice_index (shown (seat.old.me.0.log ++ seat.old.me.0.pending)) index }
     ensures sits { Sits words.now.table_id seat.new.table_id }
     ensures stored { seat.new.me ≡ (writing seat.old.me.0.log [] seat.old.me.0.pending (index + 1), []) }
@@ -43,7 +43,7 @@ pub(crate) fn store_total(words: &Words, seat: &mut TableSeat, index: usize, tot
 // The book makes the version even: the post under way is one of its posts.
 pub(crate) fn close_post(words: &Words, seat: &mut TableSeat, version: u64)
     requires sits { Sits words.now.table_id seat.old.table_id }
-    requires writes { seat.old.me ≡ (writing seat.old.me.0.log [] seat.old.me.0.pending 7, []) }
+    requires writes { seat.old.me ≡ (writing seat.old.me.0.log [] seat.old.me.0.pending 9, []) }
     requires one { length seat.old.me.0.pending ≡ 1 }
     requires version { version ≡ 2 * length seat.old.me.0.log + 2 }
     ensures sits { Sits words.now.table_id seat.new.table_id }
@@ -78,7 +78,7 @@ pub(crate) fn recall(words: &Words, seat: &mut TableSeat)
 pub(crate) fn load_total(words: &Words, seat: &mut TableSeat, index: usize) -> u64
     requires sits { Sits words.now.table_id seat.old.table_id }
     requires looks { seat.old.me ≡ (looking seat.old.me.0.log seat.old.me.0.version seat.old.me.0.read, []) }
-    requires next { (length seat.old.me.0.read ≡ index) × (index < 7) }
+    requires next { (length seat.old.me.0.read ≡ index) × (index < 9) }
     ensures sits { Sits words.now.table_id seat.new.table_id }
     ensures loaded { seat.new.me ≡ (looking seat.old.me.0.log seat.old.me.0.version (seat.old.me.0.read ++ result ∷ []), []) }
 {
@@ -90,7 +90,7 @@ pub(crate) fn look_again(words: &Words, seat: &mut TableSeat) -> u64
     requires sits { Sits words.now.table_id seat.old.table_id }
     requires looks { seat.old.me ≡ (looking seat.old.me.0.log seat.old.me.0.version seat.old.me.0.read, []) }
     requires even { seat.old.me.0.version % 2 ≡ 0 }
-    requires all { length seat.old.me.0.read ≡ 7 }
+    requires all { length seat.old.me.0.read ≡ 9 }
     ensures sits { Sits words.now.table_id seat.new.table_id }
     ensures sees { MatchBool (result == seat.old.me.0.version)
         ((seat.new.me ≡ (seeing seat.new.me.0.log [], [])) × IsPrefix seat.old.me.0.log seat.new.me.0.log × (seat.old.me.0.read ≡ shown seat.new.me.0.log) × (result ≡ 2 * length seat.new.me.0.log))

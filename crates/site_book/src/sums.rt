@@ -18,5 +18,7 @@ pub(crate) fn replaced(totals: &Figures, old: &Figures, new: &Figures) -> Figure
         missing: totals.missing + new.missing - old.missing,
         up: totals.up + new.up - old.up,
         down: totals.down + new.down - old.down,
+        export_up: totals.export_up + new.export_up - old.export_up,
+        export_down: totals.export_down + new.export_down - old.export_down,
     }
 }

@@ -35,7 +35,7 @@ impl Model for Unused {
 
 impl Unused {
     fn new(alloc: Global) -> Result<Self, AllocError> {
-        let (table, seat) = SiteTable::of_words(alloc, &[0; 8], &())?;
+        let (table, seat) = SiteTable::of_words(alloc, &[0; 10], &())?;
         Ok(Unused {
             table: Arc::new(alloc, table)?,
             seat,

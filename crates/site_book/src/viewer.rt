@@ -135,11 +135,21 @@ impl<J: Naming> Viewer<J> {
     }
 }
 
-// The figures that seven words show.
-fn figures_of(words: [u64; 7]) -> Figures
+// The figures that nine words show.
+fn figures_of(words: [u64; 9]) -> Figures
     ensures { numbers_of result ≡ words }
 {
-    let [events, voided, transactions, complete, missing, up, down] = words;
+    let [
+        events,
+        voided,
+        transactions,
+        complete,
+        missing,
+        up,
+        down,
+        export_up,
+        export_down,
+    ] = words;
     Figures {
         events,
         voided,
@@ -148,5 +158,7 @@ fn figures_of(words: [u64; 7]) -> Figures
         missing,
         up,
         down,
+        export_up,
+        export_down,
     }
 }

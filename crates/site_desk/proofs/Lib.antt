@@ -9,3 +9,4 @@ pub mod Callers
 pub mod Submits
 pub mod Comparisons
 pub mod Ends
+pub mod Operators

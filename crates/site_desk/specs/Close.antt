@@ -21,9 +21,9 @@ pub record Ended : Type 0 where
 
 -- Figures are kept as the tuple of their parts.
 abbrev pub figures_code : Coded Figures
-figures_code = code_by (ℕ × (ℕ × (ℕ × (ℕ × (ℕ × (ℕ × ℕ)))))) (coded× coded_ℕ (coded× coded_ℕ (coded× coded_ℕ (coded× coded_ℕ (coded× coded_ℕ (coded× coded_ℕ coded_ℕ))))))
-    (λ f. (f.events, (f.voided, (f.transactions, (f.complete, (f.missing, (f.up, f.down)))))))
-    (λ p. record { events = p.0; voided = p.1.0; transactions = p.1.1.0; complete = p.1.1.1.0; missing = p.1.1.1.1.0; up = p.1.1.1.1.1.0; down = p.1.1.1.1.1.1 })
+figures_code = code_by (ℕ × (ℕ × (ℕ × (ℕ × (ℕ × (ℕ × (ℕ × (ℕ × ℕ)))))))) (coded× coded_ℕ (coded× coded_ℕ (coded× coded_ℕ (coded× coded_ℕ (coded× coded_ℕ (coded× coded_ℕ (coded× coded_ℕ (coded× coded_ℕ coded_ℕ))))))))
+    (λ f. (f.events, (f.voided, (f.transactions, (f.complete, (f.missing, (f.up, (f.down, (f.export_up, f.export_down)))))))))
+    (λ p. record { events = p.0; voided = p.1.0; transactions = p.1.1.0; complete = p.1.1.1.0; missing = p.1.1.1.1.0; up = p.1.1.1.1.1.0; down = p.1.1.1.1.1.1.0; export_up = p.1.1.1.1.1.1.1.0; export_down = p.1.1.1.1.1.1.1.1 })
     (λ _. refl)
 
 -- A book is kept as the tuple of its parts.

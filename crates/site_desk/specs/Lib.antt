@@ -5,3 +5,4 @@ pub mod Parts
 pub mod Roster
 pub mod Submit
 pub mod Close
+pub mod Operator

@@ -113,7 +113,7 @@ pub(crate) fn are_whole<J: Naming>(
 }
 
 // Both figures added up, where that fits.
-fn plus(figures: &Figures, others: &Figures) -> Option<Figures>
+pub(crate) fn plus(figures: &Figures, others: &Figures) -> Option<Figures>
     ensures { IfSome result (λ f. f ≡ plus_figures figures.now others.now) }
 {
     Some(Figures {
@@ -124,6 +124,8 @@ fn plus(figures: &Figures, others: &Figures) -> Option<Figures>
         missing: figures.missing.checked_add(others.missing)?,
         up: figures.up.checked_add(others.up)?,
         down: figures.down.checked_add(others.down)?,
+        export_up: figures.export_up.checked_add(others.export_up)?,
+        export_down: figures.export_down.checked_add(others.export_down)?,
     })
 }
 

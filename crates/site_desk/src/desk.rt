@@ -1,4 +1,4 @@
-ghost use Rattle.std.specs.Prelude.{◌≡◌, ◌≢◌, ◌↔◌, ℕ, ◌<◌, All, length, IfOk, IfErr, OnOk, None, Some, false, slice_get};
+ghost use Rattle.std.specs.Prelude.{◌≡◌, ◌≢◌, ◌↔◌, ℕ, ◌<◌, All, length, map, IfOk, IfErr, IfSome, OnOk, None, Some, false, is_some, slice_get};
 ghost use Rattle.std.specs.List.{list_any};
 ghost use Rattle.std.specs.Str.{bytes_eq};
 ghost use Rattle.ledger_model.specs.declared.answer.Answer.{Answer};
@@ -13,6 +13,8 @@ ghost use Rattle.site_desk.specs.Close.{IsClosable, Saw};
 ghost use Rattle.site_desk.specs.Parts.{new_viewers};
 ghost use Rattle.site_desk.specs.Plan.{plan_fault};
 ghost use Rattle.site_desk.specs.Roster.{AreNewPlaces, IsNamed};
+ghost use Rattle.ledger_model.specs.Board.{sum_of_figures};
+ghost use Rattle.site_desk.specs.Operator.{AreBoardsAt, AreTotalsOfName};
 ghost use Rattle.site_desk.specs.Submit.{IsBoardOfName, IsUnchanged, Submitted};
 
 use crate::cell::{StationCell, enlist_cell};
@@ -21,12 +23,14 @@ use crate::closed::{CloseRefused, Closed};
 use crate::fault::{BoardFault, DeskFault, EnlistFault};
 use crate::gate::Gate;
 use crate::locks::{Locked, Spare, lock_up, take_viewers, unlock};
+use crate::operator::{hold_stations, site_boards_of, sum_of, totals_of};
 use crate::parts::Parts;
 use crate::pass::Pass;
 use crate::plan::Plan;
 use crate::roster::{Place, number_of, open_places};
 use crate::submit::{board_of, stands_at, try_settle};
-use ledger_model::{Answer, Command, Listed, Name, Refusal};
+use energy_flow::Flow;
+use ledger_model::{Answer, Command, Figures, Listed, Name, Refusal};
 use site_book::{Naming, SiteBook, Tables, Told, Viewer};
 use station_ledger::StationBoard;
 use std::alloc::{AllocError, Global};
@@ -165,6 +169,69 @@ impl<J: Naming> Desk<J> {
         match board_of(&cell, alloc) {
             Ok(board) => Ok(board),
             Err(_) => Err(BoardFault::OutOfMemory),
+        }
+    }
+
+    /// The number of the station of this name in the plan.
+    pub fn number(&self, name: &Name) -> Option<u16>
+        ensures known { is_some result ≡ list_any (λ p. bytes_eq name.now p.name) self.now.stations }
+        ensures named { IfSome result (IsNamed self.now.stations name.now) }
+    {
+        match number_of(&self.places, name) {
+            Some(number) => Some(number as u16),
+            None => None,
+        }
+    }
+
+    /// The figures of the station of this name, and what it imported and exported, all of one moment. It waits for the
+    /// station's lock. A cell there that is not the station's own, which no run of these calls meets,
+    /// answers `Torn`.
+    pub fn station_totals<R: Wait>(
+        &self,
+        rt: &R,
+        name: &Name,
+    ) -> Result<(Figures, Flow, Flow), BoardFault>
+        ensures unknown { (result ≡ Err BoardFault.UnknownStation) ↔ (list_any (λ p. bytes_eq name.now p.name) self.now.stations ≡ false) }
+        ensures totals { IfOk result (λ t. AreTotalsOfName self.now.stations name.now t.0 t.1 t.2) }
+    {
+        let Some(number) = number_of(&self.places, name) else {
+            return Err(BoardFault::UnknownStation);
+        };
+        let lock: &Mutex<StationCell> = &self.cells[number];
+        let held = lock.lock(rt);
+        if !stands_at(&held, number, &self.places[number]) {
+            return Err(BoardFault::Torn);
+        }
+        Ok(totals_of(&held))
+    }
+
+    /// The boards of the stations of the site of this number, in the plan's order and each with the
+    /// station's name, and the sums of their figures, all of one moment: it waits for the locks of these
+    /// stations in the plan's order, then for that of the site's book, and holds them all. Where cells
+    /// and book do not fit together, which no run of these calls meets, it answers `Torn`, as for a site
+    /// that the desk has not.
+    pub fn site_boards<R: Wait>(
+        &self,
+        rt: &R,
+        alloc: Global,
+        site: u16,
+    ) -> Result<(Vec<(Name, StationBoard)>, Figures), BoardFault>
+        ensures known { result ≢ Err BoardFault.UnknownStation }
+        ensures boards { IfOk result (λ r. AreBoardsAt self.now.stations site r.0.items) }
+        ensures totals { IfOk result (λ r. r.1 ≡ sum_of_figures (map (λ s. s.1.figures) r.0.items)) }
+    {
+        let Some(lock) = self.books.get(site as usize) else {
+            return Err(BoardFault::Torn);
+        };
+        let lock: &Mutex<SiteBook<J>> = lock;
+        let Ok(held) = hold_stations(rt, alloc, &self.places, &self.cells, site) else {
+            return Err(BoardFault::OutOfMemory);
+        };
+        let book = lock.lock(rt);
+        let boards = site_boards_of(alloc, &self.places, &held, site)?;
+        match sum_of(&boards) {
+            Some(totals) if totals == book.totals() => Ok((boards, totals)),
+            _ => Err(BoardFault::Torn),
         }
     }
 

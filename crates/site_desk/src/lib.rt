@@ -7,7 +7,8 @@
 //! book behind a lock of its own, so that stations take commands at once: [`Desk::submit`] settles
 //! under the station's lock and then its site's, while viewers glance at the totals and wait for
 //! nobody. [`Desk::close`] compares all that lay behind the locks and gives up the locks: a [`Closed`].
-//! `open` and [`Desk::station_board`] alone take memory.
+//! An operator reads a running desk by [`Desk::station_totals`] and [`Desk::site_boards`], whose boards are of one
+//! moment. `open`, [`Desk::station_board`] and `site_boards` alone take memory.
 //!
 //! The crate's one contract: a cell's content is always one that as many accepted commands as its
 //! passes made leave of the empty content, under its limits. `settle` takes the step of the ledger
@@ -33,6 +34,7 @@ mod desk;
 mod fault;
 mod gate;
 mod locks;
+mod operator;
 mod parts;
 mod pass;
 mod plan;

@@ -1,4 +1,5 @@
 ghost use Rattle.std.specs.Prelude.{◌≡◌, IsTrue, IfOk};
+ghost use Rattle.ledger_model.specs.Figures.{AreWithin};
 ghost use Rattle.site_desk.specs.Roster.{StandsAt};
 ghost use Rattle.site_desk.specs.Submit.{IsBoardWithin, Submitted};
 
@@ -54,7 +55,8 @@ pub(crate) fn try_settle<J: Naming>(
 
 // The board of a cell's station.
 pub(crate) fn board_of(cell: &StationCell, alloc: Global) -> Result<StationBoard, AllocError>
-    ensures { IfOk result (IsBoardWithin cell.now.limits cell.now.period) }
+    ensures board { IfOk result (IsBoardWithin cell.now.limits cell.now.period) }
+    ensures within { IfOk result (λ b. AreWithin cell.now.limits b.figures) }
 {
     cell.ledger().board(alloc)
 }

@@ -5,7 +5,7 @@ mod scenes;
 mod three;
 
 use ledger_model::{
-    Answer, Command, Event, EvseId, Figures, Key, Kind, Moment, Name, Reading, TxId,
+    Answer, Command, Direction, Event, EvseId, Figures, Key, Kind, Moment, Name, Reading, TxId,
 };
 use site_book::Naming;
 use site_desk::{Closed, Desk, NoGate, Pass};
@@ -66,7 +66,9 @@ fn evse_of(number: Option<u8>) -> Option<Option<EvseId>> {
 fn delivery_of(alloc: Global, asked: Asked) -> Option<Command> {
     let mwh = 1_000 * asked.watt_hours.min(10_000_000_000);
     let mut readings = Vec::new(alloc);
-    readings.push(Reading::new(moment(asked.read)?, mwh)?).ok()?;
+    readings
+        .push(Reading::new(moment(asked.read)?, mwh, Direction::Import)?)
+        .ok()?;
     let evse = evse_of(asked.evse)?;
     let event = Event::new(asked.kind, moment(asked.minute)?, evse, readings).ok()?;
     Some(Command::Deliver(key_of(asked.seq)?, event))
@@ -107,6 +109,7 @@ fn figures(seven: [u64; 7]) -> Figures {
         missing,
         up,
         down,
+        ..Figures::zero()
     }
 }
 

@@ -12,8 +12,11 @@ use site_desk::{Desk, Pass, Plan};
 use std::alloc::Global;
 use std::io::Write;
 
-// Closes a desk whose sessions have ended, and writes the board of each site.
-pub(crate) fn close<J: Naming, W: Write>(
+/// Closes a desk whose sessions have ended, and writes the board of each site, in the plan's order. The passes and
+/// viewers are to be all that were given out.
+///
+/// Condition: the desk was opened for this plan, by [`open_desk`](crate::open_desk).
+pub fn close_desk<J: Naming, W: Write>(
     alloc: Global,
     plan: &Plan,
     desk: Desk<J>,

@@ -26,7 +26,12 @@ mod service;
 mod simulation;
 mod watch;
 
+pub use close::close_desk;
 pub use fault::ServiceFault;
+pub use moments::SystemMoments;
 pub use serve::{MAX_CONNECTIONS, serve_many, serve_on};
-pub use service::{Served, Service, open_desk, serve_plan, serve_watched};
+pub use service::{
+    Served, Service, address_of, listen, open_desk, serve_plan, serve_watched, tell_port,
+};
 pub use simulation::{MAX_SIMULATED_EVENTS, simulate};
+pub use watch::tell_totals;

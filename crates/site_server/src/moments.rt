@@ -2,10 +2,11 @@ use ledger_model::Moment;
 use station_link::MomentSource;
 use std::time::Clock;
 
-// The moments of the system's clock.
+/// The moments of the system's clock.
 #[derive(Drop)]
-pub(crate) struct SystemMoments<'a, R: Clock> {
-    pub(crate) rt: &'a R,
+pub struct SystemMoments<'a, R: Clock> {
+    /// The clock.
+    pub rt: &'a R,
 }
 
 impl<'a, R: Clock> MomentSource for SystemMoments<'a, R> {

@@ -7,7 +7,7 @@ ghost use Rattle.site_desk.specs.Roster.{AreNewPlaces};
 ghost use Rattle.desk_report.specs.Closed.{AreBoards};
 ghost use Rattle.site_server.specs.Written.{listening};
 
-use crate::close::close;
+use crate::close::close_desk;
 use crate::fault::ServiceFault;
 use crate::serve::serve_many;
 use crate::watch::watch;
@@ -107,7 +107,7 @@ fn serve_under<
         lines,
         WATCH_STACK,
     );
-    close(alloc, plan, desk, passes?, viewers, output)
+    close_desk(alloc, plan, desk, passes?, viewers, output)
 }
 
 /// The desk of a plan, and its viewers.
@@ -130,8 +130,8 @@ pub fn open_desk<J: Naming>(
     Ok((desk, viewers))
 }
 
-// A listener on this port of 127.0.0.1; for 0 the system chooses one.
-pub(crate) fn listen<R: Net<Listener = TcpListener, Stream = TcpStream>>(
+/// A listener on this port of 127.0.0.1; for 0 the system chooses one.
+pub fn listen<R: Net<Listener = TcpListener, Stream = TcpStream>>(
     rt: &R,
     port: u16,
 ) -> Result<TcpListener, ServiceFault> {
@@ -141,16 +141,16 @@ pub(crate) fn listen<R: Net<Listener = TcpListener, Stream = TcpStream>>(
     }
 }
 
-// Where it listens.
-pub(crate) fn address_of(listener: &TcpListener) -> Result<SocketAddr, ServiceFault> {
+/// Where it listens.
+pub fn address_of(listener: &TcpListener) -> Result<SocketAddr, ServiceFault> {
     match listener.local_addr() {
         Ok(address) => Ok(address),
         Err(error) => Err(ServiceFault::ListenFailed(error.raw_os_error())),
     }
 }
 
-// Tells the port of 127.0.0.1 that a server listens on.
-fn tell_port<W: Write>(listener: &TcpListener, output: &mut W) -> Result<(), ServiceFault>
+/// Writes the line that tells the port of 127.0.0.1 that a server listens on.
+pub fn tell_port<W: Write>(listener: &TcpListener, output: &mut W) -> Result<(), ServiceFault>
     ensures { OnOk result ((port : ℕ) × Appends (W.contents output.old) (W.contents output.new) (listening port)) }
 {
     let address = address_of(listener)?;

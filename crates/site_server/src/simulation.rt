@@ -6,7 +6,7 @@ ghost use Rattle.desk_report.specs.Closed.{AreBoards};
 ghost use Rattle.simulated_station.specs.Sim.{IsSimulated};
 ghost use Rattle.site_server.specs.Simulated.{simulated_name, simulated_sites, simulated_stations};
 
-use crate::close::close;
+use crate::close::close_desk;
 use crate::fault::ServiceFault;
 use crate::serve::serve_many;
 use crate::service::{address_of, listen, open_desk};
@@ -129,7 +129,7 @@ fn simulate_under<
     let (passes, fault) = play_all(rt, alloc, listener, &desk, streams, events, played);
     match fault {
         Some(fault) => Err(ServiceFault::from(fault)),
-        None => close(alloc, plan, desk, passes?, viewers, output),
+        None => close_desk(alloc, plan, desk, passes?, viewers, output),
     }
 }
 

@@ -24,15 +24,15 @@ pub(crate) fn watch<J: Naming, R: Clock, L: Write>(
             thread::sleep(rt, Duration::from_secs(SECONDS_BETWEEN));
         }
         for viewer in viewers.iter_mut() {
-            tell(viewer, sites, &mut lines);
+            tell_totals(viewer, sites, &mut lines);
         }
     }
     (viewers, lines)
 }
 
-// Writes the line `live <site>` and the site's total line. Where they can't be written nobody is left to
-// tell, and the stations are served all the same.
-fn tell<J: Naming, L: Write>(viewer: &mut Viewer<J>, sites: &[SitePlan], lines: &mut L) {
+/// Writes the line `live <site>` and the site's total line. Where they can't be written nobody is left to
+/// tell, and the stations are served all the same.
+pub fn tell_totals<J: Naming, L: Write>(viewer: &mut Viewer<J>, sites: &[SitePlan], lines: &mut L) {
     if let Some(site) = sites.get(viewer.site() as usize) {
         let totals = viewer.glance();
         let name = site.name.text();

@@ -8,9 +8,11 @@ use Rattle.ledger_model.specs.declared.command.Command.TheVariants.{Deliver, Voi
 use Rattle.ledger_model.specs.declared.figures.Figures.{Figures}
 use Rattle.ledger_model.specs.Complete.{starts_and_ends}
 use Rattle.ledger_model.specs.Content.{Entry, Stored, live, transactions_of}
-use Rattle.ledger_model.specs.Deltas.{IsOneMore, before_key, behind_key, own_events, own_readings, first_reading, last_reading}
+use Rattle.ledger_model.specs.Deltas.{IsOneMore, before_key, behind_key, own_events, own_readings, first_reading, last_reading, most_for}
 use Rattle.ledger_model.specs.Energy.{energy_over, followed}
-use Rattle.ledger_model.specs.Event.{EventContent, MeterReading}
+use Rattle.ledger_model.specs.Event.{EventContent, MeterReading, toward}
+use Rattle.ledger_model.specs.declared.reading.Direction.{Direction}
+use Rattle.ledger_model.specs.declared.reading.Direction.TheVariants.{Import, Export}
 use Rattle.ledger_model.specs.Evse.{first_or_none}
 use Rattle.ledger_model.specs.Gaps.{missing}
 use Rattle.ledger_model.specs.Key.{KeyName, key_cmp}
@@ -28,7 +30,9 @@ use Rattle.transaction_map.specs.Map.{Mapped}
 use Rattle.station_ledger.specs.declared.standing.Standing.{Standing}
 use Rattle.station_ledger.specs.declared.totals.EvseSum.{EvseSum}
 use Rattle.station_ledger.specs.Kept.{voided_in}
-use Rattle.station_ledger.specs.Quarters.{quartered, readings_at}
+use Rattle.station_ledger.specs.Quarters.{both_quartered, readings_at}
+use Rattle.station_ledger.specs.Sides.{has_some, side_if}
+use Rattle.station_ledger.specs.Spent.{most_under}
 use Rattle.station_ledger.specs.Coming.{HasCome}
 use Rattle.station_ledger.specs.Sums.{AreAllowed, AreSummed, IsToCome, IsToGo}
 use Rattle.station_ledger.proofs.Moved.{kept_same}
@@ -55,16 +59,24 @@ none_of (Some n) h = cc
 listed : (old : Chained) (key : KeyName) (o : Option Stored) → finite.get old.events key ≡ o → find key_cmp key (stored old) ≡ o
 listed old key o h = sym (finite.get-entries old.events key) ∙ h
 
-module _ (old new : Chained) (key : KeyName) (before behind : Option MeterReading) (before_is : before ≡ last_reading (own_readings key.tx (before_key key (stored old)))) (behind_is : behind ≡ first_reading (own_readings key.tx (behind_key key (stored old)))) where
+module _ (old new : Chained) (key : KeyName) (before behind : Direction → Option MeterReading) (has : Direction → Bool)
+    (before_is : (d : Direction) → before d ≡ side_if (has d) (last_reading (own_readings d key.tx (before_key key (stored old))))) (behind_is : (d : Direction) → behind d ≡ side_if (has d) (first_reading (own_readings d key.tx (behind_key key (stored old))))) where
+  -- the sides, where it is known which directions have a reading
+  before_then : (rs : List MeterReading) → ((d : Direction) → has d ≡ has_some (toward d rs)) → (d : Direction) → before d ≡ side_if (has_some (toward d rs)) (last_reading (own_readings d key.tx (before_key key (stored old))))
+  before_then rs is d = before_is d ∙ ap (λ b. side_if b (last_reading (own_readings d key.tx (before_key key (stored old))))) (is d)
+
+  behind_then : (rs : List MeterReading) → ((d : Direction) → has d ≡ has_some (toward d rs)) → (d : Direction) → behind d ≡ side_if (has_some (toward d rs)) (first_reading (own_readings d key.tx (behind_key key (stored old))))
+  behind_then rs is d = behind_is d ∙ ap (λ b. side_if b (first_reading (own_readings d key.tx (behind_key key (stored old))))) (is d)
+
   -- a delivered event comes
-  pub delivered : (event : EventContent) → new.events ≡ events_after old.events (Deliver key event) → finite.get old.events key ≡ None → length event.readings ≤ most_event_readings → IsToCome (stored old) new key before behind
-  delivered event is absent few = record {
+  pub delivered : (event : EventContent) → new.events ≡ events_after old.events (Deliver key event) → finite.get old.events key ≡ None → length event.readings ≤ most_event_readings → ((d : Direction) → has d ≡ has_some (toward d event.readings)) → IsToCome (stored old) new key before behind
+  delivered event is absent few has_is = record {
     event = record { event = event; voided = false };
     one = subst (λ es. IsOneMore (stored old) es (before_key key (stored old)) (key, record { event = event; voided = false }) (behind_key key (stored old))) (sym (ap finite.entries is ∙ entries_after_is old.events (Deliver key event)))
         (delivered_more (stored old) key event (finite.entries_sorted old.events) (listed old key None absent));
-    readings = ap (λ m. readings_under (finite.get m key)) is ∙ ap readings_under (inserted_there old.events key (record { event = event; voided = false }));
-    before_is = before_is;
-    behind_is = behind_is;
+    readings = λ d. ap (λ m. readings_under d (finite.get m key)) is ∙ ap (readings_under d) (inserted_there old.events key (record { event = event; voided = false }));
+    before_is = before_then event.readings has_is;
+    behind_is = behind_then event.readings has_is;
     few = few;
   }
 
@@ -82,40 +94,49 @@ module _ (old new : Chained) (key : KeyName) (before behind : Option MeterReadin
   marked_there voided s is = ap (λ o. finite.get (marked_at old.events key voided o) key) is ∙ inserted_there old.events key (record { event = s.event; voided = voided })
 
   -- a restored event comes
-  pub restored : new.events ≡ events_after old.events (Restore key) → (f : IsFound (finite.get old.events key) true) → length f.event.event.readings ≤ most_event_readings → IsToCome (stored old) new key before behind
-  restored is f few = record {
+  pub restored : new.events ≡ events_after old.events (Restore key) → (f : IsFound (finite.get old.events key) true) → length f.event.event.readings ≤ most_event_readings → ((d : Direction) → has d ≡ has_some (readings_at d old key)) → IsToCome (stored old) new key before behind
+  restored is f few has_is = record {
     event = record { event = f.event.event; voided = false };
     one = subst (λ es. IsOneMore (stored old) es (before_key key (stored old)) (key, record { event = f.event.event; voided = false }) (behind_key key (stored old))) (sym (ap finite.entries is ∙ entries_after_is old.events (Restore key)))
         (restored_more (stored old) key f.event (finite.entries_sorted old.events) (listed old key (Some f.event) f.is) f.marked_is);
-    readings = ap (λ m. readings_under (finite.get m key)) is ∙ ap readings_under (marked_there false f.event f.is);
-    before_is = before_is;
-    behind_is = behind_is;
+    readings = λ d. ap (λ m. readings_under d (finite.get m key)) is ∙ ap (readings_under d) (marked_there false f.event f.is);
+    before_is = before_then f.event.event.readings (λ d. has_is d ∙ ap (λ o. has_some (readings_under d o)) f.is);
+    behind_is = behind_then f.event.event.readings (λ d. has_is d ∙ ap (λ o. has_some (readings_under d o)) f.is);
     few = few;
   }
 
   -- a voided event goes
-  pub voided_goes : new.events ≡ events_after old.events (Void key) → (f : IsFound (finite.get old.events key) false) → length f.event.event.readings ≤ most_event_readings → IsToGo (stored old) new key before behind
-  voided_goes is f few = record {
+  pub voided_goes : new.events ≡ events_after old.events (Void key) → (f : IsFound (finite.get old.events key) false) → length f.event.event.readings ≤ most_event_readings → ((d : Direction) → has d ≡ has_some (readings_at d old key)) → IsToGo (stored old) new key before behind
+  voided_goes is f few has_is = record {
     event = f.event;
     one = subst (λ es. IsOneMore es (stored old) (before_key key (stored old)) (key, f.event) (behind_key key (stored old))) (sym (ap finite.entries is ∙ entries_after_is old.events (Void key)))
         (voided_less (stored old) key f.event (finite.entries_sorted old.events) (listed old key (Some f.event) f.is) f.marked_is);
-    readings = ap (λ m. readings_under (finite.get m key)) is ∙ ap readings_under (marked_there true f.event f.is);
-    before_is = before_is;
-    behind_is = behind_is;
+    readings = λ d. ap (λ m. readings_under d (finite.get m key)) is ∙ ap (readings_under d) (marked_there true f.event f.is);
+    before_is = before_then f.event.event.readings (λ d. has_is d ∙ ap (λ o. has_some (readings_under d o)) f.is);
+    behind_is = behind_then f.event.event.readings (λ d. has_is d ∙ ap (λ o. has_some (readings_under d o)) f.is);
     few = few;
   }
 
 -- the readings of a marked event are what they were
-pub marked_readings : (old new : Chained) (key : KeyName) (voided was : Bool) → new.events ≡ marked old.events key voided → IsFound (finite.get old.events key) was → length (readings_at new key) ≡ length (readings_at old key)
-marked_readings old new key voided was is f =
-    ap (λ m. length (readings_under (finite.get m key))) is
-    ∙ ap (λ o. length (readings_under (finite.get (marked_at old.events key voided o) key))) f.is
-    ∙ ap (λ o. length (readings_under o)) (inserted_there old.events key (record { event = f.event.event; voided = voided }))
-    ∙ sym (ap (λ o. length (readings_under o)) f.is)
+pub marked_readings : (d : Direction) (old new : Chained) (key : KeyName) (voided was : Bool) → new.events ≡ marked old.events key voided → IsFound (finite.get old.events key) was → most_for (length (readings_at d new key)) ≡ most_for (length (readings_at d old key))
+marked_readings d old new key voided was is f =
+    ap (λ m. most_for (length (readings_under d (finite.get m key)))) is
+    ∙ ap (λ o. most_for (length (readings_under d (finite.get (marked_at old.events key voided o) key)))) f.is
+    ∙ ap (λ o. most_for (length (readings_under d o))) (inserted_there old.events key (record { event = f.event.event; voided = voided }))
+    ∙ sym (ap (λ o. most_for (length (readings_under d o))) f.is)
+
+-- what a stored event may cost, by its readings of each direction
+pub most_found : (o : Option Stored) → most_under o ≡ most_for (length (readings_under Import o)) + most_for (length (readings_under Export o))
+most_found None = refl
+most_found (Some s) = refl
 
 -- those of a delivered event are its own
-pub delivered_readings : (old new : Chained) (key : KeyName) (event : EventContent) → new.events ≡ events_after old.events (Deliver key event) → length (readings_at new key) ≡ length event.readings
-delivered_readings old new key event is = ap (λ m. length (readings_under (finite.get m key))) is ∙ ap (λ o. length (readings_under o)) (inserted_there old.events key (record { event = event; voided = false }))
+pub delivered_readings : (d : Direction) (old new : Chained) (key : KeyName) (event : EventContent) → new.events ≡ events_after old.events (Deliver key event) → most_for (length (readings_at d new key)) ≡ most_for (length (toward d event.readings))
+delivered_readings d old new key event is = ap (λ m. most_for (length (readings_under d (finite.get m key)))) is ∙ ap (λ o. most_for (length (readings_under d o))) (inserted_there old.events key (record { event = event; voided = false }))
+
+-- the readings of a delivered event are those that came with it
+pub delivered_own : (d : Direction) (old new : Chained) (key : KeyName) (event : EventContent) → new.events ≡ events_after old.events (Deliver key event) → readings_at d new key ≡ toward d event.readings
+delivered_own d old new key event is = ap (λ m. readings_under d (finite.get m key)) is ∙ ap (readings_under d) (inserted_there old.events key (record { event = event; voided = false }))
 
 -- a delivered event has few readings, where the events after are allowed
 pub few_delivered : (limits : Bounds) (old : Chained) (key : KeyName) (event : EventContent) → AreAllowed limits (finite.entries (events_after old.events (Deliver key event))) → length event.readings ≤ most_event_readings
@@ -132,16 +153,16 @@ pub erased : (old new : Chained) (key : KeyName) → new.events ≡ events_after
 erased old new key is f = ap (λ m. live (finite.entries m)) is ∙ ap live (entries_after_is old.events (Erase key)) ∙ erased_same (stored old) key f.event (finite.entries_sorted old.events) (listed old key (Some f.event) f.is) f.marked_is
 
 -- The sums hang on the live events alone.
-own_pairs : List ℕ → List Entry → List (MeterReading × MeterReading)
-own_pairs tx l = followed (flat_map (λ e. e.1.event.readings) (own_events tx l))
+own_pairs : Direction → List ℕ → List Entry → List (MeterReading × MeterReading)
+own_pairs d tx l = followed (flat_map (λ e. toward d e.1.event.readings) (own_events tx l))
 
 at_over : ℕ → List Entry → List (List ℕ)
 at_over n l = filter (λ tx. first_or_none (filter_map (λ e. e.1.event.evse) (own_events tx l)) == n) (transactions_of l)
 
-pub summed_same : (limits : Bounds) (es new : List Entry) (kept : Mapped Standing) (evses : List EvseSum) (period : ℕ) (quarters : Table) (total : Energy) (f g : Figures) → live new ≡ live es
-    → g.events ≡ f.events → g.transactions ≡ f.transactions → g.complete ≡ f.complete → g.missing ≡ f.missing → AreSummed limits es kept evses period quarters total f → AreSummed limits new kept evses period quarters total g
+pub summed_same : (limits : Bounds) (es new : List Entry) (kept : Mapped Standing) (evses : List EvseSum) (period : ℕ) (quarters : Table) (total export : Energy) (f g : Figures) → live new ≡ live es
+    → g.events ≡ f.events → g.transactions ≡ f.transactions → g.complete ≡ f.complete → g.missing ≡ f.missing → AreSummed limits es kept evses period quarters total export f → AreSummed limits new kept evses period quarters total export g
 unfolding own_pairs at_over
-summed_same limits es new kept evses period quarters total f g same events transactions complete missing_same s = record {
+summed_same limits es new kept evses period quarters total export f g same events transactions complete missing_same s = record {
   standing = record {
     each = λ tx. s.standing.each tx ∙ sym (kept_same tx es new (ap (own_events tx) same));
     rising = s.standing.rising;
@@ -150,13 +171,14 @@ summed_same limits es new kept evses period quarters total f g same events trans
   };
   at_evses = record {
     all = s.at_evses.all;
-    each = λ n le. s.at_evses.each n le ∙ ap (λ l. record { transactions = length (at_over n l); flow = energy_over (flat_map (λ tx. own_pairs tx l) (at_over n l)) }) (sym same);
+    each = λ n le. s.at_evses.each n le ∙ ap (λ l. record { transactions = length (at_over n l); flow = energy_over (flat_map (λ tx. own_pairs Import tx l) (at_over n l)); export = energy_over (flat_map (λ tx. own_pairs Export tx l) (at_over n l)) }) (sym same);
   };
   by_quarter = record {
-    rows = s.by_quarter.rows ∙ ap (λ l. rows_of (quartered period (flat_map (λ tx. own_pairs tx l) (transactions_of l)))) (sym same);
+    rows = s.by_quarter.rows ∙ ap (λ l. rows_of (both_quartered period (λ d. flat_map (λ tx. own_pairs d tx l) (transactions_of l)))) (sym same);
     room = s.by_quarter.room;
   };
-  total_is = s.total_is ∙ ap (λ l. energy_over (flat_map (λ tx. own_pairs tx l) (transactions_of l))) (sym same);
+  total_is = s.total_is ∙ ap (λ l. energy_over (flat_map (λ tx. own_pairs Import tx l) (transactions_of l))) (sym same);
+  export_is = s.export_is ∙ ap (λ l. energy_over (flat_map (λ tx. own_pairs Export tx l) (transactions_of l))) (sym same);
   counts = record {
     events = events ∙ s.counts.events ∙ ap length (sym same);
     transactions = transactions ∙ s.counts.transactions ∙ ap (λ l. length (transactions_of l)) (sym same);

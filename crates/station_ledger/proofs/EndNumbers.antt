@@ -44,9 +44,9 @@ pub some_missing : (b : Bool) (n : ℕ) → (n ≡ 0 → ⊥) → false ≡ (b &
 some_missing b n some = elim b as (λ x. false ≡ (x && (n == 0))) [ true ↦ sym (ne_eqb n 0 some) | false ↦ refl ]
 
 -- a transaction with a live event is kept
-pub kept_some : (flow : Energy) (tx : List ℕ) (es : List Entry) → 0 < length (live_of tx es) → Some (standing_with flow tx es) ≡ kept_with flow tx es
-kept_some flow tx es some = ap (λ b. cond b None (Some (standing_with flow tx es))) (sym (ne_eqb (length (live_of tx es)) 0 (λ e. absurd (omega arith))))
+pub kept_some : (flow export : Energy) (tx : List ℕ) (es : List Entry) → 0 < length (live_of tx es) → Some (standing_with flow export tx es) ≡ kept_with flow export tx es
+kept_some flow export tx es some = ap (λ b. cond b None (Some (standing_with flow export tx es))) (sym (ne_eqb (length (live_of tx es)) 0 (λ e. absurd (omega arith))))
 
 -- one without is not
-pub kept_none : (flow : Energy) (tx : List ℕ) (es : List Entry) → length (live_of tx es) ≡ 0 → None ≡ kept_with flow tx es
-kept_none flow tx es none = ap (λ b. cond b None (Some (standing_with flow tx es))) (sym (eq-eqb (length (live_of tx es)) 0 none))
+pub kept_none : (flow export : Energy) (tx : List ℕ) (es : List Entry) → length (live_of tx es) ≡ 0 → None ≡ kept_with flow export tx es
+kept_none flow export tx es none = ap (λ b. cond b None (Some (standing_with flow export tx es))) (sym (eq-eqb (length (live_of tx es)) 0 none))

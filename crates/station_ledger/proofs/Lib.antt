@@ -1,5 +1,6 @@
 pub mod Rows
 pub mod Walks
+pub mod Both
 pub mod EndKinds
 pub mod EndNumbers
 pub mod Moved
@@ -7,6 +8,7 @@ pub mod Bounded
 pub mod Stands
 pub mod Trades
 pub mod Changes
+pub mod Settled
 pub mod Commands
 pub mod OneLess
 pub mod Reaching

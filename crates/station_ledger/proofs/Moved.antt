@@ -1,10 +1,13 @@
 -- One live event more, or less, moves what its transaction counts for.
-use Rattle.std.proofs.Common.{◌≡◌, ◌==◌, ℕ, zero, suc, ◌+◌, ◌<◌, ◌≤◌, Bool, true, false, not, cond, ◌&&◌, ◌||◌, List, [], ◌∷◌, Option, Some, None, length, map, refl, sym, ap, ◌∙◌, arith, length-append}
+use Rattle.std.proofs.Common.{◌≡◌, ◌==◌, ℕ, zero, suc, ◌+◌, ◌<◌, ◌≤◌, Bool, true, false, not, cond, ◌&&◌, ◌||◌, List, [], ◌∷◌, Option, Some, None, length, map, refl, sym, ap, ◌∙◌, arith, length-append, slice_get, unwrap_or}
 use Rattle.std.specs.List.{filter_map, flat_map}
 use Rattle.std.specs.Str.{bytes_eq}
 use Rattle.std.proofs.lemmas.Bool.{ne_eqb}
 use Rattle.std.proofs.lemmas.Bool.Decides.{Decides-eqb}
 use Rattle.energy_flow.specs.Flow.{Energy, no_energy, plus}
+use Rattle.ledger_model.specs.declared.reading.Direction.{Direction}
+use Rattle.ledger_model.specs.declared.reading.Direction.TheVariants.{Import, Export}
+use Rattle.ledger_model.specs.Event.{toward}
 use Rattle.ledger_model.specs.Complete.{is_complete, starts_and_ends}
 use Rattle.ledger_model.specs.Content.{Entry, live, live_of, transactions_of, has_transaction}
 use Rattle.ledger_model.specs.Deltas.{IsOneMore, flow_if, own_events}
@@ -14,7 +17,7 @@ use Rattle.ledger_model.specs.Gaps.{numbers_of, missing}
 use Rattle.ledger_model.proofs.Callers.{events_more, transactions_more, complete_more, missing_more, energy_at_more, evse_counts, live_with, live_without, live_else}
 use Rattle.station_ledger.specs.declared.standing.Standing.{Standing}
 use Rattle.station_ledger.specs.Standing.{standing_with, kept_with, kept_of}
-use Rattle.station_ledger.specs.Moved.{live_in, one_in, complete_in, missing_in, flow_in, one_at, flow_at, IsMoved}
+use Rattle.station_ledger.specs.Moved.{flow_toward, live_in, one_in, complete_in, missing_in, flow_in, one_at, flow_at, IsMoved}
 
 -- a list without elements
 none_long : {X : Type 0} (xs : List X) → length xs ≡ 0 → xs ≡ []
@@ -39,8 +42,8 @@ none_live tx es none = none_long (live_of tx es) (zero_if (length (live_of tx es
   ] refl h
 
 -- what is kept, where there is no live event and where there is
-kept_cases : (P : Option Standing → Type 0) (flow : Energy) (tx : List ℕ) (es : List Entry) → (live_of tx es ≡ [] → P None) → (0 < length (live_of tx es) → P (Some (standing_with flow tx es))) → P (kept_with flow tx es)
-kept_cases P flow tx es none some = elim (length (live_of tx es) == 0) as (λ b. (length (live_of tx es) == 0) ≡ b → P (cond b None (Some (standing_with flow tx es)))) [
+kept_cases : (P : Option Standing → Type 0) (flow export : Energy) (tx : List ℕ) (es : List Entry) → (live_of tx es ≡ [] → P None) → (0 < length (live_of tx es) → P (Some (standing_with flow export tx es))) → P (kept_with flow export tx es)
+kept_cases P flow export tx es none some = elim (length (live_of tx es) == 0) as (λ b. (length (live_of tx es) == 0) ≡ b → P (cond b None (Some (standing_with flow export tx es)))) [
   | true ↦ λ h. none (none_long (live_of tx es) ((Decides-eqb (length (live_of tx es)) 0).0 h))
   | false ↦ λ h. some (positive (length (live_of tx es)) h)
 ] refl where
@@ -49,25 +52,25 @@ kept_cases P flow tx es none some = elim (length (live_of tx es) == 0) as (λ b.
   positive (suc n) h = omega arith
 
 pub live_kept : (tx : List ℕ) (es : List Entry) → live_in (kept_of tx es) ≡ length (live_of tx es)
-live_kept tx es = kept_cases (λ o. live_in o ≡ length (live_of tx es)) (energy_of tx es) tx es (λ none. sym (ap length none)) (λ _. refl)
+live_kept tx es = kept_cases (λ o. live_in o ≡ length (live_of tx es)) (energy_of Import tx es) (energy_of Export tx es) tx es (λ none. sym (ap length none)) (λ _. refl)
 
 one_kept : (tx : List ℕ) (es : List Entry) → one_in (kept_of tx es) ≡ cond (has_transaction tx (live es)) 1 0
 one_kept tx es = ones (length (live_of tx es) == 0) ∙ ap (λ b. cond {A = ℕ} b 1 0) (sym (has_own tx (live es))) where
-  ones : (b : Bool) → one_in (cond b None (Some (standing_with (energy_of tx es) tx es))) ≡ cond (not b) 1 0
+  ones : (b : Bool) → one_in (cond b None (Some (standing_with (energy_of Import tx es) (energy_of Export tx es) tx es))) ≡ cond (not b) 1 0
   ones true = refl
   ones false = refl
 
 complete_kept : (tx : List ℕ) (es : List Entry) → complete_in (kept_of tx es) ≡ cond (is_complete tx es) 1 0
-complete_kept tx es = kept_cases (λ o. complete_in o ≡ cond (is_complete tx es) 1 0) (energy_of tx es) tx es
+complete_kept tx es = kept_cases (λ o. complete_in o ≡ cond (is_complete tx es) 1 0) (energy_of Import tx es) (energy_of Export tx es) tx es
     (λ none. sym (ap (λ (xs : List Entry). cond {A = ℕ} (starts_and_ends (map (λ (e : Entry). e.1.event.kind) xs) && (missing (numbers_of tx es) == 0)) 1 0) none)) (λ _. refl)
 
 pub missing_kept : (tx : List ℕ) (es : List Entry) → missing_in (kept_of tx es) ≡ missing (numbers_of tx es)
-missing_kept tx es = kept_cases (λ o. missing_in o ≡ missing (numbers_of tx es)) (energy_of tx es) tx es
+missing_kept tx es = kept_cases (λ o. missing_in o ≡ missing (numbers_of tx es)) (energy_of Import tx es) (energy_of Export tx es) tx es
     (λ none. sym (ap (λ (xs : List Entry). missing (map (λ (e : Entry). e.0.seq) xs)) none)) (λ _. refl)
 
 at_kept : (n : ℕ) (tx : List ℕ) (es : List Entry) → one_at n (kept_of tx es) ≡ cond (has_transaction tx (live es)) (cond (evse_of tx es == n) 1 0) 0
 at_kept n tx es = ones (length (live_of tx es) == 0) ∙ ap (λ b. cond {A = ℕ} b (cond (evse_of tx es == n) 1 0) 0) (sym (has_own tx (live es))) where
-  ones : (b : Bool) → one_at n (cond b None (Some (standing_with (energy_of tx es) tx es))) ≡ cond (not b) (cond (evse_of tx es == n) 1 0) 0
+  ones : (b : Bool) → one_at n (cond b None (Some (standing_with (energy_of Import tx es) (energy_of Export tx es) tx es))) ≡ cond (not b) (cond (evse_of tx es == n) 1 0) 0
   ones true = refl
   ones false = refl
 
@@ -75,12 +78,17 @@ none_if : (b : Bool) → flow_if b no_energy ≡ no_energy
 none_if true = refl
 none_if false = refl
 
-pub flow_kept : (n : ℕ) (tx : List ℕ) (es : List Entry) → flow_at n (kept_of tx es) ≡ flow_if (evse_of tx es == n) (energy_of tx es)
-flow_kept n tx es = kept_cases (λ o. flow_at n o ≡ flow_if (evse_of tx es == n) (energy_of tx es)) (energy_of tx es) tx es
-    (λ none. sym (ap (flow_if (evse_of tx es == n)) (energy_none none) ∙ none_if (evse_of tx es == n))) (λ _. refl)
-  where
-    energy_none : live_of tx es ≡ [] → energy_of tx es ≡ no_energy
-    energy_none none = ap (λ (xs : List Entry). energy_over (followed (flat_map (λ (e : Entry). e.1.event.readings) xs))) none
+energy_none : (d : Direction) (tx : List ℕ) (es : List Entry) → live_of tx es ≡ [] → energy_of d tx es ≡ no_energy
+energy_none d tx es none = ap (λ (xs : List Entry). energy_over (followed (flat_map (λ (e : Entry). toward d e.1.event.readings) xs))) none
+
+-- the energy of a transaction's standing
+toward_is : (d : Direction) (tx : List ℕ) (es : List Entry) → flow_toward d (standing_with (energy_of Import tx es) (energy_of Export tx es) tx es) ≡ energy_of d tx es
+toward_is Import tx es = refl
+toward_is Export tx es = refl
+
+pub flow_kept : (d : Direction) (n : ℕ) (tx : List ℕ) (es : List Entry) → flow_at d n (kept_of tx es) ≡ flow_if (evse_of tx es == n) (energy_of d tx es)
+flow_kept d n tx es = kept_cases (λ o. flow_at d n o ≡ flow_if (evse_of tx es == n) (energy_of d tx es)) (energy_of Import tx es) (energy_of Export tx es) tx es
+    (λ none. sym (ap (flow_if (evse_of tx es == n)) (energy_none d tx es none) ∙ none_if (evse_of tx es == n))) (λ _. ap (flow_if (evse_of tx es == n)) (toward_is d tx es))
 
 -- one transaction more, where it is new
 counted : (b : Bool) (n m : ℕ) → m ≡ cond b n (n + 1) → m + cond b 1 0 ≡ n + 1
@@ -101,7 +109,7 @@ moved_more es more front e back one =
       complete = omega (arith, complete_more es more front e back one, complete_kept tx es, complete_kept tx more);
       missing_are = omega (arith, missing_more es more front e back one, missing_kept tx es, missing_kept tx more);
       at_evse = λ n. omega (arith, evse_counts n es more front e back one, at_kept n tx es, at_kept n tx more, ap (λ b. cond {A = ℕ} b (cond (evse_of tx more == n) 1 0) 0) there);
-      flow_at_evse = λ n. ap (plus (energy_at n more)) (flow_kept n tx es) ∙ energy_at_more n es more front e back one ∙ ap (plus (energy_at n es)) (sym (flow_kept n tx more));
+      flow_at_evse = λ d n. ap (plus (energy_at d n more)) (flow_kept d n tx es) ∙ energy_at_more d n es more front e back one ∙ ap (plus (energy_at d n es)) (sym (flow_kept d n tx more));
     }
 
 -- one live event less
@@ -113,22 +121,24 @@ moved_back tx es new m = record {
   complete = sym m.complete;
   missing_are = sym m.missing_are;
   at_evse = λ n. sym (m.at_evse n);
-  flow_at_evse = λ n. sym (m.flow_at_evse n);
+  flow_at_evse = λ d n. sym (m.flow_at_evse d n);
 }
 
 -- the energy of what is kept
-pub flow_in_kept : (tx : List ℕ) (es : List Entry) → flow_in (kept_of tx es) ≡ energy_of tx es
-flow_in_kept tx es = kept_cases (λ o. flow_in o ≡ energy_of tx es) (energy_of tx es) tx es
-    (λ none. sym (ap (λ (xs : List Entry). energy_over (followed (flat_map (λ (e : Entry). e.1.event.readings) xs))) none)) (λ _. refl)
+pub flow_in_kept : (d : Direction) (tx : List ℕ) (es : List Entry) → flow_in d (kept_of tx es) ≡ energy_of d tx es
+flow_in_kept d tx es = kept_cases (λ o. flow_in d o ≡ energy_of d tx es) (energy_of Import tx es) (energy_of Export tx es) tx es
+    (λ none. sym (energy_none d tx es none)) (λ _. toward_is d tx es)
 
 -- what is kept hangs on the transaction's live events alone
 kept_over : List ℕ → List Entry → Option Standing
 kept_over tx own = cond (length own == 0) None (Some (record {
+  first = unwrap_or (slice_get (map (λ e. e.0.seq) own) 0) 0;
   live = length own;
   evse = first_or_none (filter_map (λ e. e.1.event.evse) own);
   complete = starts_and_ends (map (λ e. e.1.event.kind) own) && (missing (map (λ e. e.0.seq) own) == 0);
   missing = missing (map (λ e. e.0.seq) own);
-  flow = energy_over (followed (flat_map (λ e. e.1.event.readings) own));
+  flow = energy_over (followed (flat_map (λ e. toward Import e.1.event.readings) own));
+  export = energy_over (followed (flat_map (λ e. toward Export e.1.event.readings) own));
 }))
 
 pub kept_same : (u : List ℕ) (es new : List Entry) → live_of u new ≡ live_of u es → kept_of u new ≡ kept_of u es
@@ -157,6 +167,6 @@ flow_if_le : (b : Bool) (e : Energy) → ((flow_if b e).up ≤ e.up) × ((flow_i
 flow_if_le true e = (omega arith, omega arith)
 flow_if_le false e = (omega arith, omega arith)
 
-pub flow_at_le : (n : ℕ) (o : Option Standing) → ((flow_at n o).up ≤ (flow_in o).up) × ((flow_at n o).down ≤ (flow_in o).down)
-flow_at_le n None = (omega arith, omega arith)
-flow_at_le n (Some s) = flow_if_le (s.evse == n) s.flow
+pub flow_at_le : (d : Direction) (n : ℕ) (o : Option Standing) → ((flow_at d n o).up ≤ (flow_in d o).up) × ((flow_at d n o).down ≤ (flow_in d o).down)
+flow_at_le d n None = (omega arith, omega arith)
+flow_at_le d n (Some s) = flow_if_le (s.evse == n) (flow_toward d s)

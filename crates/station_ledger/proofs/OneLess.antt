@@ -1,13 +1,13 @@
 -- What is kept of a transaction, when one live event more comes.
-use Rattle.std.proofs.Common.{◌≡◌, ◌==◌, ℕ, ◌+◌, ◌<◌, ◌≤◌, Bool, true, false, cond, List, [], ◌∷◌, ◌++◌, Option, None, Some, IfSome, is_some, length, map, slice_get, refl, sym, ap, ◌∙◌, subst, arith, length-append}
+use Rattle.std.proofs.Common.{◌≡◌, ◌==◌, ℕ, zero, suc, ◌+◌, ◌<◌, ◌≤◌, Bool, true, false, cond, List, [], ◌∷◌, ◌++◌, Option, None, Some, IfSome, length, map, slice_get, unwrap_or, refl, sym, ap, ◌∙◌, subst, arith, length-append}
 use Rattle.std.specs.List.{filter_map, cons_option}
 use Rattle.std.proofs.lemmas.List.{length-map, map-append}
 use Rattle.energy_flow.specs.Flow.{Energy}
 use Rattle.ledger_model.specs.Board.{last_or_none}
 use Rattle.ledger_model.specs.BoardLaws.{AreRising}
-use Rattle.ledger_model.specs.Content.{Entry, Stored, live_of}
-use Rattle.ledger_model.specs.Deltas.{IsOneMore, own_events, before_key, behind_key}
-use Rattle.ledger_model.specs.Evse.{first_or_none, evse_of}
+use Rattle.ledger_model.specs.Content.{Entry, live_of}
+use Rattle.ledger_model.specs.Deltas.{own_events, before_key, behind_key}
+use Rattle.ledger_model.specs.Evse.{first_or_none}
 use Rattle.ledger_model.specs.Gaps.{numbers_of, missing}
 use Rattle.ledger_model.specs.Key.{KeyName}
 use Rattle.ledger_model.proofs.Callers.{live_with, live_without}
@@ -69,22 +69,33 @@ filled (k ∷ front) (m ∷ back) n f up first lt =
     let long = length-append front (n ∷ m ∷ back) in let short = length-append front (m ∷ back) in
     ((λ le. omega (arith, now, was, same, last, before, high, long, short, le, lt)), (λ le. omega (arith, now, was, same, last, before, high, long, short, le, lt)))
 
+-- A number behind the first of some leaves it the first.
+keeps_first : (front back : List ℕ) (n f : ℕ) → AreRising (front ++ n ∷ back) → f ≡ unwrap_or (slice_get (front ++ back) 0) 0 → 0 < length (front ++ back) → f < n → slice_get (front ++ n ∷ back) 0 ≡ Some f
+keeps_first [] [] n f up is some lt = absurd (omega (arith, some))
+keeps_first [] (m ∷ back) n f up is some lt = absurd (omega (arith, up.0, is, lt))
+keeps_first (k ∷ front) back n f up is some lt = ap Some (sym is)
+
 -- An event that names no EVSE is passed over.
 passed : (front : List Entry) (e : Entry) (back : List Entry) → e.1.event.evse ≡ None → filter_map (λ (x : Entry). x.1.event.evse) (front ++ e ∷ back) ≡ filter_map (λ (x : Entry). x.1.event.evse) (front ++ back)
 passed [] e back none = ap (λ (o : Option ℕ). cons_option o (filter_map (λ (x : Entry). x.1.event.evse) back)) none
 passed (f ∷ front) e back none = ap (cons_option f.1.event.evse) (passed front e back none)
 
 -- What is kept, where something is.
-kept_is : (flow : Energy) (tx : List ℕ) (es : List Entry) (was : Standing) → Some was ≡ kept_with flow tx es → was ≡ standing_with flow tx es
-kept_is flow tx es was h = elim (length (live_of tx es) == 0) as (λ b. Some was ≡ cond b None (Some (standing_with flow tx es)) → was ≡ standing_with flow tx es) [ true ↦ λ x. cc | false ↦ λ x. cc ] h
+kept_is : (flow export : Energy) (tx : List ℕ) (es : List Entry) (was : Standing) → Some was ≡ kept_with flow export tx es → was ≡ standing_with flow export tx es
+kept_is flow export tx es was h = elim (length (live_of tx es) == 0) as (λ b. Some was ≡ cond b None (Some (standing_with flow export tx es)) → was ≡ standing_with flow export tx es) [ true ↦ λ x. cc | false ↦ λ x. cc ] h
+
+-- Something is kept of a transaction with a live event alone.
+some_kept : (n : ℕ) (s was : Standing) → Some was ≡ cond (n == 0) None (Some s) → 0 < n
+some_kept zero s was h = cc
+some_kept (suc n) s was h = omega arith
 
 -- What was kept of a transaction stands against its events once one more has come.
 pub one_less : (es : List Entry) (chains : Chained) (key : KeyName) (names : Bool) → HasCome es chains key names → AreRising (numbers_of key.tx (stored chains))
-    → (flow : Energy) (was : Standing) → Some was ≡ kept_with flow key.tx es → IsOneLess was key.tx key.seq names (stored chains)
-one_less es chains key names come up flow was kept =
+    → (flow export : Energy) (was : Standing) → Some was ≡ kept_with flow export key.tx es → IsOneLess was key.tx key.seq names (stored chains)
+one_less es chains key names come up flow export was kept =
     let new = stored chains in let tx = key.tx in let e : Entry = (key, come.event) in let front = before_key key es in let back = behind_key key es in
     let own = own_events tx front in let rest = own_events tx back in
-    let is = kept_is flow tx es was kept in
+    let is = kept_is flow export tx es was kept in
     let with = live_with es new front e back come.one in let without = live_without es new front e back come.one in
     let seq_of = λ (x : Entry). x.0.seq in
     let now : numbers_of tx new ≡ map seq_of own ++ key.seq ∷ map seq_of rest = ap (map seq_of) with ∙ map-append seq_of own (e ∷ rest) in
@@ -94,6 +105,8 @@ one_less es chains key names come up flow was kept =
     let rises = subst AreRising now up in
     record {
       live = omega (arith, ap length with, length-append own (e ∷ rest), ap (λ (s : Standing). s.live) is, ap length without, length-append own rest);
+      first = λ lt. ap (λ ns. slice_get ns 0) now ∙ keeps_first (map seq_of own) (map seq_of rest) key.seq was.first rises (ap (λ (s : Standing). s.first) is ∙ ap (λ ns. unwrap_or (slice_get ns 0) 0) before)
+          (omega (arith, lives, ap (λ (s : Standing). s.live) is, some_kept (length (live_of tx es)) (standing_with flow export tx es) was kept)) lt;
       evse = λ none. ap (λ xs. first_or_none (filter_map (λ (x : Entry). x.1.event.evse) xs)) with ∙ ap first_or_none (passed own e rest (come.evse none))
           ∙ sym (ap (λ (s : Standing). s.evse) is ∙ ap (λ xs. first_or_none (filter_map (λ (x : Entry). x.1.event.evse) xs)) without);
       within = λ first at lt le. let so = (filled (map seq_of own) (map seq_of rest) key.seq first rises (ap (λ ns. slice_get ns 0) (sym now) ∙ at) lt).0 (omega (arith, le, lives, gone)) in omega (arith, so, ap missing now, gone);
@@ -102,8 +115,8 @@ one_less es chains key names come up flow was kept =
 
 -- The same, where anything was kept.
 pub all_less : (es : List Entry) (chains : Chained) (key : KeyName) (names : Bool) → HasCome es chains key names → AreRising (numbers_of key.tx (stored chains))
-    → (tx : List ℕ) (seq : ℕ) → tx ≡ key.tx → seq ≡ key.seq → (flow : Energy) (was : Option Standing) → was ≡ kept_with flow tx es → IfSome was (λ w. IsOneLess w tx seq names (stored chains))
-all_less es chains key names come up tx seq tx_is seq_is flow None kept = tt
-all_less es chains key names come up tx seq tx_is seq_is flow (Some was) kept =
+    → (tx : List ℕ) (seq : ℕ) → tx ≡ key.tx → seq ≡ key.seq → (flow export : Energy) (was : Option Standing) → was ≡ kept_with flow export tx es → IfSome was (λ w. IsOneLess w tx seq names (stored chains))
+all_less es chains key names come up tx seq tx_is seq_is flow export None kept = tt
+all_less es chains key names come up tx seq tx_is seq_is flow export (Some was) kept =
     subst (λ t. IsOneLess was t seq names (stored chains)) (sym tx_is) (subst (λ n. IsOneLess was key.tx n names (stored chains)) (sym seq_is)
-    (one_less es chains key names come up flow was (kept ∙ ap (λ t. kept_with flow t es) tx_is)))
+    (one_less es chains key names come up flow export was (kept ∙ ap (λ t. kept_with flow export t es) tx_is)))

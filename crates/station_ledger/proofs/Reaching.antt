@@ -36,7 +36,7 @@ module _ (limits : Bounds) (transactions : limits.transactions ≤ most_transact
       record {
         figures_within = figures_within limits n c reached;
         readings_within = kept.readings;
-        in_time = pairs_in_time (entries c) kept.in_range;
+        in_time = λ d. pairs_in_time d (entries c) kept.in_range;
         few_in_each = λ key s found. few_readings_at key s (entries c) kept.in_range found;
         most_transactions_within = transactions;
         most_events_within = events;

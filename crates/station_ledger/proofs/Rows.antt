@@ -4,23 +4,51 @@ use Rattle.std.proofs.lemmas.List.{length-map}
 use Rattle.std.proofs.lemmas.List.Sums.{sum_by-append}
 use Rattle.energy_flow.specs.Flow.{Energy, CanPlus, CanMinus}
 use Rattle.ledger_model.specs.Board.{Flowed}
-use Rattle.ledger_model.specs.Energy.{Pair, difference, energy_over, quarter_of}
+use Rattle.ledger_model.specs.Energy.{Flows, flows_toward, Pair, difference, energy_over, quarter_of}
 use Rattle.ledger_model.proofs.Callers.{sum_by-map}
+use Rattle.ledger_model.proofs.SumLemmas.{sum_by-none}
+use Rattle.ledger_model.specs.declared.reading.Direction.{Direction}
+use Rattle.ledger_model.specs.declared.reading.Direction.TheVariants.{Import, Export}
 use Rattle.ledger_model.specs.Ranges.{greatest_reading, most_readings}
 use Rattle.quarter_table.specs.Table.{Table}
 use Rattle.quarter_table.specs.Rows.{row_at}
 use Rattle.quarter_table.specs.Pairs.{row_of, rows_of, rows_with, rows_without, total}
-use Rattle.quarter_table.proofs.Held.{few_rows, few_pairs, row_up_le, row_down_le, pair_counted, pair_held, last_pair}
+use Rattle.quarter_table.proofs.Held.{few_rows, few_pairs, row_up_le, row_down_le, row_export_up_le, row_export_down_le, pair_counted, pair_held, export_held, last_pair, last_export}
 use Rattle.quarter_table.proofs.Made.{made_row}
 use Rattle.quarter_table.proofs.Several.{made_with, made_without}
 use Rattle.station_ledger.specs.Quarters.{IsDifference, AreRows, HasRoom, quartered}
 
--- what pairs add up to is what their differences do
-pub total_quartered : (period : ℕ) (ps : List Pair) → total (quartered period ps) ≡ energy_over ps
-total_quartered period ps =
-    let up = sum_by-map (λ (f : Flowed). f.1.up) (λ p. (quarter_of period p, difference p)) ps in
-    let down = sum_by-map (λ (f : Flowed). f.1.down) (λ p. (quarter_of period p, difference p)) ps in
-    λ i. record { up = up i; down = down i }
+-- energies of both directions that are at most so much
+pub record AreAtMost (n : ℕ) (f : Flows) : Type 0 where
+  pub up : f.flow.up ≤ n
+  pub down : f.flow.down ≤ n
+  pub export_up : f.export.up ≤ n
+  pub export_down : f.export.down ≤ n
+
+-- an energy in one direction is at most itself in both
+pub at_most : (d : Direction) (e : Energy) (n : ℕ) → e.up ≤ n → e.down ≤ n → AreAtMost n (flows_toward d e)
+at_most Import e n up down = record { up = up; down = down; export_up = omega arith; export_down = omega arith }
+at_most Export e n up down = record { up = omega arith; down = omega arith; export_up = up; export_down = down }
+
+-- what pairs of a direction add up to is what their differences do
+pub total_quartered : (period : ℕ) (d : Direction) (ps : List Pair) → total (quartered period d ps) ≡ flows_toward d (energy_over ps)
+total_quartered period Import ps =
+    let shown : Pair → Flowed = λ p. (quarter_of period p, flows_toward Import (difference p)) in
+    let up = sum_by-map (λ (f : Flowed). f.1.flow.up) shown ps in
+    let down = sum_by-map (λ (f : Flowed). f.1.flow.down) shown ps in
+    let export_up = sum_by-map (λ (f : Flowed). f.1.export.up) shown ps ∙ sum_by-none ps in
+    let export_down = sum_by-map (λ (f : Flowed). f.1.export.down) shown ps ∙ sum_by-none ps in
+    λ i. record { flow = record { up = up i; down = down i }; export = record { up = export_up i; down = export_down i } }
+total_quartered period Export ps =
+    let shown : Pair → Flowed = λ p. (quarter_of period p, flows_toward Export (difference p)) in
+    let export_up = sum_by-map (λ (f : Flowed). f.1.export.up) shown ps in
+    let export_down = sum_by-map (λ (f : Flowed). f.1.export.down) shown ps in
+    let up = sum_by-map (λ (f : Flowed). f.1.flow.up) shown ps ∙ sum_by-none ps in
+    let down = sum_by-map (λ (f : Flowed). f.1.flow.down) shown ps ∙ sum_by-none ps in
+    λ i. record { flow = record { up = up i; down = down i }; export = record { up = export_up i; down = export_down i } }
+
+pub long : (period : ℕ) (d : Direction) (ps : List Pair) → length (quartered period d ps) ≡ length ps
+long period d ps = length-map {B = Flowed} ps (λ p. (quarter_of period p, flows_toward d (difference p)))
 
 module _ (t : Table) (more : ℕ) (has : HasRoom more t) where
   pub room_for_row : 0 < more → length t.rows < t.capacity
@@ -35,38 +63,58 @@ module _ (t : Table) (more : ℕ) (has : HasRoom more t) where
   pub room_for_pair : (q : ℕ) → (row_at q t.rows).pairs + 1 < 4294967296
   room_for_pair q = omega (arith, few_in_row q)
 
-  pub room_for_flow : (q : ℕ) (flow : Energy) → IsDifference flow → CanPlus (row_at q t.rows).flow flow
-  room_for_flow q flow small =
-      subst (λ r. CanPlus r.flow flow) (sym (row_is q)) (record {
-        up = omega (arith, row_up_le q has.0, has.1.up, small.up);
-        down = omega (arith, row_down_le q has.0, has.1.down, small.down);
+  pub room_for_flow : (q : ℕ) (d : Direction) (flow : Energy) → IsDifference flow → CanPlus (row_at q t.rows).flow (flows_toward d flow).flow
+  room_for_flow q d flow small =
+      let few = at_most d flow greatest_reading small.up small.down in
+      subst (λ r. CanPlus r.flow (flows_toward d flow).flow) (sym (row_is q)) (record {
+        up = omega (arith, row_up_le q has.0, has.1.up, few.up);
+        down = omega (arith, row_down_le q has.0, has.1.down, few.down);
+      })
+
+  pub room_for_export : (q : ℕ) (d : Direction) (flow : Energy) → IsDifference flow → CanPlus (row_at q t.rows).export (flows_toward d flow).export
+  room_for_export q d flow small =
+      let few = at_most d flow greatest_reading small.up small.down in
+      subst (λ r. CanPlus r.export (flows_toward d flow).export) (sym (row_is q)) (record {
+        up = omega (arith, row_export_up_le q has.0, has.1.export_up, few.export_up);
+        down = omega (arith, row_export_down_le q has.0, has.1.export_down, few.export_down);
       })
 
 -- what is there may be taken out
-module _ (q : ℕ) (flow : Energy) (others : List Flowed) (t : Table) (is : t.rows ≡ rows_of ((q, flow) ∷ others)) where
+module _ (q : ℕ) (flow : Flows) (others : List Flowed) (t : Table) (is : t.rows ≡ rows_of ((q, flow) ∷ others)) where
   pub there : 0 < (row_at q t.rows).pairs
   there = subst (λ rows. 0 < (row_at q rows).pairs) (sym is) (pair_counted [] q flow others)
 
-  pub held : CanMinus (row_at q t.rows).flow flow
-  held = subst (λ rows. CanMinus (row_at q rows).flow flow) (sym is) (pair_held [] q flow others)
+  pub held : CanMinus (row_at q t.rows).flow flow.flow
+  held = subst (λ rows. CanMinus (row_at q rows).flow flow.flow) (sym is) (pair_held [] q flow others)
 
-  pub last : (row_at q t.rows).pairs ≡ 1 → (row_at q t.rows).flow ≡ flow
-  last = subst (λ rows. (row_at q rows).pairs ≡ 1 → (row_at q rows).flow ≡ flow) (sym is) (last_pair [] q flow others)
+  pub held_export : CanMinus (row_at q t.rows).export flow.export
+  held_export = subst (λ rows. CanMinus (row_at q rows).export flow.export) (sym is) (export_held [] q flow others)
+
+  pub last : (row_at q t.rows).pairs ≡ 1 → (row_at q t.rows).flow ≡ flow.flow
+  last = subst (λ rows. (row_at q rows).pairs ≡ 1 → (row_at q rows).flow ≡ flow.flow) (sym is) (last_pair [] q flow others)
+
+  pub last_of_export : (row_at q t.rows).pairs ≡ 1 → (row_at q t.rows).export ≡ flow.export
+  last_of_export = subst (λ rows. (row_at q rows).pairs ≡ 1 → (row_at q rows).export ≡ flow.export) (sym is) (last_export [] q flow others)
 
 -- the rows with several pairs more
-pub rows_more : (period : ℕ) (ps : List Pair) (others : List Flowed) (more less : ℕ) (t new : Table) → AreRows others more t → length ps + less ≡ more
+pub rows_more : (period : ℕ) (d : Direction) (ps : List Pair) (others : List Flowed) (more less : ℕ) (t new : Table) → AreRows others more t → length ps + less ≡ more
     → (energy_over ps).up ≤ greatest_reading * length ps → (energy_over ps).down ≤ greatest_reading * length ps
-    → new.rows ≡ rows_with (quartered period ps) t.rows → new.capacity ≡ t.capacity → AreRows (quartered period ps ++ others) less new
-rows_more period ps others more less t new was n up down rows same =
-    let long : length (quartered period ps) ≡ length ps = length-map {B = Flowed} ps (λ p. (quarter_of period p, difference p)) in
-    let ups = sum_by-append (λ (f : Flowed). f.1.up) (quartered period ps) others in
-    let downs = sum_by-append (λ (f : Flowed). f.1.down) (quartered period ps) others in
-    let own = total_quartered period ps in
+    → new.rows ≡ rows_with (quartered period d ps) t.rows → new.capacity ≡ t.capacity → AreRows (quartered period d ps ++ others) less new
+rows_more period d ps others more less t new was n up down rows same =
+    let mine = quartered period d ps in
+    let ups = sum_by-append (λ (f : Flowed). f.1.flow.up) mine others in
+    let downs = sum_by-append (λ (f : Flowed). f.1.flow.down) mine others in
+    let export_ups = sum_by-append (λ (f : Flowed). f.1.export.up) mine others in
+    let export_downs = sum_by-append (λ (f : Flowed). f.1.export.down) mine others in
+    let few = at_most d (energy_over ps) (greatest_reading * length ps) up down in
+    let own = total_quartered period d ps in
     record {
-      rows = rows ∙ ap (rows_with (quartered period ps)) was.rows ∙ made_with (quartered period ps) others;
-      room = omega (arith, was.room, length-append (quartered period ps) others, same, n, long);
-      up = omega (arith, was.up, ups, up, n, ap (λ (e : Energy). e.up) own);
-      down = omega (arith, was.down, downs, down, n, ap (λ (e : Energy). e.down) own);
+      rows = rows ∙ ap (rows_with mine) was.rows ∙ made_with mine others;
+      room = omega (arith, was.room, length-append mine others, same, n, long period d ps);
+      up = omega (arith, was.up, ups, few.up, n, ap (λ (e : Flows). e.flow.up) own);
+      down = omega (arith, was.down, downs, few.down, n, ap (λ (e : Flows). e.flow.down) own);
+      export_up = omega (arith, was.export_up, export_ups, few.export_up, n, ap (λ (e : Flows). e.export.up) own);
+      export_down = omega (arith, was.export_down, export_downs, few.export_down, n, ap (λ (e : Flows). e.export.down) own);
       few = omega (arith, was.few, same);
     }
 

@@ -1,12 +1,13 @@
 -- Each reading of events in range is at a moment, and so the quarter of each pair begins at one.
-use Rattle.std.proofs.Common.{◌≡◌, ℕ, zero, suc, ◌/◌, not, List, [], ◌∷◌, ◌++◌, map, filter, sym, subst, arith, ⊎_elim}
+use Rattle.std.proofs.Common.{◌≡◌, ℕ, suc, not, true, false, cond, List, [], ◌∷◌, ◌++◌, map, sym, subst, arith, ⊎_elim}
 use Rattle.std.specs.List.{All, flat_map}
 use Rattle.std.specs.Str.{bytes_eq}
 use Rattle.std.proofs.lemmas.List.Elements.{All-nil, All-cons, All-append}
 use Rattle.ledger_model.specs.BoardLaws.{IsIn}
 use Rattle.ledger_model.specs.Content.{Entry, live, live_of, transactions_of}
 use Rattle.ledger_model.specs.Energy.{Pair, followed, pairs, pairs_of, quarter_of, readings_of}
-use Rattle.ledger_model.specs.Event.{MeterReading, IsMeterReading}
+use Rattle.ledger_model.specs.Event.{MeterReading, IsMeterReading, same_direction, toward}
+use Rattle.ledger_model.specs.declared.reading.Direction.{Direction}
 use Rattle.ledger_model.specs.Moment.{IsMoment}
 use Rattle.ledger_model.specs.Quarter.{IsPeriod, IsQuarterOf, quarter_at}
 use Rattle.ledger_model.proofs.Bounds.{AreEntries-filter}
@@ -25,24 +26,30 @@ timely-all : (rs : List MeterReading) → All IsMeterReading rs → AreTimely rs
 timely-all [] h = tt
 timely-all (r ∷ rs) h = ((h 0 r (omega arith)).moment, timely-all rs (λ k d lt. h (suc k) d (omega arith)))
 
-timely-entries : (es : List Entry) → AreEntries es → AreTimely (flat_map (λ e. e.1.event.readings) es)
-timely-entries [] h = tt
-timely-entries (e ∷ es) h = timely-append e.1.event.readings (flat_map (λ f. f.1.event.readings) es) (timely-all e.1.event.readings h.0.event.readings) (timely-entries es h.1)
+timely-some : (d : Direction) (rs : List MeterReading) → AreTimely rs → AreTimely (toward d rs)
+timely-some d [] h = tt
+timely-some d (r ∷ rs) h =
+    let rest = timely-some d rs h.1 in
+    elim (same_direction d r.direction) as (λ b. AreTimely (cond b (r ∷ toward d rs) (toward d rs))) [ true ↦ (h.0, rest) | false ↦ rest ]
+
+timely-entries : (d : Direction) (es : List Entry) → AreEntries es → AreTimely (flat_map (λ e. toward d e.1.event.readings) es)
+timely-entries d [] h = tt
+timely-entries d (e ∷ es) h = timely-append (toward d e.1.event.readings) (flat_map (λ f. toward d f.1.event.readings) es) (timely-some d e.1.event.readings (timely-all e.1.event.readings h.0.event.readings)) (timely-entries d es h.1)
 
 later_timely : (rs : List MeterReading) → AreTimely rs → All (λ (p : Pair). IsMoment p.1.moment) (followed rs)
 later_timely [] h = All-nil (λ (p : Pair). IsMoment p.1.moment)
 later_timely (r ∷ []) h = All-nil (λ (p : Pair). IsMoment p.1.moment)
 later_timely (r ∷ s ∷ rs) h = All-cons (λ (p : Pair). IsMoment p.1.moment) (r, s) (followed (s ∷ rs)) h.1.0 (later_timely (s ∷ rs) h.1)
 
-of_each : (es : List Entry) (txs : List (List ℕ)) → AreEntries (live es) → All (λ (p : Pair). IsMoment p.1.moment) (flat_map (λ tx. pairs_of tx es) txs)
-of_each es [] h = All-nil (λ (p : Pair). IsMoment p.1.moment)
-of_each es (tx ∷ txs) h = All-append (λ (p : Pair). IsMoment p.1.moment) (pairs_of tx es) (flat_map (λ t. pairs_of t es) txs)
-    (later_timely (readings_of tx es) (timely-entries (live_of tx es) (AreEntries-filter (λ e. bytes_eq tx e.0.tx) (live es) h)))
-    (of_each es txs h)
+of_each : (d : Direction) (es : List Entry) (txs : List (List ℕ)) → AreEntries (live es) → All (λ (p : Pair). IsMoment p.1.moment) (flat_map (λ tx. pairs_of d tx es) txs)
+of_each d es [] h = All-nil (λ (p : Pair). IsMoment p.1.moment)
+of_each d es (tx ∷ txs) h = All-append (λ (p : Pair). IsMoment p.1.moment) (pairs_of d tx es) (flat_map (λ t. pairs_of d t es) txs)
+    (later_timely (readings_of d tx es) (timely-entries d (live_of tx es) (AreEntries-filter (λ e. bytes_eq tx e.0.tx) (live es) h)))
+    (of_each d es txs h)
 
 -- each pair's later reading is at a moment
-pub pairs_in_time : (es : List Entry) → AreEntries es → All (λ (p : Pair). IsMoment p.1.moment) (pairs es)
-pairs_in_time es h = of_each es (transactions_of (live es)) (AreEntries-filter (λ e. not e.1.voided) es h)
+pub pairs_in_time : (d : Direction) (es : List Entry) → AreEntries es → All (λ (p : Pair). IsMoment p.1.moment) (pairs d es)
+pairs_in_time d es h = of_each d es (transactions_of (live es)) (AreEntries-filter (λ e. not e.1.voided) es h)
 
 -- the quarter of a moment begins at one
 own_quarter : (period moment : ℕ) → IsPeriod period → IsMoment moment → IsQuarterOf period (quarter_at period moment)

@@ -13,6 +13,7 @@ use Rattle.std.proofs.lemmas.Slice.Eq.{bytes_eq-Decides}
 use Rattle.event_chain.specs.Chains.{Chained, stored}
 use Rattle.ledger_model.specs.Board.{last_or_none}
 use Rattle.ledger_model.specs.Content.{Entry, live, transactions_of, has_transaction}
+use Rattle.ledger_model.specs.declared.reading.Direction.TheVariants.{Import, Export}
 use Rattle.ledger_model.specs.Energy.{energy_of}
 use Rattle.ledger_model.specs.Evse.{first_or_none}
 use Rattle.ledger_model.specs.Limits.{Bounds}
@@ -71,8 +72,8 @@ some_own tx (e ∷ es) h = elim (bytes_eq tx e.0.tx) as (λ b. (b || has_transac
 -- it is kept just where it has a live event
 kept_has : (tx : List ℕ) (es : List Entry) → is_some (kept_of tx es) ≡ has_transaction tx (live es)
 kept_has tx es = elim (has_transaction tx (live es)) as (λ b. has_transaction tx (live es) ≡ b → is_some (kept_of tx es) ≡ b) [
-  | true ↦ λ e. ap is_some (sym (kept_some (energy_of tx es) tx es (some_own tx (live es) e)))
-  | false ↦ λ e. ap is_some (sym (kept_none (energy_of tx es) tx es (ap length (none_live tx es e))))
+  | true ↦ λ e. ap is_some (sym (kept_some (energy_of Import tx es) (energy_of Export tx es) tx es (some_own tx (live es) e)))
+  | false ↦ λ e. ap is_some (sym (kept_none (energy_of Import tx es) (energy_of Export tx es) tx es (ap length (none_live tx es e))))
 ] refl
 
 -- an id at a place is one of them
@@ -91,11 +92,11 @@ module _ (limits : Bounds) (c : Chained) (kept : Mapped Standing) (standing : Ar
       ∙ bare_ids ts
 
   -- what is found under the id of a place
-  pub found_at : (n : ℕ) (tx : List ℕ) → slice_get (map (λ (r : List ℕ × Standing). r.0) kept.rows) n ≡ Some tx → find id_cmp tx kept.rows ≡ Some (standing_with (energy_of tx (stored c)) tx (stored c))
+  pub found_at : (n : ℕ) (tx : List ℕ) → slice_get (map (λ (r : List ℕ × Standing). r.0) kept.rows) n ≡ Some tx → find id_cmp tx kept.rows ≡ Some (standing_with (energy_of Import tx (stored c)) (energy_of Export tx (stored c)) tx (stored c))
   found_at n tx at =
       let es = stored c in
       let any = is_any (transactions_of (live es)) n tx (ap (λ ts. slice_get ts n) (sym kept_ids) ∙ at) in
-      standing.each tx ∙ sym (kept_some (energy_of tx es) tx es (some_own tx (live es) (sym (transactions-any tx (live es)) ∙ any)))
+      standing.each tx ∙ sym (kept_some (energy_of Import tx es) (energy_of Export tx es) tx es (some_own tx (live es) (sym (transactions-any tx (live es)) ∙ any)))
 
 -- the lines with that of the next id
 pub line_more : {X : Type 0} (line : List ℕ → X) (ids : List (List ℕ)) (n : ℕ) (tx : List ℕ) → slice_get ids n ≡ Some tx → map line (take (n + 1) ids) ≡ map line (take n ids) ++ line tx ∷ []

@@ -17,6 +17,7 @@ pub record HasCome (es : List Entry) (chains : Chained) (key : KeyName) (names :
 -- What was kept of a transaction before the live event of a number came, against its events since: behind the first one that number tells what is missing.
 pub record IsOneLess (was : Standing) (tx : List ℕ) (seq : ℕ) (names : Bool) (es : List Entry) : Type 0 where
   pub live : length (live_of tx es) ≡ was.live + 1
+  pub first : was.first < seq → slice_get (numbers_of tx es) 0 ≡ Some was.first
   pub evse : names ≡ false → evse_of tx es ≡ was.evse
   pub within : (first : ℕ) → slice_get (numbers_of tx es) 0 ≡ Some first → first < seq → seq < first + was.live + was.missing → missing (numbers_of tx es) + 1 ≡ was.missing
   pub beyond : (first : ℕ) → slice_get (numbers_of tx es) 0 ≡ Some first → first < seq → first + was.live + was.missing ≤ seq → missing (numbers_of tx es) + (first + was.live + was.missing) ≡ was.missing + seq

@@ -28,10 +28,10 @@ abbrev pub voided_in : Chained → ℕ
 voided_in chains = count_by (λ e. e.1.voided) (stored chains)
 
 -- Events that the limits allow, reached by so many changes, and their sums.
-pub record IsKept (limits : Bounds) (chains : Chained) (changes : ℕ) (kept : Mapped Standing) (evses : List EvseSum) (period : ℕ) (quarters : Table) (total : Energy) (f : Figures) : Type 0 where
+pub record IsKept (limits : Bounds) (chains : Chained) (changes : ℕ) (kept : Mapped Standing) (evses : List EvseSum) (period : ℕ) (quarters : Table) (total export : Energy) (f : Figures) : Type 0 where
   pub limits_are : chains.limits ≡ limits
   pub reached : Reached limits changes (content_in chains changes)
-  pub summed : AreSummed limits (stored chains) kept evses period quarters total f
+  pub summed : AreSummed limits (stored chains) kept evses period quarters total export f
   pub voided_are : f.voided ≡ voided_in chains
   pub few_transactions : limits.transactions ≤ most_transactions
   pub few_events : limits.events ≤ most_events

@@ -1,6 +1,7 @@
 pub mod Kept
 pub mod Ledger
 pub mod Quarters
+pub mod Sides
 pub mod Moved
 pub mod Spent
 pub mod Sums

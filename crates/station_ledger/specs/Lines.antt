@@ -2,6 +2,7 @@
 use Rattle.std.specs.Prelude.{ℕ, ◌*◌, ◌<◌, ◌≤◌, List, All}
 use Rattle.energy_flow.specs.Flow.{Energy}
 use Rattle.ledger_model.specs.Board.{Flowed}
+use Rattle.ledger_model.specs.Energy.{Flows}
 use Rattle.ledger_model.specs.Quarter.{IsQuarterOf}
 use Rattle.ledger_model.specs.Ranges.{greatest_reading, most_readings, sequence_end}
 
@@ -10,14 +11,20 @@ pub record IsStationFlow (flow : Energy) : Type 0 where
   pub up : flow.up ≤ greatest_reading * most_readings
   pub down : flow.down ≤ greatest_reading * most_readings
 
--- What a board shows of a transaction is in range: its lowest and highest number, and its energy.
-pub record IsShown (first last : ℕ) (flow : Energy) : Type 0 where
+-- Energies that the readings of one station can show, in each direction.
+pub record AreStationFlows (flows : Flows) : Type 0 where
+  pub flow : IsStationFlow flows.flow
+  pub export : IsStationFlow flows.export
+
+-- What a board shows of a transaction is in range: its lowest and highest number, and its energies.
+pub record IsShown (first last : ℕ) (flow export : Energy) : Type 0 where
   pub first_number : first < sequence_end
   pub last_number : last < sequence_end
   pub flow_in_range : IsStationFlow flow
+  pub export_in_range : IsStationFlow export
 
 -- No line has more energy than the readings of one station can show, and each quarter is one of the period's.
 pub record AreStationLines (period : ℕ) (evses quarters : List Flowed) : Type 0 where
-  pub evse_flows : All (λ line. IsStationFlow line.1) evses
-  pub quarter_flows : All (λ line. IsStationFlow line.1) quarters
+  pub evse_flows : All (λ line. AreStationFlows line.1) evses
+  pub quarter_flows : All (λ line. AreStationFlows line.1) quarters
   pub own_quarters : All (λ line. IsQuarterOf period line.0) quarters

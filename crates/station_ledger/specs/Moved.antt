@@ -2,6 +2,8 @@
 use Rattle.std.specs.Prelude.{◌≡◌, ℕ, ◌+◌, ◌-◌, ◌<◌, ◌≤◌, ◌^◌, ◌==◌, false, unwrap_or, slice_get, if◌then◌else◌, List, Option, None, Some, length, count_by, sum_by}
 use Rattle.std.specs.Str.{bytes_eq}
 use Rattle.energy_flow.specs.Flow.{Energy, no_energy, plus, minus, CanPlus, CanMinus}
+use Rattle.ledger_model.specs.declared.reading.Direction.{Direction}
+use Rattle.ledger_model.specs.declared.reading.Direction.TheVariants.{Import, Export}
 use Rattle.ledger_model.specs.Complete.{is_complete}
 use Rattle.ledger_model.specs.Content.{Entry, live, live_of, transactions_of}
 use Rattle.ledger_model.specs.Deltas.{flow_if}
@@ -29,20 +31,25 @@ abbrev pub missing_in : Option Standing → ℕ
 missing_in None = 0
 missing_in (Some s) = s.missing
 
--- Its energy.
-abbrev pub flow_in : Option Standing → Energy
-flow_in None = no_energy
-flow_in (Some s) = s.flow
+-- The energy of a standing in one direction.
+abbrev pub flow_toward : Direction → Standing → Energy
+flow_toward Import s = s.flow
+flow_toward Export s = s.export
+
+-- Its energy in one direction.
+abbrev pub flow_in : Direction → Option Standing → Energy
+flow_in d None = no_energy
+flow_in d (Some s) = flow_toward d s
 
 -- What it counts for at an EVSE.
 abbrev pub one_at : ℕ → Option Standing → ℕ
 one_at n None = 0
 one_at n (Some s) = if s.evse == n then 1 else 0
 
--- Its energy at an EVSE.
-abbrev pub flow_at : ℕ → Option Standing → Energy
-flow_at n None = no_energy
-flow_at n (Some s) = flow_if (s.evse == n) s.flow
+-- Its energy at an EVSE in one direction.
+abbrev pub flow_at : Direction → ℕ → Option Standing → Energy
+flow_at d n None = no_energy
+flow_at d n (Some s) = flow_if (s.evse == n) (flow_toward d s)
 
 -- The live events of one transaction changed: no other's did, and each sum changed by what that one counts for.
 pub record IsMoved (tx : List ℕ) (es new : List Entry) : Type 0 where
@@ -52,11 +59,11 @@ pub record IsMoved (tx : List ℕ) (es new : List Entry) : Type 0 where
   pub complete : count_by (λ u. is_complete u new) (transactions_of (live new)) + complete_in (kept_of tx es) ≡ count_by (λ u. is_complete u es) (transactions_of (live es)) + complete_in (kept_of tx new)
   pub missing_are : sum_by (λ u. missing (numbers_of u new)) (transactions_of (live new)) + missing_in (kept_of tx es) ≡ sum_by (λ u. missing (numbers_of u es)) (transactions_of (live es)) + missing_in (kept_of tx new)
   pub at_evse : (n : ℕ) → length (transactions_at n new) + one_at n (kept_of tx es) ≡ length (transactions_at n es) + one_at n (kept_of tx new)
-  pub flow_at_evse : (n : ℕ) → plus (energy_at n new) (flow_at n (kept_of tx es)) ≡ plus (energy_at n es) (flow_at n (kept_of tx new))
+  pub flow_at_evse : (d : Direction) (n : ℕ) → plus (energy_at d n new) (flow_at d n (kept_of tx es)) ≡ plus (energy_at d n es) (flow_at d n (kept_of tx new))
 
 -- An EVSE without transactions.
 abbrev pub no_sum : EvseSum
-no_sum = record { transactions = 0; flow = no_energy }
+no_sum = record { transactions = 0; flow = no_energy; export = no_energy }
 
 -- The sum of an EVSE among those of all, by its number.
 abbrev pub sum_at : List EvseSum → ℕ → EvseSum
@@ -64,25 +71,27 @@ sum_at sums n = unwrap_or (slice_get sums n) no_sum
 
 -- The sum of an EVSE from scratch.
 abbrev pub evse_sum : ℕ → List Entry → EvseSum
-evse_sum n es = record { transactions = length (transactions_at n es); flow = energy_at n es }
+evse_sum n es = record { transactions = length (transactions_at n es); flow = energy_at Import n es; export = energy_at Export n es }
 
 -- The sum of an EVSE with what a transaction counts for there.
 abbrev pub with_one : ℕ → Option Standing → EvseSum → EvseSum
-with_one n o sum = record { transactions = sum.transactions + one_at n o; flow = plus sum.flow (flow_at n o) }
+with_one n o sum = record { transactions = sum.transactions + one_at n o; flow = plus sum.flow (flow_at Import n o); export = plus sum.export (flow_at Export n o) }
 
 -- The sum of an EVSE without it.
 abbrev pub without_one : ℕ → Option Standing → EvseSum → EvseSum
-without_one n o sum = record { transactions = sum.transactions - one_at n o; flow = minus sum.flow (flow_at n o) }
+without_one n o sum = record { transactions = sum.transactions - one_at n o; flow = minus sum.flow (flow_at Import n o); export = minus sum.export (flow_at Export n o) }
 
 -- There is room for what a transaction counts for at an EVSE.
 pub record HasRoomAt (n : ℕ) (o : Option Standing) (sum : EvseSum) : Type 0 where
   pub number : sum.transactions + one_at n o < 2 ^ 32
-  pub energy : CanPlus sum.flow (flow_at n o)
+  pub energy : CanPlus sum.flow (flow_at Import n o)
+  pub export : CanPlus sum.export (flow_at Export n o)
 
 -- What a transaction counts for is in the sum of an EVSE.
 pub record CountsAt (n : ℕ) (o : Option Standing) (sum : EvseSum) : Type 0 where
   pub number : one_at n o ≤ sum.transactions
-  pub energy : CanMinus sum.flow (flow_at n o)
+  pub energy : CanMinus sum.flow (flow_at Import n o)
+  pub export : CanMinus sum.export (flow_at Export n o)
 
 -- The figures with what a transaction counts for, but for its energy.
 abbrev pub with_figures : Option Standing → Figures → Figures
@@ -105,3 +114,8 @@ pub record DoCount (o : Option Standing) (f : Figures) : Type 0 where
   pub transactions : one_in o ≤ f.transactions
   pub complete : complete_in o ≤ f.complete
   pub missing_fit : missing_in o ≤ f.missing
+
+-- What comes may be added to an energy, and what goes taken from that.
+pub record CanTrade (flow less more : Energy) : Type 0 where
+  pub room : CanPlus flow more
+  pub holds : CanMinus (plus flow more) less

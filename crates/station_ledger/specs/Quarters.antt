@@ -4,6 +4,8 @@ use Rattle.std.specs.FinMap as finite
 use Rattle.event_chain.specs.Chains.{Chained}
 use Rattle.event_chain.specs.Room.{readings_under}
 use Rattle.energy_flow.specs.Flow.{Energy}
+use Rattle.ledger_model.specs.declared.reading.Direction.{Direction}
+use Rattle.ledger_model.specs.declared.reading.Direction.TheVariants.{Import, Export}
 use Rattle.ledger_model.specs.Board.{Flowed}
 use Rattle.ledger_model.specs.Energy.{Pair}
 use Rattle.ledger_model.specs.Event.{MeterReading}
@@ -17,26 +19,40 @@ pub record IsDifference (flow : Energy) : Type 0 where
   pub up : flow.up ≤ greatest_reading
   pub down : flow.down ≤ greatest_reading
 
--- Pairs by their quarters, of periods of so many seconds, and their differences.
-abbrev pub quartered : ℕ → List Pair → List Flowed
-quartered period ps = flows_of period ps
+-- Pairs of one direction by their quarters, of periods of so many seconds, and their differences.
+abbrev pub quartered : ℕ → Direction → List Pair → List Flowed
+quartered period d ps = flows_of period d ps
 
--- A table of these pairs, with room for so many more; what all of them add up to stays far below 2^64.
+-- The pairs of both directions by their quarters.
+abbrev pub both_quartered : ℕ → (Direction → List Pair) → List Flowed
+both_quartered period ps = quartered period Import (ps Import) ++ quartered period Export (ps Export)
+
+-- How many pairs both directions have.
+abbrev pub both_length : (Direction → List Pair) → ℕ
+both_length ps = length (ps Import) + length (ps Export)
+
+-- A table of these pairs, with room for so many more; what all of them add up to stays far below 2^64 in each direction.
 pub record AreRows (pairs : List Flowed) (more : ℕ) (t : Table) : Type 0 where
   pub rows : t.rows ≡ rows_of pairs
   pub room : length pairs + more ≤ t.capacity
-  pub up : (total pairs).up + greatest_reading * more ≤ greatest_reading * (2 * most_readings)
-  pub down : (total pairs).down + greatest_reading * more ≤ greatest_reading * (2 * most_readings)
+  pub up : (total pairs).flow.up + greatest_reading * more ≤ greatest_reading * (2 * most_readings)
+  pub down : (total pairs).flow.down + greatest_reading * more ≤ greatest_reading * (2 * most_readings)
+  pub export_up : (total pairs).export.up + greatest_reading * more ≤ greatest_reading * (2 * most_readings)
+  pub export_down : (total pairs).export.down + greatest_reading * more ≤ greatest_reading * (2 * most_readings)
   pub few : t.capacity ≤ most_readings
 
 -- A table of pairs with room for so many more.
 abbrev pub HasRoom : ℕ → Table → Type 0
 HasRoom more t = (pairs : List Flowed) × AreRows pairs more t
 
--- A table of pairs, these among them.
-abbrev pub HoldsPairs : ℕ → List Pair → Table → Type 0
-HoldsPairs period ps t = (others : List Flowed) × (t.rows ≡ rows_of (quartered period ps ++ others))
+-- A table of pairs, these of one direction among them.
+abbrev pub HoldsPairs : ℕ → Direction → List Pair → Table → Type 0
+HoldsPairs period d ps t = (others : List Flowed) × (t.rows ≡ rows_of (quartered period d ps ++ others))
 
--- The readings of the event of a key.
-abbrev pub readings_at : Chained → KeyName → List MeterReading
-readings_at chains key = readings_under (finite.get chains.events key)
+-- A table of pairs, these of both directions among them.
+abbrev pub HoldsBoth : ℕ → (Direction → List Pair) → Table → Type 0
+HoldsBoth period ps t = (others : List Flowed) × (t.rows ≡ rows_of (both_quartered period ps ++ others))
+
+-- The readings of a direction of the event of a key.
+abbrev pub readings_at : Direction → Chained → KeyName → List MeterReading
+readings_at d chains key = readings_under d (finite.get chains.events key)

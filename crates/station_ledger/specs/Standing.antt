@@ -1,32 +1,35 @@
 -- What is kept of a transaction with a live event.
-use Rattle.std.specs.Prelude.{ℕ, Bool, true, false, ◌&&◌, ◌==◌, if◌then◌else◌, List, Option, None, Some, length}
+use Rattle.std.specs.Prelude.{ℕ, Bool, true, false, ◌&&◌, ◌==◌, if◌then◌else◌, List, Option, None, Some, length, slice_get, unwrap_or}
 use Rattle.energy_flow.specs.Flow.{Energy}
 use Rattle.ledger_model.specs.Content.{Entry, live_of}
 use Rattle.ledger_model.specs.Complete.{is_complete}
 use Rattle.ledger_model.specs.declared.kind.Kind.{Kind}
 use Rattle.ledger_model.specs.declared.kind.Kind.TheVariants.{Started, Ended}
+use Rattle.ledger_model.specs.declared.reading.Direction.TheVariants.{Import, Export}
 use Rattle.ledger_model.specs.Energy.{energy_of}
 use Rattle.ledger_model.specs.Evse.{evse_of}
 use Rattle.ledger_model.specs.Gaps.{numbers_of, missing}
 use Rattle.station_ledger.specs.declared.standing.Standing.{Standing}
 
--- A transaction's standing, with this energy.
-abbrev pub standing_with : Energy → List ℕ → List Entry → Standing
-standing_with flow tx es = record {
+-- A transaction's standing, with these energies: imported, and exported.
+abbrev pub standing_with : Energy → Energy → List ℕ → List Entry → Standing
+standing_with flow export tx es = record {
+  first = unwrap_or (slice_get (numbers_of tx es) 0) 0;
   live = length (live_of tx es);
   evse = evse_of tx es;
   complete = is_complete tx es;
   missing = missing (numbers_of tx es);
   flow = flow;
+  export = export;
 }
 
 -- The same, where the transaction has a live event.
-abbrev pub kept_with : Energy → List ℕ → List Entry → Option Standing
-kept_with flow tx es = if length (live_of tx es) == 0 then None else Some (standing_with flow tx es)
+abbrev pub kept_with : Energy → Energy → List ℕ → List Entry → Option Standing
+kept_with flow export tx es = if length (live_of tx es) == 0 then None else Some (standing_with flow export tx es)
 
--- What is kept of a transaction: its standing with its energy, where it has a live event.
+-- What is kept of a transaction: its standing with its energies, where it has a live event.
 abbrev pub kept_of : List ℕ → List Entry → Option Standing
-kept_of tx es = kept_with (energy_of tx es) tx es
+kept_of tx es = kept_with (energy_of Import tx es) (energy_of Export tx es) tx es
 
 -- Tells whether the first kind is Started.
 abbrev pub is_started : Option Kind → Bool

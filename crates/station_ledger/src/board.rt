@@ -1,17 +1,18 @@
 ghost use Rattle.std.specs.Prelude.{◌≡◌, ◌<◌, All};
 ghost use Rattle.ledger_model.specs.Quarter.{IsQuarterOf};
 ghost use Rattle.ledger_model.specs.Ranges.{sequence_end};
-ghost use Rattle.station_ledger.specs.Lines.{IsStationFlow};
+ghost use Rattle.station_ledger.specs.Lines.{AreStationFlows, IsStationFlow};
 
 use energy_flow::Flow;
 use ledger_model::{EvseId, Figures, Listed, Period, Quarter, TxId};
 use std::marker::Model;
 
-/// An EVSE of a station, 0 where none was named, with the energy of its transactions.
+/// An EVSE of a station, 0 where none was named, with the energies of its transactions.
 #[derive(Clone, Copy, Debug, PartialEq, Eq)]
 pub struct EvseLine {
     evse: EvseId,
     flow: Flow,
+    export: Flow,
 }
 
 impl Model for EvseLine {
@@ -19,18 +20,19 @@ impl Model for EvseLine {
 
     ghost Value = { Flowed };
 
-    ghost view = { λ l. (l.evse, l.flow) };
+    ghost view = { λ l. (l.evse, record { flow = l.flow; export = l.export }) };
 
-    ghost inverse = { λ f. record { evse = f.0; flow = f.1 } };
+    ghost inverse = { λ f. record { evse = f.0; flow = f.1.flow; export = f.1.export } };
 }
 
 impl EvseLine {
-    /// The line of this EVSE and this energy.
-    pub fn new(evse: EvseId, flow: Flow) -> Self
+    /// The line of this EVSE and these energies: imported, and exported.
+    pub fn new(evse: EvseId, flow: Flow, export: Flow) -> Self
         ensures evse { result.0 ≡ evse }
-        ensures flow { result.1 ≡ flow }
+        ensures flow { result.1.flow ≡ flow }
+        ensures export { result.1.export ≡ export }
     {
-        EvseLine { evse, flow }
+        EvseLine { evse, flow, export }
     }
 
     /// The EVSE.
@@ -40,19 +42,27 @@ impl EvseLine {
         self.evse
     }
 
-    /// Its energy, in milliwatt-hours.
+    /// Its imported energy, in milliwatt-hours.
     pub fn flow(self) -> Flow
-        ensures { result ≡ self.1 }
+        ensures { result ≡ self.1.flow }
     {
         self.flow
     }
+
+    /// Its exported energy, in milliwatt-hours.
+    pub fn export(self) -> Flow
+        ensures { result ≡ self.1.export }
+    {
+        self.export
+    }
 }
 
-/// A quarter of a station that has a pair of readings, with its energy.
+/// A quarter of a station that has a pair of readings of either direction, with its energies.
 #[derive(Clone, Copy, Debug, PartialEq, Eq)]
 pub struct QuarterLine {
     quarter: Quarter,
     flow: Flow,
+    export: Flow,
 }
 
 impl Model for QuarterLine {
@@ -60,18 +70,23 @@ impl Model for QuarterLine {
 
     ghost Value = { Flowed };
 
-    ghost view = { λ l. (l.quarter, l.flow) };
+    ghost view = { λ l. (l.quarter, record { flow = l.flow; export = l.export }) };
 
-    ghost inverse = { λ f. record { quarter = f.0; flow = f.1 } };
+    ghost inverse = { λ f. record { quarter = f.0; flow = f.1.flow; export = f.1.export } };
 }
 
 impl QuarterLine {
-    /// The line of this quarter and this energy.
-    pub fn new(quarter: Quarter, flow: Flow) -> Self
+    /// The line of this quarter and these energies: imported, and exported.
+    pub fn new(quarter: Quarter, flow: Flow, export: Flow) -> Self
         ensures quarter { result.0 ≡ quarter }
-        ensures flow { result.1 ≡ flow }
+        ensures flow { result.1.flow ≡ flow }
+        ensures export { result.1.export ≡ export }
     {
-        QuarterLine { quarter, flow }
+        QuarterLine {
+            quarter,
+            flow,
+            export,
+        }
     }
 
     /// The quarter.
@@ -81,11 +96,18 @@ impl QuarterLine {
         self.quarter
     }
 
-    /// Its energy, in milliwatt-hours.
+    /// Its imported energy, in milliwatt-hours.
     pub fn flow(self) -> Flow
-        ensures { result ≡ self.1 }
+        ensures { result ≡ self.1.flow }
     {
         self.flow
+    }
+
+    /// Its exported energy, in milliwatt-hours.
+    pub fn export(self) -> Flow
+        ensures { result ≡ self.1.export }
+    {
+        self.export
     }
 }
 
@@ -100,6 +122,7 @@ pub struct TxLine {
     pub(crate) complete: bool,
     pub(crate) missing: u64,
     pub(crate) flow: Flow,
+    pub(crate) export: Flow,
     pub(crate) gaps: Listed<(u32, u32)>,
 }
 
@@ -109,9 +132,9 @@ impl Model for TxLine {
 
     ghost Value = { Shown };
 
-    ghost view = { λ l. record { tx = l.tx; evse = l.evse; events = l.events; first = l.first; last = l.last; complete = l.complete; missing = l.missing; flow = l.flow; gaps = l.gaps } };
+    ghost view = { λ l. record { tx = l.tx; evse = l.evse; events = l.events; first = l.first; last = l.last; complete = l.complete; missing = l.missing; flow = l.flow; export = l.export; gaps = l.gaps } };
 
-    ghost invariant = { λ l. IsShown l.first l.last l.flow };
+    ghost invariant = { λ l. IsShown l.first l.last l.flow l.export };
 }
 
 impl TxLine {
@@ -167,12 +190,20 @@ impl TxLine {
         self.missing
     }
 
-    /// Its energy, in milliwatt-hours.
+    /// Its imported energy, in milliwatt-hours.
     pub fn flow(&self) -> Flow
         ensures value { result ≡ self.now.flow }
         ensures range { IsStationFlow result }
     {
         self.flow
+    }
+
+    /// Its exported energy, in milliwatt-hours.
+    pub fn export(&self) -> Flow
+        ensures value { result ≡ self.now.export }
+        ensures range { IsStationFlow result }
+    {
+        self.export
     }
 
     /// The ranges of missing sequence numbers, each with its first and its last, rising.
@@ -190,7 +221,7 @@ impl TxLine {
     }
 }
 
-/// The board of a station: its settlement period; its figures; its EVSEs and its quarters with their energy, rising; and its
+/// The board of a station: its settlement period; its figures; its EVSEs and its quarters with their energies, rising; and its
 /// transactions with a live event, by the bytes of their ids.
 #[derive(Debug, Drop)]
 pub struct StationBoard {
@@ -220,7 +251,7 @@ impl StationBoard {
         self.period
     }
 
-    /// The seven figures.
+    /// The nine figures.
     pub fn figures(&self) -> Figures
         ensures { result ≡ self.now.figures }
     {
@@ -231,7 +262,7 @@ impl StationBoard {
     /// readings of one station can show.
     pub fn evses(&self) -> &[EvseLine]
         ensures value { result.now ≡ self.now.evses }
-        ensures range { All (λ line. IsStationFlow line.1) result.now }
+        ensures range { All (λ line. AreStationFlows line.1) result.now }
     {
         self.evses.as_slice()
     }
@@ -240,7 +271,7 @@ impl StationBoard {
     /// more energy than the readings of one station can show.
     pub fn quarters(&self) -> &[QuarterLine]
         ensures value { result.now ≡ self.now.quarters }
-        ensures range { All (λ line. IsStationFlow line.1) result.now }
+        ensures range { All (λ line. AreStationFlows line.1) result.now }
         ensures own { All (λ line. IsQuarterOf self.now.period line.0) result.now }
     {
         self.quarters.as_slice()

@@ -2,6 +2,7 @@ ghost use Rattle.std.specs.Prelude.{◌≡◌, ◌+◌, ◌≤◌, IfOk};
 ghost use Rattle.std.specs.FinMap as finite;
 ghost use Rattle.ledger_model.specs.Ranges.{most_event_readings};
 ghost use Rattle.ledger_model.specs.Content.{empty_content, entries};
+ghost use Rattle.ledger_model.specs.declared.reading.Direction.TheVariants.{Import, Export};
 ghost use Rattle.ledger_model.specs.Energy.{energy};
 ghost use Rattle.ledger_model.specs.Evse.{energy_at};
 ghost use Rattle.ledger_model.specs.Figures.{AreWithin};
@@ -41,7 +42,7 @@ impl Model for StationLedger {
 
     ghost view = { λ l. record { limits = l.limits; period = l.sums.period; content = content_in l.chains l.changes } };
 
-    ghost invariant = { λ l. IsKept l.limits l.chains l.changes l.sums.kept l.sums.evses.items l.sums.period l.sums.quarters l.sums.energy l.sums.figures };
+    ghost invariant = { λ l. IsKept l.limits l.chains l.changes l.sums.kept l.sums.evses.items l.sums.period l.sums.quarters l.sums.energy l.sums.export l.sums.figures };
 }
 
 impl StationLedger {
@@ -160,16 +161,24 @@ impl StationLedger {
         answer
     }
 
-    /// What the register rose and fell by over all transactions, in milliwatt-hours; no reading is
-    /// compared.
+    /// What the import register rose and fell by over all transactions, in milliwatt-hours; no reading
+    /// is compared.
     pub fn energy(&self) -> Flow
-        ensures { result ≡ energy (entries self.now.content) }
+        ensures { result ≡ energy Import (entries self.now.content) }
     {
         self.sums.energy
     }
 
+    /// What the export register rose and fell by over all transactions, in milliwatt-hours; no reading
+    /// is compared.
+    pub fn export(&self) -> Flow
+        ensures { result ≡ energy Export (entries self.now.content) }
+    {
+        self.sums.export
+    }
+
     /// The figures: live and voided events; transactions with a live event, how many of these are
-    /// complete and how many numbers they miss; and the energy.
+    /// complete and how many numbers they miss; and the energies: imported, and exported.
     pub fn figures(&self) -> Figures
         ensures value { result ≡ figures (entries self.now.content) }
         ensures within { AreWithin self.now.limits result }
@@ -177,16 +186,25 @@ impl StationLedger {
         Figures {
             up: self.sums.energy.up(),
             down: self.sums.energy.down(),
+            export_up: self.sums.export.up(),
+            export_down: self.sums.export.down(),
             ..self.sums.figures
         }
     }
 
-    /// What the register rose and fell by over the transactions of an EVSE, in milliwatt-hours. EVSE 0
-    /// has the transactions of which no live event names one.
+    /// What the import register rose and fell by over the transactions of an EVSE, in milliwatt-hours.
+    /// EVSE 0 has the transactions of which no live event names one.
     pub fn evse(&self, evse: EvseId) -> Flow
-        ensures { result ≡ energy_at evse (entries self.now.content) }
+        ensures { result ≡ energy_at Import evse (entries self.now.content) }
     {
         self.sums.evses[usize::from(evse.number())].flow
+    }
+
+    /// What the export register rose and fell by over the same transactions, in milliwatt-hours.
+    pub fn evse_export(&self, evse: EvseId) -> Flow
+        ensures { result ≡ energy_at Export evse (entries self.now.content) }
+    {
+        self.sums.evses[usize::from(evse.number())].export
     }
 
     /// The board: the figures; the EVSEs and the quarters with their energy; and the transactions with

@@ -2,8 +2,9 @@
 ghost use Rattle.std.specs.Prelude.{◌≡◌, ◌+◌, List, IfOk, length, map};
 ghost use Rattle.event_chain.specs.Chains.{stored};
 ghost use Rattle.ledger_model.specs.Board.{board, figures as figures_of, shown};
-ghost use Rattle.ledger_model.specs.Evse.{energy_at, evses as evses_of};
+ghost use Rattle.ledger_model.specs.Evse.{flows_at, evses as evses_of};
 ghost use Rattle.ledger_model.specs.Content.{Entry, live, transactions_of};
+ghost use Rattle.ledger_model.specs.declared.reading.Direction.TheVariants.{Import, Export};
 ghost use Rattle.ledger_model.specs.Energy.{energy_of};
 ghost use Rattle.ledger_model.specs.Gaps.{gaps, numbers_of};
 ghost use Rattle.ledger_model.specs.Ranges.{greatest_evse};
@@ -32,7 +33,7 @@ pub(crate) fn quarter_lines(
 {
     let mut lines = Vec::new(alloc);
     for row in quarters.rows() {
-        lines.push(QuarterLine::new(row.quarter, row.flow))?;
+        lines.push(QuarterLine::new(row.quarter, row.flow, row.export))?;
     }
     Ok(lines)
 }
@@ -40,7 +41,7 @@ pub(crate) fn quarter_lines(
 // The lines of the EVSEs that have a transaction with a live event, rising.
 pub(crate) fn evse_lines(alloc: Global, evses: &[EvseSum]) -> Result<Vec<EvseLine>, AllocError>
     requires { length evses.now ≡ greatest_evse + 1 }
-    ensures { IfOk result (λ lines. (es : List Entry) → AreNumbered es → AreEvseSums es evses.now → lines.items ≡ map (λ evse. (evse, energy_at evse es)) (evses_of es)) }
+    ensures { IfOk result (λ lines. (es : List Entry) → AreNumbered es → AreEvseSums es evses.now → lines.items ≡ map (λ evse. (evse, flows_at evse es)) (evses_of es)) }
 {
     let mut lines = Vec::new(alloc);
     for number in 0..GREATEST_EVSE + 1 {
@@ -48,7 +49,7 @@ pub(crate) fn evse_lines(alloc: Global, evses: &[EvseSum]) -> Result<Vec<EvseLin
         if sum.transactions > 0 {
             // An EVSE's number is at most 64.
             let evse = EvseId::new(number).unwrap();
-            lines.push(EvseLine::new(evse, sum.flow))?;
+            lines.push(EvseLine::new(evse, sum.flow, sum.export))?;
         }
     }
     Ok(lines)
@@ -70,7 +71,7 @@ fn transaction_line(
 ) -> Result<TxLine, AllocError>
     requires within { AreAllowed chains.now.limits (stored chains.now) }
     requires numbered { AreNumbered (stored chains.now) }
-    requires standing { standing.now ≡ standing_with (energy_of tx.now (stored chains.now)) tx.now (stored chains.now) }
+    requires standing { standing.now ≡ standing_with (energy_of Import tx.now (stored chains.now)) (energy_of Export tx.now (stored chains.now)) tx.now (stored chains.now) }
     ensures { IfOk result (λ line. line ≡ shown (stored chains.now) tx.now) }
 {
     Ok(TxLine {
@@ -80,8 +81,9 @@ fn transaction_line(
         first: chains.first(tx).unwrap_or(0),
         last: chains.last(tx).unwrap_or(0),
         complete: standing.complete,
-        missing: standing.missing,
+        missing: u64::from(standing.missing),
         flow: standing.flow,
+        export: standing.export,
         gaps: Listed::of(gaps(alloc, chains, tx)?),
     })
 }
@@ -116,7 +118,7 @@ pub(crate) fn board_of(
 ) -> Result<StationBoard, AllocError>
     requires within { AreAllowed chains.now.limits (stored chains.now) }
     requires numbered { AreNumbered (stored chains.now) }
-    requires summed { AreSummed chains.now.limits (stored chains.now) sums.now.kept sums.now.evses.items sums.now.period sums.now.quarters sums.now.energy sums.now.figures }
+    requires summed { AreSummed chains.now.limits (stored chains.now) sums.now.kept sums.now.evses.items sums.now.period sums.now.quarters sums.now.energy sums.now.export sums.now.figures }
     requires figures { figures ≡ figures_of (stored chains.now) }
     ensures { IfOk result (λ b. b ≡ board sums.now.period (stored chains.now)) }
 {

@@ -6,19 +6,48 @@ ghost use Rattle.event_chain.specs.Room.{found_of, room_of};
 ghost use Rattle.event_chain.specs.declared.answers.Found.TheVariants.{Live, Voided};
 ghost use Rattle.event_chain.specs.declared.answers.Room.TheVariants.{Fits};
 ghost use Rattle.ledger_model.specs.Ranges.{most_events};
+ghost use Rattle.ledger_model.specs.Deltas.{before_key, behind_key, first_reading, last_reading, own_readings};
+ghost use Rattle.ledger_model.specs.declared.reading.Direction.{Direction};
 ghost use Rattle.ledger_model.specs.Step.{events_after};
 ghost use Rattle.ledger_model.specs.declared.command.Command.TheVariants.{Deliver, Erase, Restore, Void};
 ghost use Rattle.station_ledger.specs.Kept.{voided_in, IsReady};
-ghost use Rattle.station_ledger.specs.Spent.{most_spent};
-ghost use Rattle.station_ledger.specs.Quarters.{readings_at};
+ghost use Rattle.station_ledger.specs.Spent.{most_spent, most_under, most_with};
+ghost use Rattle.station_ledger.specs.Sides.{by_direction, side_if};
 ghost use Rattle.station_ledger.specs.Sums.{AreAllowed, AreSummed};
 
-use crate::pairs::Sides;
+use crate::pairs::{Around, Sides};
 use crate::sums::{Sums, add_event, take_event};
 use energy_flow::Work;
-use event_chain::Chains;
+use event_chain::{Carries, Chains};
 use key_index::Place;
-use ledger_model::{Command, Event, Key};
+use ledger_model::{Command, Direction, Event, Key};
+
+// The readings of a direction on either side of the place of a key, where its event has any.
+#[inline(always)]
+fn sides(chains: &Chains, key: &Key, direction: Direction, has: bool) -> Sides
+    ensures before { result.before ≡ side_if has (last_reading (own_readings direction key.now.tx (before_key key.now (stored chains.now)))) }
+    ensures behind { result.behind ≡ side_if has (first_reading (own_readings direction key.now.tx (behind_key key.now (stored chains.now)))) }
+{
+    if !has {
+        return Sides {
+            before: None,
+            behind: None,
+        };
+    }
+    let (before, behind) = chains.neighbours(key, direction);
+    Sides { before, behind }
+}
+
+// The same in each direction.
+fn around(chains: &Chains, key: &Key, imports: bool, exports: bool) -> Around
+    ensures before { (d : Direction) → by_direction result.import.before result.export.before d ≡ side_if (by_direction imports exports d) (last_reading (own_readings d key.now.tx (before_key key.now (stored chains.now)))) }
+    ensures behind { (d : Direction) → by_direction result.import.behind result.export.behind d ≡ side_if (by_direction imports exports d) (first_reading (own_readings d key.now.tx (behind_key key.now (stored chains.now)))) }
+{
+    Around {
+        import: sides(chains, key, Direction::Import, imports),
+        export: sides(chains, key, Direction::Export, exports),
+    }
+}
 
 // Puts in a live event under a new key, for which there is room.
 pub(crate) fn deliver(
@@ -32,20 +61,22 @@ pub(crate) fn deliver(
     requires room { room_of chains.old.limits (stored chains.old) key.tx (length event.now.readings) ≡ Fits }
     requires before { AreAllowed chains.old.limits (stored chains.old) }
     requires after { AreAllowed chains.old.limits (finite.entries (events_after chains.old.events (Deliver key event.now))) }
-    requires summed { AreSummed chains.old.limits (stored chains.old) sums.old.kept sums.old.evses.items sums.old.period sums.old.quarters sums.old.energy sums.old.figures }
+    requires summed { AreSummed chains.old.limits (stored chains.old) sums.old.kept sums.old.evses.items sums.old.period sums.old.quarters sums.old.energy sums.old.export sums.old.figures }
     ensures limits { chains.new.limits ≡ chains.old.limits }
     ensures events { chains.new.events ≡ events_after chains.old.events (Deliver key event.now) }
-    ensures summed { AreSummed chains.new.limits (stored chains.new) sums.new.kept sums.new.evses.items sums.new.period sums.new.quarters sums.new.energy sums.new.figures }
+    ensures summed { AreSummed chains.new.limits (stored chains.new) sums.new.kept sums.new.evses.items sums.new.period sums.new.quarters sums.new.energy sums.new.export sums.new.figures }
     ensures period { sums.new.period ≡ sums.old.period }
     ensures voided { sums.new.figures.voided ≡ sums.old.figures.voided }
-    ensures work { work.new ≤ work.old + length event.now.readings + 2 }
+    ensures work { work.new ≤ work.old + most_with event.now.readings }
     ensures grows { work.old ≤ work.new }
 {
     let at = key.copied();
-    let (before, behind) = chains.neighbours(&at);
+    let has = Carries::of(event.readings());
+    let place = around(chains, &at, has.imports, has.exports);
     chains.insert(key, event);
     let names = event.evse().is_some();
-    add_event(chains, sums, &at, names, &Sides { before, behind }, work);
+    let own = Some(event.readings());
+    add_event(chains, sums, &at, names, own, &place, work);
 }
 
 // Makes a voided event live again.
@@ -54,19 +85,20 @@ pub(crate) fn restore(chains: &mut Chains, sums: &mut Sums, key: &Key, work: &mu
     requires counted { 0 < sums.old.figures.voided }
     requires before { AreAllowed chains.old.limits (stored chains.old) }
     requires after { AreAllowed chains.old.limits (finite.entries (events_after chains.old.events (Restore key.now))) }
-    requires summed { AreSummed chains.old.limits (stored chains.old) sums.old.kept sums.old.evses.items sums.old.period sums.old.quarters sums.old.energy sums.old.figures }
+    requires summed { AreSummed chains.old.limits (stored chains.old) sums.old.kept sums.old.evses.items sums.old.period sums.old.quarters sums.old.energy sums.old.export sums.old.figures }
     ensures limits { chains.new.limits ≡ chains.old.limits }
     ensures events { chains.new.events ≡ events_after chains.old.events (Restore key.now) }
-    ensures summed { AreSummed chains.new.limits (stored chains.new) sums.new.kept sums.new.evses.items sums.new.period sums.new.quarters sums.new.energy sums.new.figures }
+    ensures summed { AreSummed chains.new.limits (stored chains.new) sums.new.kept sums.new.evses.items sums.new.period sums.new.quarters sums.new.energy sums.new.export sums.new.figures }
     ensures period { sums.new.period ≡ sums.old.period }
     ensures voided { sums.new.figures.voided + 1 ≡ sums.old.figures.voided }
-    ensures work { work.new ≤ work.old + length (readings_at chains.old key.now) + 2 }
+    ensures work { work.new ≤ work.old + most_under (finite.get chains.old.events key.now) }
     ensures grows { work.old ≤ work.new }
 {
-    let (before, behind) = chains.neighbours(key);
+    let has = chains.carries(key);
+    let place = around(chains, key, has.imports, has.exports);
     chains.relink(key);
     // What a restored event names is not asked.
-    add_event(chains, sums, key, true, &Sides { before, behind }, work);
+    add_event(chains, sums, key, true, None, &place, work);
     sums.figures.voided -= 1;
 }
 
@@ -76,18 +108,19 @@ pub(crate) fn void(chains: &mut Chains, sums: &mut Sums, key: &Key, work: &mut W
     requires few { sums.old.figures.voided ≤ most_events }
     requires before { AreAllowed chains.old.limits (stored chains.old) }
     requires after { AreAllowed chains.old.limits (finite.entries (events_after chains.old.events (Void key.now))) }
-    requires summed { AreSummed chains.old.limits (stored chains.old) sums.old.kept sums.old.evses.items sums.old.period sums.old.quarters sums.old.energy sums.old.figures }
+    requires summed { AreSummed chains.old.limits (stored chains.old) sums.old.kept sums.old.evses.items sums.old.period sums.old.quarters sums.old.energy sums.old.export sums.old.figures }
     ensures limits { chains.new.limits ≡ chains.old.limits }
     ensures events { chains.new.events ≡ events_after chains.old.events (Void key.now) }
-    ensures summed { AreSummed chains.new.limits (stored chains.new) sums.new.kept sums.new.evses.items sums.new.period sums.new.quarters sums.new.energy sums.new.figures }
+    ensures summed { AreSummed chains.new.limits (stored chains.new) sums.new.kept sums.new.evses.items sums.new.period sums.new.quarters sums.new.energy sums.new.export sums.new.figures }
     ensures period { sums.new.period ≡ sums.old.period }
     ensures voided { sums.new.figures.voided ≡ sums.old.figures.voided + 1 }
-    ensures work { work.new ≤ work.old + length (readings_at chains.old key.now) + 2 }
+    ensures work { work.new ≤ work.old + most_under (finite.get chains.old.events key.now) }
     ensures grows { work.old ≤ work.new }
 {
-    let (before, behind) = chains.neighbours(key);
+    let has = chains.carries(key);
+    let place = around(chains, key, has.imports, has.exports);
     chains.unlink(key);
-    take_event(chains, sums, key, &Sides { before, behind }, work);
+    take_event(chains, sums, key, &place, work);
     sums.figures.voided += 1;
 }
 
@@ -97,10 +130,10 @@ pub(crate) fn erase(chains: &mut Chains, sums: &mut Sums, key: &Key)
     requires counted { 0 < sums.old.figures.voided }
     requires before { AreAllowed chains.old.limits (stored chains.old) }
     requires after { AreAllowed chains.old.limits (finite.entries (events_after chains.old.events (Erase key.now))) }
-    requires summed { AreSummed chains.old.limits (stored chains.old) sums.old.kept sums.old.evses.items sums.old.period sums.old.quarters sums.old.energy sums.old.figures }
+    requires summed { AreSummed chains.old.limits (stored chains.old) sums.old.kept sums.old.evses.items sums.old.period sums.old.quarters sums.old.energy sums.old.export sums.old.figures }
     ensures limits { chains.new.limits ≡ chains.old.limits }
     ensures events { chains.new.events ≡ events_after chains.old.events (Erase key.now) }
-    ensures summed { AreSummed chains.new.limits (stored chains.new) sums.new.kept sums.new.evses.items sums.new.period sums.new.quarters sums.new.energy sums.new.figures }
+    ensures summed { AreSummed chains.new.limits (stored chains.new) sums.new.kept sums.new.evses.items sums.new.period sums.new.quarters sums.new.energy sums.new.export sums.new.figures }
     ensures period { sums.new.period ≡ sums.old.period }
     ensures voided { sums.new.figures.voided + 1 ≡ sums.old.figures.voided }
 {
@@ -127,11 +160,11 @@ fn carry(chains: &mut Chains, sums: &mut Sums, command: Command, work: &mut Work
     requires ready { IsReady chains.old command }
     requires before { AreAllowed chains.old.limits (stored chains.old) }
     requires after { AreAllowed chains.old.limits (finite.entries (events_after chains.old.events command)) }
-    requires summed { AreSummed chains.old.limits (stored chains.old) sums.old.kept sums.old.evses.items sums.old.period sums.old.quarters sums.old.energy sums.old.figures }
+    requires summed { AreSummed chains.old.limits (stored chains.old) sums.old.kept sums.old.evses.items sums.old.period sums.old.quarters sums.old.energy sums.old.export sums.old.figures }
     requires voided { sums.old.figures.voided ≡ voided_in chains.old }
     ensures limits { chains.new.limits ≡ chains.old.limits }
     ensures events { chains.new.events ≡ events_after chains.old.events command }
-    ensures summed { AreSummed chains.new.limits (stored chains.new) sums.new.kept sums.new.evses.items sums.new.period sums.new.quarters sums.new.energy sums.new.figures }
+    ensures summed { AreSummed chains.new.limits (stored chains.new) sums.new.kept sums.new.evses.items sums.new.period sums.new.quarters sums.new.energy sums.new.export sums.new.figures }
     ensures period { sums.new.period ≡ sums.old.period }
     ensures voided { sums.new.figures.voided ≡ voided_in chains.new }
     ensures work { work.new ≤ work.old + most_spent chains.old.events command }
@@ -156,11 +189,11 @@ pub(crate) fn carry_out(
     requires ready { IsReady chains.old command }
     requires before { AreAllowed chains.old.limits (stored chains.old) }
     requires after { AreAllowed chains.old.limits (finite.entries (events_after chains.old.events command)) }
-    requires summed { AreSummed chains.old.limits (stored chains.old) sums.old.kept sums.old.evses.items sums.old.period sums.old.quarters sums.old.energy sums.old.figures }
+    requires summed { AreSummed chains.old.limits (stored chains.old) sums.old.kept sums.old.evses.items sums.old.period sums.old.quarters sums.old.energy sums.old.export sums.old.figures }
     requires voided { sums.old.figures.voided ≡ voided_in chains.old }
     ensures limits { chains.new.limits ≡ chains.old.limits }
     ensures events { chains.new.events ≡ events_after chains.old.events command }
-    ensures summed { AreSummed chains.new.limits (stored chains.new) sums.new.kept sums.new.evses.items sums.new.period sums.new.quarters sums.new.energy sums.new.figures }
+    ensures summed { AreSummed chains.new.limits (stored chains.new) sums.new.kept sums.new.evses.items sums.new.period sums.new.quarters sums.new.energy sums.new.export sums.new.figures }
     ensures period { sums.new.period ≡ sums.old.period }
     ensures voided { sums.new.figures.voided ≡ voided_in chains.new }
     ensures work { work.new ≤ work.old + most_spent chains.old.events command }

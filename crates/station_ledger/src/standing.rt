@@ -1,11 +1,12 @@
 //! What is kept of each transaction, so that no figure needs a walk.
-ghost use Rattle.std.specs.Prelude.{◌≡◌, ◌<◌, ◌≤◌, true, false, Some, IfSome, slice_get};
+ghost use Rattle.std.specs.Prelude.{◌≡◌, ◌<◌, ◌≤◌, false, IfSome};
 ghost use Rattle.event_chain.specs.Chains.{stored};
 ghost use Rattle.ledger_model.specs.Complete.{kinds_of, is_complete, starts_and_ends as start_and_end};
 ghost use Rattle.ledger_model.specs.Gaps.{numbers_of, missing};
 ghost use Rattle.station_ledger.specs.Coming.{IsOneLess};
 ghost use Rattle.station_ledger.specs.Standing.{kept_with, standing_with, starts_and_ends_by};
 
+use crate::pairs::Energies;
 use energy_flow::Flow;
 use event_chain::Chains;
 use ledger_model::{EvseId, Kind, TxId};
@@ -13,6 +14,8 @@ use ledger_model::{EvseId, Kind, TxId};
 /// What is kept of a transaction that has a live event.
 #[derive(Clone, Copy, Debug, PartialEq, Eq)]
 pub struct Standing {
+    /// The number of its first live event.
+    pub first: u32,
     /// How many live events it has.
     pub live: u32,
     /// The EVSE that its lowest live event names which names one, else 0.
@@ -20,9 +23,11 @@ pub struct Standing {
     /// Whether it is complete.
     pub complete: bool,
     /// How many numbers are missing between its live events.
-    pub missing: u64,
-    /// Its energy, in milliwatt-hours.
+    pub missing: u32,
+    /// Its imported energy, in milliwatt-hours.
     pub flow: Flow,
+    /// Its exported energy, in milliwatt-hours.
+    pub export: Flow,
 }
 
 // Tells whether a transaction's lowest live event is Started, its highest is Ended, and no other is
@@ -35,39 +40,34 @@ fn starts_and_ends(events: &event_chain::TxStanding) -> bool
         && matches!(events.last_kind, Some(Kind::Ended))
 }
 
-// What stands of a transaction with this energy; none where it has no live event.
-pub(crate) fn standing_of(chains: &Chains, tx: &TxId, flow: Flow) -> Option<Standing>
-    ensures { result ≡ kept_with flow tx.now (stored chains.now) }
+// What stands of a transaction with these energies; none where it has no live event.
+#[inline(never)]
+pub(crate) fn standing_of(chains: &Chains, tx: &TxId, energies: Energies) -> Option<Standing>
+    ensures { result ≡ kept_with energies.import energies.export tx.now (stored chains.now) }
 {
     let events = chains.standing(tx);
     match (events.first, events.last) {
         (Some(first), Some(last)) => {
-            let missing = u64::from(last - first) + 1 - u64::from(events.live);
+            let missing = last - first - (events.live - 1);
             Some(Standing {
+                first,
                 live: events.live,
                 evse: events.evse,
                 complete: missing == 0 && starts_and_ends(&events),
                 missing,
-                flow,
+                flow: energies.import,
+                export: energies.export,
             })
         }
         _ => None,
     }
 }
 
-// No transaction has more live events, and no more numbers lie between them.
+// No transaction has more live events.
 const MOST_LIVE: u32 = 65_536;
 
-const MOST_MISSING: u64 = 2_147_483_648;
-
-// Tells whether what was kept is in these bounds, as it is.
-fn is_bounded(was: &Standing) -> bool
-    ensures { result ≡ true → (was.now.live ≤ 65536) × (was.now.missing ≤ 2147483648) }
-{
-    was.live <= MOST_LIVE && was.missing <= MOST_MISSING
-}
-
 // Tells whether a transaction's live events start and end as they are to.
+#[inline(never)]
 fn has_ends(chains: &Chains, tx: &TxId) -> bool
     ensures { result ≡ start_and_end (kinds_of tx.now (stored chains.now)) }
 {
@@ -78,7 +78,7 @@ fn has_ends(chains: &Chains, tx: &TxId) -> bool
 }
 
 // Tells whether a transaction is complete, where so many numbers are missing.
-fn is_whole(chains: &Chains, tx: &TxId, lacking: u64) -> bool
+fn is_whole(chains: &Chains, tx: &TxId, lacking: u32) -> bool
     requires { lacking ≡ missing (numbers_of tx.now (stored chains.now)) }
     ensures { result ≡ is_complete tx.now (stored chains.now) }
 {
@@ -89,27 +89,27 @@ fn is_whole(chains: &Chains, tx: &TxId, lacking: u64) -> bool
 }
 
 // What stands of a transaction once the event of this number came, behind its first one.
-fn one_more(chains: &Chains, tx: &TxId, seq: u32, first: u32, was: Standing, flow: Flow) -> Standing
+fn one_more(chains: &Chains, tx: &TxId, seq: u32, was: Standing, energies: Energies) -> Standing
     requires less { IsOneLess was tx.now seq false (stored chains.now) }
-    requires first { slice_get (numbers_of tx.now (stored chains.now)) 0 ≡ Some first }
-    requires behind { first < seq }
-    requires bounded { (was.live ≤ 65536) × (was.missing ≤ 2147483648) }
-    ensures { result ≡ standing_with flow tx.now (stored chains.now) }
+    requires behind { was.first < seq }
+    requires bounded { was.live ≤ 65536 }
+    ensures { result ≡ standing_with energies.import energies.export tx.now (stored chains.now) }
 {
-    let seq = u64::from(seq);
     // Just behind the last number that was live before.
-    let behind = u64::from(first) + u64::from(was.live) + was.missing;
-    let lacking = if seq < behind {
+    let behind = u64::from(was.first) + u64::from(was.live) + u64::from(was.missing);
+    let lacking = if u64::from(seq) < behind {
         was.missing - 1
     } else {
-        was.missing + (seq - behind)
+        seq - was.first - was.live
     };
     Standing {
+        first: was.first,
         live: was.live + 1,
         evse: was.evse,
         complete: is_whole(chains, tx, lacking),
         missing: lacking,
-        flow,
+        flow: energies.import,
+        export: energies.export,
     }
 }
 
@@ -121,16 +121,15 @@ pub(crate) fn standing_after(
     seq: u32,
     names: bool,
     was: Option<Standing>,
-    flow: Flow,
+    energies: Energies,
 ) -> Option<Standing>
     requires { IfSome was (λ w. IsOneLess w tx.now seq names (stored chains.now)) }
-    ensures { result ≡ kept_with flow tx.now (stored chains.now) }
+    ensures { result ≡ kept_with energies.import energies.export tx.now (stored chains.now) }
 {
     match was {
-        Some(was) if !names && is_bounded(&was) => match chains.first(tx) {
-            Some(first) if first < seq => Some(one_more(chains, tx, seq, first, was, flow)),
-            _ => standing_of(chains, tx, flow),
-        },
-        _ => standing_of(chains, tx, flow),
+        Some(was) if !names && was.live <= MOST_LIVE && was.first < seq => {
+            Some(one_more(chains, tx, seq, was, energies))
+        }
+        _ => standing_of(chains, tx, energies),
     }
 }

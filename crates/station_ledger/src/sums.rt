@@ -1,28 +1,34 @@
 //! What is kept of a station's live events, so that no figure needs a walk.
-ghost use Rattle.std.specs.Prelude.{◌≡◌, ℕ, ◌+◌, ◌<◌, ◌≤◌, List, [], None, Some, length, IfOk};
+ghost use Rattle.std.specs.Prelude.{◌≡◌, ℕ, ◌+◌, ◌<◌, ◌≤◌, List, [], None, Some, length, IfOk, IfSome};
 ghost use Rattle.std.specs.FinMap.{find};
-ghost use Rattle.energy_flow.specs.Flow.{no_energy, plus, minus, CanPlus, CanMinus};
+ghost use Rattle.energy_flow.specs.Flow.{no_energy, plus, minus};
 ghost use Rattle.event_chain.specs.Chains.{stored};
 ghost use Rattle.ledger_model.specs.Content.{Entry};
+ghost use Rattle.ledger_model.specs.Deltas.{most_for};
+ghost use Rattle.ledger_model.specs.declared.reading.Direction.{Direction};
+ghost use Rattle.ledger_model.specs.declared.reading.Direction.TheVariants.{Import, Export};
+ghost use Rattle.ledger_model.specs.Event.{toward};
 ghost use Rattle.ledger_model.specs.Figures.{no_figures};
 ghost use Rattle.ledger_model.specs.Ranges.{greatest_evse};
 ghost use Rattle.transaction_map.specs.Map.{id_cmp};
-ghost use Rattle.station_ledger.specs.Moved.{sum_at, with_one, without_one, with_figures, without_figures, HasRoomAt, CountsAt, HaveRoom, DoCount, flow_in};
+ghost use Rattle.transaction_map.specs.Places.{IsAt};
+ghost use Rattle.station_ledger.specs.Moved.{sum_at, with_one, without_one, with_figures, without_figures, HasRoomAt, CountsAt, HaveRoom, DoCount, CanTrade, flow_in};
 ghost use Rattle.station_ledger.specs.Quarters.{readings_at};
 ghost use Rattle.station_ledger.specs.Coming.{HasCome};
+ghost use Rattle.station_ledger.specs.Sides.{by_direction};
 ghost use Rattle.station_ledger.specs.Sums.{keep, AreStanding, AreSummed, AreAllowed, IsToCome, IsToGo};
 
-use crate::pairs::{Sides, add_across, add_pairs, take_across, take_pairs};
+use crate::pairs::{Around, Energies, add_gap, add_own, take_gap, take_own};
 use crate::standing::{Standing, standing_after, standing_of};
 use crate::totals::{Change, EvseSum, move_at_evses, move_in_figures};
 use energy_flow::{Flow, Work};
 use event_chain::Chains;
-use ledger_model::{Figures, GREATEST_EVSE, Key, Limits, Period, TxId};
+use ledger_model::{Figures, GREATEST_EVSE, Key, Limits, Period, Reading, TxId};
 use quarter_table::QuarterTable;
 use std::alloc::{AllocError, Global};
 use transaction_map::TransactionMap;
 
-// The sums over the live events. The figures are kept but for the energy, which stands beside them.
+// The sums over the live events. The figures are kept but for the energies, which stand beside them.
 #[derive(Drop)]
 pub(crate) struct Sums {
     pub(crate) kept: TransactionMap<Standing>,
@@ -30,13 +36,14 @@ pub(crate) struct Sums {
     pub(crate) period: Period,
     pub(crate) quarters: QuarterTable,
     pub(crate) energy: Flow,
+    pub(crate) export: Flow,
     pub(crate) figures: Figures,
 }
 
 // Sums of no events, one for each EVSE.
 fn no_sums(alloc: Global) -> Result<Vec<EvseSum>, AllocError>
     ensures all { IfOk result (λ evses. length evses.items ≡ greatest_evse + 1) }
-    ensures none { IfOk result (λ evses. (n : ℕ) → sum_at evses.items n ≡ record { transactions = 0; flow = no_energy }) }
+    ensures none { IfOk result (λ evses. (n : ℕ) → sum_at evses.items n ≡ record { transactions = 0; flow = no_energy; export = no_energy }) }
 {
     let count = usize::from(GREATEST_EVSE) + 1;
     let mut evses = Vec::with_capacity(alloc, count)?;
@@ -44,6 +51,7 @@ fn no_sums(alloc: Global) -> Result<Vec<EvseSum>, AllocError>
         evses.push_reserved(EvseSum {
             transactions: 0,
             flow: Flow::zero(),
+            export: Flow::zero(),
         });
     }
     Ok(evses)
@@ -53,7 +61,7 @@ impl Sums {
     // The sums of no events by this period, with room for those of these limits.
     pub(crate) fn open(alloc: Global, limits: &Limits, period: Period) -> Result<Self, AllocError>
         ensures period { IfOk result (λ s. s.period ≡ period) }
-        ensures summed { IfOk result (λ s. AreSummed limits.now [] s.kept s.evses.items s.period s.quarters s.energy s.figures) }
+        ensures summed { IfOk result (λ s. AreSummed limits.now [] s.kept s.evses.items s.period s.quarters s.energy s.export s.figures) }
         ensures voided { IfOk result (λ s. s.figures.voided ≡ 0) }
     {
         Ok(Sums {
@@ -62,38 +70,82 @@ impl Sums {
             period,
             quarters: QuarterTable::reserve(alloc, limits.readings())?,
             energy: Flow::zero(),
+            export: Flow::zero(),
             figures: Figures::zero(),
         })
     }
 }
 
-// The energy of what was kept of a transaction, with what comes and without what goes.
-fn traded(was: &Option<Standing>, more: Flow, less: Flow) -> Flow
-    requires room { CanPlus (flow_in was.now) more }
-    requires holds { CanMinus (plus (flow_in was.now) more) less }
-    ensures { result ≡ minus (plus (flow_in was.now) more) less }
+// The energies of what was kept of a transaction.
+fn energies_of(was: &Option<Standing>) -> Energies
+    ensures import { result.import ≡ flow_in Import was.now }
+    ensures export { result.export ≡ flow_in Export was.now }
 {
     match was {
-        Some(s) => s.flow.plus(more).minus(less),
-        None => Flow::zero().plus(more).minus(less),
+        Some(s) => Energies {
+            import: s.flow,
+            export: s.export,
+        },
+        None => Energies {
+            import: Flow::zero(),
+            export: Flow::zero(),
+        },
     }
 }
 
-// Writes what is kept of a transaction, or takes it out where nothing is.
-fn keep(kept: &mut TransactionMap<Standing>, tx: &TxId, change: &Change)
-    requires { find id_cmp tx.now kept.old.rows ≡ None → (change.now.is ≡ None → ⊥) → length kept.old.rows < kept.old.capacity }
+// An energy with what comes and without what goes.
+fn traded(flow: Flow, less: Flow, more: Flow) -> Flow
+    requires { CanTrade flow less more }
+    ensures { result ≡ minus (plus flow more) less }
+{
+    flow.plus(more).minus(less)
+}
+
+// The energies with what comes and without what goes, in each direction.
+fn trade(energies: Energies, less: &Energies, more: &Energies) -> Energies
+    requires import { CanTrade energies.import less.now.import more.now.import }
+    requires export { CanTrade energies.export less.now.export more.now.export }
+    ensures import { result.import ≡ minus (plus energies.import more.now.import) less.now.import }
+    ensures export { result.export ≡ minus (plus energies.export more.now.export) less.now.export }
+{
+    Energies {
+        import: traded(energies.import, less.import, more.import),
+        export: traded(energies.export, less.export, more.export),
+    }
+}
+
+// What is kept of a transaction, and the place of its row, where it has one.
+fn found(kept: &TransactionMap<Standing>, tx: &TxId) -> (Option<usize>, Option<Standing>)
+    ensures at { IfSome result.0 (λ i. IsAt tx.now kept.now.rows i) }
+    ensures was { result.1 ≡ find id_cmp tx.now kept.now.rows }
+{
+    match kept.find(tx) {
+        Some((at, s)) => (Some(at), Some(s)),
+        None => (None, None),
+    }
+}
+
+// Writes what is kept of a transaction, whose row may be at a known place, or takes it out where nothing
+// is.
+fn keep(kept: &mut TransactionMap<Standing>, at: Option<usize>, tx: &TxId, change: &Change)
+    requires at { IfSome at (λ i. IsAt tx.now kept.old.rows i) }
+    requires place { find id_cmp tx.now kept.old.rows ≡ None → (change.now.is ≡ None → ⊥) → length kept.old.rows < kept.old.capacity }
     ensures rows { kept.new.rows ≡ keep tx.now change.now.is kept.old.rows }
     ensures capacity { kept.new.capacity ≡ kept.old.capacity }
 {
-    if let Some(s) = change.is {
-        kept.put(tx, s);
-    } else {
-        kept.remove(tx);
+    match (at, change.is) {
+        (Some(at), Some(s)) => kept.set_at(at, tx, s),
+        (None, Some(s)) => kept.put(tx, s),
+        (_, None) => {
+            kept.remove(tx);
+        }
     }
 }
 
-// Keeps what a transaction is now, in place of what it was, in all sums.
-fn replace_standing(sums: &mut Sums, tx: &TxId, change: &Change)
+// Keeps what a transaction is now, in place of what it was, in all sums; the place of what is kept of it
+// may be known.
+fn replace_standing(sums: &mut Sums, at: Option<usize>, tx: &TxId, change: &Change)
+    requires at { IfSome at (λ i. IsAt tx.now sums.old.kept.rows i) }
     requires all { length sums.old.evses.items ≡ greatest_evse + 1 }
     requires place { find id_cmp tx.now sums.old.kept.rows ≡ None → (change.now.is ≡ None → ⊥) → length sums.old.kept.rows < sums.old.kept.capacity }
     requires room_at { (n : ℕ) → n ≤ greatest_evse → HasRoomAt n change.now.is (sum_at sums.old.evses.items n) }
@@ -108,47 +160,52 @@ fn replace_standing(sums: &mut Sums, tx: &TxId, change: &Change)
     ensures period { sums.new.period ≡ sums.old.period }
     ensures quarters { sums.new.quarters ≡ sums.old.quarters }
     ensures energy { sums.new.energy ≡ sums.old.energy }
+    ensures export { sums.new.export ≡ sums.old.export }
 {
-    keep(&mut sums.kept, tx, change);
+    keep(&mut sums.kept, at, tx, change);
     move_at_evses(&mut sums.evses, change);
     move_in_figures(&mut sums.figures, change);
 }
 
-// Takes into all sums a live event that the chains have more, which may name an EVSE.
+// Takes into all sums a live event that the chains have more, which may name an EVSE; its readings may be
+// at hand.
 pub(crate) fn add_event(
     chains: &Chains,
     sums: &mut Sums,
     key: &Key,
     names: bool,
-    place: &Sides,
+    own: Option<&[Reading]>,
+    place: &Around,
     work: &mut Work,
 )
     requires within { AreAllowed chains.now.limits (stored chains.now) }
+    requires own { (d : Direction) → IfSome own (λ rs. toward d rs.now ≡ readings_at d chains.now key.now) }
     requires named { (es : List Entry) × (HasCome es chains.now key.now names × AreStanding chains.now.limits es sums.old.kept) }
-    requires to_come { (es : List Entry) × (AreAllowed chains.now.limits es × (IsToCome es chains.now key.now place.now.before place.now.behind × AreSummed chains.now.limits es sums.old.kept sums.old.evses.items sums.old.period sums.old.quarters sums.old.energy sums.old.figures)) }
-    ensures summed { (es : List Entry) → AreAllowed chains.now.limits es → IsToCome es chains.now key.now place.now.before place.now.behind → AreSummed chains.now.limits es sums.old.kept sums.old.evses.items sums.old.period sums.old.quarters sums.old.energy sums.old.figures → AreSummed chains.now.limits (stored chains.now) sums.new.kept sums.new.evses.items sums.new.period sums.new.quarters sums.new.energy sums.new.figures }
+    requires to_come { (es : List Entry) × (AreAllowed chains.now.limits es × (IsToCome es chains.now key.now (by_direction place.now.import.before place.now.export.before) (by_direction place.now.import.behind place.now.export.behind) × AreSummed chains.now.limits es sums.old.kept sums.old.evses.items sums.old.period sums.old.quarters sums.old.energy sums.old.export sums.old.figures)) }
+    ensures summed { (es : List Entry) → AreAllowed chains.now.limits es → IsToCome es chains.now key.now (by_direction place.now.import.before place.now.export.before) (by_direction place.now.import.behind place.now.export.behind) → AreSummed chains.now.limits es sums.old.kept sums.old.evses.items sums.old.period sums.old.quarters sums.old.energy sums.old.export sums.old.figures → AreSummed chains.now.limits (stored chains.now) sums.new.kept sums.new.evses.items sums.new.period sums.new.quarters sums.new.energy sums.new.export sums.new.figures }
     ensures period { sums.new.period ≡ sums.old.period }
     ensures voided { sums.new.figures.voided ≡ sums.old.figures.voided }
-    ensures work { work.new ≤ work.old + length (readings_at chains.now key.now) + 2 }
+    ensures work { work.new ≤ work.old + (most_for (length (readings_at Import chains.now key.now)) + most_for (length (readings_at Export chains.now key.now))) }
     ensures grows { work.old ≤ work.new }
 {
     let tx = key.tx();
-    let was = sums.kept.get(tx);
+    let (at, was) = found(&sums.kept, tx);
     let period = sums.period;
-    let less = take_across(&mut sums.quarters, period, place.before, place.behind, work);
-    let more = add_pairs(
-        &mut sums.quarters,
-        period,
-        place.before,
-        chains,
-        key,
-        place.behind,
-        work,
+    let less = take_gap(&mut sums.quarters, period, place, work);
+    let more = add_own(&mut sums.quarters, period, place, chains, key, own, work);
+    let all = trade(
+        Energies {
+            import: sums.energy,
+            export: sums.export,
+        },
+        &less,
+        &more,
     );
-    sums.energy = sums.energy.plus(more).minus(less);
-    let flow = traded(&was, more, less);
-    let is = standing_after(chains, tx, key.seq(), names, was, flow);
-    replace_standing(sums, tx, &Change { was, is });
+    sums.energy = all.import;
+    sums.export = all.export;
+    let own = trade(energies_of(&was), &less, &more);
+    let is = standing_after(chains, tx, key.seq(), names, was, own);
+    replace_standing(sums, at, tx, &Change { was, is });
 }
 
 // Takes out of all sums a live event that the chains have no more.
@@ -156,32 +213,33 @@ pub(crate) fn take_event(
     chains: &Chains,
     sums: &mut Sums,
     key: &Key,
-    place: &Sides,
+    place: &Around,
     work: &mut Work,
 )
     requires within { AreAllowed chains.now.limits (stored chains.now) }
-    requires to_go { (es : List Entry) × (AreAllowed chains.now.limits es × (IsToGo es chains.now key.now place.now.before place.now.behind × AreSummed chains.now.limits es sums.old.kept sums.old.evses.items sums.old.period sums.old.quarters sums.old.energy sums.old.figures)) }
-    ensures summed { (es : List Entry) → AreAllowed chains.now.limits es → IsToGo es chains.now key.now place.now.before place.now.behind → AreSummed chains.now.limits es sums.old.kept sums.old.evses.items sums.old.period sums.old.quarters sums.old.energy sums.old.figures → AreSummed chains.now.limits (stored chains.now) sums.new.kept sums.new.evses.items sums.new.period sums.new.quarters sums.new.energy sums.new.figures }
+    requires to_go { (es : List Entry) × (AreAllowed chains.now.limits es × (IsToGo es chains.now key.now (by_direction place.now.import.before place.now.export.before) (by_direction place.now.import.behind place.now.export.behind) × AreSummed chains.now.limits es sums.old.kept sums.old.evses.items sums.old.period sums.old.quarters sums.old.energy sums.old.export sums.old.figures)) }
+    ensures summed { (es : List Entry) → AreAllowed chains.now.limits es → IsToGo es chains.now key.now (by_direction place.now.import.before place.now.export.before) (by_direction place.now.import.behind place.now.export.behind) → AreSummed chains.now.limits es sums.old.kept sums.old.evses.items sums.old.period sums.old.quarters sums.old.energy sums.old.export sums.old.figures → AreSummed chains.now.limits (stored chains.now) sums.new.kept sums.new.evses.items sums.new.period sums.new.quarters sums.new.energy sums.new.export sums.new.figures }
     ensures period { sums.new.period ≡ sums.old.period }
     ensures voided { sums.new.figures.voided ≡ sums.old.figures.voided }
-    ensures work { work.new ≤ work.old + length (readings_at chains.now key.now) + 2 }
+    ensures work { work.new ≤ work.old + (most_for (length (readings_at Import chains.now key.now)) + most_for (length (readings_at Export chains.now key.now))) }
     ensures grows { work.old ≤ work.new }
 {
     let tx = key.tx();
     let was = sums.kept.get(tx);
     let period = sums.period;
-    let less = take_pairs(
-        &mut sums.quarters,
-        period,
-        place.before,
-        chains,
-        key,
-        place.behind,
-        work,
+    let less = take_own(&mut sums.quarters, period, place, chains, key, work);
+    let more = add_gap(&mut sums.quarters, period, place, work);
+    let all = trade(
+        Energies {
+            import: sums.energy,
+            export: sums.export,
+        },
+        &less,
+        &more,
     );
-    let more = add_across(&mut sums.quarters, period, place.before, place.behind, work);
-    sums.energy = sums.energy.plus(more).minus(less);
-    let flow = traded(&was, more, less);
-    let is = standing_of(chains, tx, flow);
-    replace_standing(sums, tx, &Change { was, is });
+    sums.energy = all.import;
+    sums.export = all.export;
+    let own = trade(energies_of(&was), &less, &more);
+    let is = standing_of(chains, tx, own);
+    replace_standing(sums, None, tx, &Change { was, is });
 }

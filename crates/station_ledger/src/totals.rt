@@ -19,8 +19,10 @@ pub(crate) struct Change {
 pub struct EvseSum {
     /// How many transactions it has.
     pub transactions: u32,
-    /// Their energy, in milliwatt-hours.
+    /// Their imported energy, in milliwatt-hours.
     pub flow: Flow,
+    /// Their exported energy, in milliwatt-hours.
+    pub export: Flow,
 }
 
 // Counts a transaction at its EVSE.
@@ -36,6 +38,7 @@ fn add_at_evse(evses: &mut Vec<EvseSum>, s: Standing)
     evses[at] = EvseSum {
         transactions: sum.transactions + 1,
         flow: sum.flow.plus(s.flow),
+        export: sum.export.plus(s.export),
     };
 }
 
@@ -52,6 +55,7 @@ fn take_at_evse(evses: &mut Vec<EvseSum>, s: Standing)
     evses[at] = EvseSum {
         transactions: sum.transactions - 1,
         flow: sum.flow.minus(s.flow),
+        export: sum.export.minus(s.export),
     };
 }
 
@@ -81,7 +85,7 @@ fn counted(figures: Figures, s: Standing) -> Figures
         events: figures.events + u64::from(s.live),
         transactions: figures.transactions + 1,
         complete: figures.complete + u64::from(s.complete),
-        missing: figures.missing + s.missing,
+        missing: figures.missing + u64::from(s.missing),
         ..figures
     }
 }
@@ -95,7 +99,7 @@ fn uncounted(figures: Figures, s: Standing) -> Figures
         events: figures.events - u64::from(s.live),
         transactions: figures.transactions - 1,
         complete: figures.complete - u64::from(s.complete),
-        missing: figures.missing - s.missing,
+        missing: figures.missing - u64::from(s.missing),
         ..figures
     }
 }

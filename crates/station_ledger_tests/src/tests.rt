@@ -5,7 +5,7 @@ mod report;
 mod scratch;
 
 use energy_flow::Work;
-use ledger_model::{Command, Event, Key, Kind, Limits, Moment, Period, Reading, TxId};
+use ledger_model::{Command, Direction, Event, Key, Kind, Limits, Moment, Period, Reading, TxId};
 use station_ledger::StationLedger;
 use std::alloc::Global;
 
@@ -36,7 +36,9 @@ fn event(alloc: Global, seq: u32, minute: u64, reading: Option<u64>) -> Option<E
     let mut readings = Vec::new(alloc);
     if let Some(watt_hours) = reading {
         let mwh = 1_000 * watt_hours.min(10_000_000_000);
-        readings.push(Reading::new(moment(minute)?, mwh)?).ok()?;
+        readings
+            .push(Reading::new(moment(minute)?, mwh, Direction::Import)?)
+            .ok()?;
     }
     Event::new(kind, moment(minute)?, None, readings).ok()
 }

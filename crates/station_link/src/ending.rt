@@ -31,6 +31,24 @@ pub enum Why {
     TooManyPasses,
 }
 
+impl Why {
+    /// Its name, as a live server tells it.
+    pub fn name(self) -> &'static str {
+        match self {
+            Why::PeerClosed => "PeerClosed",
+            Why::ReadFault => "ReadFault",
+            Why::WriteFault => "WriteFault",
+            Why::HandshakeFailed => "HandshakeFailed",
+            Why::UnknownStation => "UnknownStation",
+            Why::NotOcpp => "NotOcpp",
+            Why::BinaryMessage => "BinaryMessage",
+            Why::OutOfMemory => "OutOfMemory",
+            Why::MessagesSpent => "MessagesSpent",
+            Why::TooManyPasses => "TooManyPasses",
+        }
+    }
+}
+
 // How a session ends: why, and the code that its close frame has, where it sends one (RFC 6455).
 #[derive(Clone, Copy)]
 pub struct Ending {

@@ -22,13 +22,15 @@
 
 mod answer;
 mod ending;
+mod live;
 mod moment;
 mod request;
 mod session;
 
 pub use answer::{Answered, answer_text};
 pub use ending::Why;
-pub use moment::MomentSource;
+pub use live::{Attendant, Cause, Dismissal, Greeted, LiveEnd, greet, refuse, serve_live};
+pub use moment::{MomentSource, present};
 pub use request::{Seen, admit};
 pub use session::{MAX_MESSAGES, SessionEnd, serve_connection, serve_session};
 pub use simulated_station::{SimFault, SimStation};

@@ -6,8 +6,8 @@ pub trait MomentSource {
     fn now(&mut self) -> Option<Moment>;
 }
 
-// The present moment, or the first of all.
-pub(crate) fn present<C: MomentSource>(clock: &mut C) -> Moment {
+/// The present moment, or the first of all where there is none to tell.
+pub fn present<C: MomentSource>(clock: &mut C) -> Moment {
     match clock.now() {
         Some(moment) => moment,
         None => match Moment::new(FIRST_MOMENT) {

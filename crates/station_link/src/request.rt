@@ -79,6 +79,14 @@ fn station_of(path: &str) -> Option<Name>
     }
 }
 
+// What stands in a path in the place of a station's name.
+pub(crate) fn station_text(path: &str) -> &str {
+    match path.strip_prefix(PATH_START) {
+        Some(text) => text,
+        None => path,
+    }
+}
+
 // Tells whether one of the subprotocols that are offered is that of OCPP 2.0.1.
 fn is_offered(headers: &HeaderMap) -> bool {
     for value in headers.get_all("sec-websocket-protocol") {

@@ -17,7 +17,7 @@ use std::thread::Threads;
 use std::time::Clock;
 use tungstenite::handshake::server;
 use tungstenite::{
-    CloseCode, CloseFrame, Error, HandshakeError, Message, NoMask, Utf8Bytes, WebSocket,
+    Callback, CloseCode, CloseFrame, Error, HandshakeError, Message, NoMask, Utf8Bytes, WebSocket,
     WebSocketConfig,
 };
 
@@ -63,14 +63,14 @@ pub fn serve_connection<
     ensures few { IfSome result.pass (λ p. p.changes ≤ most_messages) }
 {
     let seen = Cell::new(Seen::Nothing);
-    let mut socket = match shake_hands(alloc, stream, &seen) {
+    let mut socket = match shake_hands(alloc, stream, Look { seen: &seen }) {
         Ok(socket) => socket,
         Err(why) => return SessionEnd { why, pass: None },
     };
     match admit(rt, desk, seen.into_inner()) {
         Ok((name, pass)) => serve_session(rt, alloc, socket, desk, &name, pass, gate, clock),
         Err(why) => {
-            say_goodbye(&mut socket, end_of_refusal(why).code);
+            say_goodbye(&mut socket, end_of_refusal(why).code, "");
             SessionEnd { why, pass: None }
         }
     }
@@ -95,18 +95,18 @@ pub fn serve_session<J: Naming, R: Wait + Clock, S: Read + Write + Drop, G: Gate
     ensures few { IfSome result.pass (λ p. p.changes ≤ pass.changes + most_messages) }
 {
     let end = answer_all(rt, alloc, &mut socket, desk, name, &mut pass, gate, clock);
-    say_goodbye(&mut socket, end.code);
+    say_goodbye(&mut socket, end.code, "");
     SessionEnd {
         why: end.why,
         pass: Some(pass),
     }
 }
 
-// The socket behind a handshake, which notes what it saw.
-fn shake_hands<S: Read + Write + Drop>(
+// The socket behind a handshake, whose look notes what it saw.
+pub(crate) fn shake_hands<S: Read + Write + Drop, L: Callback + Drop>(
     alloc: Global,
     stream: S,
-    seen: &Cell<Seen>,
+    look: L,
 ) -> Result<WebSocket<S, NoMask>, Why>
     ensures { IfErr result MayLackPass }
 {
@@ -114,7 +114,7 @@ fn shake_hands<S: Read + Write + Drop>(
         .read_buffer_size(READ_BYTES)
         .max_message_size(Some(MAX_SOCKET_BYTES))
         .max_frame_size(Some(MAX_SOCKET_BYTES));
-    match server::start(alloc, stream, Look { seen }, Some(config)).handshake() {
+    match server::start(alloc, stream, look, Some(config)).handshake() {
         Ok(socket) => Ok(socket),
         Err(HandshakeError::Failure(Error::OutOfMemory)) => Err(Why::OutOfMemory),
         Err(_) => Err(Why::HandshakeFailed),
@@ -169,21 +169,45 @@ fn take_message<J: Naming, R: Wait + Clock, S: Read + Write + Drop, G: Gate, C: 
         return Err(Ending::untold(Why::WriteFault));
     }
     match socket.read() {
-        Ok(Message::Text(text)) => {
+        Ok(message) => answer_message(rt, alloc, socket, desk, pass, gate, clock, message),
+        Err(error) => Err(end_of_read(&error)),
+    }
+}
+
+// Answers a message that came, and tells whether it was a text.
+pub(crate) fn answer_message<
+    J: Naming,
+    R: Wait + Clock,
+    S: Read + Write + Drop,
+    G: Gate,
+    C: MomentSource,
+>(
+    rt: &R,
+    alloc: Global,
+    socket: &mut WebSocket<S, NoMask>,
+    desk: &Desk<J>,
+    pass: &mut Pass,
+    gate: &G,
+    clock: &mut C,
+    message: Message,
+) -> Result<bool, Ending>
+    ensures has { IfErr result (λ end. MayHavePass end.why) }
+    ensures station { pass.new.station ≡ pass.old.station }
+    ensures one { pass.new.changes ≤ pass.old.changes + 1 }
+{
+    match message {
+        Message::Text(text) => {
             let now = present(clock);
             let answered = answer_text(desk, rt, alloc, pass, text.as_str(), now, gate);
             send_reply(alloc, socket, answered)?;
             Ok(true)
         }
-        Ok(Message::Ping(_bytes) | Message::Pong(_bytes)) => Ok(false),
-        Ok(Message::Binary(_bytes)) => {
-            Err(Ending::told(Why::BinaryMessage, CloseCode::Unsupported))
-        }
-        Ok(Message::Close(_frame)) => {
+        Message::Ping(_bytes) | Message::Pong(_bytes) => Ok(false),
+        Message::Binary(_bytes) => Err(Ending::told(Why::BinaryMessage, CloseCode::Unsupported)),
+        Message::Close(_frame) => {
             let _ = socket.flush();
             Err(Ending::untold(Why::PeerClosed))
         }
-        Err(error) => Err(end_of_read(&error)),
     }
 }
 
@@ -208,15 +232,19 @@ fn send_reply<J: Naming, S: Read + Write + Drop>(
     }
 }
 
-// Sends a close frame where the session ends with a code, and then reads what the peer had sent before it
-// got that, lest unread bytes reset the connection.
-fn say_goodbye<S: Read + Write + Drop>(socket: &mut WebSocket<S, NoMask>, code: Option<CloseCode>) {
+// Sends a close frame where the session ends with a code, with this reason, and then reads what the peer had sent
+// before it got that, lest unread bytes reset the connection.
+pub(crate) fn say_goodbye<S: Read + Write + Drop>(
+    socket: &mut WebSocket<S, NoMask>,
+    code: Option<CloseCode>,
+    reason: &'static str,
+) {
     let Some(code) = code else {
         return;
     };
     let frame = CloseFrame {
         code,
-        reason: Utf8Bytes::from_static(""),
+        reason: Utf8Bytes::from_static(reason),
     };
     if socket.close(Some(frame)).is_err() {
         return;

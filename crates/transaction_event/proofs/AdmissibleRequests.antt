@@ -18,6 +18,7 @@ use Rattle.reading_decimal.specs.Decimal.{mwh_reading, within_register, mwh, par
 use Rattle.reading_decimal.specs.Moment.{moment_within, moment_reading}
 use Rattle.ledger_model.specs.declared.command.Command.TheVariants.{Deliver}
 use Rattle.ledger_model.specs.Admissible.{IsAdmissible}
+use Rattle.ledger_model.specs.declared.reading.Direction.{Direction}
 use Rattle.ledger_model.specs.Event.{MeterReading, IsMeterReading, IsEventContent}
 use Rattle.ledger_model.specs.Key.{KeyName, IsKeyName}
 use Rattle.ledger_model.specs.Moment.{IsMoment, is_moment, first_moment, moments_end}
@@ -170,11 +171,11 @@ one_more_in_range so_far reading r p is e =
     let few : length so_far < most_event_readings = ltb-true (length so_far) most_event_readings t.0 in
     subst AreReadings t.1 (omega (arith, few, length-append so_far (reading ∷ [])), All-append IsMeterReading so_far (reading ∷ []) p.1 (All-cons IsMeterReading reading [] is (All-nil IsMeterReading)))
 
-counted_in_range : (nanos : ℕ) → IsMoment nanos → (so_far : List MeterReading) (sampled : Data) (counted : Bool) (r : List MeterReading) → AreReadings so_far → if_counted nanos so_far sampled counted ≡ Ok r → AreReadings r
-counted_in_range nanos is so_far sampled false r p e = subst AreReadings (same_ok {E = PayloadFault} so_far r e) p
-counted_in_range nanos is so_far sampled true r p e =
+counted_in_range : (nanos : ℕ) → IsMoment nanos → (so_far : List MeterReading) (sampled : Data) (counted : Option Direction) (r : List MeterReading) → AreReadings so_far → if_counted nanos so_far sampled counted ≡ Ok r → AreReadings r
+counted_in_range nanos is so_far sampled None r p e = subst AreReadings (same_ok {E = PayloadFault} so_far r e) p
+counted_in_range nanos is so_far sampled (Some direction) r p e =
     let mwh = bound (sampled_mwh sampled) _ r e in
-    one_more_in_range so_far (record { moment = nanos; mwh = mwh.0 }) r p (record { moment = is; mwh = sampled_in_range sampled mwh.0 mwh.1.0 }) mwh.1.1
+    one_more_in_range so_far (record { moment = nanos; mwh = mwh.0; direction = direction }) r p (record { moment = is; mwh = sampled_in_range sampled mwh.0 mwh.1.0 }) mwh.1.1
 
 sample_in_range : (nanos : ℕ) → IsMoment nanos → (so_far : List MeterReading) (value : Data) (r : List MeterReading) → AreReadings so_far → sample nanos so_far value ≡ Ok r → AreReadings r
 unfolding sample

@@ -6,6 +6,8 @@ use Rattle.serde_json.specs.Data.{Data}
 use Rattle.marked_json.specs.Reading.{text_of, number_of}
 use Rattle.reading_decimal.specs.declared.decimal.DecimalFault.{DecimalFault}
 use Rattle.reading_decimal.specs.Decimal.{mwh_reading}
+use Rattle.ledger_model.specs.declared.reading.Direction.{Direction}
+use Rattle.ledger_model.specs.declared.reading.Direction.TheVariants.{Import, Export}
 use Rattle.ledger_model.specs.Event.{MeterReading}
 use Rattle.transaction_event.specs.declared.fault.PayloadFault.TheVariants.{WrongType, Decimal}
 use Rattle.transaction_event.specs.Steps.{Checked, ◌>>=◌}
@@ -18,18 +20,24 @@ abbrev pub absent_or : List ℕ → Option (List ℕ) → Bool
 absent_or text None = true
 absent_or text (Some given) = bytes_eq given text
 
--- A value counts that is of the imported energy register, of no single phase, and taken at the outlet.
-abbrev pub is_counted : Option (List ℕ) → Option (List ℕ) → Option (List ℕ) → Bool
-is_counted measurand phase location =
-    absent_or (codes "Energy.Active.Import.Register") measurand && (is_none phase && absent_or (codes "Outlet") location)
+-- The direction of the active energy register that a measurand names: import where it is absent.
+abbrev pub direction_of : Option (List ℕ) → Option Direction
+direction_of measurand =
+    if absent_or (codes "Energy.Active.Import.Register") measurand then Some Import
+    else (if absent_or (codes "Energy.Active.Export.Register") measurand then Some Export
+    else None)
 
--- Whether a sampled value counts; its three texts are all checked first.
-unfoldable pub counts : Data → Checked Bool
+-- A value counts that is of one of the two active energy registers, of no single phase, and taken at the outlet: in the direction of its register.
+abbrev pub counted_toward : Option (List ℕ) → Option (List ℕ) → Option (List ℕ) → Option Direction
+counted_toward measurand phase location = if is_none phase && absent_or (codes "Outlet") location then direction_of measurand else None
+
+-- In which direction a sampled value counts, if it does; its three texts are all checked first.
+unfoldable pub counts : Data → Checked (Option Direction)
 counts sampled = do
   measurand ← optional text_of (codes "measurand") sampled
   phase ← optional text_of (codes "phase") sampled
   location ← optional text_of (codes "location") sampled
-  Ok (is_counted measurand phase location)
+  Ok (counted_toward measurand phase location)
 
 -- What is no reading of a register is refused.
 abbrev pub decimal : Result ℕ DecimalFault → Checked ℕ
@@ -44,11 +52,11 @@ sampled_mwh sampled = do
   token ← required number_of (codes "value") sampled
   decimal (mwh_reading token scale.multiplier scale.unit)
 
--- A sampled value that counts is one more reading at that moment.
-abbrev pub if_counted : ℕ → List MeterReading → Data → Bool → Checked (List MeterReading)
-if_counted moment so_far sampled counted =
-    if counted then (sampled_mwh sampled >>= (λ mwh. one_more so_far (record { moment = moment; mwh = mwh })))
-    else Ok so_far
+-- A sampled value that counts in a direction is one more reading at that moment, of that direction.
+abbrev pub if_counted : ℕ → List MeterReading → Data → Option Direction → Checked (List MeterReading)
+if_counted moment so_far sampled None = Ok so_far
+if_counted moment so_far sampled (Some direction) =
+    sampled_mwh sampled >>= (λ mwh. one_more so_far (record { moment = moment; mwh = mwh; direction = direction }))
 
 -- The readings so far, and that of a sampled value where it counts.
 unfoldable pub sample : ℕ → List MeterReading → Data → Checked (List MeterReading)

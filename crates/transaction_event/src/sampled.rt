@@ -11,7 +11,7 @@ use crate::PayloadFault;
 use crate::member::{optional_object, optional_text, required_number};
 use crate::readings::CountedReadings;
 use crate::scale::Scale;
-use ledger_model::{Moment, Reading};
+use ledger_model::{Direction, Moment, Reading};
 use marked_json::Node;
 use reading_decimal::mwh_of;
 
@@ -24,20 +24,33 @@ fn absent_or(expected: &str, text: Option<&str>) -> bool
     }
 }
 
-// Whether a sampled value counts, once its three texts are checked.
+// The direction of the register that a measurand names.
+fn direction_of(measurand: Option<&str>) -> Option<Direction>
+    ensures { result ≡ spec.direction_of (option_map (λ s. s.now) measurand.entry) }
+{
+    if absent_or("Energy.Active.Import.Register", measurand) {
+        Some(Direction::Import)
+    } else if absent_or("Energy.Active.Export.Register", measurand) {
+        Some(Direction::Export)
+    } else {
+        None
+    }
+}
+
+// In which direction a sampled value counts, once its three texts are checked.
 #[tactic(auto, unfolding(crate::specs::Sampled::counts))]
-fn counts(sampled: Node) -> Result<bool, PayloadFault>
+fn counts(sampled: Node) -> Result<Option<Direction>, PayloadFault>
     ensures value { result ≡ spec.counts (node sampled.entry) }
     ensures memory { IfErr result (λ f. f ≢ OutOfMemory) }
 {
     let measurand = optional_text(sampled, "measurand")?;
     let phase = optional_text(sampled, "phase")?;
     let location = optional_text(sampled, "location")?;
-    Ok(
-        absent_or("Energy.Active.Import.Register", measurand)
-            && phase.is_none()
-            && absent_or("Outlet", location),
-    )
+    if phase.is_none() && absent_or("Outlet", location) {
+        Ok(direction_of(measurand))
+    } else {
+        Ok(None)
+    }
 }
 
 // The whole milliwatt-hours of a sampled value that counts.
@@ -55,7 +68,7 @@ fn sampled_mwh(sampled: Node) -> Result<u64, PayloadFault>
 fn add_counted(
     moment: Moment,
     sampled: Node,
-    counted: bool,
+    counted: Option<Direction>,
     readings: &mut CountedReadings,
 ) -> Result<(), PayloadFault>
     ensures ok { OnOk result
@@ -66,11 +79,13 @@ fn add_counted(
         (λ f. f ≡ OutOfMemory → (reading : MeterReading)
         × (spec.if_counted moment readings.old (node sampled.entry) counted ≡ Ok (readings.old ++ reading ∷ []))) }
 {
-    if !counted {
-        return Ok(());
+    match counted {
+        Some(direction) => {
+            let mwh = sampled_mwh(sampled)?;
+            readings.add(Reading::new(moment, mwh, direction).unwrap())
+        }
+        None => Ok(()),
     }
-    let mwh = sampled_mwh(sampled)?;
-    readings.add(Reading::new(moment, mwh).unwrap())
 }
 
 /// Adds the reading of a sampled value, where it counts.

@@ -6,6 +6,7 @@ use Rattle.std.specs.List.{filter, insert, remove}
 use Rattle.std.specs.List.Sorted.{IsBinarySearchResult, IsSearchInRange}
 use Rattle.std.specs.FinMap.{find, put}
 use Rattle.std.specs.FinMap.Entries.{by_order, below_all}
+use Rattle.std.proofs.lemmas.List.{length-set}
 use Rattle.ledger_model.proofs.Callers.{first, second, less}
 use Rattle.transaction_map.specs.Map.{AreRising, id_cmp}
 use Rattle.transaction_map.specs.Places.{IsAt, IsGap}
@@ -87,6 +88,10 @@ module _ {X : Type 0} where
       ap (λ r. by_order r ((key, v) ∷ e ∷ es) ((e.0, v) ∷ es) (e ∷ put id_cmp key v es)) h ∙ ap (λ k. (k, v) ∷ es) (sym (exact_ids key e.0 h))
   put_at key v (e ∷ es) (suc i) h =
       ap (λ r. by_order r ((key, v) ∷ e ∷ es) ((e.0, v) ∷ es) (e ∷ put id_cmp key v es)) h.0 ∙ ap (λ rest. e ∷ rest) (put_at key v es i h.1)
+
+  -- It leaves as many rows.
+  pub length_put : (key : List ℕ) (v : X) (es : List (List ℕ × X)) (i : ℕ) → IsAt key es i → length (put id_cmp key v es) ≡ length es
+  length_put key v es i h = ap length (put_at key v es i h) ∙ length-set es i (key, v)
 
   -- The rows without those of an id.
   abbrev without : List ℕ → List (List ℕ × X) → List (List ℕ × X)

@@ -30,6 +30,14 @@ equal_ids q tx e = elim (id_cmp q tx) as (λ (o : Ordering). id_cmp q tx ≡ o �
 pub same_id : (tx : List ℕ) → eq_by_cmp id_cmp tx tx ≡ true
 same_id tx = (eq_by_cmp_equiv id_total).refl tx
 
+-- The same ids tie.
+pub tied_ids : (q tx : List ℕ) → q ≡ tx → id_cmp q tx ≡ Equal
+tied_ids q tx e = elim (id_cmp q tx) as (λ (o : Ordering). is_eq o ≡ true → o ≡ Equal) [
+  | Less ↦ λ f. cc
+  | Equal ↦ λ _. refl
+  | Greater ↦ λ f. cc
+] (subst (λ t. eq_by_cmp id_cmp q t ≡ true) e (same_id q))
+
 -- The other way round, a comparison is turned.
 pub turned : (a b : List ℕ) (o : Ordering) → id_cmp a b ≡ o → id_cmp b a ≡ ordering_reverse o
 turned a b o h = id_total.antisymm b a ∙ ap ordering_reverse h

@@ -1,4 +1,4 @@
-ghost use Rattle.std.specs.Prelude.{◌≡◌, ◌<◌, ◌≤◌, [], length, map, not, None, IfOk, IfErr, option_map, slice_get, vec_len, vec_capacity};
+ghost use Rattle.std.specs.Prelude.{◌≡◌, ◌<◌, ◌≤◌, [], length, map, not, None, IfOk, IfErr, IfSome, option_map, slice_get, vec_len, vec_capacity};
 ghost use Rattle.std.specs.List.{filter};
 ghost use Rattle.std.specs.Ordering.{eq_by_cmp};
 ghost use Rattle.std.specs.FinMap.{find, put as put_row};
@@ -8,7 +8,6 @@ ghost use Rattle.transaction_map.specs.Map.{id_cmp, AreRising};
 use crate::named::NamedValue;
 use ledger_model::TxId;
 use std::alloc::{AllocError, Global};
-use std::cmp::Ordering;
 use std::marker::Model;
 
 /// Values by transaction id, in one sorted run reserved by `open`. Contracts see the rows by rising
@@ -34,6 +33,7 @@ impl<V> Model for TransactionMap<V> {
 }
 
 // Where the row of an id stands among rows by rising id, or else where it belongs.
+#[inline(never)]
 fn place<V: Copy>(rows: &[NamedValue<V>], tx: &TxId) -> Result<usize, usize>
     requires { AreRising rows.now }
     ensures at { IfOk result (λ i. IsAt tx.now rows.now i) }
@@ -48,10 +48,8 @@ fn place_near<V: Copy>(rows: &[NamedValue<V>], near: usize, tx: &TxId) -> Result
     ensures at { IfOk result (λ i. IsAt tx.now rows.now i) }
     ensures gap { IfErr result (λ i. IsGap tx.now rows.now i) }
 {
-    if near < rows.len() {
-        if let Ordering::Equal = rows[near].cmp_id(tx) {
-            return Ok(near);
-        }
+    if near < rows.len() && rows[near].is_of(tx) {
+        return Ok(near);
     }
     place(rows, tx)
 }
@@ -127,6 +125,17 @@ impl<V: Copy> TransactionMap<V> {
         }
     }
 
+    /// The value of a transaction, and the place of its row; none where it is absent.
+    pub fn find(&self, tx: &TxId) -> Option<(usize, V)>
+        ensures value { option_map (λ f. f.1) result ≡ find id_cmp tx.now self.now.rows }
+        ensures at { IfSome result (λ f. IsAt tx.now self.now.rows f.0) }
+    {
+        match place_near(&self.rows, self.near, tx) {
+            Ok(at) => Some((at, self.rows[at].value())),
+            Err(_) => None,
+        }
+    }
+
     /// The id at a place, the first at 0; none past the last.
     pub fn id_at(&self, place: usize) -> Option<&TxId>
         ensures { option_map (λ id. id.now) result ≡ slice_get (map (λ r. r.0) self.now.rows) place }
@@ -146,6 +155,15 @@ impl<V: Copy> TransactionMap<V> {
         put_in(&mut self.rows, self.near, tx, value);
     }
 
+    /// Writes the value of a transaction whose row is at this place.
+    pub fn set_at(&mut self, place: usize, tx: &TxId, value: V)
+        requires { IsAt tx.now self.old.rows place }
+        ensures rows { self.new.rows ≡ put_row id_cmp tx.now value self.old.rows }
+        ensures capacity { self.new.capacity ≡ self.old.capacity }
+    {
+        write_at(&mut self.rows, place, tx, value);
+    }
+
     /// Takes out the value of a transaction, and answers it; nothing where it is absent.
     pub fn remove(&mut self, tx: &TxId) -> Option<V>
         ensures value { result ≡ find id_cmp tx.now self.old.rows }
@@ -154,6 +172,15 @@ impl<V: Copy> TransactionMap<V> {
     {
         take_out(&mut self.rows, self.near, tx)
     }
+}
+
+// Writes the row of an id, which is at this place.
+fn write_at<V: Copy>(rows: &mut Vec<NamedValue<V>>, at: usize, tx: &TxId, value: V)
+    requires { IsAt tx.now rows.old.items at }
+    ensures items { rows.new.items ≡ put_row id_cmp tx.now value rows.old.items }
+    ensures capacity { vec_capacity rows.new ≡ vec_capacity rows.old }
+{
+    rows[at].set(value);
 }
 
 // Writes the row of an id, or puts it in where the id is new.

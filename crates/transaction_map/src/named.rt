@@ -1,4 +1,4 @@
-ghost use Rattle.std.specs.Prelude.{◌≡◌};
+ghost use Rattle.std.specs.Prelude.{◌≡◌, ◌↔◌, IsTrue};
 ghost use Rattle.transaction_map.specs.Map.{id_cmp};
 
 use ledger_model::TxId;
@@ -38,6 +38,13 @@ impl<V: Copy> NamedValue<V> {
         ensures { result ≡ self.now.1 }
     {
         self.value
+    }
+
+    // Tells whether it is the row of this transaction.
+    pub(crate) fn is_of(&self, id: &TxId) -> bool
+        ensures { IsTrue result ↔ (self.now.0 ≡ id.now) }
+    {
+        self.id == *id
     }
 
     // Compares the id with another.

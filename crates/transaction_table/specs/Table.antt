@@ -5,6 +5,7 @@ use Rattle.std.specs.Ordering.{eq_by_cmp}
 use Rattle.std.specs.FinMap.{find, put}
 use Rattle.transaction_map.specs.Map as ids
 use Rattle.transaction_map.specs.Map.{Mapped}
+use Rattle.transaction_map.specs.Places.{IsAt}
 use Rattle.transaction_table.specs.declared.row.TableRow.{TableRow}
 -- The order of transaction ids: by their bytes.
 pub use Rattle.transaction_map.specs.Map.{id_cmp}
@@ -24,6 +25,10 @@ AreRising rows = ids.AreRising rows
 -- What the table keeps of a transaction.
 abbrev pub row_of : List ℕ → List Row → Option TableRow
 row_of tx rows = find id_cmp tx rows
+
+-- The row of a transaction is at this place.
+abbrev pub IsRowAt : List ℕ → List Row → ℕ → Type 0
+IsRowAt tx rows i = IsAt tx rows i
 
 -- The rows, with this one of a transaction.
 abbrev pub with_row : List ℕ → TableRow → List Row → List Row

@@ -1,5 +1,5 @@
-ghost use Rattle.std.specs.Prelude.{◌≡◌, ◌≢◌, ◌<◌, ◌≤◌, [], length, map, Some, None, IfOk, option_map, slice_get};
-ghost use Rattle.transaction_table.specs.Table.{AreRising, AreApart, AreBelow, IsFresh, row_of, with_row, without_row};
+ghost use Rattle.std.specs.Prelude.{◌≡◌, ◌≢◌, ◌<◌, ◌≤◌, [], length, map, Some, None, IfOk, IfSome, option_map, slice_get};
+ghost use Rattle.transaction_table.specs.Table.{AreRising, AreApart, AreBelow, IsFresh, IsRowAt, row_of, with_row, without_row};
 
 use crate::row::TableRow;
 use ledger_model::TxId;
@@ -92,6 +92,14 @@ impl TransactionTable {
         self.rows.get(tx)
     }
 
+    /// What is kept of a transaction, and the place of its row; none where it is absent.
+    pub fn find(&self, tx: &TxId) -> Option<(usize, TableRow)>
+        ensures value { option_map (λ f. f.1) result ≡ row_of tx.now self.now.rows }
+        ensures at { IfSome result (λ f. IsRowAt tx.now self.now.rows f.0) }
+    {
+        self.rows.find(tx)
+    }
+
     /// The id at a place, the first at 0; none past the last.
     pub fn id_at(&self, place: usize) -> Option<&TxId>
         ensures { option_map (λ id. id.now) result ≡ slice_get (map (λ r. r.0) self.now.rows) place }
@@ -130,6 +138,16 @@ impl TransactionTable {
         ensures capacity { self.new.capacity ≡ self.old.capacity }
     {
         self.rows.put(tx, row);
+    }
+
+    /// Changes what is counted of a transaction whose row is at this place.
+    pub fn set_at(&mut self, place: usize, tx: &TxId, row: TableRow)
+        requires place { IsRowAt tx.now self.old.rows place }
+        requires slot { option_map (λ r. r.slot) (row_of tx.now self.old.rows) ≡ Some row.slot }
+        ensures rows { self.new.rows ≡ with_row tx.now row self.old.rows }
+        ensures capacity { self.new.capacity ≡ self.old.capacity }
+    {
+        self.rows.set_at(place, tx, row);
     }
 
     /// Takes out a transaction, which is there; its slot may be handed out again.

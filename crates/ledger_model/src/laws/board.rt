@@ -4,17 +4,19 @@ ghost use Rattle.std.specs.List.Sorted.{IsStrictlySortedBy};
 ghost use Rattle.std.specs.Str.{bytes_eq};
 ghost use Rattle.std.specs.Ordering.{nat_cmp};
 ghost use Rattle.std.specs.Cmp.Lexicographic.{slice_cmp};
-ghost use Rattle.ledger_model.specs.BoardExamples.{first_run, first_run_board, first_run_site, late_event, late_event_board, void_and_restore, void_and_restore_board, quarter_boundary, readings_again_at_end, evse_moves, evse_voided, start_voided, widest_gap, rise, ten};
+ghost use Rattle.ledger_model.specs.BoardExamples.{first_run, first_run_board, first_run_site, late_event, late_event_board, void_and_restore, void_and_restore_board, quarter_boundary, readings_again_at_end, evse_moves, evse_voided, start_voided, widest_gap, exported, in_turn, rise, took, ten};
 ghost use Rattle.ledger_model.specs.BoardLaws.{AreRising, AreGaps, AreComplete, AreSums, IsIn, sum_of_energies};
-ghost use Rattle.ledger_model.specs.Board.{Board, board, energy_under, figures, last_or_none, plus_figures, site_board, sum_of_figures};
+ghost use Rattle.ledger_model.specs.Board.{Board, board, figures, flows_under, last_or_none, plus_figures, site_board, sum_of_figures};
 ghost use Rattle.ledger_model.specs.Complete.{is_complete, kinds_of};
 ghost use Rattle.ledger_model.specs.Content.{Content, Entry, entries, has_transaction, live, transactions_of};
-ghost use Rattle.ledger_model.specs.Energy.{energy, energy_in, energy_of, pairs, quarter_of, quarters};
+ghost use Rattle.ledger_model.specs.Energy.{energy, energy_in, energy_of, flows_toward, pairs, quarter_of, quarters};
 ghost use Rattle.ledger_model.specs.Evse.{energy_at, evse_of, evses, first_or_none};
 ghost use Rattle.ledger_model.specs.Gaps.{Gap, gaps, missing, numbers_of};
 ghost use Rattle.ledger_model.specs.Quarter.{default_period};
 ghost use Rattle.ledger_model.specs.Posts.{Post, row_after, totals_after};
 ghost use Rattle.ledger_model.specs.declared.figures.Figures.{Figures};
+ghost use Rattle.ledger_model.specs.declared.reading.Direction.{Direction};
+ghost use Rattle.ledger_model.specs.declared.reading.Direction.TheVariants.{Import, Export};
 
 /// The gaps of rising numbers are the maximal ranges of what is missing between them, rising, and no
 /// other list is; with the numbers themselves they make up the range from the lowest to the highest.
@@ -32,26 +34,26 @@ pub fn complete_is_four_conditions()
     ensures { (tx : List ℕ) (es : List Entry) → (is_complete tx es ≡ true) ↔ AreComplete (kinds_of tx es) (missing (numbers_of tx es)) }
 {}
 
-/// The energy of a station is the sum over its quarters, whatever the settlement period.
+/// The energy of a station in a direction is the sum over its quarters, whatever the settlement period.
 pub fn energy_by_quarter()
-    ensures { (period : ℕ) (es : List Entry) → energy es ≡ sum_of_energies (map (λ quarter. energy_in period quarter es) (quarters period es)) }
+    ensures { (d : Direction) (period : ℕ) (es : List Entry) → energy d es ≡ sum_of_energies (map (λ quarter. energy_in d period quarter es) (quarters period es)) }
 {}
 
-/// The energy of a station is the sum over its EVSEs, of which 0 stands for none named.
+/// The energy of a station in a direction is the sum over its EVSEs, of which 0 stands for none named.
 pub fn energy_by_evse()
-    ensures { (es : List Entry) → energy es ≡ sum_of_energies (map (λ evse. energy_at evse es) (evses es)) }
+    ensures { (d : Direction) (es : List Entry) → energy d es ≡ sum_of_energies (map (λ evse. energy_at d evse es) (evses es)) }
 {}
 
-/// The energy of a station is the sum over its transactions with a live event.
+/// The energy of a station in a direction is the sum over its transactions with a live event.
 pub fn energy_by_transaction()
-    ensures { (es : List Entry) → energy es ≡ sum_of_energies (map (λ tx. energy_of tx es) (transactions_of (live es))) }
+    ensures { (d : Direction) (es : List Entry) → energy d es ≡ sum_of_energies (map (λ tx. energy_of d tx es) (transactions_of (live es))) }
 {}
 
-/// A station shows each quarter that has a pair of readings, each EVSE that has a transaction with a
+/// A station shows each quarter that has a pair of readings of either direction, each EVSE that has a transaction with a
 /// live event, and each such transaction: once, the numbers rising and the transactions in the order
 /// of their ids' bytes.
 pub fn shown_once_and_rising()
-    ensures quarters { (period : ℕ) (es : List Entry) (quarter : ℕ) → IsIn quarter (quarters period es) ↔ IsIn quarter (map (quarter_of period) (pairs es)) }
+    ensures quarters { (period : ℕ) (es : List Entry) (quarter : ℕ) → IsIn quarter (quarters period es) ↔ IsIn quarter (map (quarter_of period) (pairs Import es ++ pairs Export es)) }
     ensures quarters_rise { (period : ℕ) (es : List Entry) → AreRising (quarters period es) }
     ensures evses { (es : List Entry) (evse : ℕ) → IsIn evse (evses es) ↔ IsIn evse (map (λ tx. evse_of tx es) (transactions_of (live es))) }
     ensures evses_rise { (es : List Entry) → AreRising (evses es) }
@@ -59,9 +61,9 @@ pub fn shown_once_and_rising()
     ensures transactions_rise { (c : Content) → IsStrictlySortedBy (slice_cmp nat_cmp) (transactions_of (live (entries c))) }
 {}
 
-/// The energy of a site's quarter is the sum over its stations, shown there or not.
+/// The energy of a site's quarter is, in each direction, the sum over its stations, shown there or not.
 pub fn site_quarters_are_sums()
-    ensures { (period quarter : ℕ) (stations : List (List Entry)) → energy_under quarter (flat_map (λ es. (board period es).quarters) stations) ≡ sum_of_energies (map (energy_in period quarter) stations) }
+    ensures { (period quarter : ℕ) (stations : List (List Entry)) → flows_under quarter (flat_map (λ es. (board period es).quarters) stations) ≡ record { flow = sum_of_energies (map (energy_in Import period quarter) stations); export = sum_of_energies (map (energy_in Export period quarter) stations) } }
 {}
 
 /// Each figure of a site is the sum of that figure over its stations.
@@ -86,15 +88,18 @@ pub fn board_examples()
     ensures first_run_site { site_board default_period ((codes "A", board default_period first_run) ∷ []) ≡ first_run_site }
     ensures late_event { board default_period late_event ≡ late_event_board }
     ensures void_and_restore { board default_period void_and_restore ≡ void_and_restore_board }
-    ensures quarter_boundary { (board default_period quarter_boundary).quarters ≡ (ten + 1, rise 100_000) ∷ [] }
-    ensures readings_again_at_end { (board default_period readings_again_at_end).quarters ≡ (ten, record { up = 400_000; down = 600_000 }) ∷ (ten + 2, rise 800_000) ∷ (ten + 3, rise 100_000) ∷ [] }
-    ensures readings_again_figures { figures readings_again_at_end ≡ record { events = 4; voided = 0; transactions = 1; complete = 1; missing = 0; up = 1_300_000; down = 600_000 } }
-    ensures evse_moves { (board default_period evse_moves).evses ≡ (2, rise 250_000) ∷ [] }
-    ensures evse_moves_figures { figures evse_moves ≡ record { events = 3; voided = 0; transactions = 1; complete = 1; missing = 0; up = 250_000; down = 0 } }
-    ensures evse_voided { (board default_period evse_voided).evses ≡ (0, rise 250_000) ∷ [] }
-    ensures evse_voided_figures { figures evse_voided ≡ record { events = 2; voided = 1; transactions = 1; complete = 0; missing = 1; up = 250_000; down = 0 } }
-    ensures start_voided { (board default_period start_voided).evses ≡ (2, rise 150_000) ∷ [] }
-    ensures start_voided_figures { figures start_voided ≡ record { events = 2; voided = 1; transactions = 1; complete = 0; missing = 0; up = 150_000; down = 0 } }
+    ensures quarter_boundary { (board default_period quarter_boundary).quarters ≡ (ten + 1, took 100_000) ∷ [] }
+    ensures readings_again_at_end { (board default_period readings_again_at_end).quarters ≡ (ten, flows_toward Import (record { up = 400_000; down = 600_000 })) ∷ (ten + 2, took 800_000) ∷ (ten + 3, took 100_000) ∷ [] }
+    ensures readings_again_figures { figures readings_again_at_end ≡ record { events = 4; voided = 0; transactions = 1; complete = 1; missing = 0; up = 1_300_000; down = 600_000; export_up = 0; export_down = 0 } }
+    ensures evse_moves { (board default_period evse_moves).evses ≡ (2, took 250_000) ∷ [] }
+    ensures evse_moves_figures { figures evse_moves ≡ record { events = 3; voided = 0; transactions = 1; complete = 1; missing = 0; up = 250_000; down = 0; export_up = 0; export_down = 0 } }
+    ensures evse_voided { (board default_period evse_voided).evses ≡ (0, took 250_000) ∷ [] }
+    ensures evse_voided_figures { figures evse_voided ≡ record { events = 2; voided = 1; transactions = 1; complete = 0; missing = 1; up = 250_000; down = 0; export_up = 0; export_down = 0 } }
+    ensures start_voided { (board default_period start_voided).evses ≡ (2, took 150_000) ∷ [] }
+    ensures start_voided_figures { figures start_voided ≡ record { events = 2; voided = 1; transactions = 1; complete = 0; missing = 0; up = 150_000; down = 0; export_up = 0; export_down = 0 } }
     ensures widest_gap { gaps (numbers_of (codes "t1") widest_gap) ≡ (1, 2_147_483_646) ∷ [] }
-    ensures widest_gap_figures { figures widest_gap ≡ record { events = 2; voided = 0; transactions = 1; complete = 0; missing = 2_147_483_646; up = 0; down = 10_000_000_000_000 } }
+    ensures widest_gap_figures { figures widest_gap ≡ record { events = 2; voided = 0; transactions = 1; complete = 0; missing = 2_147_483_646; up = 0; down = 10_000_000_000_000; export_up = 0; export_down = 0 } }
+    ensures exported { (board default_period exported).quarters ≡ (ten, took 100_000) ∷ (ten + 1, flows_toward Export (rise 30_000)) ∷ [] }
+    ensures exported_figures { figures exported ≡ record { events = 3; voided = 0; transactions = 1; complete = 1; missing = 0; up = 100_000; down = 0; export_up = 30_000; export_down = 0 } }
+    ensures in_turn { (board default_period in_turn).quarters ≡ (ten, record { flow = rise 20_000; export = record { up = 0; down = 10_000 } }) ∷ [] }
 {}

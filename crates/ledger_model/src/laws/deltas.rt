@@ -4,12 +4,13 @@ ghost use Rattle.std.specs.FinMap.{find};
 ghost use Rattle.std.specs.Str.{bytes_eq};
 ghost use Rattle.energy_flow.specs.Flow.{plus};
 ghost use Rattle.ledger_model.specs.declared.command.Command.TheVariants.{Deliver, Void, Restore, Erase};
+ghost use Rattle.ledger_model.specs.declared.reading.Direction.{Direction};
 ghost use Rattle.ledger_model.specs.Complete.{is_complete};
 ghost use Rattle.ledger_model.specs.Content.{Entry, Stored, has_transaction, live, live_of, transactions_of};
-ghost use Rattle.ledger_model.specs.Deltas.{across, before_key, behind_key, first_reading, flow_if, last_reading, own_events, own_readings, pairs_between, pairs_kept, pairs_less, pairs_more, IsOneMore};
+ghost use Rattle.ledger_model.specs.Deltas.{across, before_key, behind_key, came_by, first_reading, flow_if, gone_by, kept_by, last_reading, most_for, own_events, own_readings, pairs_between, pairs_kept, pairs_less, pairs_more, IsOneMore};
 ghost use Rattle.ledger_model.specs.Energy.{Pair, energy, energy_in, energy_of, energy_over, followed, pairs, pairs_of, quarter_of};
 ghost use Rattle.ledger_model.specs.Entries.{entries_after, IsRising};
-ghost use Rattle.ledger_model.specs.Event.{EventContent, MeterReading};
+ghost use Rattle.ledger_model.specs.Event.{EventContent, MeterReading, toward};
 ghost use Rattle.ledger_model.specs.Evse.{energy_at, evse_of, transactions_at};
 ghost use Rattle.ledger_model.specs.Gaps.{missing, numbers_of};
 ghost use Rattle.ledger_model.specs.Key.{KeyName, key_cmp};
@@ -37,29 +38,33 @@ pub fn one_event_more_or_less()
     ensures behind { (key : KeyName) (es : List Entry) → own_events key.tx (behind_key key es) ≡ filter (λ e. nat_lt key.seq e.0.seq) (live_of key.tx es) }
 {}
 
-/// One live event more stands in its transaction alone, whose pairs change at its place alone. The
-/// station's pairs with the event and without it are, in some order, those that are kept, and those
-/// that come or go.
+/// One live event more stands in its transaction alone, whose pairs of a direction change at its place
+/// alone. The station's pairs with the event and without it are, in some order, those that are kept,
+/// and those that come or go. In a direction of which the event has no reading none comes or goes, and
+/// in one of which it has r, r above 0, at most r + 2 do.
 pub fn pairs_with_one_event_more()
-    ensures own_without { (es more front : List Entry) (e : Entry) (back : List Entry) → IsOneMore es more front e back → pairs_of e.0.tx es ≡ followed (own_readings e.0.tx front) ++ (pairs_less front e back ++ followed (own_readings e.0.tx back)) }
-    ensures own_with { (es more front : List Entry) (e : Entry) (back : List Entry) → IsOneMore es more front e back → pairs_of e.0.tx more ≡ followed (own_readings e.0.tx front) ++ (pairs_more front e back ++ followed (own_readings e.0.tx back)) }
+    ensures own_without { (d : Direction) (es more front : List Entry) (e : Entry) (back : List Entry) → IsOneMore es more front e back → pairs_of d e.0.tx es ≡ followed (own_readings d e.0.tx front) ++ (pairs_less d front e back ++ followed (own_readings d e.0.tx back)) }
+    ensures own_with { (d : Direction) (es more front : List Entry) (e : Entry) (back : List Entry) → IsOneMore es more front e back → pairs_of d e.0.tx more ≡ followed (own_readings d e.0.tx front) ++ (pairs_more d front e back ++ followed (own_readings d e.0.tx back)) }
     ensures events_without { (es more front : List Entry) (e : Entry) (back : List Entry) → IsOneMore es more front e back → live_of e.0.tx es ≡ own_events e.0.tx front ++ own_events e.0.tx back }
     ensures events_with { (es more front : List Entry) (e : Entry) (back : List Entry) → IsOneMore es more front e back → live_of e.0.tx more ≡ own_events e.0.tx front ++ e ∷ own_events e.0.tx back }
     ensures other_events { (es more front : List Entry) (e : Entry) (back : List Entry) (tx : List ℕ) → IsOneMore es more front e back → bytes_eq tx e.0.tx ≡ false → live_of tx more ≡ live_of tx es }
-    ensures station_without { (f : Pair → ℕ) (es more front : List Entry) (e : Entry) (back : List Entry) → IsOneMore es more front e back → sum_by f (pairs es) ≡ sum_by f (pairs_less front e back ++ pairs_kept es front e back) }
-    ensures station_with { (f : Pair → ℕ) (es more front : List Entry) (e : Entry) (back : List Entry) → IsOneMore es more front e back → sum_by f (pairs more) ≡ sum_by f (pairs_more front e back ++ pairs_kept es front e back) }
+    ensures station_without { (d : Direction) (f : Pair → ℕ) (es more front : List Entry) (e : Entry) (back : List Entry) → IsOneMore es more front e back → sum_by f (pairs d es) ≡ sum_by f (pairs_less d front e back ++ pairs_kept d es front e back) }
+    ensures station_with { (d : Direction) (f : Pair → ℕ) (es more front : List Entry) (e : Entry) (back : List Entry) → IsOneMore es more front e back → sum_by f (pairs d more) ≡ sum_by f (pairs_more d front e back ++ pairs_kept d es front e back) }
+    ensures less_kept { (d : Direction) (f : Pair → ℕ) (es more front : List Entry) (e : Entry) (back : List Entry) → IsOneMore es more front e back → sum_by f (pairs d es) ≡ sum_by f (gone_by d front e back ++ kept_by d es front e back) }
+    ensures more_kept { (d : Direction) (f : Pair → ℕ) (es more front : List Entry) (e : Entry) (back : List Entry) → IsOneMore es more front e back → sum_by f (pairs d more) ≡ sum_by f (came_by d front e back ++ kept_by d es front e back) }
+    ensures few_moved { (d : Direction) (front : List Entry) (e : Entry) (back : List Entry) → length (gone_by d front e back) + length (came_by d front e back) ≤ most_for (length (toward d e.1.event.readings)) }
 {}
 
-/// With one live event more, the energies of the station, of the event's transaction and of each
-/// quarter lose the pair that goes and gain those that come, and so does the number of a quarter's
-/// pairs. The transaction's energy is taken from the EVSE where it was and brought whole to the one
+/// With one live event more, the energies in a direction of the station, of the event's transaction and
+/// of each quarter lose the pair that goes and gain those that come, and so does the number of a
+/// quarter's pairs. The transaction's energy is taken from the EVSE where it was and brought whole to the one
 /// where it is.
 pub fn energies_with_one_event_more()
-    ensures station { (es more front : List Entry) (e : Entry) (back : List Entry) → IsOneMore es more front e back → plus (energy more) (energy_over (pairs_less front e back)) ≡ plus (energy es) (energy_over (pairs_more front e back)) }
-    ensures transaction { (es more front : List Entry) (e : Entry) (back : List Entry) → IsOneMore es more front e back → plus (energy_of e.0.tx more) (energy_over (pairs_less front e back)) ≡ plus (energy_of e.0.tx es) (energy_over (pairs_more front e back)) }
-    ensures quarter { (period q : ℕ) (es more front : List Entry) (e : Entry) (back : List Entry) → IsOneMore es more front e back → plus (energy_in period q more) (energy_over (filter (λ p. quarter_of period p == q) (pairs_less front e back))) ≡ plus (energy_in period q es) (energy_over (filter (λ p. quarter_of period p == q) (pairs_more front e back))) }
-    ensures quarter_pairs { (period q : ℕ) (es more front : List Entry) (e : Entry) (back : List Entry) → IsOneMore es more front e back → count_by (λ p. quarter_of period p == q) (pairs more) + count_by (λ p. quarter_of period p == q) (pairs_less front e back) ≡ count_by (λ p. quarter_of period p == q) (pairs es) + count_by (λ p. quarter_of period p == q) (pairs_more front e back) }
-    ensures evse { (evse : ℕ) (es more front : List Entry) (e : Entry) (back : List Entry) → IsOneMore es more front e back → plus (energy_at evse more) (flow_if (evse_of e.0.tx es == evse) (energy_of e.0.tx es)) ≡ plus (energy_at evse es) (flow_if (evse_of e.0.tx more == evse) (energy_of e.0.tx more)) }
+    ensures station { (d : Direction) (es more front : List Entry) (e : Entry) (back : List Entry) → IsOneMore es more front e back → plus (energy d more) (energy_over (gone_by d front e back)) ≡ plus (energy d es) (energy_over (came_by d front e back)) }
+    ensures transaction { (d : Direction) (es more front : List Entry) (e : Entry) (back : List Entry) → IsOneMore es more front e back → plus (energy_of d e.0.tx more) (energy_over (gone_by d front e back)) ≡ plus (energy_of d e.0.tx es) (energy_over (came_by d front e back)) }
+    ensures quarter { (d : Direction) (period q : ℕ) (es more front : List Entry) (e : Entry) (back : List Entry) → IsOneMore es more front e back → plus (energy_in d period q more) (energy_over (filter (λ p. quarter_of period p == q) (gone_by d front e back))) ≡ plus (energy_in d period q es) (energy_over (filter (λ p. quarter_of period p == q) (came_by d front e back))) }
+    ensures quarter_pairs { (d : Direction) (period q : ℕ) (es more front : List Entry) (e : Entry) (back : List Entry) → IsOneMore es more front e back → count_by (λ p. quarter_of period p == q) (pairs d more) + count_by (λ p. quarter_of period p == q) (gone_by d front e back) ≡ count_by (λ p. quarter_of period p == q) (pairs d es) + count_by (λ p. quarter_of period p == q) (came_by d front e back) }
+    ensures evse { (d : Direction) (evse : ℕ) (es more front : List Entry) (e : Entry) (back : List Entry) → IsOneMore es more front e back → plus (energy_at d evse more) (flow_if (evse_of e.0.tx es == evse) (energy_of d e.0.tx es)) ≡ plus (energy_at d evse es) (flow_if (evse_of e.0.tx more == evse) (energy_of d e.0.tx more)) }
 {}
 
 /// With one live event more, one event more is live, and a transaction more where the event's had

@@ -1,6 +1,8 @@
 //! Laws of the step, of the order of readings, and worked examples of both.
 
 ghost use Rattle.std.specs.Prelude.{◌≡◌, ℕ, ◌+◌, ◌<◌, ◌≤◌, List, [], ◌∷◌, All, length, IsPermutation};
+ghost use Rattle.ledger_model.specs.declared.reading.Direction.{Direction};
+ghost use Rattle.ledger_model.specs.declared.reading.Direction.TheVariants.{Import};
 ghost use Rattle.ledger_model.specs.declared.command.Command.{Command};
 ghost use Rattle.ledger_model.specs.declared.command.Command.TheVariants.{Void, Restore};
 ghost use Rattle.ledger_model.specs.declared.answer.Answer.TheVariants.{Accepted, Repeat, Refused};
@@ -14,7 +16,7 @@ ghost use Rattle.ledger_model.specs.Figures.{AreWithin};
 ghost use Rattle.ledger_model.specs.Step.{step, Reached, readings_stored};
 ghost use Rattle.ledger_model.specs.Energy.{readings_of, energy};
 ghost use Rattle.ledger_model.specs.Laws.{AreAccepted, left_by, answers, by_number, Sent, deliveries, IsLeftByRun};
-ghost use Rattle.ledger_model.specs.Examples.{narrow_limits, first_run, late_event, falling_register, conflict, void_and_restore, full_until_erased};
+ghost use Rattle.ledger_model.specs.Examples.{narrow_limits, first_run, late_event, falling_register, conflict, void_and_restore, full_until_erased, other_direction};
 
 /// An accepted void, then an accepted restoration of the same key, gives back the events and which of
 /// them are voided; both are counted.
@@ -50,18 +52,19 @@ pub fn reached()
     ensures figures { (limits : Bounds) (n : ℕ) (c : Content) → Reached limits n c → AreWithin limits (figures (entries c)) }
 {}
 
-/// The readings of a transaction in order are those met by looking at the numbers 0, 1, .. one by one,
+/// The readings of a transaction in a direction, in order, are those met by looking at the numbers 0, 1, .. one by one,
 /// up to any that is above each number that is stored.
 pub fn readings_in_order()
-    ensures { (tx : List ℕ) (c : Content) (n : ℕ) → All (λ e. e.0.seq < n) (entries c) → by_number tx c n ≡ readings_of tx (entries c) }
+    ensures { (d : Direction) (tx : List ℕ) (c : Content) (n : ℕ) → All (λ e. e.0.seq < n) (entries c) → by_number d tx c n ≡ readings_of d tx (entries c) }
 {}
 
-/// Worked examples: the energies that three runs leave, and the answers to three.
+/// Worked examples: the energies that three runs leave, and the answers to four.
 pub fn examples()
-    ensures first_run { energy (entries (left_by default_limits empty_content first_run)) ≡ record { up = 600_000; down = 0 } }
-    ensures late_event { energy (entries (left_by default_limits empty_content late_event)) ≡ record { up = 600_000; down = 0 } }
-    ensures falling_register { energy (entries (left_by default_limits empty_content falling_register)) ≡ record { up = 50_000; down = 1_500_000 } }
+    ensures first_run { energy Import (entries (left_by default_limits empty_content first_run)) ≡ record { up = 600_000; down = 0 } }
+    ensures late_event { energy Import (entries (left_by default_limits empty_content late_event)) ≡ record { up = 600_000; down = 0 } }
+    ensures falling_register { energy Import (entries (left_by default_limits empty_content falling_register)) ≡ record { up = 50_000; down = 1_500_000 } }
     ensures conflict { answers default_limits empty_content conflict ≡ Accepted 1 ∷ Accepted 2 ∷ Accepted 3 ∷ Repeat ∷ Refused ConflictingEvent ∷ [] }
+    ensures other_direction { answers default_limits empty_content other_direction ≡ Accepted 1 ∷ Refused ConflictingEvent ∷ [] }
     ensures void_and_restore { answers default_limits empty_content void_and_restore ≡ Accepted 1 ∷ Accepted 2 ∷ Accepted 3 ∷ Repeat ∷ Refused ConflictingEvent ∷ Accepted 4 ∷ Repeat ∷ Refused AlreadyVoided ∷ Refused NoSuchEvent ∷ Refused NotVoided ∷ Accepted 5 ∷ Refused NotVoided ∷ [] }
     ensures full_until_erased { answers narrow_limits empty_content full_until_erased ≡ Accepted 1 ∷ Accepted 2 ∷ Refused EventsFull ∷ Accepted 3 ∷ Refused EventsFull ∷ Accepted 4 ∷ Accepted 5 ∷ [] }
 {}

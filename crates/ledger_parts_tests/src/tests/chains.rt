@@ -2,7 +2,7 @@ mod plain_list;
 
 use event_chain::{Chains, Found, Room, TxWalk};
 use gap_list::{Gaps, NumberWalk};
-use ledger_model::{Event, EvseId, Key, Kind, Limits, Moment, Reading, TxId};
+use ledger_model::{Direction, Event, EvseId, Key, Kind, Limits, Moment, Reading, TxId};
 use plain_list::{Answers, PlainList};
 use std::alloc::Global;
 use std::test::Fail;
@@ -16,7 +16,9 @@ fn new_year() -> Option<Moment> {
 fn event(alloc: Global) -> Option<Event> {
     let moment = new_year()?;
     let mut readings = Vec::new(alloc);
-    readings.push(Reading::new(moment, 5)?).ok()?;
+    readings
+        .push(Reading::new(moment, 5, Direction::Export)?)
+        .ok()?;
     Event::new(Kind::Started, moment, EvseId::new(3), readings).ok()
 }
 
@@ -272,16 +274,16 @@ fn evse_and_ends(chains: &Chains, tx: &str) -> Option<(u8, u32)> {
     Some((chains.evse(&id).number(), chains.end_count(&id)))
 }
 
-// The first reading of a number of a transaction.
+// The first export of a number of a transaction.
 fn reading(chains: &Chains, tx: &str, seq: u32) -> Option<Reading> {
-    chains.readings(&key(tx, seq)?).next()
+    chains.readings(&key(tx, seq)?, Direction::Export).next()
 }
 
 fn answers_for_each(chains: &mut Chains, sent: &Event) -> bool {
     put(chains, "b", 1, sent)
         && put(chains, "a", 0, sent)
         && lists_a_then_b(chains)
-        && reading(chains, "b", 1) == Reading::new(sent.moment(), 5)
+        && reading(chains, "b", 1) == Reading::new(sent.moment(), 5, Direction::Export)
         && evse_and_ends(chains, "b") == Some((3, 1))
         && void(chains, "b", 1)
         && evse_and_ends(chains, "b") == Some((0, 0))
@@ -313,7 +315,11 @@ fn readings_of(alloc: Global, moment: Moment, number: u32) -> Option<Vec<Reading
     let mut readings = Vec::new(alloc);
     for step in 0..number % 3 {
         let level = u64::from(number) * 4 + u64::from(step);
-        readings.push(Reading::new(moment, level)?).ok()?;
+        let direction = match (number / 7 + step) % 3 {
+            0 => Direction::Export,
+            _ => Direction::Import,
+        };
+        readings.push(Reading::new(moment, level, direction)?).ok()?;
     }
     Some(readings)
 }

@@ -12,7 +12,8 @@ fn filed(slot: u32) -> Filed {
         slot,
         marks: Marks {
             live: slot % 2 == 1,
-            carries: slot % 5 == 0,
+            imports: slot % 5 == 0,
+            exports: slot % 7 == 0,
             names: false,
         },
     }
@@ -173,11 +174,11 @@ fn the_nearest_marked_entry_is_found(rt: HostRuntime) -> Result<(), Fail> {
     assert!(rt; ten_entries(&mut index));
     let place = index.place(key(7, 6));
     assert!(rt; sides(&index, place, key(7, 6), Mark::Live) == (5, 7));
-    assert!(rt; sides(&index, place, key(7, 6), Mark::Carries) == (5, 10));
+    assert!(rt; sides(&index, place, key(7, 6), Mark::Imports) == (5, 10));
     assert!(rt; sides(&index, place, key(7, 6), Mark::Names) == (0, 0));
     assert!(rt; set_live(&mut index, key(7, 5), false) && set_live(&mut index, key(7, 6), true));
     assert!(rt; sides(&index, place, key(7, 6), Mark::Live) == (3, 6));
-    assert!(rt; sides(&index, place, key(7, 6), Mark::Carries) == (0, 10));
+    assert!(rt; sides(&index, place, key(7, 6), Mark::Imports) == (0, 10));
     Ok(())
 }
 

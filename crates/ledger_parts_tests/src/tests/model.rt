@@ -1,8 +1,8 @@
 //! Examples of what the types take and keep, from OCPP 2.0.1 and this product's profile.
 use energy_flow::Level;
 use ledger_model::{
-    Event, EvseId, Figures, Kind, Limits, Listed, Moment, Name, Period, Quarter, Reading, Refusal,
-    TxId,
+    Direction, Event, EvseId, Figures, Kind, Limits, Listed, Moment, Name, Period, Quarter,
+    Reading, Refusal, TxId,
 };
 use std::alloc::{AllocError, Global};
 use std::test::Fail;
@@ -54,7 +54,8 @@ fn texts_have_their_lengths_and_characters(rt: HostRuntime) {
 
 // The greatest reading, and its moment.
 fn greatest() -> Option<Reading> {
-    Reading::new(Moment::new(1_772_359_200_000_000_000)?, 10_000_000_000_000)
+    let ten = Moment::new(1_772_359_200_000_000_000)?;
+    Reading::new(ten, 10_000_000_000_000, Direction::Export)
 }
 
 // An Ended event of this EVSE with so many of these readings, or the readings.
@@ -71,9 +72,10 @@ fn event(
 #[test]
 fn readings_have_a_greatest(rt: HostRuntime) -> Result<(), Fail> {
     let reading = greatest().ok_or("reading")?;
-    assert!(rt; Reading::new(reading.moment(), 10_000_000_000_001).is_none());
+    assert!(rt; Reading::new(reading.moment(), 10_000_000_000_001, Direction::Import).is_none());
     assert!(rt; reading.moment().nanos() == 1_772_359_200_000_000_000);
     assert!(rt; reading.level() == Level::new(10_000_000_000_000));
+    assert!(rt; reading.direction() == Direction::Export);
     Ok(())
 }
 

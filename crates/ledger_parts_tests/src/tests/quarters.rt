@@ -1,4 +1,8 @@
+ghost use Rattle.std.specs.Prelude.{◌≡◌};
+ghost use Rattle.ledger_model.specs.Energy.{flows_toward};
+
 use energy_flow::{Flow, Level, Work, difference};
+use ledger_model::Direction::{self, Export, Import};
 use ledger_model::Quarter;
 use quarter_table::QuarterTable;
 use std::test::Fail;
@@ -10,29 +14,42 @@ fn quarter(number: u32) -> Result<Quarter, Fail> {
     Ok(Quarter::new(number).ok_or("no quarter")?)
 }
 
+// What a difference of this direction counts for among imports, and among exports.
+fn parted(direction: Direction, flow: Flow) -> (Flow, Flow)
+    ensures import { result.0 ≡ (flows_toward direction flow).flow }
+    ensures export { result.1 ≡ (flows_toward direction flow).export }
+{
+    match direction {
+        Direction::Import => (flow, Flow::zero()),
+        Direction::Export => (Flow::zero(), flow),
+    }
+}
+
 // Adds a pair where it may be added, and tells whether it did.
-fn put(table: &mut QuarterTable, quarter: Quarter, flow: Flow) -> bool {
+fn put(table: &mut QuarterTable, quarter: Quarter, direction: Direction, flow: Flow) -> bool {
+    let (imported, exported) = parted(direction, flow);
     let row = table.row(quarter);
     if row.pairs == 0 && table.room() == 0 {
         return false;
     }
-    if row.pairs == u32::MAX || !row.flow.can_plus(flow) {
+    if row.pairs == u32::MAX || !row.flow.can_plus(imported) || !row.export.can_plus(exported) {
         return false;
     }
-    table.add(quarter, flow);
+    table.add(quarter, direction, flow);
     true
 }
 
 // Takes a pair out where it may be taken out, and tells whether it did.
-fn cut(table: &mut QuarterTable, quarter: Quarter, flow: Flow) -> bool {
+fn cut(table: &mut QuarterTable, quarter: Quarter, direction: Direction, flow: Flow) -> bool {
+    let (imported, exported) = parted(direction, flow);
     let row = table.row(quarter);
-    if row.pairs == 0 || !row.flow.can_minus(flow) {
+    if row.pairs == 0 || !row.flow.can_minus(imported) || !row.export.can_minus(exported) {
         return false;
     }
-    if row.pairs == 1 && row.flow != flow {
+    if row.pairs == 1 && (row.flow != imported || row.export != exported) {
         return false;
     }
-    table.remove(quarter, flow);
+    table.remove(quarter, direction, flow);
     true
 }
 
@@ -43,14 +60,14 @@ fn small_arena_quarters(rt: HostRuntime) -> Result<(), Fail> {
     let down = difference(Level::new(2), Level::new(0), &mut work);
     let half_past = quarter(HALF_PAST_TEN)?;
     let mut table = QuarterTable::reserve(rt.alloc(), 1)?;
-    assert!(rt; put(&mut table, half_past, up));
-    assert!(rt; put(&mut table, half_past, down));
+    assert!(rt; put(&mut table, half_past, Import, up));
+    assert!(rt; put(&mut table, half_past, Import, down));
     let row = table.row(half_past);
     assert_eq!(rt; (row.pairs, row.flow.up(), row.flow.down()), (2, 3, 2));
     assert_eq!(rt; (table.rows().len(), table.room()), (1, 0));
-    assert!(rt; !put(&mut table, quarter(HALF_PAST_TEN + 1)?, up));
-    assert!(rt; cut(&mut table, half_past, up) && table.holds(half_past));
-    assert!(rt; cut(&mut table, half_past, down) && !table.holds(half_past));
+    assert!(rt; !put(&mut table, quarter(HALF_PAST_TEN + 1)?, Import, up));
+    assert!(rt; cut(&mut table, half_past, Import, up) && table.holds(half_past));
+    assert!(rt; cut(&mut table, half_past, Import, down) && !table.holds(half_past));
     assert_eq!(rt; (table.rows().len(), table.room()), (0, 1));
     Ok(())
 }
@@ -59,12 +76,26 @@ fn small_arena_quarters(rt: HostRuntime) -> Result<(), Fail> {
 fn a_quarter_without_a_difference_stands(rt: HostRuntime) -> Result<(), Fail> {
     let half_past = quarter(HALF_PAST_TEN)?;
     let mut table = QuarterTable::reserve(rt.alloc(), 2)?;
-    assert!(rt; put(&mut table, half_past, Flow::zero()));
-    assert!(rt; put(&mut table, half_past, Flow::zero()));
-    assert!(rt; cut(&mut table, half_past, Flow::zero()));
+    assert!(rt; put(&mut table, half_past, Import, Flow::zero()));
+    assert!(rt; put(&mut table, half_past, Import, Flow::zero()));
+    assert!(rt; cut(&mut table, half_past, Import, Flow::zero()));
     assert!(rt; table.holds(half_past));
     assert_eq!(rt; table.row(half_past).flow, Flow::zero());
-    assert!(rt; cut(&mut table, half_past, Flow::zero()));
+    assert!(rt; cut(&mut table, half_past, Import, Flow::zero()));
     assert!(rt; !table.holds(half_past));
+    Ok(())
+}
+
+#[test]
+fn a_quarter_stands_while_it_has_a_pair_of_either_direction(rt: HostRuntime) -> Result<(), Fail> {
+    let mut work = Work::open(&rt);
+    let up = difference(Level::new(0), Level::new(3), &mut work);
+    let half_past = quarter(HALF_PAST_TEN)?;
+    let mut table = QuarterTable::reserve(rt.alloc(), 1)?;
+    assert!(rt; put(&mut table, half_past, Import, up) && put(&mut table, half_past, Export, up));
+    assert!(rt; cut(&mut table, half_past, Import, up));
+    let row = table.row(half_past);
+    assert_eq!(rt; (row.pairs, row.flow.up(), row.export.up()), (1, 0, 3));
+    assert!(rt; cut(&mut table, half_past, Export, up) && !table.holds(half_past));
     Ok(())
 }

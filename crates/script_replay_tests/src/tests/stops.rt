@@ -21,7 +21,7 @@ const LINES: [(&str, &str); 7] = [
     ("energy A\n", "energy up=600000 down=0\n"),
     (
         "board north\n",
-        "board north period=900\ntotal events=2 voided=0 transactions=1 complete=0 missing=1 up=600000 down=0\nperiod 2026-03-01T10:30:00Z up=600000 down=0\nstation A\ntotal events=2 voided=0 transactions=1 complete=0 missing=1 up=600000 down=0\nevse 0 up=600000 down=0\nperiod 2026-03-01T10:30:00Z up=600000 down=0\ntx t1 evse=0 events=2 first=0 last=2 complete=no missing=1 up=600000 down=0\ngap 1..1\nend\n",
+        "board north period=900\ntotal events=2 voided=0 transactions=1 complete=0 missing=1 up=600000 down=0 export_up=0 export_down=0\nperiod 2026-03-01T10:30:00Z up=600000 down=0 export_up=0 export_down=0\nstation A\ntotal events=2 voided=0 transactions=1 complete=0 missing=1 up=600000 down=0 export_up=0 export_down=0\nevse 0 up=600000 down=0 export_up=0 export_down=0\nperiod 2026-03-01T10:30:00Z up=600000 down=0 export_up=0 export_down=0\ntx t1 evse=0 events=2 first=0 last=2 complete=no missing=1 up=600000 down=0 export_up=0 export_down=0\ngap 1..1\nend\n",
     ),
     ("energy Z", "fault UnknownStation\n"),
 ];

@@ -193,6 +193,8 @@ fn numbered(post: u64) -> Figures {
         missing: post / 3,
         up: post,
         down: POSTS.saturating_sub(post),
+        export_up: post / 5,
+        export_down: post % 8_167,
     }
 }
 

@@ -62,20 +62,20 @@ const OTHERS: [Asked; 5] = [
 
 // What a replay of the same commands writes for `board north` (`examples/rows/three_threads.rows`).
 const BOARD: &str = "board north period=900
-total events=6 voided=0 transactions=2 complete=0 missing=0 up=650000 down=1500000
-period 2026-03-01T10:00:00Z up=250000 down=1500000
-period 2026-03-01T10:30:00Z up=400000 down=0
+total events=6 voided=0 transactions=2 complete=0 missing=0 up=650000 down=1500000 export_up=0 export_down=0
+period 2026-03-01T10:00:00Z up=250000 down=1500000 export_up=0 export_down=0
+period 2026-03-01T10:30:00Z up=400000 down=0 export_up=0 export_down=0
 station A
-total events=3 voided=0 transactions=1 complete=0 missing=0 up=600000 down=0
-evse 0 up=600000 down=0
-period 2026-03-01T10:00:00Z up=200000 down=0
-period 2026-03-01T10:30:00Z up=400000 down=0
-tx t1 evse=0 events=3 first=0 last=2 complete=no missing=0 up=600000 down=0
+total events=3 voided=0 transactions=1 complete=0 missing=0 up=600000 down=0 export_up=0 export_down=0
+evse 0 up=600000 down=0 export_up=0 export_down=0
+period 2026-03-01T10:00:00Z up=200000 down=0 export_up=0 export_down=0
+period 2026-03-01T10:30:00Z up=400000 down=0 export_up=0 export_down=0
+tx t1 evse=0 events=3 first=0 last=2 complete=no missing=0 up=600000 down=0 export_up=0 export_down=0
 station B
-total events=3 voided=0 transactions=1 complete=0 missing=0 up=50000 down=1500000
-evse 0 up=50000 down=1500000
-period 2026-03-01T10:00:00Z up=50000 down=1500000
-tx t1 evse=0 events=3 first=0 last=2 complete=no missing=0 up=50000 down=1500000
+total events=3 voided=0 transactions=1 complete=0 missing=0 up=50000 down=1500000 export_up=0 export_down=0
+evse 0 up=50000 down=1500000 export_up=0 export_down=0
+period 2026-03-01T10:00:00Z up=50000 down=1500000 export_up=0 export_down=0
+tx t1 evse=0 events=3 first=0 last=2 complete=no missing=0 up=50000 down=1500000 export_up=0 export_down=0
 end
 ";
 

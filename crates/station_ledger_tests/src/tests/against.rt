@@ -1,6 +1,6 @@
 //! A ledger against sums made from scratch, over drawn commands.
 use super::drawn::{Asked, Draws, id};
-use super::scratch::{Line, Scratch, Sums};
+use super::scratch::{Energy, Line, NO_ENERGY, Scratch, Sums};
 use energy_flow::{Flow, Work};
 use ledger_model::{Answer, EvseId, Figures, Limits, Period};
 use station_ledger::{EvseLine, StationBoard, StationLedger, TxLine};
@@ -10,21 +10,21 @@ use std::test::Fail;
 // The quarter that begins at 10:00 on the day of the events.
 const TEN: u32 = 1_969_288;
 
-// Tells whether an energy rises and falls by these.
-fn is_energy(flow: Flow, energy: (u64, u64)) -> bool {
-    (flow.up(), flow.down()) == energy
+// Tells whether the energies of both directions rise and fall by these.
+fn is_energy(import: Flow, export: Flow, energy: Energy) -> bool {
+    (import.up(), import.down(), export.up(), export.down()) == energy
 }
 
-fn are_figures(shown: Figures, want: [u64; 7]) -> bool {
+fn are_figures(shown: Figures, want: &Sums) -> bool {
     let counts = [
         shown.events,
         shown.voided,
         shown.transactions,
         shown.complete,
+        shown.missing,
     ];
-    let [events, voided, transactions, complete, missing, up, down] = want;
-    counts == [events, voided, transactions, complete]
-        && [shown.missing, shown.up, shown.down] == [missing, up, down]
+    let energy = (shown.up, shown.down, shown.export_up, shown.export_down);
+    counts == want.counts() && energy == want.energy()
 }
 
 // Tells whether the line shows this transaction.
@@ -35,7 +35,7 @@ fn is_line(shown: &TxLine, want: &Line) -> bool {
         && (shown.first(), shown.last()) == (want.first, want.last)
         && shown.is_complete() == want.complete
         && shown.missing() == want.missing
-        && is_energy(shown.flow(), want.energy)
+        && is_energy(shown.flow(), shown.export(), want.energy)
         && shown.gaps() == want.gaps.as_slice()
 }
 
@@ -56,8 +56,9 @@ fn are_quarters(board: &StationBoard, want: &Sums) -> bool {
     for quarter in &want.quarters {
         if let Some(energy) = *quarter {
             match shown.next() {
-                Some(line) if line.quarter().number() == number && is_energy(line.flow(), energy) =>
-                    {}
+                Some(line)
+                    if line.quarter().number() == number
+                        && is_energy(line.flow(), line.export(), energy) => {}
                 _ => return false,
             }
         }
@@ -78,7 +79,7 @@ fn count_evses(want: &Sums) -> u64 {
 // Tells whether the line shows an EVSE of these transactions.
 fn is_evse(shown: &EvseLine, want: &Sums) -> bool {
     match want.evse(shown.evse().number()) {
-        Some(energy) => is_energy(shown.flow(), energy),
+        Some(energy) => is_energy(shown.flow(), shown.export(), energy),
         None => false,
     }
 }
@@ -92,9 +93,9 @@ fn are_evses(board: &StationBoard, want: &Sums) -> bool {
 // Tells whether the ledger answers these energies of its EVSEs; no event names the last.
 fn answers_evses(ledger: &StationLedger, want: &Sums) -> bool {
     for number in 0..5 {
-        let energy = want.evse(number).unwrap_or((0, 0));
+        let energy = want.evse(number).unwrap_or(NO_ENERGY);
         if let Some(evse) = EvseId::new(number)
-            && !is_energy(ledger.evse(evse), energy)
+            && !is_energy(ledger.evse(evse), ledger.evse_export(evse), energy)
         {
             return false;
         }
@@ -104,12 +105,11 @@ fn answers_evses(ledger: &StationLedger, want: &Sums) -> bool {
 
 // The first of the calls that answers something else.
 fn apart(ledger: &StationLedger, scratch: &Scratch, want: &Sums) -> Option<&'static str> {
-    let figures = want.figures();
     if ledger.changes() != scratch.changes {
         Some("changes")
-    } else if !is_energy(ledger.energy(), (figures[5], figures[6])) {
+    } else if !is_energy(ledger.energy(), ledger.export(), want.energy()) {
         Some("energy")
-    } else if !are_figures(ledger.figures(), figures) {
+    } else if !are_figures(ledger.figures(), want) {
         Some("figures")
     } else if !answers_evses(ledger, want) {
         Some("evse")
@@ -120,7 +120,7 @@ fn apart(ledger: &StationLedger, scratch: &Scratch, want: &Sums) -> Option<&'sta
 
 // Tells whether the board shows these sums.
 fn is_board(board: &StationBoard, want: &Sums) -> bool {
-    are_figures(board.figures(), want.figures())
+    are_figures(board.figures(), want)
         && are_evses(board, want)
         && are_quarters(board, want)
         && are_lines(board, want.lines.as_slice())

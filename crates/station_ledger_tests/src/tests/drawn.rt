@@ -1,5 +1,5 @@
 //! Commands drawn from a seed, in plain numbers.
-use ledger_model::{Command, Event, EvseId, Key, Kind, Moment, Reading, TxId};
+use ledger_model::{Command, Direction, Event, EvseId, Key, Kind, Moment, Reading, TxId};
 use std::alloc::Global;
 
 // Numbers drawn from a seed.
@@ -23,11 +23,12 @@ impl Draws {
     }
 }
 
-// A reading: its minute after ten o'clock and its watt-hours.
+// A reading: its minute after ten o'clock, its watt-hours, and whether the export register shows them.
 #[derive(Clone, Copy, PartialEq, Eq)]
 pub(crate) struct Told {
     pub(crate) minute: u8,
     pub(crate) watt_hours: u8,
+    pub(crate) exported: bool,
 }
 
 // An event: its kind, its minute after ten o'clock, its EVSE, 0 where it names none, and its readings,
@@ -74,11 +75,12 @@ fn kind(place: u8, drawn: u8) -> Kind {
     }
 }
 
-// A reading of 0 to 7 watt-hours at some minute of four hours.
+// A reading of 0 to 7 watt-hours at some minute of four hours; one of three is of the export register.
 fn draw_reading(draws: &mut Draws) -> Told {
     Told {
         minute: draws.next(),
         watt_hours: draws.next() % 8,
+        exported: draws.next() % 3 == 0,
     }
 }
 
@@ -106,7 +108,16 @@ fn moment(minute: u8) -> Option<Moment> {
 
 // The reading.
 fn reading(told: Told) -> Option<Reading> {
-    Reading::new(moment(told.minute)?, 1_000 * told.watt_hours as u64)
+    let direction = if told.exported {
+        Direction::Export
+    } else {
+        Direction::Import
+    };
+    Reading::new(
+        moment(told.minute)?,
+        1_000 * told.watt_hours as u64,
+        direction,
+    )
 }
 
 // The readings that count.

@@ -7,7 +7,8 @@ ghost use Rattle.board_report.specs.Sums.{station_quarters, AreOfPeriod, Quarter
 use board_report::{SiteBoard, energy_text, site_board, total_text, write_board};
 use energy_flow::{Flow, Level, Work, difference};
 use ledger_model::{
-    Answer, Command, Event, Figures, Key, Kind, Limits, Moment, Name, Period, Reading, TxId,
+    Answer, Command, Direction, Event, Figures, Key, Kind, Limits, Moment, Name, Period, Reading,
+    TxId,
 };
 use station_ledger::{StationBoard, StationLedger};
 use std::alloc::{AllocError, AllocFailed, Global};
@@ -41,20 +42,20 @@ const TWO_STATIONS: Site = Site {
     figures: [6, 0, 2, 0, 0, 650_000, 1_500_000],
     stations: &[("A", &[START, LATER, MIDDLE]), ("B", FALLING)],
     text: "board north period=900
-total events=6 voided=0 transactions=2 complete=0 missing=0 up=650000 down=1500000
-period 2026-03-01T10:00:00Z up=250000 down=1500000
-period 2026-03-01T10:30:00Z up=400000 down=0
+total events=6 voided=0 transactions=2 complete=0 missing=0 up=650000 down=1500000 export_up=0 export_down=0
+period 2026-03-01T10:00:00Z up=250000 down=1500000 export_up=0 export_down=0
+period 2026-03-01T10:30:00Z up=400000 down=0 export_up=0 export_down=0
 station A
-total events=3 voided=0 transactions=1 complete=0 missing=0 up=600000 down=0
-evse 0 up=600000 down=0
-period 2026-03-01T10:00:00Z up=200000 down=0
-period 2026-03-01T10:30:00Z up=400000 down=0
-tx t1 evse=0 events=3 first=0 last=2 complete=no missing=0 up=600000 down=0
+total events=3 voided=0 transactions=1 complete=0 missing=0 up=600000 down=0 export_up=0 export_down=0
+evse 0 up=600000 down=0 export_up=0 export_down=0
+period 2026-03-01T10:00:00Z up=200000 down=0 export_up=0 export_down=0
+period 2026-03-01T10:30:00Z up=400000 down=0 export_up=0 export_down=0
+tx t1 evse=0 events=3 first=0 last=2 complete=no missing=0 up=600000 down=0 export_up=0 export_down=0
 station B
-total events=3 voided=0 transactions=1 complete=0 missing=0 up=50000 down=1500000
-evse 0 up=50000 down=1500000
-period 2026-03-01T10:00:00Z up=50000 down=1500000
-tx t1 evse=0 events=3 first=0 last=2 complete=no missing=0 up=50000 down=1500000
+total events=3 voided=0 transactions=1 complete=0 missing=0 up=50000 down=1500000 export_up=0 export_down=0
+evse 0 up=50000 down=1500000 export_up=0 export_down=0
+period 2026-03-01T10:00:00Z up=50000 down=1500000 export_up=0 export_down=0
+tx t1 evse=0 events=3 first=0 last=2 complete=no missing=0 up=50000 down=1500000 export_up=0 export_down=0
 end
 ",
 };
@@ -63,7 +64,7 @@ const NO_STATION: Site = Site {
     figures: [0, 0, 0, 0, 0, 0, 0],
     stations: &[],
     text: "board north period=900
-total events=0 voided=0 transactions=0 complete=0 missing=0 up=0 down=0
+total events=0 voided=0 transactions=0 complete=0 missing=0 up=0 down=0 export_up=0 export_down=0
 end
 ",
 };
@@ -73,7 +74,9 @@ fn command(alloc: Global, asked: Asked) -> Option<Command> {
     let moment = Moment::new((1_772_359_200 + 60 * minute.min(59)) * 1_000_000_000)?;
     let mwh = 1_000 * watt_hours.min(10_000_000_000);
     let mut readings = Vec::new(alloc);
-    readings.push(Reading::new(moment, mwh)?).ok()?;
+    readings
+        .push(Reading::new(moment, mwh, Direction::Import)?)
+        .ok()?;
     let event = Event::new(kind, moment, None, readings).ok()?;
     Some(Command::Deliver(Key::new(TxId::new("T1")?, seq)?, event))
 }
@@ -150,6 +153,7 @@ fn figures(numbers: [u64; 7]) -> Figures {
         missing,
         up,
         down,
+        ..Figures::zero()
     }
 }
 
@@ -193,12 +197,17 @@ fn a_board_without_memory_is_made_again(rt: HostRuntime) {
 }
 
 const GREATEST: &str =
-    "total events=18446744073709551615 voided=18446744073709551615 transactions=18446744073709551615 complete=18446744073709551615 missing=18446744073709551615 up=18446744073709551615 down=18446744073709551615";
+    "total events=18446744073709551615 voided=18446744073709551615 transactions=18446744073709551615 complete=18446744073709551615 missing=18446744073709551615 up=18446744073709551615 down=18446744073709551615 export_up=18446744073709551615 export_down=18446744073709551615";
 
 // Tells whether the longest total line fits.
 fn is_greatest() -> bool {
-    let greatest = total_text(&figures([u64::MAX; 7]));
-    greatest.as_str() == GREATEST && greatest.len() == 204
+    let figures = Figures {
+        export_up: u64::MAX,
+        export_down: u64::MAX,
+        ..figures([u64::MAX; 7])
+    };
+    let greatest = total_text(&figures);
+    greatest.as_str() == GREATEST && greatest.len() == 268
 }
 
 fn is_energy(flow: Flow, want: &str) -> bool {

@@ -3,6 +3,12 @@ use super::drawn::{Asked, Sent, Told, Wish};
 use ledger_model::{Answer, Kind, Refusal};
 use std::alloc::{AllocError, Global};
 
+// Rise and fall of the import register, and of the export register, in milliwatt-hours.
+pub(crate) type Energy = (u64, u64, u64, u64);
+
+// None of either.
+pub(crate) const NO_ENERGY: Energy = (0, 0, 0, 0);
+
 // A stored event.
 #[derive(Clone, Copy)]
 struct Stored {
@@ -161,7 +167,7 @@ fn is_same(one: &Sent, other: &Sent) -> bool {
         && one.readings.get(..count) == other.readings.get(..count)
 }
 
-// What is shown of a transaction, its last reading so far, and how many of its events are no Updated.
+// What is shown of a transaction, its last readings so far, and how many of its events are no Updated.
 #[derive(Drop)]
 pub(crate) struct Line {
     pub(crate) tx: u8,
@@ -171,11 +177,12 @@ pub(crate) struct Line {
     pub(crate) last: u32,
     pub(crate) complete: bool,
     pub(crate) missing: u64,
-    pub(crate) energy: (u64, u64),
+    pub(crate) energy: Energy,
     pub(crate) gaps: Vec<(u32, u32)>,
     started: bool,
     ends: u64,
-    reading: Option<Told>,
+    imported: Option<Told>,
+    exported: Option<Told>,
 }
 
 impl Line {
@@ -189,11 +196,12 @@ impl Line {
             last: row.seq,
             complete: false,
             missing: 0,
-            energy: (0, 0),
+            energy: NO_ENERGY,
             gaps: Vec::new(alloc),
             started: row.sent.kind == Kind::Started,
             ends: 0,
-            reading: None,
+            imported: None,
+            exported: None,
         }
     }
 
@@ -223,23 +231,31 @@ impl Line {
 }
 
 // Both sums.
-fn plus(one: (u64, u64), other: (u64, u64)) -> (u64, u64) {
-    (one.0.wrapping_add(other.0), one.1.wrapping_add(other.1))
+fn plus(one: Energy, other: Energy) -> Energy {
+    (
+        one.0.wrapping_add(other.0),
+        one.1.wrapping_add(other.1),
+        one.2.wrapping_add(other.2),
+        one.3.wrapping_add(other.3),
+    )
 }
 
-// What the register rose and fell by between two readings, in milliwatt-hours.
-fn between(earlier: Told, later: Told) -> (u64, u64) {
-    (
-        1_000 * u64::from(later.watt_hours.saturating_sub(earlier.watt_hours)),
-        1_000 * u64::from(earlier.watt_hours.saturating_sub(later.watt_hours)),
-    )
+// What the register of the later reading rose and fell by since the earlier one.
+fn between(earlier: Told, later: Told) -> Energy {
+    let up = 1_000 * u64::from(later.watt_hours.saturating_sub(earlier.watt_hours));
+    let down = 1_000 * u64::from(earlier.watt_hours.saturating_sub(later.watt_hours));
+    if later.exported {
+        (0, 0, up, down)
+    } else {
+        (up, down, 0, 0)
+    }
 }
 
 // What is shown of a list of events. A quarter is counted from ten o'clock.
 #[derive(Drop)]
 pub(crate) struct Sums {
     pub(crate) voided: u64,
-    pub(crate) quarters: [Option<(u64, u64)>; 18],
+    pub(crate) quarters: [Option<Energy>; 18],
     pub(crate) lines: Vec<Line>,
 }
 
@@ -265,47 +281,56 @@ impl Sums {
     }
 
     // The energy of the transactions of an EVSE; none where there is no such transaction.
-    pub(crate) fn evse(&self, evse: u8) -> Option<(u64, u64)> {
+    pub(crate) fn evse(&self, evse: u8) -> Option<Energy> {
         let mut energy = None;
         for line in &self.lines {
             if line.evse == evse {
-                energy = Some(plus(energy.unwrap_or((0, 0)), line.energy));
+                energy = Some(plus(energy.unwrap_or(NO_ENERGY), line.energy));
             }
         }
         energy
     }
 
-    // Events, voided events, transactions, complete ones, missing numbers, rises and falls.
-    pub(crate) fn figures(&self) -> [u64; 7] {
-        let (mut events, mut complete, mut missing, mut energy) = (0u64, 0u64, 0u64, (0, 0));
+    // Events, voided events, transactions, complete ones and missing numbers.
+    pub(crate) fn counts(&self) -> [u64; 5] {
+        let (mut events, mut complete, mut missing) = (0u64, 0u64, 0u64);
         for line in &self.lines {
             events = events.wrapping_add(line.events);
             complete = complete.wrapping_add(u64::from(line.complete));
             missing = missing.wrapping_add(line.missing);
-            energy = plus(energy, line.energy);
         }
         let transactions = self.lines.len() as u64;
-        [
-            events,
-            self.voided,
-            transactions,
-            complete,
-            missing,
-            energy.0,
-            energy.1,
-        ]
+        [events, self.voided, transactions, complete, missing]
+    }
+
+    // The energy of all transactions.
+    pub(crate) fn energy(&self) -> Energy {
+        let mut energy = NO_ENERGY;
+        for line in &self.lines {
+            energy = plus(energy, line.energy);
+        }
+        energy
     }
 }
 
 // Takes the readings of a transaction's next event into account.
-fn see_readings(quarters: &mut [Option<(u64, u64)>; 18], line: &mut Line, sent: &Sent) {
+fn see_readings(quarters: &mut [Option<Energy>; 18], line: &mut Line, sent: &Sent) {
     for told in sent.readings.iter().take(sent.count as usize) {
-        if let Some(last) = line.reading {
+        let last = if told.exported {
+            line.exported
+        } else {
+            line.imported
+        };
+        if let Some(last) = last {
             let energy = between(last, *told);
             line.energy = plus(line.energy, energy);
             let quarter = &mut quarters[told.minute as usize / 15];
-            *quarter = Some(plus(quarter.unwrap_or((0, 0)), energy));
+            *quarter = Some(plus(quarter.unwrap_or(NO_ENERGY), energy));
         }
-        line.reading = Some(*told);
+        if told.exported {
+            line.exported = Some(*told);
+        } else {
+            line.imported = Some(*told);
+        }
     }
 }

@@ -1,19 +1,11 @@
-use Rattle.std.proofs.Common.{◌≡◌, ℕ, ◌<◌, true, false, Some, None, option_map, is_some, slice_get, length, refl, sym, ap, ◌∙◌, subst, arith}
-use Rattle.std.specs.Ordering.{nat_cmp}
-use Rattle.std.specs.FinMap.{put}
-use Rattle.slot_links.specs.Links.{linked_in, linked_out}
-use Rattle.std.proofs.lemmas.List.{length-map}
-use Rattle.key_index.specs.declared.filed.Mark.TheVariants.{Live, Carries, Names}
-use Rattle.key_index.specs.declared.filed.Filed.{Filed}
-use Rattle.key_index.specs.declared.filed.Marks.{Marks}
-use Rattle.key_index.specs.Index as keyed
+use Rattle.std.proofs.Common.{◌≡◌, Some, option_map, sym, ap, ◌∙◌, subst}
+use Rattle.slot_links.specs.Links.{linked_in}
+use Rattle.key_index.specs.declared.filed.Mark.TheVariants.{Live}
 use Rattle.event_chain.specs.Flat.{place_of}
-use Rattle.event_chain.specs.Edits.{put_if, out, places_before, places_behind}
 use Rattle.event_chain.specs.Lists.{slot_in, slot_before, slot_after, AreListed}
-use Rattle.event_chain.specs.Placed.{Index, index, lane, lane_of, Placed}
-use Rattle.event_chain.specs.Ranked.{last_of, AreRising}
-use Rattle.event_chain.proofs.Lanes.{lane_rising, lane_absent, filed_absent, filed_there, lane_put, lane_out, lane_void, lane_stays, lane_enter, out_absent}
-use Rattle.event_chain.proofs.Lists.{sides_absent, sides_present, slot_present, prev_present, next_present, listed_put, listed_out, listed_same, listed_none}
+use Rattle.event_chain.specs.Placed.{Index, lane_of}
+use Rattle.event_chain.specs.Ranked.{AreRising}
+use Rattle.event_chain.proofs.Lists.{sides_absent}
 use Rattle.event_chain.proofs.place_index.link_live.Goals as goal
 
 pub slot_behind-after-requires-clause-listed : goal.slot_behind-after-requires-clause-listed

@@ -1,7 +1,21 @@
 //! The events of a station in a plain list by transaction and number, with which chains are compared.
 use event_chain::{Chains, Found, Room, TxStanding};
-use ledger_model::{Event, EvseId, Key, Kind, Reading};
+use ledger_model::{Direction, Event, EvseId, Key, Kind, Reading};
 use std::alloc::{AllocError, Global};
+
+// A reading on one side of something, and one on its other side.
+type Sides = (Option<Reading>, Option<Reading>);
+
+// The first and the last reading of a direction.
+fn ends_toward(readings: &[Reading], direction: Direction) -> Sides {
+    let mut ends = (None, None);
+    for reading in readings {
+        if reading.direction() == direction {
+            ends = (ends.0.or(Some(*reading)), Some(*reading));
+        }
+    }
+    ends
+}
 
 // An event of the list. Its transaction is told by a number.
 #[derive(Clone, Copy)]
@@ -11,8 +25,8 @@ struct PlainRow {
     voided: bool,
     kind: Kind,
     evse: EvseId,
-    first: Option<Reading>,
-    last: Option<Reading>,
+    imports: Sides,
+    exports: Sides,
     readings: usize,
 }
 
@@ -22,8 +36,8 @@ struct PlainRow {
 pub(crate) struct Answers {
     found: Option<Found>,
     room: Room,
-    before: Option<Reading>,
-    behind: Option<Reading>,
+    imports: Sides,
+    exports: Sides,
     standing: TxStanding,
     alone: TxStanding,
 }
@@ -31,13 +45,12 @@ pub(crate) struct Answers {
 impl Answers {
     // The answers of chains.
     pub(crate) fn of(chains: &Chains, key: &Key, readings: usize) -> Answers {
-        let sides = chains.neighbours(key);
         let standing = chains.standing(key.tx());
         Answers {
             found: chains.find(key),
             room: chains.room_for(key.tx(), readings),
-            before: sides.0,
-            behind: sides.1,
+            imports: chains.neighbours(key, Direction::Import),
+            exports: chains.neighbours(key, Direction::Export),
             standing,
             alone: TxStanding {
                 first: chains.first(key.tx()),
@@ -56,8 +69,8 @@ impl Answers {
 #[derive(Clone, Copy)]
 struct Seen {
     standing: TxStanding,
-    before: Option<Reading>,
-    behind: Option<Reading>,
+    imports: Sides,
+    exports: Sides,
 }
 
 impl Seen {
@@ -73,19 +86,21 @@ impl Seen {
                 ends: 0,
                 evse: EvseId::unnamed(),
             },
-            before: None,
-            behind: None,
+            imports: (None, None),
+            exports: (None, None),
         }
     }
 
     // Takes an event into account; its number is above those before it.
     fn see(&mut self, row: &PlainRow, seq: u32) {
         self.stand(row);
-        if row.seq < seq && row.last.is_some() {
-            self.before = row.last;
+        if row.seq < seq {
+            self.imports.0 = row.imports.1.or(self.imports.0);
+            self.exports.0 = row.exports.1.or(self.exports.0);
         }
-        if row.seq > seq && self.behind.is_none() {
-            self.behind = row.first;
+        if row.seq > seq {
+            self.imports.1 = self.imports.1.or(row.imports.0);
+            self.exports.1 = self.exports.1.or(row.exports.0);
         }
     }
 
@@ -194,8 +209,8 @@ impl PlainList {
         Answers {
             found: self.found(tx, seq),
             room: self.room(there, transactions, readings),
-            before: seen.before,
-            behind: seen.behind,
+            imports: seen.imports,
+            exports: seen.exports,
             standing: seen.standing,
             alone: seen.standing,
         }
@@ -221,8 +236,8 @@ impl PlainList {
             voided: false,
             kind: event.kind(),
             evse: event.evse().unwrap_or(EvseId::unnamed()),
-            first: event.readings().first().copied(),
-            last: event.readings().last().copied(),
+            imports: ends_toward(event.readings(), Direction::Import),
+            exports: ends_toward(event.readings(), Direction::Export),
             readings: event.readings().len(),
         };
         self.held = self.held.wrapping_add(row.readings);

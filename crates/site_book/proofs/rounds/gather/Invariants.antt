@@ -7,5 +7,5 @@ abbrev pub invariant-loop-i : goal.invariant-loop-i
 invariant-loop-i l = record {
   sits : Sits l.words.table_id l.seat.table_id;
   read_is : l.seat.me ≡ (looking l.fn.seat.me.0.log l.fn.seat.me.0.version (take l.i l.read), []);
-  all : length l.read ≡ 7;
+  all : length l.read ≡ 9;
 }

@@ -4,4 +4,4 @@ use Rattle.site_book.proofs.Moves.{keeps_list}
 use Rattle.site_book.proofs.steps.keep.Goals as goal
 
 pub join_seat-requires : goal.join_seat-requires
-join_seat-requires c = (search rules, search rules, search rules, search rules, keeps_list shown 7 (λ _. refl) _ _ _ _ c.requires.longer)
+join_seat-requires c = (search rules, search rules, search rules, search rules, keeps_list shown 9 (λ _. refl) _ _ _ _ c.requires.longer)

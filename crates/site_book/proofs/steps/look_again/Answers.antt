@@ -4,4 +4,4 @@ use Rattle.site_book.proofs.Moves.{checks_as}
 use Rattle.site_book.proofs.steps.look_again.Goals as goal
 
 pub load-requires : goal.load-requires
-load-requires c = (search rules, search rules, checks_as shown 7 (λ _. refl) _ _ _ c.requires.looks c.requires.even c.requires.all)
+load-requires c = (search rules, search rules, checks_as shown 9 (λ _. refl) _ _ _ c.requires.looks c.requires.even c.requires.all)

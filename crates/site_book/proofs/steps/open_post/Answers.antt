@@ -4,4 +4,4 @@ use Rattle.site_book.proofs.Moves.{opens_as}
 use Rattle.site_book.proofs.steps.open_post.Goals as goal
 
 pub store-requires : goal.store-requires
-store-requires g c = (search rules, search rules, opens_as shown 7 (λ _. refl) _ _ _ _ _ c.requires.rests (omega arith))
+store-requires g c = (search rules, search rules, opens_as shown 9 (λ _. refl) _ _ _ _ _ c.requires.rests (omega arith))

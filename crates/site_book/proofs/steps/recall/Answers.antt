@@ -4,4 +4,4 @@ use Rattle.site_book.proofs.Moves.{recalls_as}
 use Rattle.site_book.proofs.steps.recall.Goals as goal
 
 pub load-requires : goal.load-requires
-load-requires c = (search rules, search rules, recalls_as shown 7 (λ _. refl) _ _ _ c.requires.joined)
+load-requires c = (search rules, search rules, recalls_as shown 9 (λ _. refl) _ _ _ c.requires.joined)

@@ -4,4 +4,4 @@ use Rattle.site_book.proofs.Moves.{takes_in_as}
 use Rattle.site_book.proofs.steps.take_in.Goals as goal
 
 pub join_seat-requires : goal.join_seat-requires
-join_seat-requires c = (search rules, search rules, search rules, search rules, takes_in_as shown 7 (λ _. refl) _ _ _ _ (ap (λ m. m.0) c.requires.rests))
+join_seat-requires c = (search rules, search rules, search rules, search rules, takes_in_as shown 9 (λ _. refl) _ _ _ _ (ap (λ m. m.0) c.requires.rests))

@@ -1,4 +1,5 @@
-use Rattle.std.proofs.Common.{ap, ◌∙◌}
+use Rattle.std.proofs.Common.{ap, refl, ◌∙◌}
+use Rattle.ledger_model.specs.declared.answer.Answer.TheVariants.{Repeat, Refused}
 use Rattle.ledger_model.specs.Board.{figures}
 use Rattle.ledger_model.specs.Content.{entries}
 use Rattle.site_desk.proofs.Settled.{book_posted, known_after, tied_after}
@@ -16,3 +17,11 @@ returns-in-Accepted-clause-known g c =
 pub returns-in-Accepted-clause-tied : goal.returns-in-Accepted-clause-tied
 returns-in-Accepted-clause-tied g c =
     tied_after _ _ c.args.pass.now _ _ c.args.command _ c.change-answer.ensures.cell (returns-in-Accepted-clause-book g c) c.change-answer.ensures.answer c.requires.tied
+
+pub returns-in-Repeat-clause-tied : goal.returns-in-Repeat-clause-tied
+returns-in-Repeat-clause-tied g c =
+    tied_after _ _ c.args.pass.now c.args.book.now c.args.book.now c.args.command Repeat c.change-answer.ensures.cell refl c.in-Repeat.ensures.answer c.requires.tied
+
+pub returns-in-Refused-clause-tied : goal.returns-in-Refused-clause-tied
+returns-in-Refused-clause-tied g c =
+    tied_after _ _ c.args.pass.now c.args.book.now c.args.book.now c.args.command (Refused c.in-Refused.field-0) c.change-answer.ensures.cell refl c.in-Refused.ensures.answer c.requires.tied

@@ -1,5 +1,6 @@
 use Rattle.std.proofs.Common.{◌<◌, unwrap_or, sym, ap, subst, ◌∙◌}
 use Rattle.event_chain.specs.Chains.{stored}
+use Rattle.ledger_model.specs.declared.reading.Direction.TheVariants.{Import, Export}
 use Rattle.ledger_model.specs.Gaps.{numbers_of}
 use Rattle.ledger_model.specs.Ranges.{sequence_end}
 use Rattle.station_ledger.specs.Lines.{IsStationFlow}
@@ -17,7 +18,8 @@ invariant_of-result c =
     record {
       first_number = subst (λ n. n < sequence_end) (sym first) (first_few tx es c.requires.numbered);
       last_number = subst (λ n. n < sequence_end) (sym last) (last_few tx es c.requires.numbered);
-      flow_in_range = subst IsStationFlow (ap (λ s. s.flow) (sym c.requires.standing)) (own_flow c.args.chains.now.limits es c.requires.within tx);
+      flow_in_range = subst IsStationFlow (ap (λ s. s.flow) (sym c.requires.standing)) (own_flow c.args.chains.now.limits es c.requires.within Import tx);
+      export_in_range = subst IsStationFlow (ap (λ s. s.export) (sym c.requires.standing)) (own_flow c.args.chains.now.limits es c.requires.within Export tx);
     }
 
 -- what stands of it is what is shown, with its first and its last number
@@ -28,6 +30,7 @@ returns c =
     let first = c.unwrap_or.ensures ∙ ap (λ o. unwrap_or o 0) c.first.ensures ∙ first_is_or ns in
     let last = c.unwrap_or-2.ensures ∙ ap (λ o. unwrap_or o 0) c.last.ensures ∙ last_is_or ns in
     let events = c.from.ensures ∙ ap (λ t. t.live) s in
+    let missing = c.from-2.ensures ∙ ap (λ t. t.missing) s in
     let gaps = c.of.ensures ∙ c.in_ok-gaps.ensures in
     λ i. record {
       tx = c.copied.ensures i;
@@ -36,7 +39,8 @@ returns c =
       first = first i;
       last = last i;
       complete = (s i).complete;
-      missing = (s i).missing;
+      missing = missing i;
       flow = (s i).flow;
+      export = (s i).export;
       gaps = gaps i;
     }

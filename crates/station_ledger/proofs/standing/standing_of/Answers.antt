@@ -1,4 +1,4 @@
-use Rattle.std.proofs.Common.{◌≡◌, ◌-◌, ◌+◌, Some, sym, ◌∙◌, arith}
+use Rattle.std.proofs.Common.{◌≡◌, ◌-◌, Some, slice_get, unwrap_or, sym, ap, ◌∙◌, arith}
 use Rattle.std.proofs.lemmas.Bool.{ne_eqb}
 use Rattle.std.proofs.lemmas.List.{length-map}
 use Rattle.ledger_model.specs.Complete.{kinds_of, starts_and_ends, is_complete}
@@ -12,19 +12,26 @@ use Rattle.station_ledger.proofs.EndNumbers.{fills, first_is, none_first, none_l
 use Rattle.station_ledger.proofs.standing.standing_of.Goals.{then-missing-eq0, else-missing-eq0, in_default-via-in-Some+in_default, in_default-via-in_default}
 use Rattle.station_ledger.proofs.standing.standing_of.Goals as goal
 
-pub overflow_sub-last : goal.overflow_sub-last
-overflow_sub-last c =
+pub overflow_sub-missing-in-Some-Some : goal.overflow_sub-missing-in-Some-Some
+overflow_sub-missing-in-Some-Some c =
     let tx = c.args.tx.now in let es = stored c.args.chains.now in let ns = numbers_of tx es in let e = c.standing-events.ensures in
     let first = sym e.first ∙ c.in-Some-Some.is-0 in let last = sym e.last ∙ c.in-Some-Some.is-1 in
     let all = fills ns c.in-Some-Some.first c.in-Some-Some.last (numbers-AreRising tx (record { events = c.args.chains.now.events; changes = 0 })) first last in
-    omega (arith, all, (first_is ns c.in-Some-Some.first first).1)
+    omega (arith, all, (first_is ns c.in-Some-Some.first first).1, length-map (live_of tx es) (λ (x : Entry). x.0.seq), e.live)
+
+pub overflow_sub-missing-in-Some-Some-2 : goal.overflow_sub-missing-in-Some-Some-2
+overflow_sub-missing-in-Some-Some-2 c =
+    let tx = c.args.tx.now in let es = stored c.args.chains.now in let ns = numbers_of tx es in let e = c.standing-events.ensures in
+    let first = sym e.first ∙ c.in-Some-Some.is-0 in let last = sym e.last ∙ c.in-Some-Some.is-1 in
+    let all = fills ns c.in-Some-Some.first c.in-Some-Some.last (numbers-AreRising tx (record { events = c.args.chains.now.events; changes = 0 })) first last in
+    omega (arith, all, (first_is ns c.in-Some-Some.first first).1, length-map (live_of tx es) (λ (x : Entry). x.0.seq), e.live)
 
 pub overflow_sub-missing : goal.overflow_sub-missing
 overflow_sub-missing c =
     let tx = c.args.tx.now in let es = stored c.args.chains.now in let ns = numbers_of tx es in let e = c.standing-events.ensures in
     let first = sym e.first ∙ c.in-Some-Some.is-0 in let last = sym e.last ∙ c.in-Some-Some.is-1 in
     let all = fills ns c.in-Some-Some.first c.in-Some-Some.last (numbers-AreRising tx (record { events = c.args.chains.now.events; changes = 0 })) first last in
-    omega (arith, all, (first_is ns c.in-Some-Some.first first).1, length-map (live_of tx es) (λ (x : Entry). x.0.seq), e.live, c.from.ensures, c.from-in-Some-Some.ensures)
+    omega (arith, all, (first_is ns c.in-Some-Some.first first).1, length-map (live_of tx es) (λ (x : Entry). x.0.seq), e.live)
 
 pub returns-after-missing-eq0 : goal.returns-after-missing-eq0
 returns-after-missing-eq0 c =
@@ -33,21 +40,22 @@ returns-after-missing-eq0 c =
     let all = fills ns c.in-Some-Some.first c.in-Some-Some.last (numbers-AreRising tx (record { events = c.args.chains.now.events; changes = 0 })) first last in
     let count = length-map (live_of tx es) (λ (x : Entry). x.0.seq) in
     let some = (first_is ns c.in-Some-Some.first first).1 in
-    let none : (c.from.result + 1) - c.from-in-Some-Some.result ≡ missing ns = omega (arith, all, count, e.live, c.from.ensures, c.from-in-Some-Some.ensures) in
+    let none : (c.in-Some-Some.last - c.in-Some-Some.first) - (c.standing-events.result.live - 1) ≡ missing ns = omega (arith, all, count, e.live) in
     let ends : starts_and_ends_by c.standing-events.result.first_kind c.standing-events.result.last_kind c.standing-events.result.ends ≡ starts_and_ends (kinds_of tx es) =
     (λ i. starts_and_ends_by (e.first_kind i) (e.last_kind i) (e.ends i)) ∙ by_ends (kinds_of tx es) in
+    let head : c.in-Some-Some.first ≡ unwrap_or (slice_get ns 0) 0 = ap (λ o. unwrap_or o 0) (sym first) in
     let complete : c.if-missing-eq0.result ≡ is_complete tx es = elim c.if-missing-eq0.branch [
       | then-missing-eq0 w ↦ w.result-is ∙ w.starts_and_ends.ensures ∙ ends ∙ none_missing (starts_and_ends (kinds_of tx es)) (missing ns) (sym none ∙ w.if-missing-eq0.true)
-      | else-missing-eq0 w ↦ w.result-is ∙ ne_eqb ((c.from.result + 1) - c.from-in-Some-Some.result) 0 w.if-missing-eq0.false ∙ some_missing (starts_and_ends (kinds_of tx es)) (missing ns) (λ z. w.if-missing-eq0.false (none ∙ z))
+      | else-missing-eq0 w ↦ w.result-is ∙ ne_eqb ((c.in-Some-Some.last - c.in-Some-Some.first) - (c.standing-events.result.live - 1)) 0 w.if-missing-eq0.false ∙ some_missing (starts_and_ends (kinds_of tx es)) (missing ns) (λ z. w.if-missing-eq0.false (none ∙ z))
     ] in
-    (λ i. Some (record { live = e.live i; evse = e.evse i; complete = complete i; missing = none i; flow = c.args.flow }))
-    ∙ kept_some c.args.flow tx es (omega (arith, some, count))
+    (λ i. Some (record { first = head i; live = e.live i; evse = e.evse i; complete = complete i; missing = none i; flow = c.args.energies.import; export = c.args.energies.export }))
+    ∙ kept_some c.args.energies.import c.args.energies.export tx es (omega (arith, some, count))
 
 pub returns-in_default : goal.returns-in_default
 returns-in_default c =
     let tx = c.args.tx.now in let es = stored c.args.chains.now in let ns = numbers_of tx es in let e = c.standing-events.ensures in
     let count = length-map (live_of tx es) (λ (x : Entry). x.0.seq) in
     elim c.in_default.branch [
-      | in_default-via-in-Some+in_default w ↦ kept_none c.args.flow tx es (sym count ∙ none_last ns (sym e.last ∙ w.in_default.is-1))
-      | in_default-via-in_default w ↦ kept_none c.args.flow tx es (sym count ∙ none_first ns (sym e.first ∙ w.in_default.is-0))
+      | in_default-via-in-Some+in_default w ↦ kept_none c.args.energies.import c.args.energies.export tx es (sym count ∙ none_last ns (sym e.last ∙ w.in_default.is-1))
+      | in_default-via-in_default w ↦ kept_none c.args.energies.import c.args.energies.export tx es (sym count ∙ none_first ns (sym e.first ∙ w.in_default.is-0))
     ]

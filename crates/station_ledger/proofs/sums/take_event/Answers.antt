@@ -1,107 +1,170 @@
-use Rattle.std.proofs.Common.{sym, ap, subst, ◌∙◌, arith}
-use Rattle.ledger_model.specs.Deltas.{across, pairs_between}
-use Rattle.ledger_model.proofs.Callers.{few_across, few_between}
+use Rattle.std.proofs.Common.{◌+◌, length, sym, subst, ◌∙◌, arith}
+use Rattle.ledger_model.specs.declared.reading.Direction.TheVariants.{Import, Export}
+use Rattle.ledger_model.specs.Deltas.{most_for}
 use Rattle.event_chain.specs.Chains.{stored}
-use Rattle.station_ledger.specs.Moved.{flow_in}
 use Rattle.station_ledger.specs.Quarters.{readings_at}
-use Rattle.energy_flow.specs.Flow.{CanMinus, minus}
+use Rattle.station_ledger.specs.Sides.{by_direction, sides_across, sides_between}
 use Rattle.station_ledger.specs.Sums.{AreQuarterRows}
-use Rattle.station_ledger.specs.Standing.{kept_with}
 use Rattle.station_ledger.proofs.Changes.{going}
-use Rattle.station_ledger.proofs.Stands.{was_kept, own_flow, place, stands, room_at, counts_at, sums_stand, have_room, do_count, counts_stand}
-use Rattle.station_ledger.proofs.Trades.{own_room, own_holds, own_left, all_room, all_holds, all_left, holds, room, filled}
+use Rattle.station_ledger.proofs.Settled.{all_may, all_then, own_may, own_then, kept_is}
+use Rattle.station_ledger.proofs.Stands.{was_kept, place, stands, room_at, counts_at, sums_stand, have_room, do_count, counts_stand}
+use Rattle.station_ledger.proofs.Trades.{holds, room, filled}
 use Rattle.station_ledger.proofs.sums.take_event.Goals as goal
 
-pub take_pairs-less-requires-clause-holds : goal.take_pairs-less-requires-clause-holds
-take_pairs-less-requires-clause-holds c =
+pub take_own-less-requires-clause-holds : goal.take_own-less-requires-clause-holds
+take_own-less-requires-clause-holds c =
     let es = c.requires.to_go.0 in let h = c.requires.to_go.1.1.0 in let s = c.requires.to_go.1.1.1 in
-    let ch = going c.args.chains.now.limits c.tx-tx.result.now es c.args.chains.now c.args.key.now c.args.place.now.before c.args.place.now.behind c.tx-tx.ensures c.requires.to_go.1.0 c.requires.within h in
-    holds c.args.chains.now.limits c.tx-tx.result.now es (stored c.args.chains.now) (pairs_between c.args.place.now.before (readings_at c.args.chains.now c.args.key.now) c.args.place.now.behind) (across c.args.place.now.before c.args.place.now.behind) ch.kept ch.traded ch.before ch.after c.args.sums.now.period c.args.sums.now.quarters s.by_quarter
+    let limits = c.args.chains.now.limits in let tx = c.tx-tx.result.now in let new = stored c.args.chains.now in let key = c.args.key.now in
+    let before = (by_direction c.args.place.now.import.before c.args.place.now.export.before) in let behind = (by_direction c.args.place.now.import.behind c.args.place.now.export.behind) in
+    let gone = (sides_between (by_direction c.args.place.now.import.before c.args.place.now.export.before) c.args.chains.now c.args.key.now (by_direction c.args.place.now.import.behind c.args.place.now.export.behind)) in let came = (sides_across (by_direction c.args.place.now.import.before c.args.place.now.export.before) (by_direction c.args.place.now.import.behind c.args.place.now.export.behind)) in
+    let most = most_for (length (readings_at Import c.args.chains.now key)) + most_for (length (readings_at Export c.args.chains.now key)) in
+    let ch = going limits tx es c.args.chains.now key before behind c.tx-tx.ensures c.requires.to_go.1.0 c.requires.within h in
+    holds limits tx es new gone came ch.kept ch.traded ch.before ch.after c.args.sums.now.period c.args.sums.now.quarters s.by_quarter
 
-pub take_pairs-less-requires-clause-few : goal.take_pairs-less-requires-clause-few
-take_pairs-less-requires-clause-few c =
+pub take_own-less-requires-clause-few : goal.take_own-less-requires-clause-few
+take_own-less-requires-clause-few c =
     let es = c.requires.to_go.0 in let h = c.requires.to_go.1.1.0 in let s = c.requires.to_go.1.1.1 in
-    let ch = going c.args.chains.now.limits c.tx-tx.result.now es c.args.chains.now c.args.key.now c.args.place.now.before c.args.place.now.behind c.tx-tx.ensures c.requires.to_go.1.0 c.requires.within h in
-    ch.few_gone
+    let limits = c.args.chains.now.limits in let tx = c.tx-tx.result.now in let new = stored c.args.chains.now in let key = c.args.key.now in
+    let before = (by_direction c.args.place.now.import.before c.args.place.now.export.before) in let behind = (by_direction c.args.place.now.import.behind c.args.place.now.export.behind) in
+    let gone = (sides_between (by_direction c.args.place.now.import.before c.args.place.now.export.before) c.args.chains.now c.args.key.now (by_direction c.args.place.now.import.behind c.args.place.now.export.behind)) in let came = (sides_across (by_direction c.args.place.now.import.before c.args.place.now.export.before) (by_direction c.args.place.now.import.behind c.args.place.now.export.behind)) in
+    let most = most_for (length (readings_at Import c.args.chains.now key)) + most_for (length (readings_at Export c.args.chains.now key)) in
+    let ch = going limits tx es c.args.chains.now key before behind c.tx-tx.ensures c.requires.to_go.1.0 c.requires.within h in
+    omega (arith, ch.few_gone Import, ch.few_gone Export)
 
-pub add_across-more-requires : goal.add_across-more-requires
-add_across-more-requires c =
+pub add_gap-more-requires : goal.add_gap-more-requires
+add_gap-more-requires c =
     let es = c.requires.to_go.0 in let h = c.requires.to_go.1.1.0 in let s = c.requires.to_go.1.1.1 in
-    let ch = going c.args.chains.now.limits c.tx-tx.result.now es c.args.chains.now c.args.key.now c.args.place.now.before c.args.place.now.behind c.tx-tx.ensures c.requires.to_go.1.0 c.requires.within h in
-    room c.args.chains.now.limits c.tx-tx.result.now es (stored c.args.chains.now) (pairs_between c.args.place.now.before (readings_at c.args.chains.now c.args.key.now) c.args.place.now.behind) (across c.args.place.now.before c.args.place.now.behind) ch.kept ch.traded ch.before ch.after c.args.sums.now.period c.args.sums.now.quarters s.by_quarter c.take_pairs-less.new.quarters c.take_pairs-less.ensures.rows c.take_pairs-less.ensures.capacity ch.few_came
+    let limits = c.args.chains.now.limits in let tx = c.tx-tx.result.now in let new = stored c.args.chains.now in let key = c.args.key.now in
+    let before = (by_direction c.args.place.now.import.before c.args.place.now.export.before) in let behind = (by_direction c.args.place.now.import.behind c.args.place.now.export.behind) in
+    let gone = (sides_between (by_direction c.args.place.now.import.before c.args.place.now.export.before) c.args.chains.now c.args.key.now (by_direction c.args.place.now.import.behind c.args.place.now.export.behind)) in let came = (sides_across (by_direction c.args.place.now.import.before c.args.place.now.export.before) (by_direction c.args.place.now.import.behind c.args.place.now.export.behind)) in
+    let most = most_for (length (readings_at Import c.args.chains.now key)) + most_for (length (readings_at Export c.args.chains.now key)) in
+    let ch = going limits tx es c.args.chains.now key before behind c.tx-tx.ensures c.requires.to_go.1.0 c.requires.within h in
+    room limits tx es new gone came ch.kept ch.traded ch.before ch.after c.args.sums.now.period c.args.sums.now.quarters s.by_quarter c.take_own-less.new.quarters c.take_own-less.ensures.rows c.take_own-less.ensures.capacity (omega (arith, ch.few_came Import, ch.few_came Export))
 
-pub plus-requires : goal.plus-requires
-plus-requires c =
+pub trade-all-requires-clause-import : goal.trade-all-requires-clause-import
+trade-all-requires-clause-import c =
     let es = c.requires.to_go.0 in let h = c.requires.to_go.1.1.0 in let s = c.requires.to_go.1.1.1 in
-    let ch = going c.args.chains.now.limits c.tx-tx.result.now es c.args.chains.now c.args.key.now c.args.place.now.before c.args.place.now.behind c.tx-tx.ensures c.requires.to_go.1.0 c.requires.within h in
-    all_room c.args.chains.now.limits c.tx-tx.result.now es (stored c.args.chains.now) (pairs_between c.args.place.now.before (readings_at c.args.chains.now c.args.key.now) c.args.place.now.behind) (across c.args.place.now.before c.args.place.now.behind) ch.kept ch.traded ch.before ch.after c.args.sums.now.energy c.take_pairs-less.result c.add_across-more.result c.take_pairs-less.ensures.flow c.add_across-more.ensures.flow (omega (arith, c.add_across-more.ensures.up, ch.few_came)) (omega (arith, c.add_across-more.ensures.down, ch.few_came)) s.total_is
+    let limits = c.args.chains.now.limits in let tx = c.tx-tx.result.now in let new = stored c.args.chains.now in let key = c.args.key.now in
+    let before = (by_direction c.args.place.now.import.before c.args.place.now.export.before) in let behind = (by_direction c.args.place.now.import.behind c.args.place.now.export.behind) in
+    let gone = (sides_between (by_direction c.args.place.now.import.before c.args.place.now.export.before) c.args.chains.now c.args.key.now (by_direction c.args.place.now.import.behind c.args.place.now.export.behind)) in let came = (sides_across (by_direction c.args.place.now.import.before c.args.place.now.export.before) (by_direction c.args.place.now.import.behind c.args.place.now.export.behind)) in
+    let most = most_for (length (readings_at Import c.args.chains.now key)) + most_for (length (readings_at Export c.args.chains.now key)) in
+    let ch = going limits tx es c.args.chains.now key before behind c.tx-tx.ensures c.requires.to_go.1.0 c.requires.within h in
+    all_may limits tx es new gone came most ch Import c.take_own-less.result.import c.add_gap-more.result.import (record { is = c.take_own-less.ensures.import; up = c.take_own-less.ensures.import_up; down = c.take_own-less.ensures.import_down }) (record { is = c.add_gap-more.ensures.import; up = c.add_gap-more.ensures.import_up; down = c.add_gap-more.ensures.import_down }) c.args.sums.now.energy s.total_is
 
-pub minus-sums-requires : goal.minus-sums-requires
-minus-sums-requires c =
+pub trade-all-requires-clause-export : goal.trade-all-requires-clause-export
+trade-all-requires-clause-export c =
     let es = c.requires.to_go.0 in let h = c.requires.to_go.1.1.0 in let s = c.requires.to_go.1.1.1 in
-    let ch = going c.args.chains.now.limits c.tx-tx.result.now es c.args.chains.now c.args.key.now c.args.place.now.before c.args.place.now.behind c.tx-tx.ensures c.requires.to_go.1.0 c.requires.within h in
-    subst (λ e. CanMinus e c.take_pairs-less.result) (sym c.plus.ensures) (all_holds c.args.chains.now.limits c.tx-tx.result.now es (stored c.args.chains.now) (pairs_between c.args.place.now.before (readings_at c.args.chains.now c.args.key.now) c.args.place.now.behind) (across c.args.place.now.before c.args.place.now.behind) ch.kept ch.traded ch.before ch.after c.args.sums.now.energy c.take_pairs-less.result c.add_across-more.result c.take_pairs-less.ensures.flow c.add_across-more.ensures.flow (omega (arith, c.add_across-more.ensures.up, ch.few_came)) (omega (arith, c.add_across-more.ensures.down, ch.few_came)) s.total_is)
+    let limits = c.args.chains.now.limits in let tx = c.tx-tx.result.now in let new = stored c.args.chains.now in let key = c.args.key.now in
+    let before = (by_direction c.args.place.now.import.before c.args.place.now.export.before) in let behind = (by_direction c.args.place.now.import.behind c.args.place.now.export.behind) in
+    let gone = (sides_between (by_direction c.args.place.now.import.before c.args.place.now.export.before) c.args.chains.now c.args.key.now (by_direction c.args.place.now.import.behind c.args.place.now.export.behind)) in let came = (sides_across (by_direction c.args.place.now.import.before c.args.place.now.export.before) (by_direction c.args.place.now.import.behind c.args.place.now.export.behind)) in
+    let most = most_for (length (readings_at Import c.args.chains.now key)) + most_for (length (readings_at Export c.args.chains.now key)) in
+    let ch = going limits tx es c.args.chains.now key before behind c.tx-tx.ensures c.requires.to_go.1.0 c.requires.within h in
+    all_may limits tx es new gone came most ch Export c.take_own-less.result.export c.add_gap-more.result.export (record { is = c.take_own-less.ensures.export; up = c.take_own-less.ensures.export_up; down = c.take_own-less.ensures.export_down }) (record { is = c.add_gap-more.ensures.export; up = c.add_gap-more.ensures.export_up; down = c.add_gap-more.ensures.export_down }) c.args.sums.now.export s.export_is
 
-pub traded-flow-requires-clause-room : goal.traded-flow-requires-clause-room
-traded-flow-requires-clause-room c =
+pub trade-own-requires-clause-import : goal.trade-own-requires-clause-import
+trade-own-requires-clause-import c =
     let es = c.requires.to_go.0 in let h = c.requires.to_go.1.1.0 in let s = c.requires.to_go.1.1.1 in
-    let ch = going c.args.chains.now.limits c.tx-tx.result.now es c.args.chains.now c.args.key.now c.args.place.now.before c.args.place.now.behind c.tx-tx.ensures c.requires.to_go.1.0 c.requires.within h in
-    own_room c.args.chains.now.limits c.tx-tx.result.now es (stored c.args.chains.now) (pairs_between c.args.place.now.before (readings_at c.args.chains.now c.args.key.now) c.args.place.now.behind) (across c.args.place.now.before c.args.place.now.behind) ch.kept ch.traded ch.before ch.after (flow_in c.get-was.result) c.take_pairs-less.result c.add_across-more.result c.take_pairs-less.ensures.flow c.add_across-more.ensures.flow (omega (arith, c.add_across-more.ensures.up, ch.few_came)) (omega (arith, c.add_across-more.ensures.down, ch.few_came)) (own_flow c.args.chains.now.limits es c.tx-tx.result.now c.args.sums.now.kept c.get-was.result c.get-was.ensures s.standing)
+    let limits = c.args.chains.now.limits in let tx = c.tx-tx.result.now in let new = stored c.args.chains.now in let key = c.args.key.now in
+    let before = (by_direction c.args.place.now.import.before c.args.place.now.export.before) in let behind = (by_direction c.args.place.now.import.behind c.args.place.now.export.behind) in
+    let gone = (sides_between (by_direction c.args.place.now.import.before c.args.place.now.export.before) c.args.chains.now c.args.key.now (by_direction c.args.place.now.import.behind c.args.place.now.export.behind)) in let came = (sides_across (by_direction c.args.place.now.import.before c.args.place.now.export.before) (by_direction c.args.place.now.import.behind c.args.place.now.export.behind)) in
+    let most = most_for (length (readings_at Import c.args.chains.now key)) + most_for (length (readings_at Export c.args.chains.now key)) in
+    let ch = going limits tx es c.args.chains.now key before behind c.tx-tx.ensures c.requires.to_go.1.0 c.requires.within h in
+    own_may limits tx es new gone came most ch Import c.take_own-less.result.import c.add_gap-more.result.import (record { is = c.take_own-less.ensures.import; up = c.take_own-less.ensures.import_up; down = c.take_own-less.ensures.import_down }) (record { is = c.add_gap-more.ensures.import; up = c.add_gap-more.ensures.import_up; down = c.add_gap-more.ensures.import_down }) c.args.sums.now.kept s.standing c.get-was.result c.get-was.ensures c.energies_of.result.import c.energies_of.ensures.import
 
-pub traded-flow-requires-clause-holds : goal.traded-flow-requires-clause-holds
-traded-flow-requires-clause-holds c =
+pub trade-own-requires-clause-export : goal.trade-own-requires-clause-export
+trade-own-requires-clause-export c =
     let es = c.requires.to_go.0 in let h = c.requires.to_go.1.1.0 in let s = c.requires.to_go.1.1.1 in
-    let ch = going c.args.chains.now.limits c.tx-tx.result.now es c.args.chains.now c.args.key.now c.args.place.now.before c.args.place.now.behind c.tx-tx.ensures c.requires.to_go.1.0 c.requires.within h in
-    own_holds c.args.chains.now.limits c.tx-tx.result.now es (stored c.args.chains.now) (pairs_between c.args.place.now.before (readings_at c.args.chains.now c.args.key.now) c.args.place.now.behind) (across c.args.place.now.before c.args.place.now.behind) ch.kept ch.traded ch.before ch.after (flow_in c.get-was.result) c.take_pairs-less.result c.add_across-more.result c.take_pairs-less.ensures.flow c.add_across-more.ensures.flow (omega (arith, c.add_across-more.ensures.up, ch.few_came)) (omega (arith, c.add_across-more.ensures.down, ch.few_came)) (own_flow c.args.chains.now.limits es c.tx-tx.result.now c.args.sums.now.kept c.get-was.result c.get-was.ensures s.standing)
+    let limits = c.args.chains.now.limits in let tx = c.tx-tx.result.now in let new = stored c.args.chains.now in let key = c.args.key.now in
+    let before = (by_direction c.args.place.now.import.before c.args.place.now.export.before) in let behind = (by_direction c.args.place.now.import.behind c.args.place.now.export.behind) in
+    let gone = (sides_between (by_direction c.args.place.now.import.before c.args.place.now.export.before) c.args.chains.now c.args.key.now (by_direction c.args.place.now.import.behind c.args.place.now.export.behind)) in let came = (sides_across (by_direction c.args.place.now.import.before c.args.place.now.export.before) (by_direction c.args.place.now.import.behind c.args.place.now.export.behind)) in
+    let most = most_for (length (readings_at Import c.args.chains.now key)) + most_for (length (readings_at Export c.args.chains.now key)) in
+    let ch = going limits tx es c.args.chains.now key before behind c.tx-tx.ensures c.requires.to_go.1.0 c.requires.within h in
+    own_may limits tx es new gone came most ch Export c.take_own-less.result.export c.add_gap-more.result.export (record { is = c.take_own-less.ensures.export; up = c.take_own-less.ensures.export_up; down = c.take_own-less.ensures.export_down }) (record { is = c.add_gap-more.ensures.export; up = c.add_gap-more.ensures.export_up; down = c.add_gap-more.ensures.export_down }) c.args.sums.now.kept s.standing c.get-was.result c.get-was.ensures c.energies_of.result.export c.energies_of.ensures.export
 
 pub replace_standing-requires-clause-place : goal.replace_standing-requires-clause-place
 replace_standing-requires-clause-place c =
     let es = c.requires.to_go.0 in let h = c.requires.to_go.1.1.0 in let s = c.requires.to_go.1.1.1 in
-    let ch = going c.args.chains.now.limits c.tx-tx.result.now es c.args.chains.now c.args.key.now c.args.place.now.before c.args.place.now.behind c.tx-tx.ensures c.requires.to_go.1.0 c.requires.within h in
-    place c.args.chains.now.limits c.tx-tx.result.now es (stored c.args.chains.now) ch.moved ch.before ch.after c.get-was.result c.standing_of-is.result (c.standing_of-is.ensures ∙ ap (λ f. kept_with f c.tx-tx.result.now (stored c.args.chains.now)) (c.traded-flow.ensures ∙ own_left c.args.chains.now.limits c.tx-tx.result.now es (stored c.args.chains.now) (pairs_between c.args.place.now.before (readings_at c.args.chains.now c.args.key.now) c.args.place.now.behind) (across c.args.place.now.before c.args.place.now.behind) ch.kept ch.traded ch.before ch.after (flow_in c.get-was.result) c.take_pairs-less.result c.add_across-more.result c.take_pairs-less.ensures.flow c.add_across-more.ensures.flow (omega (arith, c.add_across-more.ensures.up, ch.few_came)) (omega (arith, c.add_across-more.ensures.down, ch.few_came)) (own_flow c.args.chains.now.limits es c.tx-tx.result.now c.args.sums.now.kept c.get-was.result c.get-was.ensures s.standing))) c.args.sums.now.kept s.standing c.get-was.ensures
+    let limits = c.args.chains.now.limits in let tx = c.tx-tx.result.now in let new = stored c.args.chains.now in let key = c.args.key.now in
+    let before = (by_direction c.args.place.now.import.before c.args.place.now.export.before) in let behind = (by_direction c.args.place.now.import.behind c.args.place.now.export.behind) in
+    let gone = (sides_between (by_direction c.args.place.now.import.before c.args.place.now.export.before) c.args.chains.now c.args.key.now (by_direction c.args.place.now.import.behind c.args.place.now.export.behind)) in let came = (sides_across (by_direction c.args.place.now.import.before c.args.place.now.export.before) (by_direction c.args.place.now.import.behind c.args.place.now.export.behind)) in
+    let most = most_for (length (readings_at Import c.args.chains.now key)) + most_for (length (readings_at Export c.args.chains.now key)) in
+    let ch = going limits tx es c.args.chains.now key before behind c.tx-tx.ensures c.requires.to_go.1.0 c.requires.within h in
+    let is = kept_is c.trade-own.result.import c.trade-own.result.export tx new c.standing_of-is.result c.standing_of-is.ensures (c.trade-own.ensures.import ∙ own_then limits tx es new gone came most ch Import c.take_own-less.result.import c.add_gap-more.result.import (record { is = c.take_own-less.ensures.import; up = c.take_own-less.ensures.import_up; down = c.take_own-less.ensures.import_down }) (record { is = c.add_gap-more.ensures.import; up = c.add_gap-more.ensures.import_up; down = c.add_gap-more.ensures.import_down }) c.args.sums.now.kept s.standing c.get-was.result c.get-was.ensures c.energies_of.result.import c.energies_of.ensures.import) (c.trade-own.ensures.export ∙ own_then limits tx es new gone came most ch Export c.take_own-less.result.export c.add_gap-more.result.export (record { is = c.take_own-less.ensures.export; up = c.take_own-less.ensures.export_up; down = c.take_own-less.ensures.export_down }) (record { is = c.add_gap-more.ensures.export; up = c.add_gap-more.ensures.export_up; down = c.add_gap-more.ensures.export_down }) c.args.sums.now.kept s.standing c.get-was.result c.get-was.ensures c.energies_of.result.export c.energies_of.ensures.export) in
+    let was = was_kept limits tx es new ch.moved ch.before ch.after c.get-was.result c.standing_of-is.result is c.args.sums.now.kept s.standing c.get-was.ensures in
+    place limits tx es new ch.moved ch.before ch.after c.get-was.result c.standing_of-is.result is c.args.sums.now.kept s.standing c.get-was.ensures
 
 pub replace_standing-requires-clause-room_at : goal.replace_standing-requires-clause-room_at
 replace_standing-requires-clause-room_at c =
     let es = c.requires.to_go.0 in let h = c.requires.to_go.1.1.0 in let s = c.requires.to_go.1.1.1 in
-    let ch = going c.args.chains.now.limits c.tx-tx.result.now es c.args.chains.now c.args.key.now c.args.place.now.before c.args.place.now.behind c.tx-tx.ensures c.requires.to_go.1.0 c.requires.within h in
-    let is = (c.standing_of-is.ensures ∙ ap (λ f. kept_with f c.tx-tx.result.now (stored c.args.chains.now)) (c.traded-flow.ensures ∙ own_left c.args.chains.now.limits c.tx-tx.result.now es (stored c.args.chains.now) (pairs_between c.args.place.now.before (readings_at c.args.chains.now c.args.key.now) c.args.place.now.behind) (across c.args.place.now.before c.args.place.now.behind) ch.kept ch.traded ch.before ch.after (flow_in c.get-was.result) c.take_pairs-less.result c.add_across-more.result c.take_pairs-less.ensures.flow c.add_across-more.ensures.flow (omega (arith, c.add_across-more.ensures.up, ch.few_came)) (omega (arith, c.add_across-more.ensures.down, ch.few_came)) (own_flow c.args.chains.now.limits es c.tx-tx.result.now c.args.sums.now.kept c.get-was.result c.get-was.ensures s.standing))) in
-    room_at c.args.chains.now.limits c.tx-tx.result.now es (stored c.args.chains.now) ch.moved ch.before ch.after c.get-was.result c.standing_of-is.result is (was_kept c.args.chains.now.limits c.tx-tx.result.now es (stored c.args.chains.now) ch.moved ch.before ch.after c.get-was.result c.standing_of-is.result is c.args.sums.now.kept s.standing c.get-was.ensures) c.args.sums.now.evses.items s.at_evses
+    let limits = c.args.chains.now.limits in let tx = c.tx-tx.result.now in let new = stored c.args.chains.now in let key = c.args.key.now in
+    let before = (by_direction c.args.place.now.import.before c.args.place.now.export.before) in let behind = (by_direction c.args.place.now.import.behind c.args.place.now.export.behind) in
+    let gone = (sides_between (by_direction c.args.place.now.import.before c.args.place.now.export.before) c.args.chains.now c.args.key.now (by_direction c.args.place.now.import.behind c.args.place.now.export.behind)) in let came = (sides_across (by_direction c.args.place.now.import.before c.args.place.now.export.before) (by_direction c.args.place.now.import.behind c.args.place.now.export.behind)) in
+    let most = most_for (length (readings_at Import c.args.chains.now key)) + most_for (length (readings_at Export c.args.chains.now key)) in
+    let ch = going limits tx es c.args.chains.now key before behind c.tx-tx.ensures c.requires.to_go.1.0 c.requires.within h in
+    let is = kept_is c.trade-own.result.import c.trade-own.result.export tx new c.standing_of-is.result c.standing_of-is.ensures (c.trade-own.ensures.import ∙ own_then limits tx es new gone came most ch Import c.take_own-less.result.import c.add_gap-more.result.import (record { is = c.take_own-less.ensures.import; up = c.take_own-less.ensures.import_up; down = c.take_own-less.ensures.import_down }) (record { is = c.add_gap-more.ensures.import; up = c.add_gap-more.ensures.import_up; down = c.add_gap-more.ensures.import_down }) c.args.sums.now.kept s.standing c.get-was.result c.get-was.ensures c.energies_of.result.import c.energies_of.ensures.import) (c.trade-own.ensures.export ∙ own_then limits tx es new gone came most ch Export c.take_own-less.result.export c.add_gap-more.result.export (record { is = c.take_own-less.ensures.export; up = c.take_own-less.ensures.export_up; down = c.take_own-less.ensures.export_down }) (record { is = c.add_gap-more.ensures.export; up = c.add_gap-more.ensures.export_up; down = c.add_gap-more.ensures.export_down }) c.args.sums.now.kept s.standing c.get-was.result c.get-was.ensures c.energies_of.result.export c.energies_of.ensures.export) in
+    let was = was_kept limits tx es new ch.moved ch.before ch.after c.get-was.result c.standing_of-is.result is c.args.sums.now.kept s.standing c.get-was.ensures in
+    room_at limits tx es new ch.moved ch.before ch.after c.get-was.result c.standing_of-is.result is was c.args.sums.now.evses.items s.at_evses
 
 pub replace_standing-requires-clause-counts_at : goal.replace_standing-requires-clause-counts_at
 replace_standing-requires-clause-counts_at c =
     let es = c.requires.to_go.0 in let h = c.requires.to_go.1.1.0 in let s = c.requires.to_go.1.1.1 in
-    let ch = going c.args.chains.now.limits c.tx-tx.result.now es c.args.chains.now c.args.key.now c.args.place.now.before c.args.place.now.behind c.tx-tx.ensures c.requires.to_go.1.0 c.requires.within h in
-    let is = (c.standing_of-is.ensures ∙ ap (λ f. kept_with f c.tx-tx.result.now (stored c.args.chains.now)) (c.traded-flow.ensures ∙ own_left c.args.chains.now.limits c.tx-tx.result.now es (stored c.args.chains.now) (pairs_between c.args.place.now.before (readings_at c.args.chains.now c.args.key.now) c.args.place.now.behind) (across c.args.place.now.before c.args.place.now.behind) ch.kept ch.traded ch.before ch.after (flow_in c.get-was.result) c.take_pairs-less.result c.add_across-more.result c.take_pairs-less.ensures.flow c.add_across-more.ensures.flow (omega (arith, c.add_across-more.ensures.up, ch.few_came)) (omega (arith, c.add_across-more.ensures.down, ch.few_came)) (own_flow c.args.chains.now.limits es c.tx-tx.result.now c.args.sums.now.kept c.get-was.result c.get-was.ensures s.standing))) in
-    counts_at c.args.chains.now.limits c.tx-tx.result.now es (stored c.args.chains.now) ch.moved ch.before ch.after c.get-was.result c.standing_of-is.result is (was_kept c.args.chains.now.limits c.tx-tx.result.now es (stored c.args.chains.now) ch.moved ch.before ch.after c.get-was.result c.standing_of-is.result is c.args.sums.now.kept s.standing c.get-was.ensures) c.args.sums.now.evses.items s.at_evses
+    let limits = c.args.chains.now.limits in let tx = c.tx-tx.result.now in let new = stored c.args.chains.now in let key = c.args.key.now in
+    let before = (by_direction c.args.place.now.import.before c.args.place.now.export.before) in let behind = (by_direction c.args.place.now.import.behind c.args.place.now.export.behind) in
+    let gone = (sides_between (by_direction c.args.place.now.import.before c.args.place.now.export.before) c.args.chains.now c.args.key.now (by_direction c.args.place.now.import.behind c.args.place.now.export.behind)) in let came = (sides_across (by_direction c.args.place.now.import.before c.args.place.now.export.before) (by_direction c.args.place.now.import.behind c.args.place.now.export.behind)) in
+    let most = most_for (length (readings_at Import c.args.chains.now key)) + most_for (length (readings_at Export c.args.chains.now key)) in
+    let ch = going limits tx es c.args.chains.now key before behind c.tx-tx.ensures c.requires.to_go.1.0 c.requires.within h in
+    let is = kept_is c.trade-own.result.import c.trade-own.result.export tx new c.standing_of-is.result c.standing_of-is.ensures (c.trade-own.ensures.import ∙ own_then limits tx es new gone came most ch Import c.take_own-less.result.import c.add_gap-more.result.import (record { is = c.take_own-less.ensures.import; up = c.take_own-less.ensures.import_up; down = c.take_own-less.ensures.import_down }) (record { is = c.add_gap-more.ensures.import; up = c.add_gap-more.ensures.import_up; down = c.add_gap-more.ensures.import_down }) c.args.sums.now.kept s.standing c.get-was.result c.get-was.ensures c.energies_of.result.import c.energies_of.ensures.import) (c.trade-own.ensures.export ∙ own_then limits tx es new gone came most ch Export c.take_own-less.result.export c.add_gap-more.result.export (record { is = c.take_own-less.ensures.export; up = c.take_own-less.ensures.export_up; down = c.take_own-less.ensures.export_down }) (record { is = c.add_gap-more.ensures.export; up = c.add_gap-more.ensures.export_up; down = c.add_gap-more.ensures.export_down }) c.args.sums.now.kept s.standing c.get-was.result c.get-was.ensures c.energies_of.result.export c.energies_of.ensures.export) in
+    let was = was_kept limits tx es new ch.moved ch.before ch.after c.get-was.result c.standing_of-is.result is c.args.sums.now.kept s.standing c.get-was.ensures in
+    counts_at limits tx es new ch.moved ch.before ch.after c.get-was.result c.standing_of-is.result is was c.args.sums.now.evses.items s.at_evses
 
 pub replace_standing-requires-clause-room : goal.replace_standing-requires-clause-room
 replace_standing-requires-clause-room c =
     let es = c.requires.to_go.0 in let h = c.requires.to_go.1.1.0 in let s = c.requires.to_go.1.1.1 in
-    let ch = going c.args.chains.now.limits c.tx-tx.result.now es c.args.chains.now c.args.key.now c.args.place.now.before c.args.place.now.behind c.tx-tx.ensures c.requires.to_go.1.0 c.requires.within h in
-    let is = (c.standing_of-is.ensures ∙ ap (λ f. kept_with f c.tx-tx.result.now (stored c.args.chains.now)) (c.traded-flow.ensures ∙ own_left c.args.chains.now.limits c.tx-tx.result.now es (stored c.args.chains.now) (pairs_between c.args.place.now.before (readings_at c.args.chains.now c.args.key.now) c.args.place.now.behind) (across c.args.place.now.before c.args.place.now.behind) ch.kept ch.traded ch.before ch.after (flow_in c.get-was.result) c.take_pairs-less.result c.add_across-more.result c.take_pairs-less.ensures.flow c.add_across-more.ensures.flow (omega (arith, c.add_across-more.ensures.up, ch.few_came)) (omega (arith, c.add_across-more.ensures.down, ch.few_came)) (own_flow c.args.chains.now.limits es c.tx-tx.result.now c.args.sums.now.kept c.get-was.result c.get-was.ensures s.standing))) in
-    have_room c.args.chains.now.limits c.tx-tx.result.now es (stored c.args.chains.now) ch.moved ch.before ch.after c.get-was.result c.standing_of-is.result is (was_kept c.args.chains.now.limits c.tx-tx.result.now es (stored c.args.chains.now) ch.moved ch.before ch.after c.get-was.result c.standing_of-is.result is c.args.sums.now.kept s.standing c.get-was.ensures) c.args.sums.now.figures s.counts
+    let limits = c.args.chains.now.limits in let tx = c.tx-tx.result.now in let new = stored c.args.chains.now in let key = c.args.key.now in
+    let before = (by_direction c.args.place.now.import.before c.args.place.now.export.before) in let behind = (by_direction c.args.place.now.import.behind c.args.place.now.export.behind) in
+    let gone = (sides_between (by_direction c.args.place.now.import.before c.args.place.now.export.before) c.args.chains.now c.args.key.now (by_direction c.args.place.now.import.behind c.args.place.now.export.behind)) in let came = (sides_across (by_direction c.args.place.now.import.before c.args.place.now.export.before) (by_direction c.args.place.now.import.behind c.args.place.now.export.behind)) in
+    let most = most_for (length (readings_at Import c.args.chains.now key)) + most_for (length (readings_at Export c.args.chains.now key)) in
+    let ch = going limits tx es c.args.chains.now key before behind c.tx-tx.ensures c.requires.to_go.1.0 c.requires.within h in
+    let is = kept_is c.trade-own.result.import c.trade-own.result.export tx new c.standing_of-is.result c.standing_of-is.ensures (c.trade-own.ensures.import ∙ own_then limits tx es new gone came most ch Import c.take_own-less.result.import c.add_gap-more.result.import (record { is = c.take_own-less.ensures.import; up = c.take_own-less.ensures.import_up; down = c.take_own-less.ensures.import_down }) (record { is = c.add_gap-more.ensures.import; up = c.add_gap-more.ensures.import_up; down = c.add_gap-more.ensures.import_down }) c.args.sums.now.kept s.standing c.get-was.result c.get-was.ensures c.energies_of.result.import c.energies_of.ensures.import) (c.trade-own.ensures.export ∙ own_then limits tx es new gone came most ch Export c.take_own-less.result.export c.add_gap-more.result.export (record { is = c.take_own-less.ensures.export; up = c.take_own-less.ensures.export_up; down = c.take_own-less.ensures.export_down }) (record { is = c.add_gap-more.ensures.export; up = c.add_gap-more.ensures.export_up; down = c.add_gap-more.ensures.export_down }) c.args.sums.now.kept s.standing c.get-was.result c.get-was.ensures c.energies_of.result.export c.energies_of.ensures.export) in
+    let was = was_kept limits tx es new ch.moved ch.before ch.after c.get-was.result c.standing_of-is.result is c.args.sums.now.kept s.standing c.get-was.ensures in
+    have_room limits tx es new ch.moved ch.before ch.after c.get-was.result c.standing_of-is.result is was c.args.sums.now.figures s.counts
 
 pub replace_standing-requires-clause-counts : goal.replace_standing-requires-clause-counts
 replace_standing-requires-clause-counts c =
     let es = c.requires.to_go.0 in let h = c.requires.to_go.1.1.0 in let s = c.requires.to_go.1.1.1 in
-    let ch = going c.args.chains.now.limits c.tx-tx.result.now es c.args.chains.now c.args.key.now c.args.place.now.before c.args.place.now.behind c.tx-tx.ensures c.requires.to_go.1.0 c.requires.within h in
-    let is = (c.standing_of-is.ensures ∙ ap (λ f. kept_with f c.tx-tx.result.now (stored c.args.chains.now)) (c.traded-flow.ensures ∙ own_left c.args.chains.now.limits c.tx-tx.result.now es (stored c.args.chains.now) (pairs_between c.args.place.now.before (readings_at c.args.chains.now c.args.key.now) c.args.place.now.behind) (across c.args.place.now.before c.args.place.now.behind) ch.kept ch.traded ch.before ch.after (flow_in c.get-was.result) c.take_pairs-less.result c.add_across-more.result c.take_pairs-less.ensures.flow c.add_across-more.ensures.flow (omega (arith, c.add_across-more.ensures.up, ch.few_came)) (omega (arith, c.add_across-more.ensures.down, ch.few_came)) (own_flow c.args.chains.now.limits es c.tx-tx.result.now c.args.sums.now.kept c.get-was.result c.get-was.ensures s.standing))) in
-    do_count c.args.chains.now.limits c.tx-tx.result.now es (stored c.args.chains.now) ch.moved ch.before ch.after c.get-was.result c.standing_of-is.result is (was_kept c.args.chains.now.limits c.tx-tx.result.now es (stored c.args.chains.now) ch.moved ch.before ch.after c.get-was.result c.standing_of-is.result is c.args.sums.now.kept s.standing c.get-was.ensures) c.args.sums.now.figures s.counts
+    let limits = c.args.chains.now.limits in let tx = c.tx-tx.result.now in let new = stored c.args.chains.now in let key = c.args.key.now in
+    let before = (by_direction c.args.place.now.import.before c.args.place.now.export.before) in let behind = (by_direction c.args.place.now.import.behind c.args.place.now.export.behind) in
+    let gone = (sides_between (by_direction c.args.place.now.import.before c.args.place.now.export.before) c.args.chains.now c.args.key.now (by_direction c.args.place.now.import.behind c.args.place.now.export.behind)) in let came = (sides_across (by_direction c.args.place.now.import.before c.args.place.now.export.before) (by_direction c.args.place.now.import.behind c.args.place.now.export.behind)) in
+    let most = most_for (length (readings_at Import c.args.chains.now key)) + most_for (length (readings_at Export c.args.chains.now key)) in
+    let ch = going limits tx es c.args.chains.now key before behind c.tx-tx.ensures c.requires.to_go.1.0 c.requires.within h in
+    let is = kept_is c.trade-own.result.import c.trade-own.result.export tx new c.standing_of-is.result c.standing_of-is.ensures (c.trade-own.ensures.import ∙ own_then limits tx es new gone came most ch Import c.take_own-less.result.import c.add_gap-more.result.import (record { is = c.take_own-less.ensures.import; up = c.take_own-less.ensures.import_up; down = c.take_own-less.ensures.import_down }) (record { is = c.add_gap-more.ensures.import; up = c.add_gap-more.ensures.import_up; down = c.add_gap-more.ensures.import_down }) c.args.sums.now.kept s.standing c.get-was.result c.get-was.ensures c.energies_of.result.import c.energies_of.ensures.import) (c.trade-own.ensures.export ∙ own_then limits tx es new gone came most ch Export c.take_own-less.result.export c.add_gap-more.result.export (record { is = c.take_own-less.ensures.export; up = c.take_own-less.ensures.export_up; down = c.take_own-less.ensures.export_down }) (record { is = c.add_gap-more.ensures.export; up = c.add_gap-more.ensures.export_up; down = c.add_gap-more.ensures.export_down }) c.args.sums.now.kept s.standing c.get-was.result c.get-was.ensures c.energies_of.result.export c.energies_of.ensures.export) in
+    let was = was_kept limits tx es new ch.moved ch.before ch.after c.get-was.result c.standing_of-is.result is c.args.sums.now.kept s.standing c.get-was.ensures in
+    do_count limits tx es new ch.moved ch.before ch.after c.get-was.result c.standing_of-is.result is was c.args.sums.now.figures s.counts
 
 pub returns-clause-summed : goal.returns-clause-summed
 returns-clause-summed c = λ es allowed h s.
-    let ch = going c.args.chains.now.limits c.tx-tx.result.now es c.args.chains.now c.args.key.now c.args.place.now.before c.args.place.now.behind c.tx-tx.ensures allowed c.requires.within h in
-    let is = (c.standing_of-is.ensures ∙ ap (λ f. kept_with f c.tx-tx.result.now (stored c.args.chains.now)) (c.traded-flow.ensures ∙ own_left c.args.chains.now.limits c.tx-tx.result.now es (stored c.args.chains.now) (pairs_between c.args.place.now.before (readings_at c.args.chains.now c.args.key.now) c.args.place.now.behind) (across c.args.place.now.before c.args.place.now.behind) ch.kept ch.traded ch.before ch.after (flow_in c.get-was.result) c.take_pairs-less.result c.add_across-more.result c.take_pairs-less.ensures.flow c.add_across-more.ensures.flow (omega (arith, c.add_across-more.ensures.up, ch.few_came)) (omega (arith, c.add_across-more.ensures.down, ch.few_came)) (own_flow c.args.chains.now.limits es c.tx-tx.result.now c.args.sums.now.kept c.get-was.result c.get-was.ensures s.standing))) in
-    let was = was_kept c.args.chains.now.limits c.tx-tx.result.now es (stored c.args.chains.now) ch.moved ch.before ch.after c.get-was.result c.standing_of-is.result is c.args.sums.now.kept s.standing c.get-was.ensures in
+    let limits = c.args.chains.now.limits in let tx = c.tx-tx.result.now in let new = stored c.args.chains.now in let key = c.args.key.now in
+    let before = (by_direction c.args.place.now.import.before c.args.place.now.export.before) in let behind = (by_direction c.args.place.now.import.behind c.args.place.now.export.behind) in
+    let gone = (sides_between (by_direction c.args.place.now.import.before c.args.place.now.export.before) c.args.chains.now c.args.key.now (by_direction c.args.place.now.import.behind c.args.place.now.export.behind)) in let came = (sides_across (by_direction c.args.place.now.import.before c.args.place.now.export.before) (by_direction c.args.place.now.import.behind c.args.place.now.export.behind)) in
+    let most = most_for (length (readings_at Import c.args.chains.now key)) + most_for (length (readings_at Export c.args.chains.now key)) in
+    let ch = going limits tx es c.args.chains.now key before behind c.tx-tx.ensures allowed c.requires.within h in
+    let is = kept_is c.trade-own.result.import c.trade-own.result.export tx new c.standing_of-is.result c.standing_of-is.ensures (c.trade-own.ensures.import ∙ own_then limits tx es new gone came most ch Import c.take_own-less.result.import c.add_gap-more.result.import (record { is = c.take_own-less.ensures.import; up = c.take_own-less.ensures.import_up; down = c.take_own-less.ensures.import_down }) (record { is = c.add_gap-more.ensures.import; up = c.add_gap-more.ensures.import_up; down = c.add_gap-more.ensures.import_down }) c.args.sums.now.kept s.standing c.get-was.result c.get-was.ensures c.energies_of.result.import c.energies_of.ensures.import) (c.trade-own.ensures.export ∙ own_then limits tx es new gone came most ch Export c.take_own-less.result.export c.add_gap-more.result.export (record { is = c.take_own-less.ensures.export; up = c.take_own-less.ensures.export_up; down = c.take_own-less.ensures.export_down }) (record { is = c.add_gap-more.ensures.export; up = c.add_gap-more.ensures.export_up; down = c.add_gap-more.ensures.export_down }) c.args.sums.now.kept s.standing c.get-was.result c.get-was.ensures c.energies_of.result.export c.energies_of.ensures.export) in
+    let was = was_kept limits tx es new ch.moved ch.before ch.after c.get-was.result c.standing_of-is.result is c.args.sums.now.kept s.standing c.get-was.ensures in
     record {
-      standing = stands c.args.chains.now.limits c.tx-tx.result.now es (stored c.args.chains.now) ch.moved ch.before ch.after c.get-was.result c.standing_of-is.result is c.args.sums.now.kept s.standing c.get-was.ensures c.replace_standing.new.sums.kept c.replace_standing.ensures.kept c.replace_standing.ensures.capacity;
-      at_evses = sums_stand c.args.chains.now.limits c.tx-tx.result.now es (stored c.args.chains.now) ch.moved ch.before ch.after c.get-was.result c.standing_of-is.result is was c.args.sums.now.evses.items s.at_evses c.replace_standing.new.sums.evses.items c.replace_standing.ensures.all c.replace_standing.ensures.evses;
-      by_quarter = subst (λ p. AreQuarterRows c.args.chains.now.limits (stored c.args.chains.now) p c.replace_standing.new.sums.quarters) (sym c.replace_standing.ensures.period) (subst (AreQuarterRows c.args.chains.now.limits (stored c.args.chains.now) c.args.sums.now.period) (sym c.replace_standing.ensures.quarters) (filled c.args.chains.now.limits c.tx-tx.result.now es (stored c.args.chains.now) (pairs_between c.args.place.now.before (readings_at c.args.chains.now c.args.key.now) c.args.place.now.behind) (across c.args.place.now.before c.args.place.now.behind) ch.kept ch.traded ch.before ch.after c.args.sums.now.period c.args.sums.now.quarters s.by_quarter c.take_pairs-less.new.quarters c.take_pairs-less.ensures.rows c.take_pairs-less.ensures.capacity c.add_across-more.new.quarters c.add_across-more.ensures.rows c.add_across-more.ensures.capacity));
-      total_is = c.replace_standing.ensures.energy ∙ c.minus-sums.ensures ∙ ap (λ e. minus e c.take_pairs-less.result) c.plus.ensures ∙ all_left c.args.chains.now.limits c.tx-tx.result.now es (stored c.args.chains.now) (pairs_between c.args.place.now.before (readings_at c.args.chains.now c.args.key.now) c.args.place.now.behind) (across c.args.place.now.before c.args.place.now.behind) ch.kept ch.traded ch.before ch.after c.args.sums.now.energy c.take_pairs-less.result c.add_across-more.result c.take_pairs-less.ensures.flow c.add_across-more.ensures.flow (omega (arith, c.add_across-more.ensures.up, ch.few_came)) (omega (arith, c.add_across-more.ensures.down, ch.few_came)) s.total_is;
-      counts = counts_stand c.args.chains.now.limits c.tx-tx.result.now es (stored c.args.chains.now) ch.moved ch.before ch.after c.get-was.result c.standing_of-is.result is was c.args.sums.now.figures s.counts c.replace_standing.new.sums.figures c.replace_standing.ensures.figures;
+      standing = stands limits tx es new ch.moved ch.before ch.after c.get-was.result c.standing_of-is.result is c.args.sums.now.kept s.standing c.get-was.ensures c.replace_standing.new.sums.kept c.replace_standing.ensures.kept c.replace_standing.ensures.capacity;
+      at_evses = sums_stand limits tx es new ch.moved ch.before ch.after c.get-was.result c.standing_of-is.result is was c.args.sums.now.evses.items s.at_evses c.replace_standing.new.sums.evses.items c.replace_standing.ensures.all c.replace_standing.ensures.evses;
+      by_quarter = subst (λ p. AreQuarterRows limits new p c.replace_standing.new.sums.quarters) (sym c.replace_standing.ensures.period) (subst (AreQuarterRows limits new c.args.sums.now.period) (sym c.replace_standing.ensures.quarters) (filled limits tx es new gone came ch.kept ch.traded ch.before ch.after c.args.sums.now.period c.args.sums.now.quarters s.by_quarter c.take_own-less.new.quarters c.take_own-less.ensures.rows c.take_own-less.ensures.capacity c.add_gap-more.new.quarters c.add_gap-more.ensures.rows c.add_gap-more.ensures.capacity));
+      total_is = c.replace_standing.ensures.energy ∙ c.trade-all.ensures.import ∙ all_then limits tx es new gone came most ch Import c.take_own-less.result.import c.add_gap-more.result.import (record { is = c.take_own-less.ensures.import; up = c.take_own-less.ensures.import_up; down = c.take_own-less.ensures.import_down }) (record { is = c.add_gap-more.ensures.import; up = c.add_gap-more.ensures.import_up; down = c.add_gap-more.ensures.import_down }) c.args.sums.now.energy s.total_is;
+      export_is = c.replace_standing.ensures.export ∙ c.trade-all.ensures.export ∙ all_then limits tx es new gone came most ch Export c.take_own-less.result.export c.add_gap-more.result.export (record { is = c.take_own-less.ensures.export; up = c.take_own-less.ensures.export_up; down = c.take_own-less.ensures.export_down }) (record { is = c.add_gap-more.ensures.export; up = c.add_gap-more.ensures.export_up; down = c.add_gap-more.ensures.export_down }) c.args.sums.now.export s.export_is;
+      counts = counts_stand limits tx es new ch.moved ch.before ch.after c.get-was.result c.standing_of-is.result is was c.args.sums.now.figures s.counts c.replace_standing.new.sums.figures c.replace_standing.ensures.figures;
     }
 
 pub returns-clause-work : goal.returns-clause-work
 returns-clause-work c =
-    let before = c.args.place.now.before in let behind = c.args.place.now.behind in let rs = readings_at c.args.chains.now c.args.key.now in
-    omega (arith, c.take_pairs-less.ensures.work, c.add_across-more.ensures.work, few_across before behind, few_between before rs behind)
+    let es = c.requires.to_go.0 in let h = c.requires.to_go.1.1.0 in let s = c.requires.to_go.1.1.1 in
+    let limits = c.args.chains.now.limits in let tx = c.tx-tx.result.now in let new = stored c.args.chains.now in let key = c.args.key.now in
+    let before = (by_direction c.args.place.now.import.before c.args.place.now.export.before) in let behind = (by_direction c.args.place.now.import.behind c.args.place.now.export.behind) in
+    let gone = (sides_between (by_direction c.args.place.now.import.before c.args.place.now.export.before) c.args.chains.now c.args.key.now (by_direction c.args.place.now.import.behind c.args.place.now.export.behind)) in let came = (sides_across (by_direction c.args.place.now.import.before c.args.place.now.export.before) (by_direction c.args.place.now.import.behind c.args.place.now.export.behind)) in
+    let most = most_for (length (readings_at Import c.args.chains.now key)) + most_for (length (readings_at Export c.args.chains.now key)) in
+    let ch = going limits tx es c.args.chains.now key before behind c.tx-tx.ensures c.requires.to_go.1.0 c.requires.within h in
+    omega (arith, c.take_own-less.ensures.work, c.add_gap-more.ensures.work, ch.few)

@@ -1,19 +1,15 @@
-use Rattle.std.proofs.Common.{◌≡◌, ℕ, ◌<◌, true, false, Some, None, option_map, is_some, slice_get, length, refl, sym, ap, ◌∙◌, subst, arith}
+use Rattle.std.proofs.Common.{◌≡◌, ℕ, ◌<◌, true, Some, None, length, sym, ap, ◌∙◌, subst, arith}
 use Rattle.std.specs.Ordering.{nat_cmp}
 use Rattle.std.specs.FinMap.{put}
-use Rattle.slot_links.specs.Links.{linked_in, linked_out}
+use Rattle.ledger_model.specs.declared.reading.Direction.TheVariants.{Import, Export}
 use Rattle.std.proofs.lemmas.List.{length-map}
-use Rattle.key_index.specs.declared.filed.Mark.TheVariants.{Live, Carries, Names}
+use Rattle.key_index.specs.declared.filed.Mark.TheVariants.{Live, Imports, Exports, Names}
 use Rattle.key_index.specs.declared.filed.Filed.{Filed}
-use Rattle.key_index.specs.declared.filed.Marks.{Marks}
-use Rattle.key_index.specs.Index as keyed
 use Rattle.event_chain.specs.Flat.{place_of}
-use Rattle.event_chain.specs.Edits.{put_if, out, places_before, places_behind}
-use Rattle.event_chain.specs.Lists.{slot_in, slot_before, slot_after, AreListed}
-use Rattle.event_chain.specs.Placed.{Index, index, place_in, lane, lane_of, Placed}
-use Rattle.event_chain.specs.Ranked.{last_of}
-use Rattle.event_chain.proofs.Lanes.{lane_rising, lane_absent, filed_absent, filed_there, lane_put, lane_out, lane_void, lane_stays, lane_enter, out_absent}
-use Rattle.event_chain.proofs.Lists.{sides_absent, sides_present, slot_present, prev_present, next_present, listed_put, listed_out, listed_same, listed_none}
+use Rattle.event_chain.specs.Edits.{put_if}
+use Rattle.event_chain.specs.Placed.{index, place_in, lane, lane_of, Placed, carriers_of}
+use Rattle.event_chain.proofs.Lanes.{lane_rising, lane_absent, filed_absent, lane_put}
+use Rattle.event_chain.proofs.Lists.{listed_put, listed_same}
 use Rattle.event_chain.proofs.place_index.PlaceIndex.insert.Goals as goal
 
 pub link_live-requires-clause-absent : goal.link_live-requires-clause-absent
@@ -42,7 +38,7 @@ pub invariant_of-self : goal.invariant_of-self
 invariant_of-self c =
     let m = c.self.inside in let key = c.args.key in let slot = c.args.slot in let es = m.index.entries in let up = c.keys_rise.ensures.rising in let L = lane_of (Some Live) m.index in
     let none : place_of key (lane None es) ≡ None = ap (λ (x : Placed). place_of key x.stored.entries) c.self.view_is ∙ c.requires.absent in
-    let f : Filed = record { slot = slot; marks = record { live = true; carries = c.args.carries; names = c.args.names } } in
+    let f : Filed = record { slot = slot; marks = record { live = true; imports = c.args.carries.imports; exports = c.args.carries.exports; names = c.args.names } } in
     let within = subst (λ (x : Placed). slot < x.live.capacity) (sym c.self.view_is) c.requires.slot in
     let unused = λ (k : ℕ) (at : place_of k L.entries ≡ Some slot). c.requires.unused k (ap (λ (x : Placed). place_of k x.live.entries) (sym c.self.view_is) ∙ at) in
     listed_same (lane_of (Some Live) c.insert.new.self) (index (put nat_cmp key slot L.entries) L.capacity) c.link_live.new.links _ (ap (lane (Some Live)) c.insert.ensures.entries ∙ lane_put (Some Live) key f es up none) c.insert.ensures.capacity
@@ -52,7 +48,7 @@ pub returns-clause-stored : goal.returns-clause-stored
 returns-clause-stored c =
     let m = c.self.inside in let key = c.args.key in let slot = c.args.slot in let es = m.index.entries in let up = c.keys_rise.ensures.rising in let L = lane_of (Some Live) m.index in
     let none : place_of key (lane None es) ≡ None = ap (λ (x : Placed). place_of key x.stored.entries) c.self.view_is ∙ c.requires.absent in
-    let f : Filed = record { slot = slot; marks = record { live = true; carries = c.args.carries; names = c.args.names } } in
+    let f : Filed = record { slot = slot; marks = record { live = true; imports = c.args.carries.imports; exports = c.args.carries.exports; names = c.args.names } } in
     let entries = ap (lane None) c.insert.ensures.entries ∙ lane_put None key f es up none in
     (λ i. index (entries i) (c.insert.ensures.capacity i)) ∙ ap (λ (x : Placed). index (put nat_cmp key slot x.stored.entries) x.stored.capacity) c.self.view_is
 
@@ -60,22 +56,28 @@ pub returns-clause-live : goal.returns-clause-live
 returns-clause-live c =
     let m = c.self.inside in let key = c.args.key in let slot = c.args.slot in let es = m.index.entries in let up = c.keys_rise.ensures.rising in let L = lane_of (Some Live) m.index in
     let none : place_of key (lane None es) ≡ None = ap (λ (x : Placed). place_of key x.stored.entries) c.self.view_is ∙ c.requires.absent in
-    let f : Filed = record { slot = slot; marks = record { live = true; carries = c.args.carries; names = c.args.names } } in
+    let f : Filed = record { slot = slot; marks = record { live = true; imports = c.args.carries.imports; exports = c.args.carries.exports; names = c.args.names } } in
     let entries = ap (lane (Some Live)) c.insert.ensures.entries ∙ lane_put (Some Live) key f es up none in
     (λ i. index (entries i) (c.insert.ensures.capacity i)) ∙ ap (λ (x : Placed). index (put nat_cmp key slot x.live.entries) x.live.capacity) c.self.view_is
 
 pub returns-clause-carriers : goal.returns-clause-carriers
-returns-clause-carriers c =
+returns-clause-carriers c Import =
     let m = c.self.inside in let key = c.args.key in let slot = c.args.slot in let es = m.index.entries in let up = c.keys_rise.ensures.rising in let L = lane_of (Some Live) m.index in
     let none : place_of key (lane None es) ≡ None = ap (λ (x : Placed). place_of key x.stored.entries) c.self.view_is ∙ c.requires.absent in
-    let f : Filed = record { slot = slot; marks = record { live = true; carries = c.args.carries; names = c.args.names } } in
-    let entries = ap (lane (Some Carries)) c.insert.ensures.entries ∙ lane_put (Some Carries) key f es up none in
-    (λ i. index (entries i) (c.insert.ensures.capacity i)) ∙ ap (λ (x : Placed). index (put_if c.args.carries key slot x.carriers.entries) x.carriers.capacity) c.self.view_is
+    let f : Filed = record { slot = slot; marks = record { live = true; imports = c.args.carries.imports; exports = c.args.carries.exports; names = c.args.names } } in
+    let entries = ap (lane (Some Imports)) c.insert.ensures.entries ∙ lane_put (Some Imports) key f es up none in
+    (λ i. index (entries i) (c.insert.ensures.capacity i)) ∙ ap (λ (x : Placed). index (put_if c.args.carries.imports key slot (carriers_of x Import).entries) (carriers_of x Import).capacity) c.self.view_is
+returns-clause-carriers c Export =
+    let m = c.self.inside in let key = c.args.key in let slot = c.args.slot in let es = m.index.entries in let up = c.keys_rise.ensures.rising in let L = lane_of (Some Live) m.index in
+    let none : place_of key (lane None es) ≡ None = ap (λ (x : Placed). place_of key x.stored.entries) c.self.view_is ∙ c.requires.absent in
+    let f : Filed = record { slot = slot; marks = record { live = true; imports = c.args.carries.imports; exports = c.args.carries.exports; names = c.args.names } } in
+    let entries = ap (lane (Some Exports)) c.insert.ensures.entries ∙ lane_put (Some Exports) key f es up none in
+    (λ i. index (entries i) (c.insert.ensures.capacity i)) ∙ ap (λ (x : Placed). index (put_if c.args.carries.exports key slot (carriers_of x Export).entries) (carriers_of x Export).capacity) c.self.view_is
 
 pub returns-clause-naming : goal.returns-clause-naming
 returns-clause-naming c =
     let m = c.self.inside in let key = c.args.key in let slot = c.args.slot in let es = m.index.entries in let up = c.keys_rise.ensures.rising in let L = lane_of (Some Live) m.index in
     let none : place_of key (lane None es) ≡ None = ap (λ (x : Placed). place_of key x.stored.entries) c.self.view_is ∙ c.requires.absent in
-    let f : Filed = record { slot = slot; marks = record { live = true; carries = c.args.carries; names = c.args.names } } in
+    let f : Filed = record { slot = slot; marks = record { live = true; imports = c.args.carries.imports; exports = c.args.carries.exports; names = c.args.names } } in
     let entries = ap (lane (Some Names)) c.insert.ensures.entries ∙ lane_put (Some Names) key f es up none in
     (λ i. index (entries i) (c.insert.ensures.capacity i)) ∙ ap (λ (x : Placed). index (put_if c.args.names key slot x.naming.entries) x.naming.capacity) c.self.view_is

@@ -1,19 +1,11 @@
-use Rattle.std.proofs.Common.{◌≡◌, ℕ, ◌<◌, true, false, Some, None, option_map, is_some, slice_get, length, refl, sym, ap, ◌∙◌, subst, arith}
-use Rattle.std.specs.Ordering.{nat_cmp}
-use Rattle.std.specs.FinMap.{put}
-use Rattle.slot_links.specs.Links.{linked_in, linked_out}
-use Rattle.std.proofs.lemmas.List.{length-map}
-use Rattle.key_index.specs.declared.filed.Mark.TheVariants.{Live, Carries, Names}
-use Rattle.key_index.specs.declared.filed.Filed.{Filed}
-use Rattle.key_index.specs.declared.filed.Marks.{Marks}
-use Rattle.key_index.specs.Index as keyed
+use Rattle.std.proofs.Common.{◌≡◌, true, Some, None, is_some, refl, ap, ◌∙◌}
+use Rattle.ledger_model.specs.declared.reading.Direction.TheVariants.{Import, Export}
+use Rattle.key_index.specs.declared.filed.Mark.TheVariants.{Live, Imports, Exports, Names}
 use Rattle.event_chain.specs.Flat.{place_of}
-use Rattle.event_chain.specs.Edits.{put_if, out, places_before, places_behind}
-use Rattle.event_chain.specs.Lists.{slot_in, slot_before, slot_after, AreListed}
-use Rattle.event_chain.specs.Placed.{Index, index, lane, lane_of, Placed}
-use Rattle.event_chain.specs.Ranked.{last_of}
-use Rattle.event_chain.proofs.Lanes.{lane_rising, lane_absent, filed_absent, filed_some, lane_put, lane_out, lane_void, lane_stays, lane_enter, out_absent}
-use Rattle.event_chain.proofs.Lists.{sides_absent, sides_present, slot_present, prev_present, next_present, listed_put, listed_out, listed_same, listed_none}
+use Rattle.event_chain.specs.Edits.{out}
+use Rattle.event_chain.specs.Placed.{index, lane, lane_of, Placed, carriers_of}
+use Rattle.event_chain.proofs.Lanes.{filed_some, lane_out, out_absent}
+use Rattle.event_chain.proofs.Lists.{listed_same}
 use Rattle.event_chain.proofs.place_index.PlaceIndex.remove.Goals as goal
 
 pub remove-requires : goal.remove-requires
@@ -44,11 +36,16 @@ returns-clause-live c =
     (λ i. index (entries i) (c.remove.ensures.capacity i)) ∙ ap (λ (x : Placed). x.live) c.self.view_is
 
 pub returns-clause-carriers : goal.returns-clause-carriers
-returns-clause-carriers c =
+returns-clause-carriers c Import =
     let m = c.self.inside in let key = c.args.key in let es = m.index.entries in let up = c.keys_rise.ensures.rising in
     let at : is_some (place_of key (lane None es)) ≡ true = ap (λ (x : Placed). is_some (place_of key x.stored.entries)) c.self.view_is ∙ c.requires.stored in let filed = filed_some key es up at in let f = filed.0 in let there = filed.1 in
-    let entries = ap (lane (Some Carries)) c.remove.ensures.entries ∙ lane_out (Some Carries) key f es up there ∙ out_absent key (lane (Some Carries) es) (ap (λ (x : Placed). place_of key x.carriers.entries) c.self.view_is ∙ c.requires.carriers) in
-    (λ i. index (entries i) (c.remove.ensures.capacity i)) ∙ ap (λ (x : Placed). x.carriers) c.self.view_is
+    let entries = ap (lane (Some Imports)) c.remove.ensures.entries ∙ lane_out (Some Imports) key f es up there ∙ out_absent key (lane (Some Imports) es) (ap (λ (x : Placed). place_of key (carriers_of x Import).entries) c.self.view_is ∙ c.requires.carriers Import) in
+    (λ i. index (entries i) (c.remove.ensures.capacity i)) ∙ ap (λ (x : Placed). carriers_of x Import) c.self.view_is
+returns-clause-carriers c Export =
+    let m = c.self.inside in let key = c.args.key in let es = m.index.entries in let up = c.keys_rise.ensures.rising in
+    let at : is_some (place_of key (lane None es)) ≡ true = ap (λ (x : Placed). is_some (place_of key x.stored.entries)) c.self.view_is ∙ c.requires.stored in let filed = filed_some key es up at in let f = filed.0 in let there = filed.1 in
+    let entries = ap (lane (Some Exports)) c.remove.ensures.entries ∙ lane_out (Some Exports) key f es up there ∙ out_absent key (lane (Some Exports) es) (ap (λ (x : Placed). place_of key (carriers_of x Export).entries) c.self.view_is ∙ c.requires.carriers Export) in
+    (λ i. index (entries i) (c.remove.ensures.capacity i)) ∙ ap (λ (x : Placed). carriers_of x Export) c.self.view_is
 
 pub returns-clause-naming : goal.returns-clause-naming
 returns-clause-naming c =

@@ -1,26 +1,20 @@
-use Rattle.std.proofs.Common.{◌≡◌, ℕ, ◌<◌, true, false, Some, None, option_map, is_some, slice_get, length, refl, sym, ap, ◌∙◌, subst, arith}
-use Rattle.std.specs.Ordering.{nat_cmp}
-use Rattle.std.specs.FinMap.{put}
-use Rattle.slot_links.specs.Links.{linked_in, linked_out}
-use Rattle.std.proofs.lemmas.List.{length-map}
-use Rattle.key_index.specs.declared.filed.Mark.TheVariants.{Live, Carries, Names}
-use Rattle.key_index.specs.declared.filed.Filed.{Filed}
+use Rattle.std.proofs.Common.{◌≡◌, false, Some, None, is_some, refl, sym, ap, ◌∙◌}
+use Rattle.ledger_model.specs.declared.reading.Direction.TheVariants.{Import, Export}
+use Rattle.slot_links.specs.Links.{linked_out}
+use Rattle.key_index.specs.declared.filed.Mark.TheVariants.{Live, Imports, Exports, Names}
 use Rattle.key_index.specs.declared.filed.Marks.{Marks}
-use Rattle.key_index.specs.Index as keyed
 use Rattle.event_chain.specs.Flat.{place_of}
-use Rattle.event_chain.specs.Edits.{put_if, out, places_before, places_behind}
-use Rattle.event_chain.specs.Lists.{slot_in, slot_before, slot_after, AreListed}
-use Rattle.event_chain.specs.Placed.{Index, index, lane, lane_of, Placed}
-use Rattle.event_chain.specs.Ranked.{last_of}
-use Rattle.event_chain.proofs.Lanes.{lane_rising, lane_absent, filed_absent, filed_there, lane_put, lane_out, lane_void, lane_stays, lane_enter, out_absent}
-use Rattle.event_chain.proofs.Lists.{sides_absent, sides_present, slot_present, prev_present, next_present, listed_put, listed_out, listed_same, listed_none}
+use Rattle.event_chain.specs.Edits.{out}
+use Rattle.event_chain.specs.Placed.{index, lane, lane_of, Placed, carriers_of}
+use Rattle.event_chain.proofs.Lanes.{lane_rising, filed_there, lane_void, lane_stays}
+use Rattle.event_chain.proofs.Lists.{sides_present, slot_present, prev_present, next_present, listed_out, listed_same}
 use Rattle.event_chain.proofs.place_index.PlaceIndex.void.Goals as goal
 
 pub prev-before-requires : goal.prev-before-requires
 prev-before-requires c =
     let m = c.self.inside in let key = c.args.key in let slot = c.args.slot in let es = m.index.entries in let up = c.keys_rise.ensures.rising in let L = lane_of (Some Live) m.index in
     let at : place_of key (lane None es) ≡ Some slot = ap (λ (x : Placed). place_of key x.stored.entries) c.self.view_is ∙ c.requires.stored in let filed = filed_there key slot es up at in let f = filed.0 in let there = filed.1.0 in
-    let marks : Marks = record { live = false; carries = false; names = false } in
+    let marks : Marks = record { live = false; imports = false; exports = false; names = false } in
     let some : place_of key L.entries ≡ Some slot = ap (λ (x : Placed). place_of key x.live.entries) c.self.view_is ∙ c.requires.live in let rises = lane_rising (Some Live) es up in
     slot_present L m.links c.self.invariant rises key slot some
 
@@ -28,7 +22,7 @@ pub next-after-requires : goal.next-after-requires
 next-after-requires c =
     let m = c.self.inside in let key = c.args.key in let slot = c.args.slot in let es = m.index.entries in let up = c.keys_rise.ensures.rising in let L = lane_of (Some Live) m.index in
     let at : place_of key (lane None es) ≡ Some slot = ap (λ (x : Placed). place_of key x.stored.entries) c.self.view_is ∙ c.requires.stored in let filed = filed_there key slot es up at in let f = filed.0 in let there = filed.1.0 in
-    let marks : Marks = record { live = false; carries = false; names = false } in
+    let marks : Marks = record { live = false; imports = false; exports = false; names = false } in
     let some : place_of key L.entries ≡ Some slot = ap (λ (x : Placed). place_of key x.live.entries) c.self.view_is ∙ c.requires.live in let rises = lane_rising (Some Live) es up in
     slot_present L m.links c.self.invariant rises key slot some
 
@@ -36,7 +30,7 @@ pub link_out-requires : goal.link_out-requires
 link_out-requires c =
     let m = c.self.inside in let key = c.args.key in let slot = c.args.slot in let es = m.index.entries in let up = c.keys_rise.ensures.rising in let L = lane_of (Some Live) m.index in
     let at : place_of key (lane None es) ≡ Some slot = ap (λ (x : Placed). place_of key x.stored.entries) c.self.view_is ∙ c.requires.stored in let filed = filed_there key slot es up at in let f = filed.0 in let there = filed.1.0 in
-    let marks : Marks = record { live = false; carries = false; names = false } in
+    let marks : Marks = record { live = false; imports = false; exports = false; names = false } in
     let some : place_of key L.entries ≡ Some slot = ap (λ (x : Placed). place_of key x.live.entries) c.self.view_is ∙ c.requires.live in let rises = lane_rising (Some Live) es up in
     let sides = sides_present L m.links c.self.invariant rises key slot some in
     let before = c.prev-before.ensures ∙ prev_present L m.links c.self.invariant rises key slot some in
@@ -47,14 +41,14 @@ pub set_marks-requires : goal.set_marks-requires
 set_marks-requires c =
     let m = c.self.inside in let key = c.args.key in let slot = c.args.slot in let es = m.index.entries in let up = c.keys_rise.ensures.rising in let L = lane_of (Some Live) m.index in
     let at : place_of key (lane None es) ≡ Some slot = ap (λ (x : Placed). place_of key x.stored.entries) c.self.view_is ∙ c.requires.stored in let filed = filed_there key slot es up at in let f = filed.0 in let there = filed.1.0 in
-    let marks : Marks = record { live = false; carries = false; names = false } in
+    let marks : Marks = record { live = false; imports = false; exports = false; names = false } in
     ap is_some there
 
 pub invariant_of-self : goal.invariant_of-self
 invariant_of-self c =
     let m = c.self.inside in let key = c.args.key in let slot = c.args.slot in let es = m.index.entries in let up = c.keys_rise.ensures.rising in let L = lane_of (Some Live) m.index in
     let at : place_of key (lane None es) ≡ Some slot = ap (λ (x : Placed). place_of key x.stored.entries) c.self.view_is ∙ c.requires.stored in let filed = filed_there key slot es up at in let f = filed.0 in let there = filed.1.0 in
-    let marks : Marks = record { live = false; carries = false; names = false } in
+    let marks : Marks = record { live = false; imports = false; exports = false; names = false } in
     let some : place_of key L.entries ≡ Some slot = ap (λ (x : Placed). place_of key x.live.entries) c.self.view_is ∙ c.requires.live in let rises = lane_rising (Some Live) es up in
     let before = c.prev-before.ensures ∙ prev_present L m.links c.self.invariant rises key slot some in
     let after = c.next-after.ensures ∙ next_present L m.links c.self.invariant rises key slot some in
@@ -65,7 +59,7 @@ pub returns-clause-stored : goal.returns-clause-stored
 returns-clause-stored c =
     let m = c.self.inside in let key = c.args.key in let slot = c.args.slot in let es = m.index.entries in let up = c.keys_rise.ensures.rising in let L = lane_of (Some Live) m.index in
     let at : place_of key (lane None es) ≡ Some slot = ap (λ (x : Placed). place_of key x.stored.entries) c.self.view_is ∙ c.requires.stored in let filed = filed_there key slot es up at in let f = filed.0 in let there = filed.1.0 in
-    let marks : Marks = record { live = false; carries = false; names = false } in
+    let marks : Marks = record { live = false; imports = false; exports = false; names = false } in
     let entries = ap (lane None) c.set_marks.ensures.entries ∙ lane_stays None key f es up there marks refl refl in
     (λ i. index (entries i) (c.set_marks.ensures.capacity i)) ∙ ap (λ (x : Placed). x.stored) c.self.view_is
 
@@ -73,22 +67,28 @@ pub returns-clause-live : goal.returns-clause-live
 returns-clause-live c =
     let m = c.self.inside in let key = c.args.key in let slot = c.args.slot in let es = m.index.entries in let up = c.keys_rise.ensures.rising in let L = lane_of (Some Live) m.index in
     let at : place_of key (lane None es) ≡ Some slot = ap (λ (x : Placed). place_of key x.stored.entries) c.self.view_is ∙ c.requires.stored in let filed = filed_there key slot es up at in let f = filed.0 in let there = filed.1.0 in
-    let marks : Marks = record { live = false; carries = false; names = false } in
+    let marks : Marks = record { live = false; imports = false; exports = false; names = false } in
     let entries = ap (lane (Some Live)) c.set_marks.ensures.entries ∙ lane_void (Some Live) key f es up there marks refl in
     (λ i. index (entries i) (c.set_marks.ensures.capacity i)) ∙ ap (λ (x : Placed). index (out key x.live.entries) x.live.capacity) c.self.view_is
 
 pub returns-clause-carriers : goal.returns-clause-carriers
-returns-clause-carriers c =
+returns-clause-carriers c Import =
     let m = c.self.inside in let key = c.args.key in let slot = c.args.slot in let es = m.index.entries in let up = c.keys_rise.ensures.rising in let L = lane_of (Some Live) m.index in
     let at : place_of key (lane None es) ≡ Some slot = ap (λ (x : Placed). place_of key x.stored.entries) c.self.view_is ∙ c.requires.stored in let filed = filed_there key slot es up at in let f = filed.0 in let there = filed.1.0 in
-    let marks : Marks = record { live = false; carries = false; names = false } in
-    let entries = ap (lane (Some Carries)) c.set_marks.ensures.entries ∙ lane_void (Some Carries) key f es up there marks refl in
-    (λ i. index (entries i) (c.set_marks.ensures.capacity i)) ∙ ap (λ (x : Placed). index (out key x.carriers.entries) x.carriers.capacity) c.self.view_is
+    let marks : Marks = record { live = false; imports = false; exports = false; names = false } in
+    let entries = ap (lane (Some Imports)) c.set_marks.ensures.entries ∙ lane_void (Some Imports) key f es up there marks refl in
+    (λ i. index (entries i) (c.set_marks.ensures.capacity i)) ∙ ap (λ (x : Placed). index (out key (carriers_of x Import).entries) (carriers_of x Import).capacity) c.self.view_is
+returns-clause-carriers c Export =
+    let m = c.self.inside in let key = c.args.key in let slot = c.args.slot in let es = m.index.entries in let up = c.keys_rise.ensures.rising in let L = lane_of (Some Live) m.index in
+    let at : place_of key (lane None es) ≡ Some slot = ap (λ (x : Placed). place_of key x.stored.entries) c.self.view_is ∙ c.requires.stored in let filed = filed_there key slot es up at in let f = filed.0 in let there = filed.1.0 in
+    let marks : Marks = record { live = false; imports = false; exports = false; names = false } in
+    let entries = ap (lane (Some Exports)) c.set_marks.ensures.entries ∙ lane_void (Some Exports) key f es up there marks refl in
+    (λ i. index (entries i) (c.set_marks.ensures.capacity i)) ∙ ap (λ (x : Placed). index (out key (carriers_of x Export).entries) (carriers_of x Export).capacity) c.self.view_is
 
 pub returns-clause-naming : goal.returns-clause-naming
 returns-clause-naming c =
     let m = c.self.inside in let key = c.args.key in let slot = c.args.slot in let es = m.index.entries in let up = c.keys_rise.ensures.rising in let L = lane_of (Some Live) m.index in
     let at : place_of key (lane None es) ≡ Some slot = ap (λ (x : Placed). place_of key x.stored.entries) c.self.view_is ∙ c.requires.stored in let filed = filed_there key slot es up at in let f = filed.0 in let there = filed.1.0 in
-    let marks : Marks = record { live = false; carries = false; names = false } in
+    let marks : Marks = record { live = false; imports = false; exports = false; names = false } in
     let entries = ap (lane (Some Names)) c.set_marks.ensures.entries ∙ lane_void (Some Names) key f es up there marks refl in
     (λ i. index (entries i) (c.set_marks.ensures.capacity i)) ∙ ap (λ (x : Placed). index (out key x.naming.entries) x.naming.capacity) c.self.view_is

@@ -1,13 +1,16 @@
 use Rattle.std.proofs.Common.{arith}
 use Rattle.std.proofs.lemmas.Bool.Decides.{nat_tests}
-use Rattle.key_index.specs.declared.filed.Mark.TheVariants.{Live, Carries, Names}
+use Rattle.key_index.specs.declared.filed.Mark.TheVariants.{Live, Imports, Exports, Names}
 use Rattle.key_index.proofs.counts.Counts.more.Goals as goal
 
 pub overflow_add-result : goal.overflow_add-result
 overflow_add-result c = grind (arith, nat_tests, c.requires Live)
 
 pub overflow_add-result-2 : goal.overflow_add-result-2
-overflow_add-result-2 c = grind (arith, nat_tests, c.requires Carries)
+overflow_add-result-2 c = grind (arith, nat_tests, c.requires Imports)
 
 pub overflow_add-result-3 : goal.overflow_add-result-3
-overflow_add-result-3 c = grind (arith, nat_tests, c.requires Names)
+overflow_add-result-3 c = grind (arith, nat_tests, c.requires Exports)
+
+pub overflow_add-result-4 : goal.overflow_add-result-4
+overflow_add-result-4 c = grind (arith, nat_tests, c.requires Names)

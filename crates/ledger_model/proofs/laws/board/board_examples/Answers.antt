@@ -18,4 +18,7 @@ returns c = record {
   start_voided_figures = refl;
   widest_gap = refl;
   widest_gap_figures = refl;
+  exported = refl;
+  exported_figures = refl;
+  in_turn = refl;
 }

@@ -1,4 +1,4 @@
-use Rattle.ledger_model.proofs.OneMore.{live_with, live_without, live_else, pairs_with, pairs_without, pairs_less_kept, pairs_more_kept}
+use Rattle.ledger_model.proofs.OneMore.{live_with, live_without, live_else, pairs_with, pairs_without, pairs_less_kept, pairs_more_kept, less_kept as taken_and_left, more_kept as brought_and_left, few_moved as few_come_and_go}
 use Rattle.ledger_model.proofs.laws.deltas.pairs_with_one_event_more.Goals as goal
 
 pub returns : goal.returns
@@ -10,4 +10,7 @@ returns c = record {
   other_events = live_else;
   station_without = pairs_less_kept;
   station_with = pairs_more_kept;
+  less_kept = taken_and_left;
+  more_kept = brought_and_left;
+  few_moved = few_come_and_go;
 }

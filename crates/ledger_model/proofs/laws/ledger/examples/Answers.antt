@@ -1,6 +1,6 @@
 use Rattle.std.proofs.Common.{refl}
 use Rattle.ledger_model.specs.Limits.{default_limits}
-use Rattle.ledger_model.specs.Examples.{narrow_limits, first_run, late_event, falling_register, conflict, void_and_restore, full_until_erased}
+use Rattle.ledger_model.specs.Examples.{narrow_limits, first_run, late_event, falling_register, conflict, other_direction, void_and_restore, full_until_erased}
 use Rattle.ledger_model.proofs.Examples.{energy_after, answers_to}
 use Rattle.ledger_model.proofs.laws.ledger.examples.Goals as goal
 
@@ -15,6 +15,9 @@ returns-clause-falling_register c = energy_after default_limits falling_register
 
 pub returns-clause-conflict : goal.returns-clause-conflict
 returns-clause-conflict c = answers_to default_limits conflict _ refl
+
+pub returns-clause-other_direction : goal.returns-clause-other_direction
+returns-clause-other_direction c = answers_to default_limits other_direction _ refl
 
 pub returns-clause-void_and_restore : goal.returns-clause-void_and_restore
 returns-clause-void_and_restore c = answers_to default_limits void_and_restore _ refl

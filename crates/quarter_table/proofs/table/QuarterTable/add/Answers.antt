@@ -1,4 +1,6 @@
 use Rattle.std.proofs.Common.{◌≡◌, length, subst, sym, ap, ◌∙◌, arith, length-set}
+use Rattle.energy_flow.specs.Flow.{Energy, plus}
+use Rattle.ledger_model.specs.Energy.{flows_toward}
 use Rattle.quarter_table.specs.declared.row.QuarterRow.{QuarterRow}
 use Rattle.quarter_table.specs.Rows.{row_at, with_pair, set_row, AreInOrder, HavePairs}
 use Rattle.quarter_table.proofs.Replaced.{order_set, pairs_set}
@@ -8,8 +10,8 @@ use Rattle.quarter_table.proofs.table.QuarterTable.add.Goals as goal
 pub invariant_of-self : goal.invariant_of-self
 invariant_of-self c =
     let rs = c.self.inside.rows.items in let was = c.self.invariant in
-    let e = added_there c.args.quarter c.args.flow rs c.in-Ok.at c.index-row.result.now c.plus.result c.in-Ok.ensures.stands c.index-row.ensures c.plus.ensures in
-    let row = with_pair c.args.flow (row_at c.args.quarter rs) in
+    let e = added_there c.args.quarter (flows_toward c.args.direction c.args.flow) rs c.in-Ok.at c.index-row.result.now c.plus-flow.result c.plus-export.result c.in-Ok.ensures.stands c.index-row.ensures (c.plus-flow.ensures ∙ ap (λ (e : Energy). plus c.index-row.result.now.flow e) c.parted-imported.ensures.import) (c.plus-export.ensures ∙ ap (λ (e : Energy). plus c.index-row.result.now.export e) c.parted-imported.ensures.export) in
+    let row = with_pair (flows_toward c.args.direction c.args.flow) (row_at c.args.quarter rs) in
     record {
       in_order = subst AreInOrder (sym e) (order_set row rs was.in_order);
       pairs = subst HavePairs (sym e) (pairs_set row rs was.pairs);
@@ -20,8 +22,8 @@ invariant_of-self c =
 pub invariant_of-self-in-Ok-insert : goal.invariant_of-self-in-Ok-insert
 invariant_of-self-in-Ok-insert c =
     let rs = c.self.inside.rows.items in let was = c.self.invariant in
-    let e = c.in-Ok-insert.ensures.items ∙ added_new c.args.quarter c.args.flow rs c.in-Err.at c.in-Err.ensures.belongs in
-    let row = with_pair c.args.flow (row_at c.args.quarter rs) in
+    let e = c.in-Ok-insert.ensures.items ∙ added_new c.args.quarter (flows_toward c.args.direction c.args.flow) rs c.in-Err.at _ _ c.in-Err.ensures.belongs c.parted-imported.ensures.import c.parted-imported.ensures.export in
+    let row = with_pair (flows_toward c.args.direction c.args.flow) (row_at c.args.quarter rs) in
     let none : (row_at c.args.quarter c.args.self.now.rows).pairs ≡ 0 = ap (λ t. (row_at c.args.quarter t.rows).pairs) (sym c.self.view_is) ∙ ap (λ (r : QuarterRow). r.pairs) c.in-Err.ensures.belongs.absent in
     let rows : length rs ≡ length c.args.self.now.rows = ap (λ t. length t.rows) c.self.view_is in
     let limit : c.self.inside.capacity ≡ c.args.self.now.capacity = ap (λ t. t.capacity) c.self.view_is in
@@ -36,5 +38,5 @@ invariant_of-self-in-Ok-insert c =
 pub returns-in-Ok-clause-rows : goal.returns-in-Ok-clause-rows
 returns-in-Ok-clause-rows c =
     let rs = c.self.inside.rows.items in
-    added_there c.args.quarter c.args.flow rs c.in-Ok.at c.index-row.result.now c.plus.result c.in-Ok.ensures.stands c.index-row.ensures c.plus.ensures
-    ∙ ap (λ t. set_row (with_pair c.args.flow (row_at c.args.quarter t.rows)) t.rows) c.self.view_is
+    added_there c.args.quarter (flows_toward c.args.direction c.args.flow) rs c.in-Ok.at c.index-row.result.now c.plus-flow.result c.plus-export.result c.in-Ok.ensures.stands c.index-row.ensures (c.plus-flow.ensures ∙ ap (λ (e : Energy). plus c.index-row.result.now.flow e) c.parted-imported.ensures.import) (c.plus-export.ensures ∙ ap (λ (e : Energy). plus c.index-row.result.now.export e) c.parted-imported.ensures.export)
+    ∙ ap (λ t. set_row (with_pair (flows_toward c.args.direction c.args.flow) (row_at c.args.quarter t.rows)) t.rows) c.self.view_is

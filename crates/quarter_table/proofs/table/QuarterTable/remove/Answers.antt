@@ -1,5 +1,6 @@
 use Rattle.std.proofs.Common.{◌≡◌, ◌<◌, subst, sym, ap, ◌∙◌, arith, length-set}
-use Rattle.energy_flow.specs.Flow.{CanMinus}
+use Rattle.energy_flow.specs.Flow.{CanMinus, Energy, minus}
+use Rattle.ledger_model.specs.Energy.{flows_toward}
 use Rattle.quarter_table.specs.declared.row.QuarterRow.{QuarterRow}
 use Rattle.quarter_table.specs.Rows.{row_at, without_pair, set_row, AreInOrder, HavePairs}
 use Rattle.quarter_table.proofs.Replaced.{order_set, pairs_set}
@@ -11,8 +12,8 @@ invariant_of-self c =
     let rs = c.self.inside.rows.items in let was = c.self.invariant in
     let same = row_read c.args.quarter rs c.in-Ok.at c.index-row.result.now c.in-Ok.ensures.stands c.index-row.ensures in
     let one : (row_at c.args.quarter rs).pairs ≡ 1 = sym (ap (λ (r : QuarterRow). r.pairs) same) ∙ c.if-row-eq1.true in
-    let e = c.remove.ensures.items ∙ removed_last c.args.quarter c.args.flow rs c.in-Ok.at c.in-Ok.ensures.stands one in
-    let row = without_pair c.args.flow (row_at c.args.quarter rs) in
+    let e = c.remove.ensures.items ∙ removed_last c.args.quarter (flows_toward c.args.direction c.args.flow) rs c.in-Ok.at c.in-Ok.ensures.stands one in
+    let row = without_pair (flows_toward c.args.direction c.args.flow) (row_at c.args.quarter rs) in
     record {
       in_order = subst AreInOrder (sym e) (order_set row rs was.in_order);
       pairs = subst HavePairs (sym e) (pairs_set row rs was.pairs);
@@ -26,10 +27,15 @@ overflow_sub-row c =
     let there : 0 < c.index-row.result.now.pairs = subst (λ (r : QuarterRow). 0 < r.pairs) (sym (same ∙ ap (λ t. row_at c.args.quarter t.rows) c.self.view_is)) c.requires.there in
     omega (arith, there)
 
-pub minus-requires : goal.minus-requires
-minus-requires c =
+pub minus-flow-requires : goal.minus-flow-requires
+minus-flow-requires c =
     let same = row_read c.args.quarter c.self.inside.rows.items c.in-Ok.at c.index-row.result.now c.in-Ok.ensures.stands c.index-row.ensures in
-    subst (λ (r : QuarterRow). CanMinus r.flow c.args.flow) (sym (same ∙ ap (λ t. row_at c.args.quarter t.rows) c.self.view_is)) c.requires.within
+    subst (CanMinus c.index-row.result.now.flow) (sym c.parted-imported.ensures.import) (subst (λ (r : QuarterRow). CanMinus r.flow (flows_toward c.args.direction c.args.flow).flow) (sym (same ∙ ap (λ t. row_at c.args.quarter t.rows) c.self.view_is)) c.requires.import)
+
+pub minus-export-requires : goal.minus-export-requires
+minus-export-requires c =
+    let same = row_read c.args.quarter c.self.inside.rows.items c.in-Ok.at c.index-row.result.now c.in-Ok.ensures.stands c.index-row.ensures in
+    subst (CanMinus c.index-row.result.now.export) (sym c.parted-imported.ensures.export) (subst (λ (r : QuarterRow). CanMinus r.export (flows_toward c.args.direction c.args.flow).export) (sym (same ∙ ap (λ t. row_at c.args.quarter t.rows) c.self.view_is)) c.requires.export)
 
 pub invariant_of-self-else-row-eq1 : goal.invariant_of-self-else-row-eq1
 invariant_of-self-else-row-eq1 c =
@@ -38,8 +44,8 @@ invariant_of-self-else-row-eq1 c =
     let there : 0 < (row_at c.args.quarter rs).pairs = subst (λ t. 0 < (row_at c.args.quarter t.rows).pairs) (sym c.self.view_is) c.requires.there in
     let pairs = ap (λ (r : QuarterRow). r.pairs) same in
     let more : 1 < (row_at c.args.quarter rs).pairs = omega (arith, there, pairs, c.if-row-eq1.false) in
-    let e = removed_there c.args.quarter c.args.flow rs c.in-Ok.at c.index-row.result.now c.minus.result c.in-Ok.ensures.stands c.index-row.ensures c.minus.ensures more in
-    let row = without_pair c.args.flow (row_at c.args.quarter rs) in
+    let e = removed_there c.args.quarter (flows_toward c.args.direction c.args.flow) rs c.in-Ok.at c.index-row.result.now c.minus-flow.result c.minus-export.result c.in-Ok.ensures.stands c.index-row.ensures (c.minus-flow.ensures ∙ ap (λ (e : Energy). minus c.index-row.result.now.flow e) c.parted-imported.ensures.import) (c.minus-export.ensures ∙ ap (λ (e : Energy). minus c.index-row.result.now.export e) c.parted-imported.ensures.export) more in
+    let row = without_pair (flows_toward c.args.direction c.args.flow) (row_at c.args.quarter rs) in
     record {
       in_order = subst AreInOrder (sym e) (order_set row rs was.in_order);
       pairs = subst HavePairs (sym e) (pairs_set row rs was.pairs);
@@ -52,8 +58,8 @@ returns-then-row-eq1-clause-rows c =
     let rs = c.self.inside.rows.items in
     let same = row_read c.args.quarter rs c.in-Ok.at c.index-row.result.now c.in-Ok.ensures.stands c.index-row.ensures in
     let one : (row_at c.args.quarter rs).pairs ≡ 1 = sym (ap (λ (r : QuarterRow). r.pairs) same) ∙ c.if-row-eq1.true in
-    c.remove.ensures.items ∙ removed_last c.args.quarter c.args.flow rs c.in-Ok.at c.in-Ok.ensures.stands one
-    ∙ ap (λ t. set_row (without_pair c.args.flow (row_at c.args.quarter t.rows)) t.rows) c.self.view_is
+    c.remove.ensures.items ∙ removed_last c.args.quarter (flows_toward c.args.direction c.args.flow) rs c.in-Ok.at c.in-Ok.ensures.stands one
+    ∙ ap (λ t. set_row (without_pair (flows_toward c.args.direction c.args.flow) (row_at c.args.quarter t.rows)) t.rows) c.self.view_is
 
 pub returns-else-row-eq1-clause-rows : goal.returns-else-row-eq1-clause-rows
 returns-else-row-eq1-clause-rows c =
@@ -62,5 +68,5 @@ returns-else-row-eq1-clause-rows c =
     let there : 0 < (row_at c.args.quarter rs).pairs = subst (λ t. 0 < (row_at c.args.quarter t.rows).pairs) (sym c.self.view_is) c.requires.there in
     let pairs = ap (λ (r : QuarterRow). r.pairs) same in
     let more : 1 < (row_at c.args.quarter rs).pairs = omega (arith, there, pairs, c.if-row-eq1.false) in
-    removed_there c.args.quarter c.args.flow rs c.in-Ok.at c.index-row.result.now c.minus.result c.in-Ok.ensures.stands c.index-row.ensures c.minus.ensures more
-    ∙ ap (λ t. set_row (without_pair c.args.flow (row_at c.args.quarter t.rows)) t.rows) c.self.view_is
+    removed_there c.args.quarter (flows_toward c.args.direction c.args.flow) rs c.in-Ok.at c.index-row.result.now c.minus-flow.result c.minus-export.result c.in-Ok.ensures.stands c.index-row.ensures (c.minus-flow.ensures ∙ ap (λ (e : Energy). minus c.index-row.result.now.flow e) c.parted-imported.ensures.import) (c.minus-export.ensures ∙ ap (λ (e : Energy). minus c.index-row.result.now.export e) c.parted-imported.ensures.export) more
+    ∙ ap (λ t. set_row (without_pair (flows_toward c.args.direction c.args.flow) (row_at c.args.quarter t.rows)) t.rows) c.self.view_is

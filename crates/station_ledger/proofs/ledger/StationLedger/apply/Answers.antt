@@ -30,7 +30,7 @@ invariant_of-self c =
     record {
       limits_are = same;
       reached = subst (Reached l.limits m) (sym (λ i. record { events = e.events i; changes = m })) reached;
-      summed = subst (λ (b : Bounds). AreSummed b (stored c.carry_out.new.chains) s.kept s.evses.items s.period s.quarters s.energy s.figures) same e.summed;
+      summed = subst (λ (b : Bounds). AreSummed b (stored c.carry_out.new.chains) s.kept s.evses.items s.period s.quarters s.energy s.export s.figures) same e.summed;
       voided_are = e.voided;
       few_transactions = k.few_transactions;
       few_events = k.few_events;

@@ -1,0 +1,17 @@
+use Rattle.std.proofs.Common.{◌≡◌, Some, refl, ap, ◌∙◌}
+use Rattle.key_index.specs.Index as keyed
+use Rattle.key_index.specs.declared.filed.Mark.{Mark}
+use Rattle.ledger_model.specs.declared.reading.Direction.{Direction}
+use Rattle.ledger_model.specs.declared.reading.Direction.TheVariants.{Import, Export}
+use Rattle.event_chain.specs.Placed.{Placed, carriers_of, lane_of, mark_of, placed}
+use Rattle.event_chain.proofs.place_index.PlaceIndex.carriers.Goals as goal
+
+-- The lane of a direction's mark.
+lane_toward : (i : keyed.Index) (d : Direction) → lane_of (Some (mark_of d)) i ≡ carriers_of (placed i) d
+lane_toward i Import = refl
+lane_toward i Export = refl
+
+pub returns : goal.returns
+returns c =
+    c.over.ensures ∙ ap (λ (m : Mark). lane_of (Some m) c.self.inside.index) c.mark_of.ensures ∙ lane_toward c.self.inside.index c.args.direction
+    ∙ ap (λ (x : Placed). carriers_of x c.args.direction) c.self.view_is

@@ -1,0 +1,213 @@
+//! Boards in a browser: a listener of its own, one request at a time, and nothing that changes anything.
+use crate::crew::Crew;
+use crate::door::Door;
+use crate::reply::{Status, response};
+use crate::request::{Request, read_request};
+use crate::running::{Running, site_of};
+use crate::visit::{Patience, Visit, VisitStream};
+use ledger_model::Name;
+use site_book::Naming;
+use site_desk::Plan;
+use station_link::Attendant;
+use std::alloc::{AllocError, Global};
+use std::io;
+use std::io::{ErrorKind, Read, Write};
+use std::net::TcpStream;
+use std::sync::Wait;
+use std::sync::atomic::AtomicBool;
+use std::time::Clock;
+
+// How many bytes the head of a request may have.
+const MAX_HEAD: usize = 8_192;
+
+// How long a browser is waited for.
+const PATIENCE: Patience = Patience {
+    opening: 5,
+    writing: 5,
+};
+
+// How many reads of what a browser sent beyond its head are made at most.
+const MAX_LAST_READS: u32 = 64;
+
+// The content types.
+const TEXT: &str = "text/plain; charset=utf-8";
+
+const PAGE: &str = "text/html; charset=utf-8";
+
+// What is written where there is no memory for an answer.
+const NO_MEMORY: &[u8] =
+    b"HTTP/1.1 503 Service Unavailable\r\nContent-Length: 0\r\nConnection: close\r\n\r\n";
+
+// Answers one request after the other until the server closes.
+pub(crate) fn serve_boards<J: Naming, R: Wait + Clock>(
+    rt: &R,
+    alloc: Global,
+    door: &Door<'_>,
+    running: &Running<'_, J>,
+    crew: &Crew,
+) {
+    for _ in rt.forever() {
+        let Some(stream) = door.next(rt, &crew.closing) else {
+            door.leave();
+            return;
+        };
+        serve_request(rt, alloc, running, crew, stream);
+    }
+}
+
+// Reads a request and writes its answer.
+fn serve_request<J: Naming, R: Wait + Clock>(
+    rt: &R,
+    alloc: Global,
+    running: &Running<'_, J>,
+    crew: &Crew,
+    stream: TcpStream,
+) {
+    let unmarked = AtomicBool::new(false);
+    let Ok(visit) = Visit::open(rt, &crew.closing, &unmarked, PATIENCE) else {
+        return;
+    };
+    if let Ok(mut stream) = VisitStream::open(&visit, stream) {
+        let _ = answer_request(rt, alloc, running, &visit, &mut stream);
+    }
+}
+
+// The same, over the stream of a visit.
+fn answer_request<J: Naming, R: Wait + Clock>(
+    rt: &R,
+    alloc: Global,
+    running: &Running<'_, J>,
+    visit: &Visit<'_, R>,
+    stream: &mut VisitStream<'_, R>,
+) -> io::Result<()> {
+    let request = request_of(alloc, stream)?;
+    visit.serves();
+    put_answer(rt, alloc, running, request, stream)?;
+    visit.leaves();
+    end_answer(stream)
+}
+
+// Tells a browser that nothing more comes.
+fn end_answer<R: Clock>(stream: &mut VisitStream<'_, R>) -> io::Result<()> {
+    stream.shut()?;
+    read_rest(stream);
+    Ok(())
+}
+
+// The request of a stream, once its head has come.
+fn request_of<S: Read>(alloc: Global, stream: &mut S) -> io::Result<Request> {
+    match room_of(alloc) {
+        Ok(mut head) => read_head(stream, &mut head),
+        Err(_) => Ok(Request::NoRoom),
+    }
+}
+
+// The room of a head.
+fn room_of(alloc: Global) -> Result<Vec<u8>, AllocError> {
+    let mut head = Vec::new(alloc);
+    head.resize(MAX_HEAD, 0)?;
+    Ok(head)
+}
+
+// Reads a head into this room, as much as it needs.
+fn read_head<S: Read>(stream: &mut S, head: &mut [u8]) -> io::Result<Request> {
+    let mut held = 0;
+    for _ in 0..head.len() {
+        let count = stream.read(&mut head[held..])?;
+        if count == 0 {
+            return Err(io::Error::from(ErrorKind::UnexpectedEof));
+        }
+        held += count;
+        match read_request(&head[..held]) {
+            Request::Unfinished => {}
+            request => return Ok(request),
+        }
+        if held == head.len() {
+            break;
+        }
+    }
+    Ok(Request::Malformed)
+}
+
+// Writes the answer to a request.
+fn put_answer<J: Naming, R: Wait, S: Write>(
+    rt: &R,
+    alloc: Global,
+    running: &Running<'_, J>,
+    request: Request,
+    stream: &mut S,
+) -> io::Result<()> {
+    match answer(rt, alloc, running, request) {
+        Ok(bytes) => stream.write_all(&bytes)?,
+        Err(_) => stream.write_all(NO_MEMORY)?,
+    }
+    stream.flush()
+}
+
+// Reads what a browser sent beyond its head: unread bytes would reset the connection before it has its answer.
+fn read_rest<S: Read>(stream: &mut S) {
+    let mut rest = [0; 256];
+    for _ in 0..MAX_LAST_READS {
+        match stream.read(&mut rest) {
+            Ok(0) | Err(_) => return,
+            Ok(_) => {}
+        }
+    }
+}
+
+// The bytes that answer a request.
+fn answer<J: Naming, R: Wait>(
+    rt: &R,
+    alloc: Global,
+    running: &Running<'_, J>,
+    request: Request,
+) -> Result<Vec<u8>, AllocError> {
+    match request {
+        Request::Sites => answer_sites(alloc, running.plan),
+        Request::Board(name) => answer_board(rt, alloc, running, &name),
+        Request::Elsewhere => told(alloc, Status::NotFound),
+        Request::NotAllowed => told(alloc, Status::NotAllowed),
+        Request::Malformed | Request::Unfinished => told(alloc, Status::Malformed),
+        Request::NoRoom => told(alloc, Status::NoMemory),
+    }
+}
+
+// An answer that tells its status alone.
+fn told(alloc: Global, status: Status) -> Result<Vec<u8>, AllocError> {
+    response(alloc, status, TEXT, status.text().as_bytes())
+}
+
+// The board of the site of this name.
+fn answer_board<J: Naming, R: Wait>(
+    rt: &R,
+    alloc: Global,
+    running: &Running<'_, J>,
+    name: &Name,
+) -> Result<Vec<u8>, AllocError> {
+    let Some(site) = site_of(running.plan, name) else {
+        return told(alloc, Status::NotFound);
+    };
+    match running.board(rt, alloc, site) {
+        Ok(text) => response(alloc, Status::Found, TEXT, &text),
+        Err(_) => told(alloc, Status::NoMemory),
+    }
+}
+
+// The list of sites, each a link to its board.
+fn answer_sites(alloc: Global, plan: &Plan) -> Result<Vec<u8>, AllocError> {
+    let mut page = Vec::new(alloc);
+    page.extend_from_slice(b"<!DOCTYPE html>\n<title>ocpp_board</title>\n<ul>\n")?;
+    for site in plan.sites.as_slice() {
+        put_link(&mut page, site.name.text())?;
+    }
+    page.extend_from_slice(b"</ul>\n")?;
+    response(alloc, Status::Found, PAGE, &page)
+}
+
+// Appends the link to a site's board. A name has no character that a page or a path has another meaning for.
+fn put_link(page: &mut Vec<u8>, name: &str) -> Result<(), AllocError> {
+    for part in ["<li><a href=\"/board/", name, "\">", name, "</a></li>\n"] {
+        page.extend_from_slice(part.as_bytes())?;
+    }
+    Ok(())
+}

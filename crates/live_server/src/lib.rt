@@ -1,0 +1,35 @@
+//! A server that lives: connections without end, an operator's lines while stations are served, and a clean end.
+//!
+//! [`serve_live`] opens the desk of a plan, tells where it listens, and starts workers, which accept connections and
+//! serve them for as long as the server lives: `Running` has the desk and the shelf of its passes, `Crew` who has to go,
+//! `Log` where sessions are told, and a `Visit` what one connection knows of its time. Meanwhile the calling thread
+//! answers an operator's lines (`operate`), a thread glances at the totals, and another one answers browsers with boards
+//! ([`response`]). At the end it joins them all, closes the desk with all its checks, and writes the board of each site.
+//!
+//! The crate's one contract: what is written last is, for each site in the plan's order, the board from scratch from
+//! the content of its stations' ledgers. An operator's command goes to the station that it names, and a session gets a
+//! pass of the station that its request names. That connections are accepted, sessions end in time and passes come
+//! back is shown by tests.
+//!
+//! ```text
+//! serve_live(rt, alloc, &plan, live, &mut input, &mut output, lines)?;   // until the input ends or says `close`
+//! ```
+#![tactic(auto)]
+
+mod boards;
+mod crew;
+mod door;
+mod listeners;
+mod log;
+mod operator;
+mod reply;
+mod request;
+mod running;
+mod service;
+mod session;
+mod shared;
+mod visit;
+mod watch;
+
+pub use reply::{Status, response};
+pub use service::{Live, serve_live};

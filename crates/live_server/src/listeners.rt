@@ -1,0 +1,69 @@
+//! Where a live server listens, and how it tells that.
+use crate::service::Live;
+use arrayvec::ArrayString;
+use desk_report::write_out;
+use itoa::Buffer;
+use site_server::{ServiceFault, address_of, listen, tell_port};
+use std::io::Write;
+use std::net::{Net, TcpListener, TcpStream};
+
+// The listeners of a live server: that of stations, and that of browsers, where it is asked for.
+#[derive(Drop)]
+pub(crate) struct Listeners {
+    pub(crate) stations: TcpListener,
+    pub(crate) browsers: Option<TcpListener>,
+}
+
+impl Listeners {
+    // The listeners that are asked for, once their ports are told.
+    pub(crate) fn open<R: Net<Listener = TcpListener, Stream = TcpStream>, W: Write>(
+        rt: &R,
+        live: Live,
+        output: &mut W,
+    ) -> Result<Self, ServiceFault> {
+        let stations = listen(rt, live.port)?;
+        let browsers = listen_for_browsers(rt, live.board_port)?;
+        tell(&stations, browsers.as_ref(), output)?;
+        Ok(Listeners { stations, browsers })
+    }
+}
+
+// The listener of browsers, where a port is asked for.
+fn listen_for_browsers<R: Net<Listener = TcpListener, Stream = TcpStream>>(
+    rt: &R,
+    port: Option<u16>,
+) -> Result<Option<TcpListener>, ServiceFault> {
+    match port {
+        Some(port) => Ok(Some(listen(rt, port)?)),
+        None => Ok(None),
+    }
+}
+
+// Writes the lines that tell the ports.
+fn tell<W: Write>(
+    stations: &TcpListener,
+    browsers: Option<&TcpListener>,
+    output: &mut W,
+) -> Result<(), ServiceFault> {
+    tell_port(stations, output)?;
+    match browsers {
+        Some(listener) => tell_board_port(listener, output),
+        None => Ok(()),
+    }
+}
+
+// Writes the line that tells where browsers find boards.
+fn tell_board_port<W: Write>(listener: &TcpListener, output: &mut W) -> Result<(), ServiceFault> {
+    let line = board_port_line(address_of(listener)?.port());
+    write_out(output, line.as_str().as_bytes())?;
+    Ok(())
+}
+
+// The line that tells this port.
+fn board_port_line(port: u16) -> ArrayString<32> {
+    let mut line = ArrayString::new();
+    line.push_str("boards 127.0.0.1:");
+    line.push_str(Buffer::new().format(port));
+    line.push_str("\n");
+    line
+}

@@ -1,0 +1,60 @@
+//! Where a live server tells of sessions and totals.
+use arrayvec::ArrayString;
+use ledger_model::{MAX_NAME, Name};
+use station_link::{Cause, Why};
+use std::io::Write;
+use std::sync::{Mutex, Wait};
+
+// Where sessions and totals are told.
+#[derive(Drop)]
+pub(crate) struct Log<L: Write + Drop> {
+    pub(crate) lines: Mutex<L>,
+    // Whether sessions are told.
+    has_sessions: bool,
+}
+
+impl<L: Write + Drop> Log<L> {
+    pub(crate) fn open(lines: L, has_sessions: bool) -> Self {
+        Log {
+            lines: Mutex::new(lines),
+            has_sessions,
+        }
+    }
+
+    // Tells that a session began.
+    pub(crate) fn tell_begun<R: Wait>(&self, rt: &R, name: &Name) {
+        if self.has_sessions {
+            let name = name.text();
+            let _ = writeln!(self.lines.lock(rt), "session {name} begun");
+        }
+    }
+
+    // Tells how a session ended.
+    pub(crate) fn tell_ended<R: Wait>(
+        &self,
+        rt: &R,
+        name: &Name,
+        cause: Cause,
+        texts: u64,
+        changes: u64,
+    ) {
+        if self.has_sessions {
+            let name = name.text();
+            let cause = cause.name();
+            let _ = writeln!(
+                self.lines.lock(rt),
+                "session {name} ended {cause} messages={texts} changes={changes}"
+            );
+        }
+    }
+
+    // Tells that a connection got no session, and what its path has in the place of a name.
+    pub(crate) fn tell_refused<R: Wait>(&self, rt: &R, why: Why, shown: &ArrayString<MAX_NAME>) {
+        if self.has_sessions {
+            let why = why.name();
+            let gap = if shown.is_empty() { "" } else { " " };
+            let shown = shown.as_str();
+            let _ = writeln!(self.lines.lock(rt), "session - refused {why}{gap}{shown}");
+        }
+    }
+}

@@ -1,0 +1,86 @@
+//! The desk of a plan while it is served.
+ghost use Rattle.std.specs.Prelude.{◌≡◌, ◌≤◌, ◌<◌, IfOk, IfSome, length, sum_by};
+ghost use Rattle.ledger_model.specs.Ranges.{most_plan_readings};
+ghost use Rattle.site_desk.specs.Roster.{AreNewPlaces, IsNamed};
+ghost use Rattle.station_link.specs.Session.{MayLackPass};
+
+use desk_report::running_board;
+use ledger_model::Name;
+use pass_shelf::{PassFault, ShelfDesk};
+use site_book::Naming;
+use site_desk::{BoardFault, Desk, Pass, Plan};
+use station_link::Why;
+use std::alloc::Global;
+use std::sync::Wait;
+use std::thread::Threads;
+
+// The desk of a plan while it is served, with the shelf of its passes.
+#[derive(Drop)]
+pub(crate) struct Running<'a, J: Naming> {
+    pub(crate) plan: &'a Plan,
+    pub(crate) desk: ShelfDesk<'a, J>,
+    ghost opened: { AreNewPlaces plan.now.sites.items plan.now.stations.items desk.desk.now.stations },
+    ghost readings: { sum_by (λ s. s.limits.readings) plan.now.stations.items ≤ most_plan_readings },
+}
+
+impl<'a, J: Naming> Running<'a, J> {
+    // The desk of this plan, with an empty shelf.
+    pub(crate) fn open(alloc: Global, plan: &'a Plan, desk: &'a Desk<J>) -> Self
+        requires opened { AreNewPlaces plan.now.sites.items plan.now.stations.items desk.now.stations }
+        requires readings { sum_by (λ s. s.limits.readings) plan.now.stations.items ≤ most_plan_readings }
+    {
+        let desk = ShelfDesk::open(alloc, desk);
+        Running { plan, desk }
+    }
+
+    // A pass of the station that a request asks for, with its name.
+    pub(crate) fn let_in<R: Threads + Wait>(
+        &self,
+        rt: &R,
+        asked: Result<Name, Why>,
+    ) -> Result<(Name, Pass), Why>
+        ensures { IfOk result (λ r. IsNamed self.now.desk.desk.now.stations r.0 r.1.station) }
+    {
+        let name = asked?;
+        match self.desk.pass_of(rt, &name) {
+            Ok(pass) => Ok((name, pass)),
+            Err(fault) => Err(why_of(fault)),
+        }
+    }
+
+    // The text of the board of the site of this number.
+    pub(crate) fn board<R: Wait>(
+        &self,
+        rt: &R,
+        alloc: Global,
+        site: u16,
+    ) -> Result<Vec<u8>, BoardFault>
+        requires { site < length self.now.plan.now.sites.items }
+    {
+        running_board(rt, alloc, self.plan, self.desk.desk, site)
+    }
+}
+
+// Why a station that got no pass is refused.
+fn why_of(fault: PassFault) -> Why
+    ensures { MayLackPass result }
+{
+    match fault {
+        PassFault::UnknownStation => Why::UnknownStation,
+        PassFault::TooManyPasses => Why::TooManyPasses,
+        PassFault::OutOfMemory => Why::OutOfMemory,
+    }
+}
+
+// The number of the site of this name.
+pub(crate) fn site_of(plan: &Plan, name: &Name) -> Option<u16>
+    ensures { IfSome result (λ site. site < length plan.now.sites.items) }
+{
+    let sites = plan.sites.as_slice();
+    for site in 0..sites.len() {
+        if sites[site].name == *name {
+            return Some(site as u16);
+        }
+    }
+    None
+}

@@ -1,0 +1,332 @@
+//! A whole live server, from its desk to its boards.
+ghost use Rattle.std.specs.Prelude.{◌≡◌, ◌≤◌, ◌<◌, ℕ, List, Option, OnOk, length, sum_by};
+ghost use Rattle.std.specs.Io.KnownBytes.{Appends};
+ghost use Rattle.std.specs.Thread.{IsSend, IsSync};
+ghost use Rattle.site_book.specs.Tables.{HasTable, NamedBy};
+ghost use Rattle.ledger_model.specs.Ranges.{most_plan_readings};
+ghost use Rattle.site_desk.specs.Roster.{AreNewPlaces};
+ghost use Rattle.desk_report.specs.Closed.{AreBoards};
+
+use crate::boards::serve_boards;
+use crate::crew::Crew;
+use crate::door::{Door, Doors};
+use crate::listeners::Listeners;
+use crate::log::Log;
+use crate::operator::operate;
+use crate::running::Running;
+use crate::session::work;
+use crate::shared::Shared;
+use crate::watch::watch;
+use core::thread::{Anything, Stack};
+use site_book::{Naming, Tables, Viewer};
+use site_desk::{Desk, Pass, Plan};
+use site_server::{ServiceFault, close_desk, open_desk};
+use std::alloc::Global;
+use std::io::{BufRead, Write};
+use std::marker::Brand;
+use std::net::{Net, TcpListener, TcpStream};
+use std::sync::Wait;
+use std::sync::atomic::Ordering;
+use std::thread;
+use std::thread::{Scope, Threads};
+use std::time::Clock;
+
+// The stack of a session's thread, in bytes of address space.
+const SESSION_STACK: usize = 8 * 1024 * 1024;
+
+// The stack of any other thread.
+const SMALL_STACK: usize = 1024 * 1024;
+
+// How many workers wait for connections while every station has two sessions.
+const SPARE_WORKERS: usize = 32;
+
+/// What a live server is asked to do.
+#[derive(Clone, Copy, Debug)]
+pub struct Live {
+    /// The port of 127.0.0.1 that it listens on; for 0 the system chooses one.
+    pub port: u16,
+    /// How often it glances at the totals of each site, a second apart.
+    pub glances: u16,
+    /// Whether it tells which sessions begin and end.
+    pub is_logged: bool,
+    /// The port of 127.0.0.1 where browsers find boards, if any; for 0 the system chooses one.
+    pub board_port: Option<u16>,
+}
+
+/// What stands at the end of the threads: how the operator's lines ended, and the viewers.
+type Ended<J> = (Result<(), ServiceFault>, Vec<Viewer<J>>);
+
+/// Serves a plan's stations until the operator's lines end or say `close`: opens its desk, writes
+/// `listening 127.0.0.1:<port>` to `output`, and serves connections without end, two sessions of each station at once.
+/// Meanwhile it answers the lines of `input`, each answer out before the next line is read. Then it ends all sessions,
+/// closes the desk and writes the board of each site, in the plan's order. What it tells of sessions and totals goes to
+/// `lines`.
+///
+/// A plan with a fault is told before anything is listened on.
+pub fn serve_live<
+    R: Threads + Wait + Clock + Sync + Net<Listener = TcpListener, Stream = TcpStream>,
+    I: BufRead,
+    W: Write,
+    L: Write + Send + Drop,
+>(
+    rt: &R,
+    alloc: Global,
+    plan: &Plan,
+    live: Live,
+    input: &mut I,
+    output: &mut W,
+    lines: L,
+) -> Result<(), ServiceFault>
+    ensures { OnOk result ((before : Option (List ℕ)) × (boards : List ℕ) × Appends before (W.contents output.new) boards
+        × AreBoards plan.now.sites.items plan.now.stations.items boards) }
+{
+    let tables = Tables::make(alloc, plan.sites.len() as u16)?;
+    serve_under::<Brand, R, I, W, L>(rt, alloc, tables, plan, live, input, output, lines)
+}
+
+// The same, under the naming of the desk's tables.
+fn serve_under<
+    J: Naming + Send + Sync,
+    R: Threads + Wait + Clock + Sync + Net<Listener = TcpListener, Stream = TcpStream>,
+    I: BufRead,
+    W: Write,
+    L: Write + Send + Drop,
+>(
+    rt: &R,
+    alloc: Global,
+    tables: Tables,
+    plan: &Plan,
+    live: Live,
+    input: &mut I,
+    output: &mut W,
+    lines: L,
+) -> Result<(), ServiceFault>
+    requires named { NamedBy J.table tables }
+    requires there { (site : ℕ) → site < length plan.now.sites.items → HasTable tables site }
+    ensures { OnOk result ((before : Option (List ℕ)) × (boards : List ℕ) × Appends before (W.contents output.new) boards
+        × AreBoards plan.now.sites.items plan.now.stations.items boards) }
+{
+    let (desk, viewers) = open_desk::<J>(alloc, tables, plan)?;
+    serve_desk(rt, alloc, plan, desk, viewers, live, input, output, lines)
+}
+
+// The same, at the desk that was opened.
+fn serve_desk<
+    J: Naming + Send + Sync,
+    R: Threads + Wait + Clock + Sync + Net<Listener = TcpListener, Stream = TcpStream>,
+    I: BufRead,
+    W: Write,
+    L: Write + Send + Drop,
+>(
+    rt: &R,
+    alloc: Global,
+    plan: &Plan,
+    desk: Desk<J>,
+    viewers: Vec<Viewer<J>>,
+    live: Live,
+    input: &mut I,
+    output: &mut W,
+    lines: L,
+) -> Result<(), ServiceFault>
+    requires sites { desk.sites ≡ length plan.now.sites.items }
+    requires opened { AreNewPlaces plan.now.sites.items plan.now.stations.items desk.stations }
+    requires readings { sum_by (λ s. s.limits.readings) plan.now.stations.items ≤ most_plan_readings }
+    ensures { OnOk result ((before : Option (List ℕ)) × (boards : List ℕ) × Appends before (W.contents output.new) boards
+        × AreBoards plan.now.sites.items plan.now.stations.items boards) }
+{
+    let (passes, viewers, ended) = run(
+        rt, alloc, plan, &desk, viewers, live, input, output, lines,
+    )?;
+    close_desk(alloc, plan, desk, passes, viewers, output)?;
+    ended
+}
+
+// What stands when all threads have ended: all passes, the viewers, and how the operator's lines ended.
+type Ran<J> = (Vec<Pass>, Vec<Viewer<J>>, Result<(), ServiceFault>);
+
+// Listens, and serves until the operator's lines end.
+fn run<
+    J: Naming + Send + Sync,
+    R: Threads + Wait + Clock + Sync + Net<Listener = TcpListener, Stream = TcpStream>,
+    I: BufRead,
+    W: Write,
+    L: Write + Send + Drop,
+>(
+    rt: &R,
+    alloc: Global,
+    plan: &Plan,
+    desk: &Desk<J>,
+    viewers: Vec<Viewer<J>>,
+    live: Live,
+    input: &mut I,
+    output: &mut W,
+    lines: L,
+) -> Result<Ran<J>, ServiceFault>
+    requires opened { AreNewPlaces plan.now.sites.items plan.now.stations.items desk.now.stations }
+    requires readings { sum_by (λ s. s.limits.readings) plan.now.stations.items ≤ most_plan_readings }
+{
+    let listeners = Listeners::open(rt, live, output)?;
+    let crew = Crew::open(alloc, workers_for(plan))?;
+    let shared = Shared {
+        running: Running::open(alloc, plan, desk),
+        crew,
+        log: Log::open(lines, live.is_logged),
+    };
+    Ok(serve_all(
+        rt,
+        alloc,
+        shared,
+        &listeners,
+        live.glances,
+        viewers,
+        input,
+        output,
+    ))
+}
+
+// How many workers there are: two for each station, and some more.
+fn workers_for(plan: &Plan) -> usize {
+    let sessions = plan.stations.len().saturating_mul(2);
+    sessions.saturating_add(SPARE_WORKERS)
+}
+
+// Serves until the operator's lines end, and takes the passes from the shelf.
+fn serve_all<
+    J: Naming + Send + Sync,
+    R: Threads + Wait + Clock + Sync + Net<Listener = TcpListener, Stream = TcpStream>,
+    I: BufRead,
+    W: Write,
+    L: Write + Send + Drop,
+>(
+    rt: &R,
+    alloc: Global,
+    shared: Shared<'_, J, L>,
+    listeners: &Listeners,
+    glances: u16,
+    viewers: Vec<Viewer<J>>,
+    input: &mut I,
+    output: &mut W,
+) -> Ran<J> {
+    let doors = Doors::open(&listeners.stations, listeners.browsers.as_ref());
+    let (ended, viewers) = serve_beside(
+        rt, alloc, &shared, &doors, glances, viewers, input, output,
+    );
+    (shared.into_passes(), viewers, ended)
+}
+
+// Serves on threads while this one answers the operator's lines, and then ends them all.
+fn serve_beside<
+    J: Naming + Send + Sync,
+    R: Threads + Wait + Clock + Sync + Net<Listener = TcpListener, Stream = TcpStream>,
+    I: BufRead,
+    W: Write,
+    L: Write + Send + Drop,
+>(
+    rt: &R,
+    alloc: Global,
+    shared: &Shared<'_, J, L>,
+    doors: &Doors<'_>,
+    glances: u16,
+    viewers: Vec<Viewer<J>>,
+    input: &mut I,
+    output: &mut W,
+) -> Ended<J> {
+    thread::scope(
+        thread::scope_env(),
+        rt,
+        |scope| -> Ended<J>
+            requires { IsSync R.row × IsSend J.row × IsSync J.row × IsSend L.row }
+        {
+            let watching = Stack::new().stack_size(SMALL_STACK).spawn_scoped_with(
+                scope,
+                Anything,
+                move || watch(rt, shared, glances, viewers),
+            );
+            let ended = if start_all(scope, rt, alloc, shared, doors) {
+                operate(rt, alloc, &shared.running, input, output)
+            } else {
+                Err(ServiceFault::OutOfMemory)
+            };
+            shared.crew.closing.store(true, Ordering::SeqCst);
+            doors.call_away(rt);
+            let viewers = match watching {
+                Ok(watching) => watching.join(rt),
+                Err(refused) => (refused.value)(),
+            };
+            (ended, viewers)
+        },
+    )
+}
+
+// Starts the threads at both doors, and tells whether all could start.
+fn start_all<
+    's,
+    E: 's,
+    J: Naming + Send + Sync,
+    R: Threads + Wait + Clock + Sync,
+    L: Write + Send + Drop,
+>(
+    scope: &'s Scope<'s, E>,
+    rt: &'s R,
+    alloc: Global,
+    shared: &'s Shared<'_, J, L>,
+    doors: &'s Doors<'_>,
+) -> bool {
+    for worker in 0..shared.crew.marks.len() {
+        if !start_worker(scope, rt, alloc, shared, &doors.stations, worker) {
+            return false;
+        }
+    }
+    match &doors.browsers {
+        Some(door) => start_boards(scope, rt, alloc, shared, door),
+        None => true,
+    }
+}
+
+// Starts a worker, and tells whether it could start.
+fn start_worker<
+    's,
+    E: 's,
+    J: Naming + Send + Sync,
+    R: Threads + Wait + Clock + Sync,
+    L: Write + Send + Drop,
+>(
+    scope: &'s Scope<'s, E>,
+    rt: &'s R,
+    alloc: Global,
+    shared: &'s Shared<'_, J, L>,
+    door: &'s Door<'_>,
+    worker: usize,
+) -> bool {
+    let Some(mark) = shared.crew.marks.get(worker) else {
+        return false;
+    };
+    let started = Stack::new().stack_size(SESSION_STACK).spawn_scoped_with(
+        scope,
+        Anything,
+        move || work(rt, alloc, door, shared, worker, mark),
+    );
+    door.is_entered(started.is_ok())
+}
+
+// Starts the thread that answers browsers, and tells whether it could start.
+fn start_boards<
+    's,
+    E: 's,
+    J: Naming + Send + Sync,
+    R: Threads + Wait + Clock + Sync,
+    L: Write + Send + Drop,
+>(
+    scope: &'s Scope<'s, E>,
+    rt: &'s R,
+    alloc: Global,
+    shared: &'s Shared<'_, J, L>,
+    door: &'s Door<'_>,
+) -> bool {
+    let started = Stack::new().stack_size(SMALL_STACK).spawn_scoped_with(
+        scope,
+        Anything,
+        move || serve_boards(rt, alloc, door, &shared.running, &shared.crew),
+    );
+    door.is_entered(started.is_ok())
+}

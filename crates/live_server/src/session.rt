@@ -1,0 +1,129 @@
+//! A worker's connections, from accept to end.
+use crate::door::Door;
+use crate::shared::Shared;
+use crate::visit::{Patience, Visit, VisitStream};
+use arrayvec::ArrayString;
+use ledger_model::Name;
+use site_book::Naming;
+use site_desk::{NoGate, Pass};
+use site_server::SystemMoments;
+use station_link::{Attendant, Greeted, LiveEnd, greet, refuse, serve_live};
+use std::alloc::Global;
+use std::io::Write;
+use std::net::TcpStream;
+use std::sync::Wait;
+use std::sync::atomic::AtomicBool;
+use std::thread::Threads;
+use std::time::Clock;
+use tungstenite::{NoMask, WebSocket};
+
+// How long a station is waited for.
+const PATIENCE: Patience = Patience {
+    opening: 10,
+    writing: 30,
+};
+
+// Accepts connections and serves each, until the server closes.
+pub(crate) fn work<J: Naming, R: Threads + Wait + Clock, L: Write + Drop>(
+    rt: &R,
+    alloc: Global,
+    door: &Door<'_>,
+    shared: &Shared<'_, J, L>,
+    worker: usize,
+    mark: &AtomicBool,
+) {
+    for _ in rt.forever() {
+        let Some(stream) = door.next(rt, &shared.crew.closing) else {
+            door.leave();
+            return;
+        };
+        shared.crew.greet(rt, worker);
+        visit(rt, alloc, shared, worker, mark, stream);
+        shared.crew.end(rt, worker);
+    }
+}
+
+// Serves a connection: its handshake, and what comes behind it.
+fn visit<J: Naming, R: Threads + Wait + Clock, L: Write + Drop>(
+    rt: &R,
+    alloc: Global,
+    shared: &Shared<'_, J, L>,
+    worker: usize,
+    mark: &AtomicBool,
+    stream: TcpStream,
+) {
+    let Ok(visit) = Visit::open(rt, &shared.crew.closing, mark, PATIENCE) else {
+        return;
+    };
+    let Ok(stream) = VisitStream::open(&visit, stream) else {
+        return;
+    };
+    match greet(alloc, stream) {
+        Ok(greeted) => receive(rt, alloc, shared, worker, &visit, greeted),
+        Err(why) => shared.log.tell_refused(rt, why, &ArrayString::new()),
+    }
+}
+
+// Serves the session of a client behind its handshake, where it is let in.
+fn receive<J: Naming, R: Threads + Wait + Clock, L: Write + Drop>(
+    rt: &R,
+    alloc: Global,
+    shared: &Shared<'_, J, L>,
+    worker: usize,
+    visit: &Visit<'_, R>,
+    greeted: Greeted<VisitStream<'_, R>>,
+) {
+    let Greeted {
+        mut socket,
+        asked,
+        shown,
+    } = greeted;
+    match shared.running.let_in(rt, asked) {
+        Ok((name, pass)) => {
+            shared.crew.begin(rt, worker, pass.station());
+            attend(rt, alloc, shared, &mut socket, &name, pass, visit);
+        }
+        Err(why) => {
+            visit.leaves();
+            refuse(&mut socket, why);
+            shared.log.tell_refused(rt, why, &shown);
+        }
+    }
+}
+
+// Serves a session to its end.
+fn attend<J: Naming, R: Threads + Wait + Clock, L: Write + Drop>(
+    rt: &R,
+    alloc: Global,
+    shared: &Shared<'_, J, L>,
+    socket: &mut WebSocket<VisitStream<'_, R>, NoMask>,
+    name: &Name,
+    pass: Pass,
+    visit: &Visit<'_, R>,
+) {
+    shared.log.tell_begun(rt, name);
+    visit.serves();
+    let before = pass.changes();
+    let desk = shared.running.desk.desk;
+    let mut clock = SystemMoments { rt };
+    let end = serve_live(
+        rt, alloc, socket, desk, name, pass, &NoGate, &mut clock, visit,
+    );
+    finish(rt, shared, name, before, end);
+}
+
+// Tells how a session ended that began with so many changes, and lays its pass back.
+fn finish<J: Naming, R: Wait, L: Write + Drop>(
+    rt: &R,
+    shared: &Shared<'_, J, L>,
+    name: &Name,
+    before: u64,
+    end: LiveEnd,
+) {
+    let LiveEnd { cause, pass, texts } = end;
+    if let Some(pass) = pass {
+        let changes = pass.changes().saturating_sub(before);
+        shared.log.tell_ended(rt, name, cause, texts, changes);
+        shared.running.desk.lay(rt, pass);
+    }
+}

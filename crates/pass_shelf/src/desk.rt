@@ -1,0 +1,111 @@
+//! A running desk whose passes are taken up again.
+ghost use Rattle.std.specs.Prelude.{◌≡◌, Err, IfOk, IfSome, false};
+ghost use Rattle.std.specs.List.{list_any};
+ghost use Rattle.std.specs.Str.{bytes_eq};
+ghost use Rattle.site_desk.specs.Roster.{IsNamed};
+ghost use Rattle.pass_shelf.specs.declared.desk.PassFault.{PassFault};
+ghost use Rattle.pass_shelf.specs.Operated.{IsCommanded};
+
+use crate::shelf::Shelf;
+use ledger_model::{Answer, Command, Name};
+use site_book::Naming;
+use site_desk::{Desk, EnlistFault, NoGate, Pass};
+use std::alloc::Global;
+use std::sync::{Mutex, Wait};
+use std::thread::Threads;
+use std::time::Clock;
+
+/// Why no pass is given.
+#[derive(Clone, Copy, Debug, PartialEq, Eq)]
+pub enum PassFault {
+    /// No station of the desk has this name.
+    UnknownStation,
+    /// The station gave out 65,536 passes.
+    TooManyPasses,
+    /// There is no memory to lay it back.
+    OutOfMemory,
+}
+
+/// A running desk with a shelf for the passes of its stations.
+#[derive(Drop)]
+pub struct ShelfDesk<'a, J: Naming> {
+    /// The desk.
+    pub desk: &'a Desk<J>,
+    shelf: Mutex<Shelf>,
+}
+
+impl<'a, J: Naming> ShelfDesk<'a, J> {
+    /// The desk with an empty shelf.
+    pub fn open(alloc: Global, desk: &'a Desk<J>) -> Self
+        ensures { result.desk.now ≡ desk.now }
+    {
+        ShelfDesk {
+            desk,
+            shelf: Mutex::new(Shelf::open(alloc)),
+        }
+    }
+
+    /// A pass of the station of this name: one that lies on the shelf, or else a new one, for which there is room there
+    /// from then on. It may wait for the station's lock.
+    pub fn pass_of<R: Wait + Threads>(&self, rt: &R, name: &Name) -> Result<Pass, PassFault>
+        ensures unknown { result ≡ Err PassFault.UnknownStation → list_any (λ s. bytes_eq name.now s.name) self.now.desk.now.stations ≡ false }
+        ensures named { IfOk result (λ p. IsNamed self.now.desk.now.stations name.now p.station) }
+    {
+        let Some(station) = self.desk.number(name) else {
+            return Err(PassFault::UnknownStation);
+        };
+        match self.left_pass(rt, station) {
+            Some(pass) => Ok(pass),
+            None => self.new_pass(rt, name),
+        }
+    }
+
+    // A pass of this station that lies on the shelf.
+    fn left_pass<R: Wait>(&self, rt: &R, station: u16) -> Option<Pass>
+        ensures { IfSome result (λ p. p.station ≡ station) }
+    {
+        self.shelf.lock(rt).take(station)
+    }
+
+    // A new pass of the station of this name.
+    fn new_pass<R: Wait + Threads>(&self, rt: &R, name: &Name) -> Result<Pass, PassFault>
+        ensures unknown { result ≡ Err PassFault.UnknownStation → list_any (λ s. bytes_eq name.now s.name) self.now.desk.now.stations ≡ false }
+        ensures named { IfOk result (λ p. IsNamed self.now.desk.now.stations name.now p.station) }
+    {
+        if self.shelf.lock(rt).reserve().is_err() {
+            return Err(PassFault::OutOfMemory);
+        }
+        match self.desk.enlist(rt, name) {
+            Ok(pass) => Ok(pass),
+            Err(EnlistFault::UnknownStation) => Err(PassFault::UnknownStation),
+            Err(EnlistFault::TooManyPasses) => Err(PassFault::TooManyPasses),
+        }
+    }
+
+    /// Lays a pass back, for the next one that asks for its station.
+    pub fn lay<R: Wait>(&self, rt: &R, pass: Pass) {
+        self.shelf.lock(rt).lay(pass);
+    }
+
+    /// Takes an operator's command on the station of this name, with a pass that it lays back, and gives the answer. It
+    /// may wait for the locks of the station and its site.
+    pub fn command<R: Wait + Threads + Clock>(
+        &self,
+        rt: &R,
+        name: &Name,
+        what: Command,
+    ) -> Result<Answer, PassFault>
+        ensures unknown { result ≡ Err PassFault.UnknownStation → list_any (λ s. bytes_eq name.now s.name) self.now.desk.now.stations ≡ false }
+        ensures commanded { IfOk result (IsCommanded self.now.desk.now.stations name.now what) }
+    {
+        let mut pass = self.pass_of(rt, name)?;
+        let (answer, _told) = self.desk.submit(rt, &mut pass, what, &NoGate);
+        self.lay(rt, pass);
+        Ok(answer)
+    }
+
+    /// All passes that were laid back.
+    pub fn into_passes(self) -> Vec<Pass> {
+        self.shelf.into_inner().into_passes()
+    }
+}

@@ -1,0 +1,2 @@
+mod desks;
+mod seats;

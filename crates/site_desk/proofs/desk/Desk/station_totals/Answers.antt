@@ -1,0 +1,26 @@
+use Rattle.std.proofs.Common.{ap, sym, ◌∙◌, bytes_eq, get_or, subst}
+use Rattle.std.specs.List.{list_any}
+use Rattle.site_desk.specs.declared.roster.Place.{Place}
+use Rattle.site_desk.specs.Roster.{IsNamed, StandsAt}
+use Rattle.site_desk.proofs.Ends.{known_not}
+use Rattle.site_desk.proofs.Operators.{totals_named}
+use Rattle.site_desk.proofs.desk.Desk.station_totals.Goals as goal
+
+pub returns-clause-unknown : goal.returns-clause-unknown
+returns-clause-unknown g c =
+    known_not _ _ _ (λ e. cc) (c.in-Some.ensures.known ∙ ap (list_any (λ (p : Place). bytes_eq c.args.name.now p.name)) (c.deref.ensures.value ∙ ap (λ r. r.stations) c.self.view_is))
+
+pub returns-then-not-stands_at-clause-unknown : goal.returns-then-not-stands_at-clause-unknown
+returns-then-not-stands_at-clause-unknown g c =
+    known_not _ _ _ (λ e. cc) (c.in-Some.ensures.known ∙ ap (list_any (λ (p : Place). bytes_eq c.args.name.now p.name)) (c.deref.ensures.value ∙ ap (λ r. r.stations) c.self.view_is))
+
+pub returns-clause-totals : goal.returns-clause-totals
+returns-clause-totals g c =
+    let name = c.args.name.now in
+    let number = c.in-Some.number in
+    let at = c.index-2.result.now in
+    let same = ap (λ r. r.stations) c.self.view_is in
+    let named = subst (λ ps. IsNamed ps name number) (c.deref.ensures.value ∙ same) c.in-Some.ensures.named in
+    let place = c.index-2.ensures ∙ ap (λ ps. get_or ps number at) same in
+    let stands = subst (StandsAt number at) (c.deref-2.ensures ∙ sym c.deref-3.ensures) (c.stands_at.ensures c.if-not-stands_at.false) in
+    totals_named c.args.self.now.stations name number at c.deref-3.result.now c.totals_of.result.0 c.totals_of.result.1 c.totals_of.result.2 named place stands c.totals_of.ensures

@@ -1,0 +1,45 @@
+-- What an operator reads of a running desk.
+use Rattle.std.specs.Prelude.{◌≡◌, ℕ, ◌==◌, ⊤, List, [], ◌∷◌, filter}
+use Rattle.energy_flow.specs.Flow.{Energy}
+use Rattle.ledger_model.specs.declared.figures.Figures.{Figures}
+use Rattle.ledger_model.specs.Board.{Board, figures}
+use Rattle.ledger_model.specs.declared.reading.Direction.TheVariants.{Import, Export}
+use Rattle.ledger_model.specs.Energy.{energy}
+use Rattle.ledger_model.specs.Content.{Content, entries}
+use Rattle.ledger_model.specs.Figures.{AreWithin}
+use Rattle.ledger_model.specs.Limits.{Bounds}
+use Rattle.ledger_model.specs.Step.{Reached}
+use Rattle.site_desk.specs.declared.roster.Place.{Place}
+use Rattle.site_desk.specs.Roster.{IsNamed}
+use Rattle.site_desk.specs.Submit.{IsBoardWithin}
+
+-- The figures and the energies, imported and exported, are those of some content that accepted commands leave within these limits.
+pub record AreTotalsWithin (limits : Bounds) (f : Figures) (e x : Energy) : Type 0 where
+  pub content : Content
+  pub reached : Reached limits content.changes content
+  pub figures : f ≡ figures (entries content)
+  pub imported : e ≡ energy Import (entries content)
+  pub exported : x ≡ energy Export (entries content)
+
+-- They are of the station of this name: some content has them that accepted commands leave within the limits of the station's place.
+pub record AreTotalsOfName (places : List Place) (name : List ℕ) (f : Figures) (e x : Energy) : Type 0 where
+  pub number : ℕ
+  pub named : IsNamed places name number
+  pub totals : AreTotalsWithin named.place.limits f e x
+
+-- The board of the station of this place, under its name: some content makes it that accepted commands leave within the place's limits, by the place's period.
+pub record IsBoardAt (p : Place) (b : List ℕ × Board) : Type 0 where
+  pub name : b.0 ≡ p.name
+  pub board : IsBoardWithin p.limits p.period b.1
+  pub within : AreWithin p.limits b.1.figures
+
+-- As many boards as places, each of the station of the place that stands where it stands.
+abbrev pub AreBoardsOf : List Place → List (List ℕ × Board) → Type 0
+AreBoardsOf [] [] = ⊤
+AreBoardsOf [] (b ∷ boards) = ⊥
+AreBoardsOf (p ∷ places) [] = ⊥
+AreBoardsOf (p ∷ places) (b ∷ boards) = IsBoardAt p b × AreBoardsOf places boards
+
+-- The boards of the stations of the site of this number: each of its stations once, in the plan's order.
+abbrev pub AreBoardsAt : List Place → ℕ → List (List ℕ × Board) → Type 0
+AreBoardsAt places site boards = AreBoardsOf (filter (λ p. p.site == site) places) boards

@@ -1,0 +1,102 @@
+//! What an operator reads of a running desk: the totals of a station, and the boards of a site at one moment.
+ghost use Rattle.std.specs.Prelude.{◌≡◌, ◌≢◌, ◌++◌, ◌∷◌, [], List, ℕ, Err, IfOk, IfSome, OnOk, map};
+ghost use Rattle.site_desk.specs.declared.fault.BoardFault.{BoardFault};
+ghost use Rattle.ledger_model.specs.Board.{Board, sum_of_figures};
+ghost use Rattle.site_desk.specs.Operator.{AreBoardsAt, AreTotalsWithin, IsBoardAt};
+
+use crate::cell::StationCell;
+use crate::checks::plus;
+use crate::fault::BoardFault;
+use crate::locks::Locked;
+use crate::roster::Place;
+use crate::submit::{board_of, stands_at};
+use energy_flow::Flow;
+use ledger_model::{Figures, Name};
+use station_ledger::StationBoard;
+use std::alloc::{AllocError, Global};
+use std::sync::{Mutex, MutexGuard, Wait};
+
+// The figures of a cell's station, and what it imported and exported.
+pub(crate) fn totals_of(cell: &StationCell) -> (Figures, Flow, Flow)
+    ensures { AreTotalsWithin cell.now.limits result.0 result.1 result.2 }
+{
+    let ledger = cell.ledger();
+    (ledger.figures(), ledger.energy(), ledger.export())
+}
+
+// The cells of a site's stations, each with its lock held, in the plan's order.
+pub(crate) fn hold_stations<'a, R: Wait>(
+    rt: &R,
+    alloc: Global,
+    places: &[Place],
+    cells: &'a [Locked<StationCell>],
+    site: u16,
+) -> Result<Vec<MutexGuard<'a, StationCell>>, AllocError> {
+    let mut held = Vec::with_capacity(alloc, cells.len())?;
+    for (place, cell) in places.iter().zip(cells) {
+        if place.site == site {
+            let lock: &Mutex<StationCell> = cell;
+            held.push(lock.lock(rt))?;
+        }
+    }
+    Ok(held)
+}
+
+// The boards of a site's stations, whose cells are held in the plan's order.
+pub(crate) fn site_boards_of(
+    alloc: Global,
+    places: &[Place],
+    held: &[MutexGuard<'_, StationCell>],
+    site: u16,
+) -> Result<Vec<(Name, StationBoard)>, BoardFault>
+    ensures known { result ≢ Err BoardFault.UnknownStation }
+    ensures boards { IfOk result (λ boards. AreBoardsAt places.now site boards.items) }
+{
+    let mut boards = Vec::new(alloc);
+    for number in 0..places.len() {
+        add_board(alloc, &places[number], number, held, site, &mut boards)?;
+    }
+    Ok(boards)
+}
+
+// Adds the board of the station of this number and place to those before it, where it is at the site: its
+// cell is the first that none of those has.
+fn add_board(
+    alloc: Global,
+    place: &Place,
+    number: usize,
+    held: &[MutexGuard<'_, StationCell>],
+    site: u16,
+    boards: &mut Vec<(Name, StationBoard)>,
+) -> Result<(), BoardFault>
+    ensures known { result ≢ Err BoardFault.UnknownStation }
+    ensures other { OnOk result (place.now.site ≢ site → boards.new.items ≡ boards.old.items) }
+    ensures own { OnOk result (place.now.site ≡ site → (b : List ℕ × Board) × IsBoardAt place.now b × (boards.new.items ≡ boards.old.items ++ b ∷ [])) }
+{
+    if place.site != site {
+        return Ok(());
+    }
+    let Some(cell) = held.get(boards.len()) else {
+        return Err(BoardFault::Torn);
+    };
+    if !stands_at(cell, number, place) {
+        return Err(BoardFault::Torn);
+    }
+    let Ok(board) = board_of(cell, alloc) else {
+        return Err(BoardFault::OutOfMemory);
+    };
+    match boards.push((place.name.copied(), board)) {
+        Ok(()) => Ok(()),
+        Err(_) => Err(BoardFault::OutOfMemory),
+    }
+}
+
+// The sums of the figures of boards, where they fit.
+pub(crate) fn sum_of(boards: &[(Name, StationBoard)]) -> Option<Figures>
+    ensures { IfSome result (λ f. f ≡ sum_of_figures (map (λ s. s.1.figures) boards.now)) }
+{
+    let [first, rest @ ..] = boards else {
+        return Some(Figures::zero());
+    };
+    plus(&first.1.figures(), &sum_of(rest)?)
+}

@@ -1,0 +1,51 @@
+use Rattle.std.proofs.Common.{rules, ◌≡◌, ◌∷◌, ◌-◌, take, drop, length, sym, ap, ◌∙◌, subst, arith}
+use Rattle.std.proofs.lemmas.List.{take_rest}
+use Rattle.energy_flow.specs.Flow.{Energy, plus}
+use Rattle.ledger_model.specs.Deltas.{pairs_between}
+use Rattle.ledger_model.specs.Energy.{energy_over}
+use Rattle.ledger_model.specs.Event.{toward}
+use Rattle.quarter_table.specs.Pairs.{rows_with}
+use Rattle.station_ledger.specs.Quarters.{quartered, HasRoom}
+use Rattle.station_ledger.proofs.Walks.{parted, split_length, split_energy, split_with, room_rest, toward_first, toward_rest}
+use Rattle.station_ledger.proofs.pairs.add_listed.Goals as goal
+
+pub loop-left-preserved-then-eq : goal.loop-left-preserved-then-eq
+loop-left-preserved-then-eq c =
+    let i = c.loop-left.invariant in
+    let e = c.add_across-flow.ensures in
+    let d = c.args.direction in
+    let last = c.loop-left.last in let r = c.reading-item.result in let left = c.loop-left.left.now in let rest = take (length left - 1) (drop 1 left) in let behind = c.args.behind in
+    let steps : left ≡ r ∷ rest = parted left rest r r c.in-len1-up.len_at_least c.reading-item.is (take_rest left 1) in
+    let is : r.direction ≡ d = search rules in
+    let own : toward d left ≡ r ∷ toward d rest = toward_first d left rest r steps is in
+    let n = split_length d last r (toward d left) (toward d rest) behind own in
+    record {
+      room = room_rest d last r (toward d left) (toward d rest) behind own c.args.period c.loop-left.quarters c.add_across-flow.new.quarters i.room (omega (arith, e.up, ap (λ (f : Energy). f.up) e.flow)) (omega (arith, e.down, ap (λ (f : Energy). f.down) e.flow)) e.rows e.capacity;
+      flow = split_energy d last r (toward d left) (toward d rest) behind own c.loop-left.total c.add_across-flow.result _ c.plus-total.result i.flow e.flow c.plus-total.ensures;
+      up = omega (arith, i.up, e.up, n, ap (λ (f : Energy). f.up) c.plus-total.ensures);
+      down = omega (arith, i.down, e.down, n, ap (λ (f : Energy). f.down) c.plus-total.ensures);
+      rows = split_with d last r (toward d left) (toward d rest) behind own c.args.period c.loop-left.quarters.rows c.add_across-flow.new.quarters.rows e.rows ∙ i.rows;
+      capacity = e.capacity ∙ i.capacity;
+      work = omega (arith, i.work, e.work, n);
+      grows = omega (arith, i.grows, e.grows);
+    }
+
+pub loop-left-preserved : goal.loop-left-preserved
+loop-left-preserved c =
+    let i = c.loop-left.invariant in
+    let d = c.args.direction in
+    let last = c.loop-left.last in let r = c.reading-item.result in let left = c.loop-left.left.now in let rest = take (length left - 1) (drop 1 left) in let behind = c.args.behind in
+    let steps : left ≡ r ∷ rest = parted left rest r r c.in-len1-up.len_at_least c.reading-item.is (take_rest left 1) in
+    let other : r.direction ≡ d → ⊥ = search rules in
+    let same : toward d left ≡ toward d rest = toward_rest d left rest r steps other in
+    let n = ap (λ rs. length (pairs_between last rs behind)) same in
+    record {
+      room = subst (λ rs. HasRoom (length (pairs_between last rs behind)) c.loop-left.quarters) same i.room;
+      flow = ap (λ rs. plus c.loop-left.total (energy_over (pairs_between last rs behind))) (sym same) ∙ i.flow;
+      up = omega (arith, i.up, n);
+      down = omega (arith, i.down, n);
+      rows = ap (λ rs. rows_with (quartered c.args.period d (pairs_between last rs behind)) c.loop-left.quarters.rows) (sym same) ∙ i.rows;
+      capacity = i.capacity;
+      work = omega (arith, i.work, n);
+      grows = i.grows;
+    }
