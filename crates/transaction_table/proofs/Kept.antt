@@ -1,5 +1,5 @@
 -- What a table keeps, under its edits.
-use Rattle.std.proofs.Common.{◌≡◌, ℕ, ◌+◌, ◌<◌, true, false, cond, List, [], ◌∷◌, ◌++◌, Option, Some, None, is_some, length, refl, sym, ap, ◌∙◌, subst, arith, inl, inr, length-append, option_map}
+use Rattle.std.proofs.Common.{◌≡◌, ℕ, ◌+◌, ◌<◌, ◌≤◌, true, false, cond, List, [], ◌∷◌, ◌++◌, Option, Some, None, is_some, length, refl, sym, ap, ◌∙◌, subst, arith, inl, inr, length-append, option_map}
 use Rattle.std.specs.Ordering.{eq_by_cmp}
 use Rattle.transaction_map.proofs.Rising.{same_id}
 use Rattle.transaction_map.proofs.Found.{put_cases, out_cases, rising_put, rising_out, length_put, length_out}
@@ -116,16 +116,27 @@ IsTable-remove rows ss capacity tx r table there =
       total = let n = length_out tx rows table.rising in let one = ap (λ (o : Option TableRow). cond {A = ℕ} (is_some o) 1 0) there in omega (arith, n, one, table.total, length-append ss (r.slot ∷ []));
     }
 
--- Slots to spare in an empty table are below their number.
-spare_below : (n : ℕ) (ss : List ℕ) → AreSpare n [] ss → IsNone n ss × AreSpare (n + 1) [] ss
-spare_below n [] h = (tt, tt)
-spare_below n (s ∷ ss) h = let rest = spare_below n ss h.1.1.1 in let lt = h.1.0 in (((λ (e : n ≡ s). let f : n ≡ s = e in absurd (omega arith)), rest.0), (h.0, (omega arith, (h.1.1.0, rest.1))))
+-- Each of them is the number or above it.
+abbrev pub AreFrom : ℕ → List ℕ → Type 0
+AreFrom n [] = Unit {0}
+AreFrom n (s ∷ ss) = (n ≤ s) × AreFrom n ss
 
--- The next slot of an empty table.
-pub open_spare : (n : ℕ) (ss new : List ℕ) → new ≡ ss ++ n ∷ [] → AreSpare n [] ss → AreSpare (n + 1) [] new
-open_spare n ss new is h =
-    let rest = spare_below n ss h in
-    subst (AreSpare (n + 1) []) (sym is) (more_spare (n + 1) n [] ss (record { fresh = λ tx row there _. cc; below = omega arith; none = rest.0; rest = rest.1 }))
+-- A number is none of those above it.
+none_from : (n : ℕ) (ss : List ℕ) → AreFrom (n + 1) ss → IsNone n ss
+none_from n [] h = tt
+none_from n (s ∷ ss) h = let le = h.0 in ((λ (e : n ≡ s). let f : n ≡ s = e in absurd (omega arith)), none_from n ss h.1)
+
+-- One more behind those above it.
+from_more : (n : ℕ) (ss : List ℕ) → AreFrom (n + 1) ss → AreFrom n (ss ++ n ∷ [])
+from_more n [] h = (omega arith, tt)
+from_more n (s ∷ ss) h = let le = h.0 in (omega arith, from_more n ss h.1)
+
+-- The next slot of an empty table, below those that it has.
+pub open_spare : (capacity n : ℕ) (ss new : List ℕ) → new ≡ ss ++ n ∷ [] → n < capacity → AreFrom (n + 1) ss → AreSpare capacity [] ss → AreFrom n new × AreSpare capacity [] new
+open_spare capacity n ss new is lt above h = (
+  subst (AreFrom n) (sym is) (from_more n ss above),
+  subst (AreSpare capacity []) (sym is) (more_spare capacity n [] ss (record { fresh = λ tx row there _. cc; below = lt; none = none_from n ss above; rest = h })),
+)
 
 -- The row whose slot is known.
 pub slot_there : (o : Option TableRow) (n : ℕ) → option_map (λ (r : TableRow). r.slot) o ≡ Some n → (row : TableRow) × ((o ≡ Some row) × (n ≡ row.slot))

@@ -34,8 +34,9 @@ impl TransactionTable {
     {
         let rows = TransactionMap::open(alloc, capacity)?;
         let mut spare = Vec::with_capacity(alloc, capacity as usize)?;
-        for slot in 0..capacity {
-            spare.push_reserved(slot);
+        // The lowest slot is handed out first, so that keys of a new transaction stand behind the others.
+        for handed in 0..capacity {
+            spare.push_reserved(capacity - 1 - handed);
         }
         Ok(TransactionTable { rows, spare })
     }
