@@ -169,6 +169,26 @@ impl KeyIndex {
         first_marked(&self.leaves, at, mark)
     }
 
+    /// Both at once: the last entry with a mark whose key is smaller than the one given, and the first one
+    /// whose key is that or greater. The place is tested once.
+    pub fn around_marked(
+        &self,
+        place: Place,
+        key: IndexKey,
+        mark: Mark,
+    ) -> (Option<(IndexKey, Filed)>, Option<(IndexKey, Filed)>)
+        ensures before { result.0 ≡ last_of (marked mark (below key self.now.entries)) }
+        ensures from { result.1 ≡ first_of (marked mark (from key self.now.entries)) }
+    {
+        if self.leaves.is_empty() {
+            return (None, None);
+        }
+        let at = settled(&self.leaves, place, key);
+        let before = last_marked(&self.leaves, at, mark);
+        let from = first_marked(&self.leaves, at, mark);
+        (before, from)
+    }
+
     /// Sets the marks of the entry of a key, which is there.
     pub fn set_marks(&mut self, key: IndexKey, marks: Marks)
         requires { IsSome (filed_at key (from key self.old.entries)) }

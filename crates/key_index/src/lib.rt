@@ -9,7 +9,8 @@
 //!
 //! The crate's one contract: an index is a list of entries by rising key. [`KeyIndex::get`] finds an
 //! entry, [`KeyIndex::before`] and [`KeyIndex::at_or_after`] its neighbours,
-//! [`KeyIndex::before_marked`] and [`KeyIndex::at_or_after_marked`] the nearest ones with a mark.
+//! [`KeyIndex::before_marked`] and [`KeyIndex::at_or_after_marked`] the nearest ones with a mark, and
+//! [`KeyIndex::around_marked`] both of these at once.
 //! [`KeyIndex::insert`] puts an entry between what is in front of its key and what is left,
 //! [`KeyIndex::set_marks`] changes its marks where it stands, and [`KeyIndex::remove`] takes one out.
 //! Most calls take a [`Place`] beside the key, a hint that saves the search: [`KeyIndex::place`] gives
