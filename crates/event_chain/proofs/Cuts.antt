@@ -93,6 +93,16 @@ pub behind_seg : (t r n : ℕ) (es : List Place) → AreRising es → t ≡ r / 
 behind_seg t r n es h home up =
     first_on t n es h (omega (arith, home, up)) ∙ ap (λ xs. slice_get xs 0) (sym (seg_from t r n es up h)) ∙ ap (λ k. slice_get (filter (λ (e : Place). nat_lt r e.0) (segment k es)) 0) home
 
+-- Where the first place from a rank on has another rank, it is the first one behind the rank.
+pub from_past : (r n : ℕ) (es : List Place) → n ≡ r + 1 → ((e : Place) → first_of (from r es) ≡ Some e → e.0 ≡ r → ⊥) → from r es ≡ from n es
+from_past r n [] up apart = refl
+from_past r n (e ∷ es) up apart =
+    elim (nat_lt e.0 r) as (λ b. nat_lt e.0 r ≡ b → ((x : Place) → first_of (cond b (from r es) (e ∷ es)) ≡ Some x → x.0 ≡ r → ⊥) → cond b (from r es) (e ∷ es) ≡ cond (nat_lt e.0 n) (from n es) (e ∷ es)) [
+      | true ↦ λ y none. let lt : e.0 < r = (Decides-ltb e.0 r).0 y in from_past r n es up none ∙ sym (ap (λ b. cond b (from n es) (e ∷ es)) ((Decides-ltb e.0 n).1 (omega (arith, up))))
+      | false ↦ λ never none. let ge : r ≤ e.0 = not_less e.0 r never in let other : e.0 ≡ r → ⊥ = none e refl in let over : n ≤ e.0 = omega (arith, up, other) in
+          sym (ap (λ b. cond b (from n es) (e ∷ es)) (not_so _ (Decides-ltb e.0 n) (λ lt. absurd (omega arith))))
+    ] refl apart
+
 -- None of a transaction is behind its last rank.
 none_over : (t r : ℕ) (es : List Place) → r + 1 ≡ rank (t + 1) 0 → filter (λ e. nat_lt r e.0) (segment t es) ≡ []
 none_over t r [] is = refl

@@ -21,8 +21,8 @@ use crate::answers::{Found, Room, TxStanding};
 use crate::carries::Carries;
 use crate::place_index::PlaceIndex;
 use crate::spots::{
-    carrier_before, carrier_behind, enter, evse_at, first_at, first_live, first_naming, kind_at,
-    last_at, last_live, leave, locate, look_up, number_of, renew, slot_sought,
+    carriers_around, enter, evse_at, first_at, first_live, first_naming, kind_at, last_at,
+    last_live, leave, locate, look_up, number_of, renew, slot_sought,
 };
 use crate::tx_ids::TxIds;
 use crate::tx_walk::TxWalk;
@@ -299,10 +299,9 @@ impl Chains {
             Some(row) => {
                 let at = IndexKey::new(row.slot, key.seq());
                 let place = self.places.near();
-                let before = carrier_before(&self.places, direction, place, at);
-                let behind = carrier_behind(&self.places, direction, place, at);
-                let before = last_at(&self.store, direction, before);
-                let behind = first_at(&self.store, direction, behind);
+                let sides = carriers_around(&self.places, direction, place, at);
+                let before = last_at(&self.store, direction, sides.0);
+                let behind = first_at(&self.store, direction, sides.1);
                 (before, behind)
             }
             None => (None, None),

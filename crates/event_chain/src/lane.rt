@@ -83,4 +83,27 @@ impl<'a> Lane<'a> {
             None => slot_under(self.index.before(self.place, key)),
         }
     }
+
+    // Both at once: the last place whose key is smaller than the one given, and the first one whose key is
+    // that or greater.
+    #[inline(always)]
+    pub(crate) fn around(&self, key: IndexKey) -> (Option<(IndexKey, u32)>, Option<(IndexKey, u32)>)
+        ensures before { result.0 ≡ last_of (below key self.now.entries) }
+        ensures from { result.1 ≡ first_of (from key self.now.entries) }
+    {
+        self.index.keys_rise();
+        match self.mark {
+            Some(mark) => {
+                let found = self.index.around_marked(self.place, key, mark);
+                let before = slot_under(found.0);
+                let from = slot_under(found.1);
+                (before, from)
+            }
+            None => {
+                let before = slot_under(self.index.before(self.place, key));
+                let from = slot_under(self.index.at_or_after(self.place, key));
+                (before, from)
+            }
+        }
+    }
 }

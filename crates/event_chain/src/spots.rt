@@ -1,8 +1,8 @@
 //! The places of events: their transactions, their ranks, and the slots that hold them.
-ghost use Rattle.std.specs.Prelude.{◌≡◌, ◌<◌, true, false, length, None, Some, IsSome, IfSome, slice_get, option_map};
+ghost use Rattle.std.specs.Prelude.{◌≡◌, ℕ, ◌<◌, true, false, length, None, Some, IsSome, IfSome, slice_get, option_map};
 ghost use Rattle.std.specs.Option.{ForSome};
 ghost use Rattle.event_chain.specs.Placed.{carriers_of};
-ghost use Rattle.event_chain.specs.Ranked.{last_of};
+ghost use Rattle.event_chain.specs.Ranked.{from, first_of, last_of};
 ghost use Rattle.key_index.specs.Key.{rank};
 ghost use Rattle.ledger_model.specs.Ranges.{sequence_end};
 ghost use Rattle.transaction_table.specs.Table.{row_of, with_row, IsRowAt};
@@ -214,32 +214,63 @@ pub(crate) fn first_naming(places: &PlaceIndex, row: Option<TableRow>) -> Option
     first_in(&naming, row)
 }
 
-// The last place in front of a key of an event with a reading of a direction, of the key's
-// transaction.
-pub(crate) fn carrier_before(
-    places: &PlaceIndex,
-    direction: Direction,
-    place: Place,
-    key: IndexKey,
-) -> Option<(IndexKey, u32)>
-    ensures { result ≡ last_of (places_before key (carriers_of places.now direction).entries) }
+// Tells whether the place is that of the key.
+fn is_at(place: &Option<(IndexKey, u32)>, key: IndexKey) -> bool
+    ensures { result ≡ false → (p : ℕ × ℕ) → place.now ≡ Some p → p.0 ≡ key → ⊥ }
 {
-    let carriers = places.carriers(direction, place);
-    place_before(&carriers, key)
+    match place {
+        Some(place) => place.0 == key,
+        None => false,
+    }
 }
 
-// The first place behind a key of an event with a reading of a direction, of the key's
+// The first place behind a key, of the key's transaction, where the first one from the key on is known.
+#[inline(always)]
+fn behind_found(
+    index: &Lane<'_>,
+    key: IndexKey,
+    found: Option<(IndexKey, u32)>,
+) -> Option<(IndexKey, u32)>
+    requires { found ≡ first_of (from key index.now.entries) }
+    ensures { result ≡ slice_get (places_behind key index.now.entries) 0 }
+{
+    index.keys_rise();
+    if is_at(&found, key) {
+        return place_behind(index, key);
+    }
+    own(found, key.transaction())
+}
+
+// The places on either side of a key, of the key's transaction.
+#[inline(always)]
+fn places_around(
+    index: &Lane<'_>,
+    key: IndexKey,
+) -> (Option<(IndexKey, u32)>, Option<(IndexKey, u32)>)
+    ensures before { result.0 ≡ last_of (places_before key index.now.entries) }
+    ensures behind { result.1 ≡ slice_get (places_behind key index.now.entries) 0 }
+{
+    index.keys_rise();
+    let found = index.around(key);
+    let before = own(found.0, key.transaction());
+    let behind = behind_found(index, key, found.1);
+    (before, behind)
+}
+
+// The places on either side of a key of events with a reading of a direction, of the key's
 // transaction.
-pub(crate) fn carrier_behind(
+#[inline(always)]
+pub(crate) fn carriers_around(
     places: &PlaceIndex,
     direction: Direction,
     place: Place,
     key: IndexKey,
-) -> Option<(IndexKey, u32)>
-    ensures { result ≡ slice_get (places_behind key (carriers_of places.now direction).entries) 0 }
+) -> (Option<(IndexKey, u32)>, Option<(IndexKey, u32)>)
+    ensures before { result.0 ≡ last_of (places_before key (carriers_of places.now direction).entries) }
+    ensures behind { result.1 ≡ slice_get (places_behind key (carriers_of places.now direction).entries) 0 }
 {
     let carriers = places.carriers(direction, place);
-    place_behind(&carriers, key)
+    places_around(&carriers, key)
 }
 
 // The last reading of a direction of the event of a place, where there is one.

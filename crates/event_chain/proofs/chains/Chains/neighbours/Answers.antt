@@ -13,21 +13,21 @@ pub last_at-before-requires : goal.last_at-before-requires
 last_at-before-requires c =
     let m = c.self.inside in let k = c.self.invariant in let key = c.args.key.now in let row = c.in-Some.row in
     let lt : key.seq < 2 ^ 31 = omega (arith, c.seq.ensures.value, c.seq.ensures.range) in
-    subst (IsStored m.store.slots) (sym c.carrier_before-before.ensures)
+    subst (IsStored m.store.slots) (sym c.carriers_around-sides.ensures.before)
     (before_stored c.args.direction m.table.rows m.places.stored.entries (carriers_of m.places c.args.direction).entries m.store.slots k.keyed (k.indexed.carry c.args.direction) key row c.new-at.result (sym (c.in-Some.ensures ∙ ap (λ t. row_of t m.table.rows) c.tx.ensures)) lt (c.new-at.ensures ∙ ap (rank row.slot) c.seq.ensures.value))
 
 pub first_at-behind-requires : goal.first_at-behind-requires
 first_at-behind-requires c =
     let m = c.self.inside in let k = c.self.invariant in let key = c.args.key.now in let row = c.in-Some.row in
     let lt : key.seq < 2 ^ 31 = omega (arith, c.seq.ensures.value, c.seq.ensures.range) in
-    subst (IsStored m.store.slots) (sym c.carrier_behind-behind.ensures)
+    subst (IsStored m.store.slots) (sym c.carriers_around-sides.ensures.behind)
     (behind_stored c.args.direction m.table.rows m.places.stored.entries (carriers_of m.places c.args.direction).entries m.store.slots k.keyed (k.indexed.carry c.args.direction) key row c.new-at.result (sym (c.in-Some.ensures ∙ ap (λ t. row_of t m.table.rows) c.tx.ensures)) lt (c.new-at.ensures ∙ ap (rank row.slot) c.seq.ensures.value))
 
 pub returns-in-Some-clause-before : goal.returns-in-Some-clause-before
 returns-in-Some-clause-before c =
     let m = c.self.inside in let k = c.self.invariant in let key = c.args.key.now in let row = c.in-Some.row in
     let lt : key.seq < 2 ^ 31 = omega (arith, c.seq.ensures.value, c.seq.ensures.range) in
-    c.last_at-before.ensures ∙ ap (last_at m.store.slots c.args.direction) c.carrier_before-before.ensures
+    c.last_at-before.ensures ∙ ap (last_at m.store.slots c.args.direction) c.carriers_around-sides.ensures.before
     ∙ sym (before_is c.args.direction m.table.rows m.places.stored.entries (carriers_of m.places c.args.direction).entries m.store.slots k.keyed (k.indexed.carry c.args.direction) key row c.new-at.result (sym (c.in-Some.ensures ∙ ap (λ t. row_of t m.table.rows) c.tx.ensures)) lt (c.new-at.ensures ∙ ap (rank row.slot) c.seq.ensures.value))
     ∙ ap (λ xs. last_reading (own_readings c.args.direction key.tx (before_key key xs))) (sym (entries_all m.limits m.table m.store m.places.stored m.places.live (carriers_of m.places) m.places.naming k)) ∙ ap (λ (x : Chained). last_reading (own_readings c.args.direction key.tx (before_key key (stored x)))) c.self.view_is
 
@@ -35,7 +35,7 @@ pub returns-in-Some-clause-behind : goal.returns-in-Some-clause-behind
 returns-in-Some-clause-behind c =
     let m = c.self.inside in let k = c.self.invariant in let key = c.args.key.now in let row = c.in-Some.row in
     let lt : key.seq < 2 ^ 31 = omega (arith, c.seq.ensures.value, c.seq.ensures.range) in
-    c.first_at-behind.ensures ∙ ap (first_at m.store.slots c.args.direction) c.carrier_behind-behind.ensures
+    c.first_at-behind.ensures ∙ ap (first_at m.store.slots c.args.direction) c.carriers_around-sides.ensures.behind
     ∙ sym (behind_is c.args.direction m.table.rows m.places.stored.entries (carriers_of m.places c.args.direction).entries m.store.slots k.keyed (k.indexed.carry c.args.direction) key row c.new-at.result (sym (c.in-Some.ensures ∙ ap (λ t. row_of t m.table.rows) c.tx.ensures)) lt (c.new-at.ensures ∙ ap (rank row.slot) c.seq.ensures.value))
     ∙ ap (λ xs. first_reading (own_readings c.args.direction key.tx (behind_key key xs))) (sym (entries_all m.limits m.table m.store m.places.stored m.places.live (carriers_of m.places) m.places.naming k)) ∙ ap (λ (x : Chained). first_reading (own_readings c.args.direction key.tx (behind_key key (stored x)))) c.self.view_is
 
