@@ -1,4 +1,4 @@
-ghost use Rattle.std.specs.Prelude.{◌≡◌, ◌×◌, [], length, IfOk};
+ghost use Rattle.std.specs.Prelude.{◌≡◌, [], length, IfOk};
 ghost use Rattle.journal_ties.specs.Entries.{HasNoFeed, of_station};
 ghost use Rattle.ledger_model.specs.Laws.{IsAccepted};
 ghost use Rattle.ledger_model.specs.Step.{answer};

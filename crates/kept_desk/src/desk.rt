@@ -1,4 +1,4 @@
-ghost use Rattle.std.specs.Prelude.{◌≡◌, ◌≢◌, ◌×◌, ℕ, All, length, IfOk, IfErr, None, Some, slice_get};
+ghost use Rattle.std.specs.Prelude.{◌≡◌, ◌≢◌, ℕ, All, length, IfOk, IfErr, None, Some, slice_get};
 ghost use Rattle.journal_ties.specs.Entries.{HasNoFeed};
 ghost use Rattle.ledger_model.specs.declared.answer.Answer.{Answer};
 ghost use Rattle.ledger_model.specs.declared.answer.Refusal.{Refusal};
@@ -18,7 +18,7 @@ use crate::log::Log;
 use crate::opening::{Opening, Speaks};
 use crate::way::Journalled;
 use journal_ties::{Blank, Ties};
-use ledger_model::{Answer, Command, MAX_STATIONS};
+use ledger_model::{Answer, Command};
 use site_book::{Naming, Told, Viewer};
 use site_desk::{CloseRefused, Closed, Desk, Gate, Parts, Pass, Plan, StationCell};
 use std::alloc::{AllocError, Global};
@@ -83,7 +83,7 @@ impl<J: Naming, K: Ties + Opening, L: Speaks, W: Write + Drop> KeptDesk<J, K, L,
             viewers,
         } = parts;
         let viewers = viewers.into_vec();
-        let spare = Vec::with_capacity(alloc, MAX_STATIONS)?;
+        let spare = Vec::with_capacity(alloc, plan.stations.len())?;
         let mut log = Log::open(blank, writer);
         let cells = keep_cells(alloc, cells.into_vec(), &mut log)?;
         let desk = Desk::over(alloc, plan, cells, books.into_vec(), viewers.len())?;

@@ -38,8 +38,7 @@ impl<'a, K: Ties + Opening, L: Speaks, W: Write + Drop> Journalled<'a, K, L, W> 
 }
 
 impl<'a, J: Naming, K: Ties + Opening, L: Speaks, W: Write + Drop> Settles<J, KeptCell<K>>
-    for Journalled<'a, K, L, W>
-{
+    for Journalled<'a, K, L, W> {
     ghost use Rattle.journal_ties.specs.Entries.{HasNoFeed};
 
     ghost asks = { λ w number command. HasNoFeed w.line.now × L.speaks (K.name number) w.line.now command };

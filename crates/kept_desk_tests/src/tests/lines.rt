@@ -6,7 +6,7 @@ use ledger_model::{
     Answer, Command, Direction, Event, Key, Kind, Limits, Moment, Name, Period, Reading, TxId,
 };
 use site_book::Naming;
-use site_desk::{NoGate, Pass};
+use site_desk::{Gate, NoGate, Pass};
 use station_ledger::StationLedger;
 use std::alloc::Global;
 use std::sync::Wait;
@@ -99,12 +99,24 @@ pub fn ask<J: Naming, K: Ties + Opening, R: Wait + Clock>(
     station: u8,
     asked: Asked,
 ) -> Option<Answer> {
+    ask_under(rt, alloc, desk, pass, (station, asked), &NoGate)
+}
+
+// The same, under a gate.
+pub fn ask_under<J: Naming, K: Ties + Opening, G: Gate, R: Wait + Clock>(
+    rt: &R,
+    alloc: Global,
+    desk: &Kept<J, K>,
+    pass: &mut Pass,
+    (station, asked): (u8, Asked),
+    gate: &G,
+) -> Option<Answer> {
     let command = command_of(alloc, asked)?;
     let line = line_of(station, asked);
     if !is_line(&line) {
         return None;
     }
-    Some(desk.submit(rt, pass, command, &line, &NoGate).0)
+    Some(desk.submit(rt, pass, command, &line, gate).0)
 }
 
 // A pass of the station of this name.

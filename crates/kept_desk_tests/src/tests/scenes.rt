@@ -7,7 +7,7 @@ ghost use Rattle.kept_desk.specs.Opened.{AreFirst, AreNames};
 use super::journals::{broken_journal, has_written, lines_and_flushes, quiet_answers};
 use super::lines::replayed;
 use super::paper::Paper;
-use super::restored::{changed_before, one_line_more};
+use super::restored::{are_in_order, changed_before, one_line_more};
 use super::threads::{held_station, two_threads_and_an_operator};
 use super::{AnyLine, Kept};
 use desk_fixtures::plan_of;
@@ -17,11 +17,11 @@ use ledger_model::Command;
 use site_book::{Naming, Tables, Viewer};
 use site_desk::{Parts, Pass, Plan};
 use std::alloc::Global;
+use std::io::Write;
 use std::marker::Brand;
 use std::process::Abort;
-use std::sync::Arc;
-use std::sync::Wait;
 use std::sync::atomic::AtomicU64;
+use std::sync::{Arc, Wait};
 use std::test::Fail;
 use std::thread::Threads;
 use std::time::Clock;
@@ -118,7 +118,11 @@ fn is_cut(scene: Scene) -> bool {
 }
 
 // Opens a desk with a journal over these parts, plays a scene and closes it.
-fn at_kept<J: Naming + Send + Sync, K: Ties + Opening + Send + Sync, R: Threads + Wait + Clock + Sync>(
+fn at_kept<
+    J: Naming + Send + Sync,
+    K: Ties + Opening + Send + Sync,
+    R: Threads + Wait + Clock + Sync,
+>(
     rt: &R,
     alloc: Global,
     plan: &Plan,
@@ -129,7 +133,7 @@ fn at_kept<J: Naming + Send + Sync, K: Ties + Opening + Send + Sync, R: Threads 
     before: Vec<Pass>,
 ) -> Option<bool>
     requires table { blank ≡ K.table }
-    requires before { Paper.contents paper ≡ K.before }
+    requires before { ⟦<Paper as Write>⟧.contents paper ≡ K.before }
     requires first { AreFirst K.first parts.cells }
     requires names { AreNames K.name plan.now.stations.items }
     requires faultless { plan_fault plan.now.sites.items plan.now.stations.items ≡ None }
@@ -137,8 +141,9 @@ fn at_kept<J: Naming + Send + Sync, K: Ties + Opening + Send + Sync, R: Threads 
     requires books { length parts.books ≡ length plan.now.sites.items }
 {
     let flushed = Arc::try_clone(&paper.flushed).ok()?;
-    let (desk, numbered) =
-        KeptDesk::<J, K, AnyLine, Paper>::open(alloc, plan, parts, blank, paper).ok()?;
+    let (desk, numbered) = KeptDesk::<J, K, AnyLine, Paper>::open(
+        alloc, plan, parts, blank, paper,
+    ).ok()?;
     let viewers = viewers_of(alloc, numbered)?;
     let left = play(rt, alloc, &desk, &flushed, scene, before)?;
     let kept = desk.close(left.passes, viewers).ok()?;
@@ -152,4 +157,60 @@ fn viewers_of<J: Naming>(alloc: Global, numbered: Vec<(u16, Viewer<J>)>) -> Opti
         viewers.push(viewer).ok()?;
     }
     Some(viewers)
+}
+
+// A desk with a journal on this paper.
+fn at_parts<J: Naming + Send + Sync, R: Threads + Wait + Clock + Sync>(
+    rt: &R,
+    alloc: Global,
+    plan: &Plan,
+    parts: Parts<J>,
+    scene: Scene,
+    before: Vec<Pass>,
+) -> Option<bool> {
+    let paper = Paper {
+        taken: Vec::new(alloc),
+        room: room(scene),
+        flushed: Arc::new(alloc, AtomicU64::new(0)).ok()?,
+    };
+    let blank = Blank::new(alloc).ok()?;
+    let (cells, books) = (parts.cells.as_slice(), parts.books.as_slice());
+    let is_whole = cells.len() == plan.stations.len() && books.len() == plan.sites.len();
+    if plan.fault().is_some() || !is_whole || !are_in_order(cells) {
+        return None;
+    }
+    at_kept::<J, Brand, R>(rt, alloc, plan, parts, blank, paper, scene, before)
+}
+
+// Opens the plan's parts and plays a scene.
+fn at_desk<J: Naming + Send + Sync, R: Threads + Wait + Clock + Sync>(
+    rt: &R,
+    alloc: Global,
+    tables: Tables,
+    plan: &Plan,
+    scene: Scene,
+) -> Option<bool>
+    requires named { NamedBy J.table tables }
+    requires there { (site : ℕ) → site < length plan.now.sites.items → HasTable tables site }
+{
+    let parts = Parts::<J>::open(alloc, tables, plan).ok()?;
+    let mut before = Vec::with_capacity(alloc, 1).ok()?;
+    if !matches!(scene, Scene::Restored) {
+        return at_parts(rt, alloc, plan, parts, scene, before);
+    }
+    let (parts, pass) = changed_before(rt, alloc, parts)?;
+    before.push(pass).ok()?;
+    at_parts(rt, alloc, plan, parts, scene, before)
+}
+
+// Plays a scene at a desk of its own.
+pub fn plays<R: Abort + Threads + Wait + Clock + Sync>(
+    rt: &R,
+    alloc: Global,
+    scene: Scene,
+) -> Result<(), Fail> {
+    let plan = plan_of(&["north"], &[(0, "A"), (0, "B")], 1).ok_or("no plan")?;
+    let tables = Tables::make(alloc, plan.sites.len() as u16)?;
+    assert!(rt; at_desk::<Brand, R>(rt, alloc, tables, &plan, scene) == Some(true));
+    Ok(())
 }
