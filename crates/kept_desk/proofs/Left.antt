@@ -18,11 +18,12 @@ use Rattle.site_desk.specs.Settle.{cell_after}
 use Rattle.site_desk.proofs.Counts.{one_more}
 use Rattle.kept_desk.specs.Kept.{IsKeptCell, IsLeftFrom, commands_of}
 
-accepted_append : (limits : Bounds) (c : Content) (xs ys : List Command) → AreAccepted limits c xs → AreAccepted limits (left_by limits c xs) ys → AreAccepted limits c (xs ++ ys)
+-- commands that are accepted, behind others
+pub accepted_append : (limits : Bounds) (c : Content) (xs ys : List Command) → AreAccepted limits c xs → AreAccepted limits (left_by limits c xs) ys → AreAccepted limits c (xs ++ ys)
 accepted_append limits c [] ys h k = k
 accepted_append limits c (x ∷ xs) ys h k = (h.0, accepted_append limits (step limits c x).0 xs ys h.1 k)
 
-left_by-append : (limits : Bounds) (c : Content) (xs ys : List Command) → left_by limits c (xs ++ ys) ≡ left_by limits (left_by limits c xs) ys
+pub left_by-append : (limits : Bounds) (c : Content) (xs ys : List Command) → left_by limits c (xs ++ ys) ≡ left_by limits (left_by limits c xs) ys
 left_by-append limits c [] ys = refl
 left_by-append limits c (x ∷ xs) ys = left_by-append limits (step limits c x).0 xs ys
 

@@ -16,6 +16,7 @@ use kept_desk::{KeptClosed, KeptDesk, Opening};
 use ledger_model::Command;
 use site_book::{Naming, Tables, Viewer};
 use site_desk::{Parts, Pass, Plan};
+use station_ledger::StationBoard;
 use std::alloc::Global;
 use std::io::Write;
 use std::marker::Brand;
@@ -88,7 +89,13 @@ fn is_replayed<J: Naming, R: Threads>(
     }
     let ledger = replayed(rt, alloc, kept.writer.taken.as_slice(), letter)?;
     let own = kept.closed.ledger(number);
-    Some(own.figures() == ledger.figures() && own.changes() == ledger.changes())
+    let (one, other) = (own.board(alloc).ok()?, ledger.board(alloc).ok()?);
+    Some(own.changes() == ledger.changes() && are_same(&one, &other))
+}
+
+// Tells whether two boards show the same figures and quarters.
+fn are_same(one: &StationBoard, other: &StationBoard) -> bool {
+    one.figures() == other.figures() && one.quarters() == other.quarters()
 }
 
 // Tells whether the closed desk is as its lines say, and there are so many.
