@@ -22,6 +22,7 @@ INNER = {
     "station_ledger": set(),
     "board_report": {"Lines"},
     "site_book": set(),
+    "journal_ties": {"Writing"},
     "slot_arena": set(),
 }
 

@@ -1,3 +1,5 @@
+ghost use Rattle.std.specs.Prelude.{◌<◌};
+
 use super::Kept;
 use energy_flow::Work;
 use journal_ties::{Ties, is_line};
@@ -43,7 +45,9 @@ fn digit(number: u32) -> u8 {
 }
 
 // The number that a digit shows.
-fn shown(digit: u8) -> u32 {
+fn shown(digit: u8) -> u32
+    ensures { result < 10 }
+{
     u32::from(digit.wrapping_sub(b'0') % 10)
 }
 
