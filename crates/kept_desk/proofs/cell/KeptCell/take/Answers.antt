@@ -1,4 +1,4 @@
-use Rattle.std.proofs.Common.{◌≡◌, refl, ap, ◌∙◌}
+use Rattle.std.proofs.Common.{refl, ap, ◌∙◌}
 use Rattle.ledger_model.specs.declared.answer.Answer.TheVariants.{Repeat, Refused}
 use Rattle.ledger_model.specs.Step.{answer}
 use Rattle.site_desk.specs.Settle.{cell_after}

@@ -1,4 +1,4 @@
-use Rattle.std.proofs.Common.{◌≡◌, sym, subst}
+use Rattle.std.proofs.Common.{sym, subst}
 use Rattle.ledger_model.specs.Laws.{IsAccepted}
 use Rattle.ledger_model.specs.Step.{answer}
 use Rattle.site_desk.specs.Submit.{CanSettle}
