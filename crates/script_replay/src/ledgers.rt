@@ -77,6 +77,23 @@ impl<J: Naming> Ledgers<J> {
         }
     }
 
+    /// The plan and the moment, and for each station, in the plan's order, its cell and the pass that its changes count
+    /// for.
+    pub fn into_parts(self) -> (Draft, Vec<StationCell>, Vec<Pass>)
+        ensures draft { result.0 ≡ self.draft }
+        ensures cells { result.1.items ≡ self.cells.items }
+    {
+        let Ledgers {
+            draft,
+            cells,
+            books: _,
+            ahead: _,
+            passes,
+            alloc: _,
+        } = self;
+        (draft, cells, passes)
+    }
+
     /// Answers one line.
     pub fn answer(&mut self, line: Option<&[u8]>, reply: &mut Vec<u8>) -> Result<(), AllocError>
         requires empty { reply.old.items ≡ [] }

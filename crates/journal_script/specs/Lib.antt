@@ -1,0 +1,3 @@
+pub mod Speaking
+pub mod Journals
+pub mod Restoring

@@ -1,0 +1,40 @@
+-- What a restored script was read up to.
+use Rattle.std.specs.Prelude.{◌≡◌, ℕ, ◌+◌, Bool, false, List, [], ◌∷◌, ◌++◌, codes, length, take, Option}
+use Rattle.std.specs.Io.BufRead.{strip_last}
+use Rattle.std.specs.Io.KnownBytes.{Consumes}
+use Rattle.script_lines.specs.Lines.{HasNoFeed, lines_of}
+use Rattle.script_replay.specs.Laws.{script_after}
+use Rattle.script_lines.specs.Ranges.{longest_line}
+use Rattle.script_replay.specs.Script.{Script, start}
+use Rattle.site_desk.specs.declared.plan.SitePlan.{SitePlan}
+use Rattle.site_desk.specs.declared.plan.StationPlan.{StationPlan}
+use Rattle.site_desk.specs.Cell.{Cell}
+use Rattle.journal_script.specs.Journals.{EndsWhole, Shows}
+
+-- One line was read, to its line feed: of `raw` no more is held than one byte above a line's most, and `left` of `room` may still be read. Where `more` is false it is `listen`.
+pub record ReadsLine (most room left : ℕ) (more : Bool) (bytes held : List ℕ) : Type 0 where
+  pub raw : List ℕ
+  pub feedless : HasNoFeed raw
+  pub is : bytes ≡ raw ++ 10 ∷ []
+  pub kept : held ≡ take (most + 1) raw
+  pub counted : length bytes + left ≡ room
+  pub last : more ≡ false → strip_last 13 raw ≡ codes "listen"
+
+-- These bytes were read of a script, and its state went from old to new.
+pub record Runs (most : ℕ) (old new : Script) (read : List ℕ) : Type 0 where
+  pub whole : EndsWhole read
+  pub ran : new ≡ script_after old (lines_of most read)
+
+-- A loop over lines stopped: the state went from old to new by the complete lines that were read, and behind them one line was read more, of which `held` is held. Where `more` is false it is `listen`.
+pub record Stops (most room left : ℕ) (more : Bool) (old new : Script) (r0 r1 : Option (List ℕ)) (held : List ℕ) : Type 0 where
+  pub read : List ℕ
+  pub bytes : List ℕ
+  pub runs : Runs most old new read
+  pub line : ReadsLine most (length bytes + left) left more bytes held
+  pub counted : length read + length bytes + left ≡ room
+  pub consumed : Consumes r0 r1 (read ++ bytes)
+
+-- The script was read, and its stations have the contents of these cells.
+pub record IsRestored (read : List ℕ) (sites : List SitePlan) (stations : List StationPlan) (cells : List Cell) : Type 0 where
+  pub whole : EndsWhole read
+  pub shows : Shows (script_after start (lines_of longest_line read)) sites stations cells

@@ -1,0 +1,4 @@
+//! A journal as the script that it is.
+#![tactic(auto)]
+
+pub mod laws;
