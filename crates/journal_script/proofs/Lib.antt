@@ -1,5 +1,7 @@
 pub mod Steps
 pub mod Whole
+pub mod Restored
 pub mod Contents
 pub mod Journals
 pub mod Boards
+pub mod Moments

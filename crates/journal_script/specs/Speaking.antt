@@ -37,3 +37,7 @@ pub record Speaks (name line : List ℕ) (command : Command) : Type 0 where
   pub bare : strip_last 13 line ≡ line
   pub short : length line ≤ longest_line
   pub says : Says (line_meaning (Some line)) name command
+
+-- A text that is an event at one moment asks for its delivery at any.
+abbrev pub EventsAskAtAnyMoment : Type 0
+EventsAskAtAnyMoment = (text : List ℕ) (now : ℕ) (id : List ℕ) (request : Request) → message text now ≡ Event id request → AsksFor text (Deliver request.key request.event)

@@ -2,3 +2,5 @@
 #![tactic(auto)]
 
 pub mod laws;
+mod lines;
+pub use lines::message_line;

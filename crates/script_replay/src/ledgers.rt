@@ -94,6 +94,27 @@ impl<J: Naming> Ledgers<J> {
         (draft, cells, passes)
     }
 
+    /// Has threads read the lines to come that the reader shows, where that is due. It consumes none and waits for none.
+    /// Where the reader fails to show them, its error is the answer.
+    pub fn look<X: Threads, R: BufRead>(
+        &mut self,
+        rt: &X,
+        lines: &LineReader,
+        reader: &mut R,
+    ) -> io::Result<()>
+        ensures reader { Keeps (R.remaining reader.old) (R.remaining reader.new) }
+        ensures script { running self.new.draft self.new.cells.items ≡ running self.old.draft self.old.cells.items }
+        ensures posts { posts_in self.new.books.items ≡ posts_in self.old.books.items }
+    {
+        let is_due = self.ahead.is_due(lines.room);
+        if lines.is_drained || !is_due {
+            return Ok(());
+        }
+        let shown = reader.fill_buf()?;
+        self.ahead.look::<ScriptMessages, X>(rt, shown);
+        Ok(())
+    }
+
     /// Answers one line.
     pub fn answer(&mut self, line: Option<&[u8]>, reply: &mut Vec<u8>) -> Result<(), AllocError>
         requires empty { reply.old.items ≡ [] }
@@ -346,13 +367,7 @@ impl<J: Naming> Machine for Ledgers<J> {
         lines: &LineReader,
         reader: &mut R,
     ) -> io::Result<()> {
-        let is_due = self.ahead.is_due(lines.room);
-        if lines.is_drained || !is_due {
-            return Ok(());
-        }
-        let shown = reader.fill_buf()?;
-        self.ahead.look::<ScriptMessages, X>(rt, shown);
-        Ok(())
+        self.look(rt, lines, reader)
     }
 }
 
