@@ -1,6 +1,6 @@
 pub mod Steps
 pub mod Whole
-pub mod Restored
+pub mod LinesRead
 pub mod Contents
 pub mod Journals
 pub mod Boards

@@ -1,11 +1,13 @@
 -- What a restored script was read up to.
-use Rattle.std.specs.Prelude.{◌≡◌, ℕ, ◌+◌, Bool, false, List, [], ◌∷◌, ◌++◌, codes, length, take, Option}
+use Rattle.std.specs.Prelude.{◌≡◌, ℕ, ◌+◌, Bool, true, false, List, [], ◌∷◌, ◌++◌, codes, length, take, Option}
 use Rattle.std.specs.Io.BufRead.{strip_last}
 use Rattle.std.specs.Io.KnownBytes.{Consumes}
 use Rattle.script_lines.specs.Lines.{HasNoFeed, lines_of}
 use Rattle.script_replay.specs.Laws.{script_after}
+use Rattle.script_lines.specs.declared.line_reader.LineEnd.TheVariants.{Feed}
 use Rattle.script_lines.specs.Ranges.{longest_line}
-use Rattle.script_replay.specs.Script.{Script, start}
+use Rattle.script_lines.specs.Reading.{line_of}
+use Rattle.script_replay.specs.Script.{Script, line_step, start}
 use Rattle.site_desk.specs.declared.plan.SitePlan.{SitePlan}
 use Rattle.site_desk.specs.declared.plan.StationPlan.{StationPlan}
 use Rattle.site_desk.specs.Cell.{Cell}
@@ -38,3 +40,9 @@ pub record Stops (most room left : ℕ) (more : Bool) (old new : Script) (r0 r1 
 pub record IsRestored (read : List ℕ) (sites : List SitePlan) (stations : List StationPlan) (cells : List Cell) : Type 0 where
   pub whole : EndsWhole read
   pub shows : Shows (script_after start (lines_of longest_line read)) sites stations cells
+
+-- Behind declarations that end in this state, the ledgers are opened and what is left of the script is read: nothing where no line opens them, and else the line that is held and all up to `listen`. The stations have the contents of these cells then.
+abbrev pub GoesOn : Bool → ℕ → ℕ → Script → List ℕ → Option (List ℕ) → Option (List ℕ) → List SitePlan → List StationPlan → List Cell → Type 0
+GoesOn false most room s held r0 r1 sites stations cells = (r1 ≡ r0) × Shows s sites stations cells
+GoesOn true most room s held r0 r1 sites stations cells =
+    (left : ℕ) × (t : Script) × (last : List ℕ) × Stops most room left false (line_step s (line_of Feed most held)).0 t r0 r1 last × Shows t sites stations cells

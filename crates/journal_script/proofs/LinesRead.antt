@@ -30,6 +30,30 @@ pub no_longer : (b : Bool) → not b ≡ false → b ≡ true
 no_longer true e = refl
 no_longer false e = cc e
 
+-- both parts of a script are whole
+both_whole : (one other : List ℕ) → EndsWhole one → EndsWhole other → EndsWhole (one ++ other)
+both_whole one other whole (inl none) = subst EndsWhole (sym (append-nil one) ∙ ap (λ l. one ++ l) (sym none)) whole
+both_whole one other whole (inr (front, is)) = inr (one ++ front, ap (λ l. one ++ l) is ∙ sym (append_assoc one front (10 ∷ [])))
+
+module _ (most : ℕ) (old now : Script) (read : List ℕ) (runs : Runs most old now read) (room left : ℕ) (more : Bool) (bytes held : List ℕ) (reads : ReadsLine most room left more bytes held) where
+  one_line : lines_of most bytes ≡ line_of Feed most held ∷ []
+  one_line =
+      ap (lines_of most) (reads.is ∙ sym (append-nil (reads.raw ++ 10 ∷ [])))
+      ∙ cut-ended (unended most) most reads.raw [] reads.feedless
+      ∙ ap (λ l. l ∷ []) (sym (kept_line_of Feed most held reads.raw reads.kept))
+
+  -- the line was answered
+  runs_on : (next : Script) → next ≡ (line_step now (line_of Feed most held)).0 → Runs most old next (read ++ bytes)
+  runs_on next step = record {
+    whole = both_whole read bytes runs.whole (inr (reads.raw, reads.is));
+    ran =
+        step
+        ∙ ap (λ s. (line_step s (line_of Feed most held)).0) runs.ran
+        ∙ sym (after_both old (lines_of most read) (line_of Feed most held ∷ []))
+        ∙ ap (λ l. script_after old (lines_of most read ++ l)) (sym one_line)
+        ∙ ap (script_after old) (sym (lines_apart most read bytes runs.whole));
+  }
+
 -- a loop over lines goes on: the state went from old to now by what was read
 pub record Goes (most room left : ℕ) (old now : Script) (r0 r1 : Option (List ℕ)) : Type 0 where
   pub read : List ℕ
@@ -48,28 +72,11 @@ module _ (most room left : ℕ) (old now : Script) (r0 r1 : Option (List ℕ)) (
   goes_to t same = subst (λ s. Goes most room left old s r0 r1) (sym same) goes
 
   module _ (more : Bool) (left' : ℕ) (bytes held : List ℕ) (r2 : Option (List ℕ)) (reads : ReadsLine most left left' more bytes held) (consumes : Consumes r1 r2 bytes) where
-    all_whole : EndsWhole (goes.read ++ bytes)
-    all_whole = inr (goes.read ++ reads.raw, ap (λ l. goes.read ++ l) reads.is ∙ sym (append_assoc goes.read reads.raw (10 ∷ [])))
-
-    one_line : lines_of most bytes ≡ line_of Feed most held ∷ []
-    one_line =
-        ap (lines_of most) (reads.is ∙ sym (append-nil (reads.raw ++ 10 ∷ [])))
-        ∙ cut-ended (unended most) most reads.raw [] reads.feedless
-        ∙ ap (λ l. l ∷ []) (sym (kept_line_of Feed most held reads.raw reads.kept))
-
     -- the line was answered
     pub goes_on : (next : Script) → next ≡ (line_step now (line_of Feed most held)).0 → Goes most room left' old next r0 r2
     goes_on next step = record {
       read = goes.read ++ bytes;
-      runs = record {
-        whole = all_whole;
-        ran =
-            step
-            ∙ ap (λ s. (line_step s (line_of Feed most held)).0) goes.runs.ran
-            ∙ sym (after_both old (lines_of most goes.read) (line_of Feed most held ∷ []))
-            ∙ ap (λ l. script_after old (lines_of most goes.read ++ l)) (sym one_line)
-            ∙ ap (script_after old) (sym (lines_apart most goes.read bytes goes.runs.whole));
-      };
+      runs = runs_on most old now goes.read goes.runs left left' more bytes held reads next step;
       counted = omega (arith, goes.counted, reads.counted, length-append goes.read bytes);
       consumed = Consumes-trans r0 r1 r2 goes.read bytes goes.consumed consumes;
     }
@@ -84,3 +91,36 @@ module _ (most room left : ℕ) (old now : Script) (r0 r1 : Option (List ℕ)) (
       counted = omega (arith, goes.counted, reads.counted);
       consumed = Consumes-trans r0 r1 r2 goes.read bytes goes.consumed consumes;
     }
+
+-- where a loop stopped, its last line was answered after all
+pub stops_on : (most room left : ℕ) (more : Bool) (old now : Script) (r0 r1 : Option (List ℕ)) (held : List ℕ) → Stops most room left more old now r0 r1 held
+    → (next : Script) → next ≡ (line_step now (line_of Feed most held)).0 → Goes most room left old next r0 r1
+stops_on most room left more old now r0 r1 held stops next step =
+    record {
+      read = stops.read ++ stops.bytes;
+      runs = runs_on most old now stops.read stops.runs (length stops.bytes + left) left more stops.bytes held stops.line next step;
+      counted = omega (arith, stops.counted, length-append stops.read stops.bytes);
+      consumed = stops.consumed;
+    }
+
+-- another loop went on from there
+pub goes_more : (most room mid left : ℕ) (old now new : Script) (r0 r1 r2 : Option (List ℕ)) (more : Bool) (held : List ℕ) → Goes most room mid old now r0 r1 → Stops most mid left more now new r1 r2 held → Stops most room left more old new r0 r2 held
+goes_more most room mid left old now new r0 r1 r2 more held goes stops = record {
+  read = goes.read ++ stops.read;
+  bytes = stops.bytes;
+  runs = record {
+    whole = both_whole goes.read stops.read goes.runs.whole stops.runs.whole;
+    ran =
+        stops.runs.ran
+        ∙ ap (λ s. script_after s (lines_of most stops.read)) goes.runs.ran
+        ∙ sym (after_both old (lines_of most goes.read) (lines_of most stops.read))
+        ∙ ap (script_after old) (sym (lines_apart most goes.read stops.read goes.runs.whole));
+  };
+  line = stops.line;
+  counted = omega (arith, goes.counted, stops.counted, length-append goes.read stops.read);
+  consumed = subst (Consumes r0 r2) (sym (append_assoc goes.read stops.read stops.bytes)) (Consumes-trans r0 r1 r2 goes.read (stops.read ++ stops.bytes) goes.consumed stops.consumed);
+}
+
+-- a line has its line feed
+pub one_less : (most room left : ℕ) (more : Bool) (bytes held : List ℕ) → ReadsLine most room left more bytes held → left + 1 ≤ room
+one_less most room left more bytes held reads = omega (arith, reads.counted, ap length reads.is, length-append reads.raw (10 ∷ []))
