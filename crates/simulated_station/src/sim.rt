@@ -1,8 +1,8 @@
 //! Stations that are simulated: each sends one transaction and keeps the replies.
-ghost use Rattle.std.specs.Prelude.{◌≡◌, ◌≤◌, ◌+◌, IfOk, length};
+ghost use Rattle.std.specs.Prelude.{◌≡◌, ◌≤◌, ◌+◌, IfOk, OnOk, length};
 ghost use Rattle.simulated_station.specs.Sim.{IsSimulated};
 
-use http::{HeaderName, HeaderValue};
+use http::{HeaderName, HeaderValue, Request};
 use ledger_model::Moment;
 use reading_decimal::moment_text;
 use std::alloc::{AllocError, AllocFailed, Global};
@@ -89,42 +89,52 @@ impl SimStation {
         ensures { IfOk result (λ texts. length texts.items ≡ self.now.events + 1) }
     {
         let mut texts = Vec::with_capacity(alloc, self.events as usize + 1)?;
-        texts.push(self.text(alloc, 1, 0)?)?;
+        self.put_text(alloc, &mut texts, 1, 0)?;
         for back in 1..self.events {
-            texts.push(self.text(alloc, back + 1, self.events - back)?)?;
+            self.put_text(alloc, &mut texts, back + 1, self.events - back)?;
         }
-        texts.push(self.text(alloc, self.events + 1, 0)?)?;
+        self.put_text(alloc, &mut texts, self.events + 1, 0)?;
         Ok(texts)
+    }
+
+    // Adds the message of this id that tells the event of this number.
+    fn put_text(
+        &self,
+        alloc: Global,
+        texts: &mut Vec<String>,
+        id: u32,
+        seq: u32,
+    ) -> Result<(), AllocError>
+        requires { seq ≤ 64 }
+        ensures { OnOk result (length texts.new.items ≡ length texts.old.items + 1) }
+    {
+        let text = self.text(alloc, id, seq)?;
+        texts.push(text)?;
+        Ok(())
     }
 
     // The message of this id that tells the event of this number.
     fn text(&self, alloc: Global, id: u32, seq: u32) -> Result<String, AllocError>
         requires { seq ≤ 64 }
     {
-        let kind = if seq == 0 {
+        let at = moment_text(moment_of(seq));
+        let event = event_part(alloc, self.kind(seq), at.as_str(), seq)?;
+        let read = read_part(alloc, at.as_str(), seq)?;
+        let number = self.number;
+        format!(in alloc;
+            "[2,\"{id}\",\"TransactionEvent\",{{{event},\"transactionInfo\":{{\"transactionId\":\"SIM-{number}\"}},\"meterValue\":{read},\"evse\":{{\"id\":1}}}}]"
+        )
+    }
+
+    // What kind of event this number has.
+    fn kind(&self, seq: u32) -> &'static str {
+        if seq == 0 {
             "Started"
         } else if seq == self.events - 1 {
             "Ended"
         } else {
             "Updated"
-        };
-        let second = FIRST_SECOND + SECONDS_BETWEEN * seq as u64;
-        let moment = match Moment::new(second * 1_000_000_000) {
-            Some(moment) => moment_text(moment),
-            None => unreachable!(),
-        };
-        let at = moment.as_str();
-        let number = self.number;
-        let value = FIRST_WATT_HOURS + RISE * seq as u64;
-        let event = format!(in alloc;
-            "\"eventType\":\"{kind}\",\"timestamp\":\"{at}\",\"triggerReason\":\"MeterValuePeriodic\",\"seqNo\":{seq}"
-        )?;
-        let read = format!(in alloc;
-            "[{{\"timestamp\":\"{at}\",\"sampledValue\":[{{\"value\":{value}}}]}}]"
-        )?;
-        format!(in alloc;
-            "[2,\"{id}\",\"TransactionEvent\",{{{event},\"transactionInfo\":{{\"transactionId\":\"SIM-{number}\"}},\"meterValue\":{read},\"evse\":{{\"id\":1}}}}]"
-        )
+        }
     }
 
     /// Sends the texts over a stream to a server, each once the one before has its reply, and gives the
@@ -138,11 +148,8 @@ impl SimStation {
         ensures { IfOk result (λ replies. length replies.items ≡ self.now.events + 1) }
     {
         let texts = self.texts(alloc)?;
-        let mut replies = Vec::with_capacity(alloc, texts.len())?;
         let mut socket = self.connect(rt, alloc, stream)?;
-        for text in &texts {
-            replies.push(ask(alloc, &mut socket, text.as_str())?)?;
-        }
+        let replies = ask_all(alloc, &mut socket, &texts)?;
         leave(&mut socket);
         Ok(replies)
     }
@@ -154,31 +161,83 @@ impl SimStation {
         alloc: Global,
         stream: S,
     ) -> Result<WebSocket<S, RandomKeys<&'a R>>, SimFault> {
+        let request = self.request(alloc)?;
+        let nonce = nonce_of(rt)?;
+        shake_hands(alloc, nonce, RandomKeys::new(rt), request, stream)
+    }
+
+    // The request that begins the handshake.
+    fn request(&self, alloc: Global) -> Result<Request<()>, SimFault> {
         let number = self.number;
         let uri = format!(in alloc; "ws://127.0.0.1/ocpp/CS-{number}")?;
-        let Ok(mut request) = client::request_of(alloc, uri.as_str()) else {
-            return Err(SimFault::HandshakeFailed);
-        };
-        let name = HeaderName::from_static("sec-websocket-protocol");
-        let value = HeaderValue::from_static("ocpp2.0.1");
-        if request.headers_mut().insert(name, value).is_err() {
-            return Err(SimFault::OutOfMemory);
+        match client::request_of(alloc, uri.as_str()) {
+            Ok(request) => with_subprotocol(request),
+            Err(_) => Err(SimFault::HandshakeFailed),
         }
-        let mut nonce = [0; 16];
-        if rt.fill_bytes(&mut nonce).is_err() {
-            return Err(SimFault::HandshakeFailed);
-        }
-        let config = WebSocketConfig::default().read_buffer_size(READ_BYTES);
-        let keys = RandomKeys::new(rt);
-        let handshake = match client::start(alloc, nonce, keys, request, stream, Some(config)) {
-            Ok(handshake) => handshake,
-            Err(error) => return Err(handshake_fault(&error)),
-        };
-        match handshake.handshake() {
+    }
+}
+
+// The moment of the event of this number.
+fn moment_of(seq: u32) -> Moment
+    requires { seq ≤ 64 }
+{
+    let second = FIRST_SECOND + SECONDS_BETWEEN * seq as u64;
+    match Moment::new(second * 1_000_000_000) {
+        Some(moment) => moment,
+        None => unreachable!(),
+    }
+}
+
+// The members that tell an event's kind, moment and number.
+fn event_part(alloc: Global, kind: &str, at: &str, seq: u32) -> Result<String, AllocError> {
+    format!(in alloc;
+        "\"eventType\":\"{kind}\",\"timestamp\":\"{at}\",\"triggerReason\":\"MeterValuePeriodic\",\"seqNo\":{seq}"
+    )
+}
+
+// The meter values of the event of this number.
+fn read_part(alloc: Global, at: &str, seq: u32) -> Result<String, AllocError>
+    requires { seq ≤ 64 }
+{
+    let value = FIRST_WATT_HOURS + RISE * seq as u64;
+    format!(in alloc; "[{{\"timestamp\":\"{at}\",\"sampledValue\":[{{\"value\":{value}}}]}}]")
+}
+
+// The request with the subprotocol of OCPP 2.0.1.
+fn with_subprotocol(mut request: Request<()>) -> Result<Request<()>, SimFault> {
+    let name = HeaderName::from_static("sec-websocket-protocol");
+    let value = HeaderValue::from_static("ocpp2.0.1");
+    match request.headers_mut().insert(name, value) {
+        Ok(_) => Ok(request),
+        Err(_) => Err(SimFault::OutOfMemory),
+    }
+}
+
+// The random bytes that a handshake's key is made of.
+fn nonce_of<R: RandomSource>(rt: &R) -> Result<[u8; 16], SimFault> {
+    let mut nonce = [0; 16];
+    match rt.fill_bytes(&mut nonce) {
+        Ok(()) => Ok(nonce),
+        Err(_) => Err(SimFault::HandshakeFailed),
+    }
+}
+
+// The socket behind the handshake that this request begins.
+fn shake_hands<S: Read + Write + Drop, K: MaskKeys + Drop>(
+    alloc: Global,
+    nonce: [u8; 16],
+    keys: K,
+    request: Request<()>,
+    stream: S,
+) -> Result<WebSocket<S, K>, SimFault> {
+    let config = WebSocketConfig::default().read_buffer_size(READ_BYTES);
+    match client::start(alloc, nonce, keys, request, stream, Some(config)) {
+        Ok(handshake) => match handshake.handshake() {
             Ok((socket, _response)) => Ok(socket),
             Err(HandshakeError::Failure(error)) => Err(handshake_fault(&error)),
             Err(HandshakeError::Interrupted(_handshake)) => Err(SimFault::HandshakeFailed),
-        }
+        },
+        Err(error) => Err(handshake_fault(&error)),
     }
 }
 
@@ -190,28 +249,69 @@ fn handshake_fault(error: &Error) -> SimFault {
     }
 }
 
+// The replies to the texts, each sent once the one before has its reply.
+fn ask_all<S: Read + Write + Drop, K: MaskKeys + Drop>(
+    alloc: Global,
+    socket: &mut WebSocket<S, K>,
+    texts: &[String],
+) -> Result<Vec<String>, SimFault>
+    ensures { IfOk result (λ replies. length replies.items ≡ length texts.now) }
+{
+    let mut replies = Vec::with_capacity(alloc, texts.len())?;
+    for text in texts {
+        replies.push(ask(alloc, socket, text.as_str())?)?;
+    }
+    Ok(replies)
+}
+
 // Sends a text and waits for its reply.
 fn ask<S: Read + Write + Drop, K: MaskKeys + Drop>(
     alloc: Global,
     socket: &mut WebSocket<S, K>,
     text: &str,
 ) -> Result<String, SimFault> {
-    match socket.send(Message::text(alloc, text)?) {
-        Ok(()) => {}
-        Err(Error::OutOfMemory) => return Err(SimFault::OutOfMemory),
-        Err(_) => return Err(SimFault::WriteFault),
-    }
+    send(alloc, socket, text)?;
     for _ in 0..MAX_READS {
-        match socket.read() {
-            Ok(Message::Text(reply)) => return Ok(String::from_str(alloc, reply.as_str())?),
-            Ok(Message::Ping(_bytes) | Message::Pong(_bytes)) => {}
-            Ok(Message::Binary(_bytes)) => return Err(SimFault::ReadFault),
-            Ok(Message::Close(_frame)) => return Err(SimFault::ReadFault),
-            Err(Error::OutOfMemory) => return Err(SimFault::OutOfMemory),
-            Err(_) => return Err(SimFault::ReadFault),
+        if let Some(reply) = read_reply(alloc, socket)? {
+            return Ok(reply);
         }
     }
     Err(SimFault::ReadFault)
+}
+
+// Sends a text.
+fn send<S: Read + Write + Drop, K: MaskKeys + Drop>(
+    alloc: Global,
+    socket: &mut WebSocket<S, K>,
+    text: &str,
+) -> Result<(), SimFault> {
+    match socket.send(Message::text(alloc, text)?) {
+        Ok(()) => Ok(()),
+        Err(Error::OutOfMemory) => Err(SimFault::OutOfMemory),
+        Err(_) => Err(SimFault::WriteFault),
+    }
+}
+
+// Reads a message, which may be a reply.
+fn read_reply<S: Read + Write + Drop, K: MaskKeys + Drop>(
+    alloc: Global,
+    socket: &mut WebSocket<S, K>,
+) -> Result<Option<String>, SimFault> {
+    match socket.read() {
+        Ok(message) => reply_of(alloc, message),
+        Err(Error::OutOfMemory) => Err(SimFault::OutOfMemory),
+        Err(_) => Err(SimFault::ReadFault),
+    }
+}
+
+// The reply that a message is; a ping or a pong is none.
+fn reply_of(alloc: Global, message: Message) -> Result<Option<String>, SimFault> {
+    match message {
+        Message::Text(reply) => Ok(Some(String::from_str(alloc, reply.as_str())?)),
+        Message::Ping(_bytes) | Message::Pong(_bytes) => Ok(None),
+        Message::Binary(_bytes) => Err(SimFault::ReadFault),
+        Message::Close(_frame) => Err(SimFault::ReadFault),
+    }
 }
 
 // Closes the connection and waits until the server has done so, too.
