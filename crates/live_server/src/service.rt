@@ -8,12 +8,9 @@ ghost use Rattle.site_desk.specs.Roster.{AreNewPlaces};
 ghost use Rattle.desk_report.specs.Closed.{AreBoards};
 
 use crate::boards::serve_boards;
-use crate::crew::Crew;
 use crate::door::{Door, Doors};
 use crate::listeners::Listeners;
-use crate::log::Log;
 use crate::operator::operate;
-use crate::running::Running;
 use crate::session::work;
 use crate::shared::Shared;
 use crate::watch::watch;
@@ -166,12 +163,7 @@ fn run<
     requires readings { sum_by (λ s. s.limits.readings) plan.now.stations.items ≤ most_plan_readings }
 {
     let listeners = Listeners::open(rt, live, output)?;
-    let crew = Crew::open(alloc, workers_for(plan))?;
-    let shared = Shared {
-        running: Running::open(alloc, plan, desk),
-        crew,
-        log: Log::open(lines, live.is_logged),
-    };
+    let shared = Shared::open(alloc, plan, desk, workers_for(plan), lines, live.is_logged)?;
     Ok(serve_all(
         rt,
         alloc,
@@ -242,13 +234,7 @@ fn serve_beside<
                 Anything,
                 move || watch(rt, shared, glances, viewers),
             );
-            let ended = if start_all(scope, rt, alloc, shared, doors) {
-                operate(rt, alloc, &shared.running, input, output)
-            } else {
-                Err(ServiceFault::OutOfMemory)
-            };
-            shared.crew.closing.store(true, Ordering::SeqCst);
-            doors.call_away(rt);
+            let ended = serve_until_end(scope, rt, alloc, shared, doors, input, output);
             let viewers = match watching {
                 Ok(watching) => watching.join(rt),
                 Err(refused) => (refused.value)(),
@@ -256,6 +242,34 @@ fn serve_beside<
             (ended, viewers)
         },
     )
+}
+
+// Starts the threads at both doors, answers the operator's lines, and then waits until the threads have left.
+fn serve_until_end<
+    's,
+    E: 's,
+    J: Naming + Send + Sync,
+    R: Threads + Wait + Clock + Sync + Net<Listener = TcpListener, Stream = TcpStream>,
+    I: BufRead,
+    W: Write,
+    L: Write + Send + Drop,
+>(
+    scope: &'s Scope<'s, E>,
+    rt: &'s R,
+    alloc: Global,
+    shared: &'s Shared<'_, J, L>,
+    doors: &'s Doors<'_>,
+    input: &mut I,
+    output: &mut W,
+) -> Result<(), ServiceFault> {
+    let ended = if start_all(scope, rt, alloc, shared, doors) {
+        operate(rt, alloc, &shared.running, input, output)
+    } else {
+        Err(ServiceFault::OutOfMemory)
+    };
+    shared.crew.closing.store(true, Ordering::SeqCst);
+    doors.call_away(rt);
+    ended
 }
 
 // Starts the threads at both doors, and tells whether all could start.

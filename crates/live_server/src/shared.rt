@@ -1,9 +1,14 @@
 //! What all threads of a live server look at.
+ghost use Rattle.std.specs.Prelude.{◌≤◌, sum_by};
+ghost use Rattle.ledger_model.specs.Ranges.{most_plan_readings};
+ghost use Rattle.site_desk.specs.Roster.{AreNewPlaces};
+
 use crate::crew::Crew;
 use crate::log::Log;
 use crate::running::Running;
 use site_book::Naming;
-use site_desk::Pass;
+use site_desk::{Desk, Pass, Plan};
+use std::alloc::{AllocError, Global};
 use std::io::Write;
 
 // What all threads of a live server look at.
@@ -15,6 +20,26 @@ pub(crate) struct Shared<'a, J: Naming, L: Write + Drop> {
 }
 
 impl<'a, J: Naming, L: Write + Drop> Shared<'a, J, L> {
+    // The desk of this plan with an empty shelf, so many workers who serve nobody, and where it is told.
+    pub(crate) fn open(
+        alloc: Global,
+        plan: &'a Plan,
+        desk: &'a Desk<J>,
+        workers: usize,
+        lines: L,
+        is_logged: bool,
+    ) -> Result<Self, AllocError>
+        requires opened { AreNewPlaces plan.now.sites.items plan.now.stations.items desk.now.stations }
+        requires readings { sum_by (λ s. s.limits.readings) plan.now.stations.items ≤ most_plan_readings }
+    {
+        let crew = Crew::open(alloc, workers)?;
+        Ok(Shared {
+            running: Running::open(alloc, plan, desk),
+            crew,
+            log: Log::open(lines, is_logged),
+        })
+    }
+
     // All passes that were laid back.
     pub(crate) fn into_passes(self) -> Vec<Pass> {
         self.running.desk.into_passes()

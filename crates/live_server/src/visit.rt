@@ -133,6 +133,14 @@ impl<R: Clock> Attendant for Visit<'_, R> {
     }
 }
 
+// Tells whether a read or a write gave up waiting, and may go on.
+fn is_tick(moved: &io::Result<usize>) -> bool {
+    match moved {
+        Ok(_) => false,
+        Err(error) => error.kind() == ErrorKind::WouldBlock,
+    }
+}
+
 // The stream of a connection. A read gives up with `WouldBlock` after a tick where a session may go on, and with another
 // error where the connection has to end.
 #[derive(Drop)]
@@ -165,13 +173,9 @@ impl<'a, R: Clock> VisitStream<'a, R> {
             if self.visit.dismissal().is_some() || self.visit.is_over(since, seconds) {
                 break;
             }
-            match self.stream.read(buf) {
-                Ok(count) => return Ok(count),
-                Err(error) => {
-                    if error.kind() != ErrorKind::WouldBlock {
-                        return Err(error);
-                    }
-                }
+            let read = self.stream.read(buf);
+            if !is_tick(&read) {
+                return read;
             }
         }
         Err(io::Error::from(ErrorKind::TimedOut))
@@ -184,18 +188,15 @@ impl<'a, R: Clock> VisitStream<'a, R> {
         if self.visit.dismissal().is_some() {
             return Err(io::Error::from(ErrorKind::WouldBlock));
         }
-        match self.stream.read(buf) {
-            Ok(count) => {
-                self.visit.silent.set(0);
-                Ok(count)
+        let read = self.stream.read(buf);
+        if is_tick(&read) {
+            if self.visit.is_silent() {
+                return Err(io::Error::from(ErrorKind::TimedOut));
             }
-            Err(error) => {
-                if error.kind() == ErrorKind::WouldBlock && self.visit.is_silent() {
-                    return Err(io::Error::from(ErrorKind::TimedOut));
-                }
-                Err(error)
-            }
+        } else if read.is_ok() {
+            self.visit.silent.set(0);
         }
+        read
     }
 
     // A read of what is left.
@@ -206,13 +207,9 @@ impl<'a, R: Clock> VisitStream<'a, R> {
             if self.visit.is_over(since, LEAVING_SECONDS) {
                 break;
             }
-            match self.stream.read(buf) {
-                Ok(count) => return Ok(count),
-                Err(error) => {
-                    if error.kind() != ErrorKind::WouldBlock {
-                        return Err(error);
-                    }
-                }
+            let read = self.stream.read(buf);
+            if !is_tick(&read) {
+                return read;
             }
         }
         Err(io::Error::from(ErrorKind::TimedOut))
@@ -236,13 +233,9 @@ impl<R: Clock> Write for VisitStream<'_, R> {
             if self.visit.is_write_over(since) {
                 break;
             }
-            match self.stream.write(buf) {
-                Ok(count) => return Ok(count),
-                Err(error) => {
-                    if error.kind() != ErrorKind::WouldBlock {
-                        return Err(error);
-                    }
-                }
+            let written = self.stream.write(buf);
+            if !is_tick(&written) {
+                return written;
             }
         }
         Err(io::Error::from(ErrorKind::TimedOut))
