@@ -94,28 +94,43 @@ fn program<'a>(alloc: Global) -> Result<Command<'a>, AllocError> {
     let replay = Command::new(alloc, "replay").about(
         "Answers a script from standard input on standard output",
     );
-    Command::new(alloc, "ocpp_board")
+    let command = Command::new(alloc, "ocpp_board")
         .version(VERSION)
         .about(ABOUT)
-        .after_help(LINES)
-        .subcommand(replay)?
-        .subcommand(serve_command(alloc)?)?
-        .subcommand(sim_command(alloc)?)
+        .after_help(LINES);
+    with_servers(alloc, command.subcommand(replay)?)
+}
+
+// The program with its commands that serve stations.
+fn with_servers<'a>(alloc: Global, command: Command<'a>) -> Result<Command<'a>, AllocError> {
+    let command = command.subcommand(serve_command(alloc)?)?;
+    command.subcommand(sim_command(alloc)?)
 }
 
 // The command `serve`.
 fn serve_command<'a>(alloc: Global) -> Result<Command<'a>, AllocError> {
-    Command::new(alloc, "serve")
+    let command = Command::new(alloc, "serve")
         .about("Serves charging stations over WebSocket, and writes the boards when all have left")
-        .after_help(SERVE_EXAMPLE)
+        .after_help(SERVE_EXAMPLE);
+    let command = with_numbers(alloc, command)?;
+    let command = with_life(alloc, command)?;
+    command.arg(station_words(alloc))
+}
+
+// The command with the options that have a number.
+fn with_numbers<'a>(alloc: Global, command: Command<'a>) -> Result<Command<'a>, AllocError> {
+    command
         .arg(port_option(alloc))?
         .arg(connections_option(alloc))?
         .arg(watch_option(alloc))?
-        .arg(period_option(alloc))?
-        .arg(live_option(alloc)?)?
-        .arg(log_option(alloc)?)?
-        .arg(board_port_option(alloc)?)?
-        .arg(station_words(alloc))
+        .arg(period_option(alloc))
+}
+
+// The command with the options of a server that lives.
+fn with_life<'a>(alloc: Global, command: Command<'a>) -> Result<Command<'a>, AllocError> {
+    let command = command.arg(live_option(alloc)?)?;
+    let command = command.arg(log_option(alloc)?)?;
+    command.arg(board_port_option(alloc)?)
 }
 
 fn port_option<'a>(alloc: Global) -> Arg<'a> {

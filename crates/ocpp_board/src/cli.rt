@@ -1,14 +1,15 @@
-ghost use Rattle.std.specs.Prelude.{◌≡◌};
+ghost use Rattle.std.specs.Prelude.{◌≡◌, ◌≤◌};
+ghost use Rattle.board_words.specs.Arguments.{IsAskable};
 
 use crate::arguments::read_arguments;
 use board_words::{Asked, WordFault};
 use clap::Error;
 use clap::error::ErrorKind;
 use ledger_model::{MAX_SITES, MAX_STATIONS};
-use live_server::serve_live;
+use live_server::{Live, serve_live};
 use script_replay::{ReplayFault, replay_buffered};
 use site_desk::Plan;
-use site_server::{ServiceFault, serve_plan, simulate};
+use site_server::{Service, ServiceFault, serve_plan, simulate};
 use std::convert::AsStr;
 use std::fmt::Display;
 use std::io;
@@ -42,67 +43,160 @@ pub fn run_command_line<
     L: Write + Send + Drop,
 >(rt: &X, words: &[S], reader: &mut R, writer: &mut BufWriter<W>, errors: &mut E, lines: L) -> u8 {
     match read_arguments(rt.alloc(), words) {
-        Ok(Asked::Replay) => match replay_buffered(rt, reader, writer) {
-            Ok(()) => 0,
-            Err(fault) => tell_fault(errors, fault, STOPPED),
-        },
-        Ok(Asked::Serve(plan, service)) => match plan {
-            Ok(plan) => {
-                let ended = serve_plan(rt, rt.alloc(), &plan, service, writer, lines);
-                let status = tell_end(errors, ended);
-                tell_cause(errors, &plan, service.port, ended);
-                status
-            }
-            Err(fault) => tell_word(errors, fault),
-        },
-        Ok(Asked::ServeLive(plan, live)) => match plan {
-            Ok(plan) => {
-                let ended = serve_live(rt, rt.alloc(), &plan, live, reader, writer, lines);
-                let status = tell_end(errors, ended);
-                tell_cause(errors, &plan, live.port, ended);
-                status
-            }
-            Err(fault) => tell_word(errors, fault),
-        },
-        Ok(Asked::Simulate(stations, events)) => {
-            let ended = simulate(rt, rt.alloc(), stations, events, writer);
-            tell_end(errors, ended)
-        }
-        Err(error) if error.kind() == ErrorKind::OutOfMemory => {
-            tell_fault(errors, ReplayFault::OutOfMemory, STOPPED)
-        }
-        Err(error) => tell_arguments(writer, errors, &error),
+        Ok(asked) => run_asked(rt, asked, reader, writer, errors, lines),
+        Err(error) => tell_mistake(writer, errors, &error),
     }
+}
+
+// Does what is asked for.
+fn run_asked<
+    X: AllocGlobal
+        + Threads
+        + Wait
+        + Clock
+        + RandomSource
+        + Sync
+        + Net<Listener = TcpListener, Stream = TcpStream>,
+    R: BufRead,
+    W: Write + Drop,
+    E: Write,
+    L: Write + Send + Drop,
+>(
+    rt: &X,
+    asked: Asked<'_>,
+    reader: &mut R,
+    writer: &mut BufWriter<W>,
+    errors: &mut E,
+    lines: L,
+) -> u8
+    requires { IsAskable asked }
+{
+    match asked {
+        Asked::Replay => tell_replay(errors, replay_buffered(rt, reader, writer)),
+        Asked::Serve(plan, service) => serve(rt, plan, service, writer, errors, lines),
+        Asked::ServeLive(plan, live) => live_on(rt, plan, live, reader, writer, errors, lines),
+        Asked::Simulate(stations, events) => {
+            tell_end(errors, simulate(rt, rt.alloc(), stations, events, writer))
+        }
+    }
+}
+
+// Serves a plan over so many connections, where its words make one.
+fn serve<
+    X: AllocGlobal
+        + Threads
+        + Wait
+        + Clock
+        + Sync
+        + Net<Listener = TcpListener, Stream = TcpStream>,
+    W: Write,
+    E: Write,
+    L: Write + Send + Drop,
+>(
+    rt: &X,
+    plan: Result<Plan, WordFault<'_>>,
+    service: Service,
+    writer: &mut W,
+    errors: &mut E,
+    lines: L,
+) -> u8
+    requires { (1 ≤ service.connections) × (service.connections ≤ 64) }
+{
+    match plan {
+        Ok(plan) => {
+            let ended = serve_plan(rt, rt.alloc(), &plan, service, writer, lines);
+            tell_server(errors, &plan, service.port, ended)
+        }
+        Err(fault) => tell_word(errors, fault),
+    }
+}
+
+// Serves a plan until the operator's lines end, where its words make one.
+fn live_on<
+    X: AllocGlobal
+        + Threads
+        + Wait
+        + Clock
+        + Sync
+        + Net<Listener = TcpListener, Stream = TcpStream>,
+    R: BufRead,
+    W: Write,
+    E: Write,
+    L: Write + Send + Drop,
+>(
+    rt: &X,
+    plan: Result<Plan, WordFault<'_>>,
+    live: Live,
+    reader: &mut R,
+    writer: &mut W,
+    errors: &mut E,
+    lines: L,
+) -> u8 {
+    match plan {
+        Ok(plan) => {
+            let ended = serve_live(rt, rt.alloc(), &plan, live, reader, writer, lines);
+            tell_server(errors, &plan, live.port, ended)
+        }
+        Err(fault) => tell_word(errors, fault),
+    }
+}
+
+// The exit status of a replay; its fault is told.
+fn tell_replay<E: Write>(errors: &mut E, ended: Result<(), ReplayFault>) -> u8 {
+    match ended {
+        Ok(()) => 0,
+        Err(fault) => tell_fault(errors, fault, STOPPED),
+    }
+}
+
+// The exit status of a server; its fault is told, with its cause.
+fn tell_server<E: Write>(
+    errors: &mut E,
+    plan: &Plan,
+    port: u16,
+    ended: Result<(), ServiceFault>,
+) -> u8 {
+    let status = tell_end(errors, ended);
+    tell_cause(errors, plan, port, ended);
+    status
 }
 
 // The exit status of a server or a simulation; its fault is told.
 fn tell_end<E: Write>(errors: &mut E, ended: Result<(), ServiceFault>) -> u8 {
     match ended {
         Ok(()) => 0,
-        Err(fault) => {
-            let status = match fault {
-                ServiceFault::PlanLimit | ServiceFault::StationTwice => MISTAKEN,
-                _ => STOPPED,
-            };
-            tell_fault(errors, fault, status)
-        }
+        Err(fault) => tell_fault(errors, fault, status_of(fault)),
+    }
+}
+
+// The exit status of a server or a simulation that came to no board.
+fn status_of(fault: ServiceFault) -> u8 {
+    match fault {
+        ServiceFault::PlanLimit | ServiceFault::StationTwice => MISTAKEN,
+        _ => STOPPED,
     }
 }
 
 // Writes why a server did not begin, where its stations or its port tell it.
 fn tell_cause<E: Write>(errors: &mut E, plan: &Plan, port: u16, ended: Result<(), ServiceFault>) {
     match ended {
-        Err(ServiceFault::StationTwice) => {
-            if let Some(name) = plan.station_twice() {
-                let _ = writeln!(errors, "the station {} stands twice", name.text());
-            }
-        }
-        Err(ServiceFault::ListenFailed(Some(code))) => {
-            let error = io::Error::from_raw_os_error(code);
-            let _ = writeln!(errors, "127.0.0.1:{port}: {error}");
-        }
+        Err(ServiceFault::StationTwice) => tell_twice(errors, plan),
+        Err(ServiceFault::ListenFailed(Some(code))) => tell_port(errors, port, code),
         _ => {}
     }
+}
+
+// Writes which station stands twice.
+fn tell_twice<E: Write>(errors: &mut E, plan: &Plan) {
+    if let Some(name) = plan.station_twice() {
+        let _ = writeln!(errors, "the station {} stands twice", name.text());
+    }
+}
+
+// Writes the system's words for a port that can't be listened on.
+fn tell_port<E: Write>(errors: &mut E, port: u16, code: i32) {
+    let error = io::Error::from_raw_os_error(code);
+    let _ = writeln!(errors, "127.0.0.1:{port}: {error}");
 }
 
 // Writes why the words of a server make no plan, and gives the status that goes with it.
@@ -138,6 +232,15 @@ pub fn tell_bytes<E: Write>(errors: &mut E) -> u8
         b"error: invalid UTF-8 was detected in one or more arguments\n\nFor more information, try '--help'.\n",
     );
     MISTAKEN
+}
+
+// Writes that there is no memory for the words, or what is wrong with them, and gives the status that goes with it.
+fn tell_mistake<W: Write, E: Write>(writer: &mut W, errors: &mut E, error: &Error) -> u8 {
+    if error.kind() == ErrorKind::OutOfMemory {
+        tell_fault(errors, ReplayFault::OutOfMemory, STOPPED)
+    } else {
+        tell_arguments(writer, errors, error)
+    }
 }
 
 // Writes what is wrong with the words, or the help or the version that they ask for.

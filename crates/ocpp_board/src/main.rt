@@ -11,7 +11,8 @@ mod cli;
 
 use crate::cli::{STOPPED, run_command_line, tell_bytes, tell_fault};
 use script_replay::ReplayFault;
-use std::io::{BufRead, BufReader, BufWriter, Write};
+use std::alloc::Global;
+use std::io::{BufRead, BufReader, BufWriter, Read, Write};
 use std::net::{Net, TcpListener, TcpStream};
 use std::process::ExitCode;
 use std::random::RandomSource;
@@ -28,20 +29,29 @@ const INPUT_BUFFER: usize = 2_097_152;
 const OUTPUT_BUFFER: usize = 65_536;
 
 fn main(rt: HostRuntime) -> ExitCode {
-    let reader = BufReader::with_capacity(rt.alloc(), INPUT_BUFFER, rt.stdin());
-    let writer = BufWriter::with_capacity(rt.alloc(), OUTPUT_BUFFER, rt.stdout());
     let mut errors = rt.stderr();
-    let status = match (reader, writer) {
-        (Ok(mut reader), Ok(mut writer)) => run(
+    let status = match buffered(rt.alloc(), rt.stdin(), rt.stdout()) {
+        Ok((mut reader, mut writer)) => run(
             &rt,
             &mut reader,
             &mut writer,
             &mut errors,
             rt.stderr(),
         ),
-        _ => tell_fault(&mut errors, ReplayFault::OutOfMemory, STOPPED),
+        Err(_) => tell_fault(&mut errors, ReplayFault::OutOfMemory, STOPPED),
     };
     ExitCode::from(status)
+}
+
+// The input and the output, with a buffer for each.
+fn buffered<R: Read + Drop, W: Write + Drop>(
+    alloc: Global,
+    input: R,
+    output: W,
+) -> io::Result<(BufReader<R>, BufWriter<W>)> {
+    let reader = BufReader::with_capacity(alloc, INPUT_BUFFER, input)?;
+    let writer = BufWriter::with_capacity(alloc, OUTPUT_BUFFER, output)?;
+    Ok((reader, writer))
 }
 
 // Runs the program's words, and gives its exit status.
@@ -61,8 +71,16 @@ fn run<
 >(rt: &X, reader: &mut R, writer: &mut BufWriter<W>, errors: &mut E, lines: L) -> u8 {
     match program_words(rt) {
         Ok(words) => run_command_line(rt, words.as_slice(), reader, writer, errors, lines),
-        Err(error) if error.kind() == io::ErrorKind::InvalidData => tell_bytes(errors),
-        Err(_) => tell_fault(errors, ReplayFault::OutOfMemory, STOPPED),
+        Err(error) => tell_no_words(errors, &error),
+    }
+}
+
+// Tells why there are no words: a word is no UTF-8, or there is no memory.
+fn tell_no_words<E: Write>(errors: &mut E, error: &io::Error) -> u8 {
+    if error.kind() == io::ErrorKind::InvalidData {
+        tell_bytes(errors)
+    } else {
+        tell_fault(errors, ReplayFault::OutOfMemory, STOPPED)
     }
 }
 
