@@ -9,7 +9,7 @@ use std::alloc::{AllocError, Global};
 use std::convert::AsStr;
 
 // How many times a server's totals may be shown.
-const MAX_GLANCES: u16 = 600;
+const MAX_GLANCES: i64 = 600;
 
 // The seconds that a settlement period may have.
 const PERIODS: [&str; 4] = ["300", "900", "1800", "3600"];
@@ -133,42 +133,44 @@ fn with_life<'a>(alloc: Global, command: Command<'a>) -> Result<Command<'a>, All
     command.arg(board_port_option(alloc)?)
 }
 
+// An option that has a value, and this one where it is not used.
+fn option<'a>(
+    alloc: Global,
+    name: &'a str,
+    value: &'a str,
+    default: &'a str,
+    help: &'a str,
+) -> Arg<'a> {
+    Arg::new(alloc, name)
+        .long(name)
+        .value_name(value)
+        .default_value(default)
+        .help(help)
+}
+
 fn port_option<'a>(alloc: Global) -> Arg<'a> {
-    Arg::new(alloc, "port")
-        .long("port")
-        .value_name("PORT")
-        .value_parser(value_parser!(u16))
-        .default_value("0")
-        .help("The port of 127.0.0.1 to listen on; 0 lets the system choose")
+    let help = "The port of 127.0.0.1 to listen on; 0 lets the system choose";
+    option(alloc, "port", "PORT", "0", help).value_parser(value_parser!(u16))
 }
 
 fn connections_option<'a>(alloc: Global) -> Arg<'a> {
-    Arg::new(alloc, "connections")
-        .long("connections")
-        .value_name("COUNT")
-        .value_parser(value_parser!(u8).range(1..=i64::from(MAX_CONNECTIONS)))
-        .default_value("1")
-        .help("How many connections to serve before it ends, 1 to 64; one unless this is given")
+    let help = "How many connections to serve before it ends, 1 to 64; one unless this is given";
+    option(alloc, "connections", "COUNT", "1", help).value_parser(value_parser!(u8).range(
+        1..=i64::from(MAX_CONNECTIONS),
+    ))
 }
 
 fn watch_option<'a>(alloc: Global) -> Arg<'a> {
-    Arg::new(alloc, "watch")
-        .long("watch")
-        .value_name("TIMES")
-        .value_parser(value_parser!(u16).range(0..=i64::from(MAX_GLANCES)))
-        .default_value("0")
-        .help(
-            "How many times to write each site's totals to standard error, one second apart, 0 to 600",
-        )
+    let help =
+        "How many times to write each site's totals to standard error, one second apart, 0 to 600";
+    option(alloc, "watch", "TIMES", "0", help).value_parser(value_parser!(u16).range(
+        0..=MAX_GLANCES,
+    ))
 }
 
 fn period_option<'a>(alloc: Global) -> Arg<'a> {
-    Arg::new(alloc, "period")
-        .long("period")
-        .value_name("SECONDS")
-        .value_parser(PERIODS.as_slice())
-        .default_value("900")
-        .help("The settlement period of all sites' boards, in seconds")
+    let help = "The settlement period of all sites' boards, in seconds";
+    option(alloc, "period", "SECONDS", "900", help).value_parser(PERIODS.as_slice())
 }
 
 fn live_option<'a>(alloc: Global) -> Result<Arg<'a>, AllocError> {
@@ -217,19 +219,23 @@ fn sim_command<'a>(alloc: Global) -> Result<Command<'a>, AllocError> {
 }
 
 fn stations_option<'a>(alloc: Global) -> Arg<'a> {
-    Arg::new(alloc, "stations")
-        .long("stations")
-        .value_name("COUNT")
-        .value_parser(value_parser!(u16).range(1..=i64::from(MAX_SIMULATED_STATIONS)))
-        .default_value("2")
-        .help("How many stations, 1 to 64")
+    option(
+        alloc,
+        "stations",
+        "COUNT",
+        "2",
+        "How many stations, 1 to 64",
+    )
+    .value_parser(value_parser!(u16).range(1..=i64::from(MAX_SIMULATED_STATIONS)))
 }
 
 fn events_option<'a>(alloc: Global) -> Arg<'a> {
-    Arg::new(alloc, "events")
-        .long("events")
-        .value_name("COUNT")
-        .value_parser(value_parser!(u32).range(2..=i64::from(MAX_SIMULATED_EVENTS)))
-        .default_value("3")
-        .help("How many events each sends, 2 to 64")
+    option(
+        alloc,
+        "events",
+        "COUNT",
+        "3",
+        "How many events each sends, 2 to 64",
+    )
+    .value_parser(value_parser!(u32).range(2..=i64::from(MAX_SIMULATED_EVENTS)))
 }
