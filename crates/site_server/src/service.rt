@@ -94,6 +94,33 @@ fn serve_under<
         × AreBoards plan.now.sites.items plan.now.stations.items boards) }
 {
     let (desk, viewers) = open_desk::<J>(alloc, tables, plan)?;
+    let (passes, viewers) = serve_at(rt, alloc, &desk, plan, viewers, service, output, lines)?;
+    close_desk(alloc, plan, desk, passes, viewers, output)
+}
+
+// What stands when all connections have ended: their passes, and the viewers.
+type Left<J> = (Vec<Pass>, Vec<Viewer<J>>);
+
+// Listens, tells where, and serves the connections at the desk that was opened.
+fn serve_at<
+    J: Naming + Send + Sync,
+    R: Threads + Wait + Clock + Sync + Net<Listener = TcpListener, Stream = TcpStream>,
+    W: Write,
+    L: Write + Send + Drop,
+>(
+    rt: &R,
+    alloc: Global,
+    desk: &Desk<J>,
+    plan: &Plan,
+    viewers: Vec<Viewer<J>>,
+    service: Service,
+    output: &mut W,
+    lines: L,
+) -> Result<Left<J>, ServiceFault>
+    requires some { 1 ≤ service.connections }
+    requires most { service.connections ≤ 64 }
+    ensures { OnOk result ((port : ℕ) × Appends (W.contents output.old) (W.contents output.new) (listening port)) }
+{
     let listener = listen(rt, service.port)?;
     tell_port(&listener, output)?;
     let (passes, viewers, _lines) = serve_watched(
@@ -101,13 +128,13 @@ fn serve_under<
         alloc,
         &listener,
         service,
-        &desk,
+        desk,
         plan,
         viewers,
         lines,
         WATCH_STACK,
     );
-    close_desk(alloc, plan, desk, passes?, viewers, output)
+    Ok((passes?, viewers))
 }
 
 /// The desk of a plan, and its viewers.

@@ -123,13 +123,35 @@ fn simulate_under<
         × AreBoards plan.now.sites.items plan.now.stations.items boards) }
 {
     let (desk, viewers) = open_desk::<J>(alloc, tables, plan)?;
+    let passes = play_at(rt, alloc, &desk, stations, events)?;
+    close_desk(alloc, plan, desk, passes, viewers, output)
+}
+
+// Plays the stations against a server at the desk that was opened, and gives the passes of their sessions.
+fn play_at<
+    J: Naming + Send + Sync,
+    R: Threads
+        + Wait
+        + Clock
+        + RandomSource
+        + Sync
+        + Net<Listener = TcpListener, Stream = TcpStream>,
+>(
+    rt: &R,
+    alloc: Global,
+    desk: &Desk<J>,
+    stations: u16,
+    events: u32,
+) -> Result<Vec<Pass>, ServiceFault>
+    requires { IsSimulated stations events }
+{
     let listener = listen(rt, 0)?;
     let streams = connect_all(rt, alloc, &listener, stations)?;
     let played = Vec::with_capacity(alloc, stations as usize)?;
-    let (passes, fault) = play_all(rt, alloc, listener, &desk, streams, events, played);
+    let (passes, fault) = play_all(rt, alloc, listener, desk, streams, events, played);
     match fault {
         Some(fault) => Err(ServiceFault::from(fault)),
-        None => close_desk(alloc, plan, desk, passes?, viewers, output),
+        None => Ok(passes?),
     }
 }
 
