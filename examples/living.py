@@ -23,9 +23,8 @@ import tempfile
 import threading
 import time
 from collections.abc import Callable
-from typing import Self
 
-from serving import REPLIES, STATIONS, TOLD, Client, Differs, Station, board, boards, play
+from serving import REPLIES, STATIONS, TOLD, Client, Differs, Served, Station, board, boards, play
 from sessions import FIRST, LONGEST_WAIT, OFFER, OTHER, SECOND, TEXT, Frame, close, event, request
 
 # How long the server may take to end sessions that are silent, in seconds.
@@ -40,7 +39,7 @@ NOT_FOUND = (
 )
 
 
-class Live:
+class Live(Served):
     """A server that lives, and its operator."""
 
     def __init__(self, program: str, *options: str, stations: tuple[str, ...] = STATIONS) -> None:
@@ -53,14 +52,6 @@ class Live:
         self.input, self.out = self.process.stdin, self.process.stdout
         self.port = self.port_of(b"listening")
         self.board_port = self.port_of(b"boards") if "--board-port" in options else 0
-
-    def __enter__(self) -> Self:
-        return self
-
-    def __exit__(self, *_: object) -> None:
-        self.process.kill()
-        self.process.communicate()
-        self.told.close()
 
     def port_of(self, word: bytes) -> int:
         match = re.fullmatch(word + rb" 127\.0\.0\.1:([0-9]+)\n", self.line())

@@ -23,7 +23,7 @@ import tempfile
 import threading
 from collections.abc import Callable, Iterator
 from concurrent.futures import ThreadPoolExecutor
-from typing import NamedTuple, Self
+from typing import IO, NamedTuple, Self
 
 from sessions import FIRST, LONGEST_WAIT, OFFER, SECOND, TEXT, TEXT_BEGINS, Frame
 from sessions import close, lets_in, request, takes_up_subprotocol
@@ -51,7 +51,22 @@ class Differs(Exception):
     """How a scene is not as it should be."""
 
 
-class Server:
+class Served:
+    """A program that serves and is ended with its scene, and what it tells on standard error."""
+
+    process: subprocess.Popen[bytes]
+    told: IO[bytes]
+
+    def __enter__(self) -> Self:
+        return self
+
+    def __exit__(self, *_: object) -> None:
+        self.process.kill()
+        self.process.communicate()
+        self.told.close()
+
+
+class Server(Served):
     """A server of the three stations that serves so many connections."""
 
     def __init__(
@@ -67,14 +82,6 @@ class Server:
         self.line = self.out.readline()
         match = re.fullmatch(rb"listening 127\.0\.0\.1:([0-9]+)\n", self.line)
         self.port = int(match[1]) if match else 0
-
-    def __enter__(self) -> Self:
-        return self
-
-    def __exit__(self, *_: object) -> None:
-        self.process.kill()
-        self.process.communicate()
-        self.told.close()
 
     def has_written(self) -> bool:
         """Whether it writes more within a moment."""
