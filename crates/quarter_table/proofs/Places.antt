@@ -1,10 +1,10 @@
 -- Where the row of a quarter stands among rows in order, or belongs.
-use Rattle.std.proofs.Common.{◌≡◌, ◌≢◌, ℕ, suc, ◌<◌, List, [], ◌∷◌, length, get_or, Some, refl, sym, ap, ◌∙◌, subst, arith, inl, inr}
+use Rattle.std.proofs.Common.{◌≡◌, ◌≢◌, ℕ, zero, suc, ◌<◌, List, [], ◌∷◌, length, get_or, Some, refl, sym, ap, ◌∙◌, subst, arith, inl, inr}
 use Rattle.std.proofs.lemmas.Bool.{cases_lt}
 use Rattle.quarter_table.specs.declared.row.QuarterRow.{QuarterRow}
 use Rattle.quarter_table.specs.Rows.{earlier, AreAfter, AreInOrder}
 use Rattle.quarter_table.specs.Kept.{StandsAt, BelongsAt}
-use Rattle.quarter_table.proofs.Orders.{earlier_on, later_past, row_here, row_other, after_less, after_later, after_missing, none_earlier}
+use Rattle.quarter_table.proofs.Orders.{earlier_on, later_past, row_here, row_other, after_at, after_less, after_later, after_missing, none_earlier}
 
 -- Behind the rows of earlier quarters stands the row of the quarter, if any.
 pub stands : (q : ℕ) (rs : List QuarterRow) (d : QuarterRow) → AreInOrder rs → length (earlier q rs) < length rs → (get_or rs (length (earlier q rs)) d).quarter ≡ q → StandsAt q rs (length (earlier q rs))
@@ -58,3 +58,17 @@ belongs q (r ∷ rs) d order not = elim (cases_lt r.quarter q) [
         back = sym (after_later q (r ∷ rs) after);
       })
 ]
+
+-- As many rows are earlier as stand in front of the quarter's.
+in_front : (q : ℕ) (rs : List QuarterRow) (at : ℕ) (d : QuarterRow) → AreInOrder rs → at < length rs → (get_or rs at d).quarter ≡ q → length (earlier q rs) ≡ at
+in_front q [] at d order lt is = absurd (omega arith)
+in_front q (r ∷ rs) zero d order lt is = ap length (none_earlier q r rs order (omega (arith, is)))
+in_front q (r ∷ rs) (suc at) d order lt is =
+    let within : at < length rs = omega arith in let small : r.quarter < q = omega (arith, is, after_at r.quarter rs at d order.0 within) in
+    ap length (earlier_on q r rs small) ∙ ap suc (in_front q rs at d order.1 within is)
+
+-- Where the quarter's row is found, it stands.
+pub stands_there : (q : ℕ) (rs : List QuarterRow) (at : ℕ) (d : QuarterRow) → AreInOrder rs → at < length rs → (get_or rs at d).quarter ≡ q → StandsAt q rs at
+stands_there q rs at d order lt is =
+    let e = in_front q rs at d order lt is in
+    subst (StandsAt q rs) e (stands q rs d order (omega (arith, e, lt)) (ap (λ n. (get_or rs n d).quarter) e ∙ is))

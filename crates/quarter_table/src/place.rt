@@ -27,8 +27,8 @@ fn earlier_rows(rows: &Vec<QuarterRow>, quarter: Quarter) -> usize
     low
 }
 
-/// Where the row of a quarter stands, or else where it belongs.
-pub(crate) fn place_of(rows: &Vec<QuarterRow>, quarter: Quarter) -> Result<usize, usize>
+// Where the row of a quarter stands, or else where it belongs.
+fn place_of(rows: &Vec<QuarterRow>, quarter: Quarter) -> Result<usize, usize>
     requires { AreInOrder rows.now.items }
     ensures stands { IfOk result (λ at. StandsAt quarter rows.now.items at) }
     ensures belongs { IfErr result (λ at. BelongsAt quarter rows.now.items at) }
@@ -39,4 +39,20 @@ pub(crate) fn place_of(rows: &Vec<QuarterRow>, quarter: Quarter) -> Result<usize
     } else {
         Err(at)
     }
+}
+
+/// The same, where the row that stands at this place is looked at first.
+pub(crate) fn place_near(
+    rows: &Vec<QuarterRow>,
+    near: usize,
+    quarter: Quarter,
+) -> Result<usize, usize>
+    requires { AreInOrder rows.now.items }
+    ensures stands { IfOk result (λ at. StandsAt quarter rows.now.items at) }
+    ensures belongs { IfErr result (λ at. BelongsAt quarter rows.now.items at) }
+{
+    if near < rows.len() && rows[near].quarter.number() == quarter.number() {
+        return Ok(near);
+    }
+    place_of(rows, quarter)
 }

@@ -4,7 +4,7 @@ ghost use Rattle.ledger_model.specs.Energy.{flows_toward};
 ghost use Rattle.quarter_table.specs.Rows.{row_at, with_pair, without_pair, set_row, AreInOrder, HavePairs};
 ghost use Rattle.quarter_table.specs.Table.{table};
 
-use crate::place::place_of;
+use crate::place::place_near;
 use crate::row::QuarterRow;
 use energy_flow::Flow;
 use ledger_model::{Direction, Quarter};
@@ -18,6 +18,8 @@ use std::marker::Model;
 pub struct QuarterTable {
     rows: Vec<QuarterRow>,
     capacity: u32,
+    // Where the row stands that was changed last: it saves a search, and changes no answer.
+    near: usize,
 }
 
 impl Model for QuarterTable {
@@ -37,7 +39,11 @@ impl QuarterTable {
         ensures { IfOk result (λ t. t ≡ table [] capacity) }
     {
         let rows = Vec::with_capacity(alloc, capacity as usize)?;
-        Ok(QuarterTable { rows, capacity })
+        Ok(QuarterTable {
+            rows,
+            capacity,
+            near: 0,
+        })
     }
 
     /// The rows, by rising quarter. Each has a pair.
@@ -60,7 +66,7 @@ impl QuarterTable {
     pub fn row(&self, quarter: Quarter) -> QuarterRow
         ensures { result ≡ row_at quarter self.now.rows }
     {
-        match place_of(&self.rows, quarter) {
+        match place_near(&self.rows, self.near, quarter) {
             Ok(at) => self.rows[at],
             Err(_) => QuarterRow {
                 quarter,
@@ -89,8 +95,9 @@ impl QuarterTable {
         ensures capacity { self.new.capacity ≡ self.old.capacity }
     {
         let (imported, exported) = parted(direction, flow);
-        match place_of(&self.rows, quarter) {
+        match place_near(&self.rows, self.near, quarter) {
             Ok(at) => {
+                self.near = at;
                 let row = self.rows[at];
                 let flow = row.flow.plus(imported);
                 let export = row.export.plus(exported);
@@ -102,6 +109,7 @@ impl QuarterTable {
                 };
             }
             Err(at) => {
+                self.near = at;
                 let row = QuarterRow {
                     quarter,
                     pairs: 1,
@@ -129,8 +137,9 @@ impl QuarterTable {
         ensures capacity { self.new.capacity ≡ self.old.capacity }
     {
         let (imported, exported) = parted(direction, flow);
-        match place_of(&self.rows, quarter) {
+        match place_near(&self.rows, self.near, quarter) {
             Ok(at) => {
+                self.near = at;
                 let row = self.rows[at];
                 if row.pairs == 1 {
                     self.rows.remove(at);
