@@ -64,11 +64,10 @@ pub record IsReady (old leaves : List (List Entry)) (key at : ℕ) : Type 0 wher
 abbrev pub HaveRoom : {X Z : Type 0} → Vec X Z → Vec X Z → Type 0
 HaveRoom v w = (vec_len v + vec_len w ≤ vec_capacity v) × (vec_len v + vec_len w ≤ vec_capacity w)
 
--- What an index keeps: its leaves, as many in all as its capacity wants, an empty one that moves go by way of, and the count of its entries.
-pub record IsIndex {Z : Type 0} (leaves spare : Vec (List Entry) Z) (scratch : List Entry) (len capacity : ℕ) : Type 0 where
+-- What an index keeps: its leaves, as many in all as its capacity wants, and the count of its entries.
+pub record IsIndex {Z : Type 0} (leaves spare : Vec (List Entry) Z) (len capacity : ℕ) : Type 0 where
   pub kept : IsKept leaves.items spare.items
   pub room : HaveRoom leaves spare
-  pub clear : scratch ≡ []
   pub total : length leaves.items + length spare.items ≡ capacity / 64 + 2
   pub count : len ≡ length (all_of leaves.items)
   pub few : len ≤ capacity

@@ -20,7 +20,6 @@ use std::marker::Model;
 pub struct KeyIndex {
     leaves: Vec<Leaf>,
     spare: Vec<Leaf>,
-    scratch: Leaf,
     len: u32,
     capacity: u32,
 }
@@ -34,7 +33,7 @@ impl Model for KeyIndex {
 
     ghost view = { λ i. index (all_of i.leaves.items) i.capacity };
 
-    ghost invariant = { λ i. IsIndex i.leaves i.spare i.scratch i.len i.capacity };
+    ghost invariant = { λ i. IsIndex i.leaves i.spare i.len i.capacity };
 }
 
 impl KeyIndex {
@@ -51,7 +50,6 @@ impl KeyIndex {
         Ok(KeyIndex {
             leaves,
             spare,
-            scratch: Leaf::open(alloc)?,
             len: 0,
             capacity,
         })
@@ -209,7 +207,7 @@ impl KeyIndex {
         if !self.leaves.is_empty() {
             let at = settled(&self.leaves, place, key);
             if self.leaves[at.leaf].len() < LEAF_SIZE {
-                put_at(&mut self.leaves, at, key, filed, &mut self.scratch);
+                put_at(&mut self.leaves, at, key, filed);
                 self.len += 1;
                 return;
             }
@@ -226,7 +224,7 @@ impl KeyIndex {
     {
         reclaim(&mut self.leaves, &mut self.spare);
         let at = make_room(&mut self.leaves, &mut self.spare, key);
-        put(&mut self.leaves, at, key, filed, &mut self.scratch);
+        put(&mut self.leaves, at, key, filed);
         self.len += 1;
     }
 

@@ -1,4 +1,4 @@
-ghost use Rattle.std.specs.Prelude.{◌≡◌, ◌<◌, ◌/◌, ◌%◌, ◌^◌, nat_lt};
+ghost use Rattle.std.specs.Prelude.{◌≡◌, ◌<◌, ◌+◌, ◌*◌, ◌/◌, ◌%◌, ◌^◌, nat_lt};
 ghost use Rattle.key_index.specs.Key.{rank};
 
 use std::marker::Model;
@@ -7,8 +7,9 @@ use std::marker::Model;
 /// times 2^31 and the number, so keys go by transaction first.
 #[derive(Clone, Copy, Debug, PartialEq, Eq)]
 pub struct IndexKey {
-    transaction: u32,
+    // In this order both are read as one number.
     number: u32,
+    transaction: u32,
 }
 
 impl Model for IndexKey {
@@ -52,14 +53,17 @@ impl IndexKey {
         self.number
     }
 
+    // Both parts as one number, which goes by the transaction first.
+    fn joined(self) -> u64
+        ensures { result ≡ self / 2 ^ 31 * 2 ^ 32 + self % 2 ^ 31 }
+    {
+        (u64::from(self.transaction) << 32) | u64::from(self.number)
+    }
+
     /// Tells whether this key stands before the other.
     pub fn is_before(self, other: IndexKey) -> bool
         ensures { result ≡ nat_lt self other }
     {
-        if self.transaction == other.transaction {
-            self.number < other.number
-        } else {
-            self.transaction < other.transaction
-        }
+        self.joined() < other.joined()
     }
 }

@@ -169,21 +169,16 @@ impl Leaf {
         self.entries[place] = (entry.0, filed);
     }
 
-    /// Puts an entry at a place; those from there on, where there are any, move up by way of an empty
-    /// leaf, copied there and back as a whole run.
-    pub(crate) fn insert(&mut self, place: usize, key: IndexKey, filed: Filed, empty: &mut Leaf)
-        requires { (place ≤ length self.old) × (length self.old < LEAF_SIZE) × (empty.old ≡ []) }
-        ensures { (self.new ≡ insert self.old place (key, filed)) × (empty.new ≡ []) }
+    /// Puts an entry at a place; those from there on move up.
+    pub(crate) fn insert(&mut self, place: usize, key: IndexKey, filed: Filed)
+        requires { (place ≤ length self.old) × (length self.old < LEAF_SIZE) }
+        ensures { self.new ≡ insert self.old place (key, filed) }
     {
         self.counts = self.counts.more(filed.marks);
-        if place == self.entries.len() {
-            self.entries.push_reserved((key, filed));
-            return;
+        match self.entries.insert(place, (key, filed)) {
+            Ok(()) => (),
+            Err(_) => unreachable!(),
         }
-        move_from(&mut self.entries, place, &mut empty.entries);
-        self.entries.push_reserved((key, filed));
-        push_all(&mut self.entries, &empty.entries);
-        empty.entries.clear();
     }
 
     /// Takes out the entry at a place; those after it move down.

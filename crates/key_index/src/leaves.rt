@@ -169,33 +169,25 @@ pub(crate) fn mark(leaves: &mut Vec<Leaf>, at: usize, key: IndexKey, marks: Mark
     leaf.set_marks(place, marks);
 }
 
-/// Puts an entry at a place of a leaf that is not full, by way of an empty leaf.
-pub(crate) fn put_at(
-    leaves: &mut Vec<Leaf>,
-    place: Place,
-    key: IndexKey,
-    filed: Filed,
-    empty: &mut Leaf,
-)
-    requires { (place.leaf < length leaves.old.items) × (length (get_or leaves.old.items place.leaf []) < 128) × (place.entry ≤ length (get_or leaves.old.items place.leaf [])) × (empty.old ≡ []) }
-    ensures empty { empty.new ≡ [] }
+/// Puts an entry at a place of a leaf that is not full.
+pub(crate) fn put_at(leaves: &mut Vec<Leaf>, place: Place, key: IndexKey, filed: Filed)
+    requires { (place.leaf < length leaves.old.items) × (length (get_or leaves.old.items place.leaf []) < 128) × (place.entry ≤ length (get_or leaves.old.items place.leaf [])) }
     ensures items { let leaf = get_or leaves.old.items place.leaf [] in leaves.new.items ≡ slice_set leaves.old.items place.leaf (insert leaf place.entry (key, filed)) }
     ensures capacity { vec_capacity leaves.new ≡ vec_capacity leaves.old }
 {
     let leaf = &mut leaves[place.leaf];
-    leaf.insert(place.entry, key, filed, empty);
+    leaf.insert(place.entry, key, filed);
 }
 
-/// Puts an entry into a leaf that is not full, where its key belongs, by way of an empty leaf.
-pub(crate) fn put(leaves: &mut Vec<Leaf>, at: usize, key: IndexKey, filed: Filed, empty: &mut Leaf)
-    requires { (at < length leaves.old.items) × (length (get_or leaves.old.items at []) < 128) × AreRising (get_or leaves.old.items at []) × (empty.old ≡ []) }
-    ensures empty { empty.new ≡ [] }
+/// Puts an entry into a leaf that is not full, where its key belongs.
+pub(crate) fn put(leaves: &mut Vec<Leaf>, at: usize, key: IndexKey, filed: Filed)
+    requires { (at < length leaves.old.items) × (length (get_or leaves.old.items at []) < 128) × AreRising (get_or leaves.old.items at []) }
     ensures items { let leaf = get_or leaves.old.items at [] in leaves.new.items ≡ slice_set leaves.old.items at (insert leaf (length (below key leaf)) (key, filed)) }
     ensures capacity { vec_capacity leaves.new ≡ vec_capacity leaves.old }
 {
     let leaf = &mut leaves[at];
     let place = leaf.place_of(key);
-    leaf.insert(place, key, filed, empty);
+    leaf.insert(place, key, filed);
 }
 
 /// Moves the upper half of a full leaf into an empty one behind it.

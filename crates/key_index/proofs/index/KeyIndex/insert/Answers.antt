@@ -30,7 +30,6 @@ invariant_of-self c =
         empty = was.kept.empty;
       };
       room = omega (arith, was.room, as_many, c.put_at.ensures.capacity, c.put_at.new.leaves.ok.0, c.self.inside.leaves.ok.0);
-      clear = c.put_at.ensures.empty;
       total = omega (arith, was.total, as_many);
       count = omega (arith, was.count, ap length all, length_put key filed es);
       few = omega (arith, was.count, entries, limit, c.requires.room);

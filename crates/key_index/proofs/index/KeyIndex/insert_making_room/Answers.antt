@@ -11,7 +11,7 @@ use Rattle.key_index.proofs.index.KeyIndex.insert_making_room.Goals as goal
 pub put-requires : goal.put-requires
 put-requires c =
     let ready = c.make_room-at.ensures.ready in let ls = c.make_room-at.new.leaves.items in
-    (ready.belongs.within, ready.room, rising_leaf ls c.make_room-at.result ready.belongs.within (subst AreRising (sym ready.same) c.reclaim.ensures.kept.rising), c.self.invariant.clear)
+    (ready.belongs.within, ready.room, rising_leaf ls c.make_room-at.result ready.belongs.within (subst AreRising (sym ready.same) c.reclaim.ensures.kept.rising))
 
 pub returns-clause-entries : goal.returns-clause-entries
 returns-clause-entries c =
@@ -50,7 +50,6 @@ invariant_of-self c =
         c.self.inside.leaves.ok.0,
         c.self.inside.spare.ok.0,
       );
-      clear = c.put.ensures.empty;
       total = omega (arith, was.total, as_many, room.ensures.total, c.reclaim.ensures.total);
       count = omega (arith, was.count, ap length all, length_put key filed es);
       few = omega (arith, was.count, entries, limit, c.requires.room);

@@ -56,7 +56,6 @@ invariant_of-self c =
         c.self.inside.leaves.ok.0,
         c.self.inside.spare.ok.0,
       );
-      clear = was.clear;
       total = omega (arith, was.total, as_many, c.release_empty.ensures.total);
       count = omega (arith, was.count, ap length all, length_out key es found);
       few = omega (arith, was.few);

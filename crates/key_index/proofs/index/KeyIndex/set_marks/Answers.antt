@@ -43,7 +43,6 @@ invariant_of-self c =
         empty = was.kept.empty;
       };
       room = omega (arith, was.room, as_many, c.mark.ensures.capacity, c.mark.new.leaves.ok.0, c.self.inside.leaves.ok.0);
-      clear = was.clear;
       total = omega (arith, was.total, as_many);
       count = omega (arith, was.count, long);
       few = omega (arith, was.few);
