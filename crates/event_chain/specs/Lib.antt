@@ -7,3 +7,4 @@ pub mod Room
 pub mod Walk
 pub mod Ranked
 pub mod Placed
+pub mod Sides

@@ -16,13 +16,15 @@ ghost use Rattle.event_chain.specs.Kept.{end_count, is_end};
 ghost use Rattle.ledger_model.specs.declared.reading.Direction.{Direction};
 ghost use Rattle.ledger_model.specs.Event.{toward};
 ghost use Rattle.event_chain.specs.Edits.{carried as carried_by, counts_under};
+ghost use Rattle.event_chain.specs.Sides.{by_direction, side_if};
 
 use crate::answers::{Found, Room, TxStanding};
+use crate::around::{Around, around_of, sides_of};
 use crate::carries::Carries;
 use crate::place_index::PlaceIndex;
 use crate::spots::{
-    carriers_around, enter, evse_at, first_at, first_live, first_naming, kind_at, last_at,
-    last_live, leave, locate, look_up, number_of, renew, slot_sought,
+    enter, evse_at, first_live, first_naming, kind_at, last_live, leave, locate, look_up,
+    number_of, renew, slot_sought,
 };
 use crate::tx_ids::TxIds;
 use crate::tx_walk::TxWalk;
@@ -115,15 +117,7 @@ impl Chains {
         ensures { self.new ≡ self.old }
     {
         let place = look_up(&self.table, &self.places, key).1;
-        self.seek_at(key, place);
-    }
-
-    /// Takes this place for that of a key, as [`Chains::look`] told it, for the calls that come next.
-    /// Nothing that they answer changes.
-    pub fn seek_at(&mut self, key: &Key, place: Place)
-        ensures { self.new ≡ self.old }
-    {
-        if let Some(row) = self.table.seek(key.tx()) {
+        if let Some((_, row)) = self.table.seek(key.tx()) {
             self.places
                 .seek_at(IndexKey::new(row.slot, key.seq()), place);
         }
@@ -168,7 +162,7 @@ impl Chains {
         self.look(key).0
     }
 
-    /// The same, and where the key stands or belongs, as a hint for [`Chains::seek_at`].
+    /// The same, and where the key stands or belongs, as a hint for [`Chains::admit`].
     pub fn look(&self, key: &Key) -> (Option<EventRef<'_>>, Place)
         ensures { option_map (λ e. e.1) result.0 ≡ finite.get self.now.events key.now }
     {
@@ -196,12 +190,35 @@ impl Chains {
         ensures limits { self.new.limits ≡ self.old.limits }
         ensures events { self.new.events ≡ finite.insert self.old.events key (record { event = event.now; voided = false }) }
     {
-        let (row, known) = enter(&mut self.table, key.tx());
+        let place = self.places.near();
+        let _ = self.admit(&key, event, place);
+    }
+
+    /// The same at the place that [`Chains::look`] told, a hint that saves a search. It answers what
+    /// [`Chains::neighbours`] would, in each direction of which the event has a reading.
+    pub fn admit(&mut self, key: &Key, event: &Event, place: Place) -> Around
+        requires absent { finite.get self.old.events key.now ≡ None }
+        requires room { room_of self.old.limits (stored self.old) key.now.tx (length event.now.readings) ≡ Fits }
+        ensures limits { self.new.limits ≡ self.old.limits }
+        ensures events { self.new.events ≡ finite.insert self.old.events key.now (record { event = event.now; voided = false }) }
+        ensures before { (d : Direction) → by_direction result.import.before result.export.before d ≡ side_if (is_some (first_reading (toward d event.now.readings))) (last_reading (own_readings d key.now.tx (before_key key.now (stored self.old)))) }
+        ensures behind { (d : Direction) → by_direction result.import.behind result.export.behind d ≡ side_if (is_some (first_reading (toward d event.now.readings))) (first_reading (own_readings d key.now.tx (behind_key key.now (stored self.old)))) }
+    {
+        let carries = Carries::of(event.readings());
+        let found = self.table.seek(key.tx());
+        let around = around_of(
+            &self.table,
+            &self.store,
+            &self.places,
+            found,
+            place,
+            key,
+            carries,
+        );
+        let (row, known) = enter(&mut self.table, found, key.tx());
         let at = IndexKey::new(row.slot, key.seq());
         let slot = self.store.put(at, event);
-        let carries = Carries::of(event.readings());
         let names = event.evse().is_some();
-        let place = self.places.near();
         self.places.insert(place, at, slot, carries, names);
         let after = TableRow {
             slot: row.slot,
@@ -210,6 +227,7 @@ impl Chains {
         };
         renew(&mut self.table, known, key.tx(), after);
         self.table.rows_rise();
+        around
     }
 
     /// Voids a live event; it keeps its slots.
@@ -295,17 +313,18 @@ impl Chains {
         ensures before { result.0 ≡ last_reading (own_readings direction key.now.tx (before_key key.now (stored self.now))) }
         ensures behind { result.1 ≡ first_reading (own_readings direction key.now.tx (behind_key key.now (stored self.now))) }
     {
-        match self.table.get(key.tx()) {
-            Some(row) => {
-                let at = IndexKey::new(row.slot, key.seq());
-                let place = self.places.near();
-                let sides = carriers_around(&self.places, direction, place, at);
-                let before = last_at(&self.store, direction, sides.0);
-                let behind = first_at(&self.store, direction, sides.1);
-                (before, behind)
-            }
-            None => (None, None),
-        }
+        let row = self.table.get(key.tx());
+        let place = self.places.near();
+        let sides = sides_of(
+            &self.table,
+            &self.store,
+            &self.places,
+            row,
+            place,
+            key,
+            direction,
+        );
+        (sides.before, sides.behind)
     }
 
     /// How many events are stored, voided ones among them.

@@ -24,6 +24,7 @@
 #![tactic(auto)]
 
 mod answers;
+mod around;
 mod carries;
 mod chains;
 mod lane;
@@ -33,6 +34,7 @@ mod tx_ids;
 mod tx_walk;
 
 pub use answers::{Found, Room, TxStanding};
+pub use around::{Around, Sides};
 pub use carries::Carries;
 pub use chains::Chains;
 pub use tx_ids::TxIds;

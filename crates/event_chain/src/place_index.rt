@@ -132,16 +132,23 @@ impl PlaceIndex {
     pub(crate) fn seek_at(&mut self, key: IndexKey, place: Place)
         ensures { self.new ≡ self.old }
     {
-        let slot = key.transaction();
-        if slot != self.sought.transaction() || self.start == Place::UNKNOWN {
-            // A transaction's events mostly come in order.
-            self.start = self.index.place_near(place, IndexKey::new(slot, 0));
-            self.end = self
-                .index
-                .place_near(place, IndexKey::new(slot.saturating_add(1), 0));
-        }
+        let ends = self.ends_at(key, place);
+        self.start = ends.0;
+        self.end = ends.1;
         self.near = place;
         self.sought = key;
+    }
+
+    // Where the transaction of the key of a place begins and ends.
+    fn ends_at(&self, key: IndexKey, place: Place) -> (Place, Place) {
+        let slot = key.transaction();
+        if slot == self.sought.transaction() && self.start != Place::UNKNOWN {
+            return (self.start, self.end);
+        }
+        // A transaction's events mostly come in order.
+        let start = self.index.place_near(place, IndexKey::new(slot, 0));
+        let next = IndexKey::new(slot.saturating_add(1), 0);
+        (start, self.index.place_near(place, next))
     }
 
     // The first place from a key on, and where the key stands or belongs.
@@ -246,6 +253,8 @@ impl PlaceIndex {
         ensures naming { self.new.naming ≡ index (put_if names key slot self.old.naming.entries) self.old.naming.capacity }
     {
         self.index.keys_rise();
+        let place = self.index.place_near(place, key);
+        let ends = self.ends_at(key, place);
         link_live(&self.index, &mut self.links, place, key, slot);
         let marks = Marks {
             live: true,
@@ -256,7 +265,8 @@ impl PlaceIndex {
         self.index.insert(place, key, Filed { slot, marks });
         self.near = place;
         self.sought = key;
-        self.end = self.end.moved_by(place);
+        self.start = ends.0;
+        self.end = ends.1.moved_by(place);
     }
 
     // Takes a live event's marks away; it keeps its place and its slot.

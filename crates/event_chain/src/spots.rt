@@ -85,14 +85,20 @@ pub(crate) fn locate(table: &TransactionTable, places: &PlaceIndex, key: &Key) -
     Spot { row, key: at, slot }
 }
 
-// The row of a transaction, put in where it is new, else with its place.
-pub(crate) fn enter(table: &mut TransactionTable, tx: &TxId) -> (TableRow, Option<usize>)
-    requires { row_of tx.now table.old.rows ≡ None → length table.old.rows < table.old.capacity }
+// The row of a transaction, put in where none is known, else with its place.
+pub(crate) fn enter(
+    table: &mut TransactionTable,
+    known: Option<(usize, TableRow)>,
+    tx: &TxId,
+) -> (TableRow, Option<usize>)
+    requires known { option_map (λ f. f.1) known ≡ row_of tx.now table.old.rows }
+    requires at { IfSome known (λ f. IsRowAt tx.now table.old.rows f.0) }
+    requires room { row_of tx.now table.old.rows ≡ None → length table.old.rows < table.old.capacity }
     ensures entered { IsEntered table.old.rows table.new.rows tx.now result.0 }
     ensures at { IfSome result.1 (λ i. IsRowAt tx.now table.new.rows i) }
     ensures capacity { table.new.capacity ≡ table.old.capacity }
 {
-    match table.find(tx) {
+    match known {
         Some((at, row)) => (row, Some(at)),
         None => (table.add(tx), None),
     }

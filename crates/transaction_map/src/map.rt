@@ -68,16 +68,17 @@ impl<V: Copy> TransactionMap<V> {
         })
     }
 
-    /// The value of a transaction, which is searched once for the calls that come next; none where it is
-    /// absent. Nothing that they answer changes.
-    pub fn seek(&mut self, tx: &TxId) -> Option<V>
-        ensures value { result ≡ find id_cmp tx.now self.old.rows }
+    /// The value of a transaction, and the place of its row; none where it is absent. It is searched once
+    /// for the calls that come next, and nothing that they answer changes.
+    pub fn seek(&mut self, tx: &TxId) -> Option<(usize, V)>
+        ensures value { option_map (λ f. f.1) result ≡ find id_cmp tx.now self.old.rows }
+        ensures at { IfSome result (λ f. IsAt tx.now self.old.rows f.0) }
         ensures same { self.new ≡ self.old }
     {
         match place_near(&self.rows, self.near, tx) {
             Ok(at) => {
                 self.near = at;
-                Some(self.rows[at].value())
+                Some((at, self.rows[at].value()))
             }
             Err(at) => {
                 self.near = at;

@@ -71,10 +71,11 @@ impl TransactionTable {
         self.rows.capacity()
     }
 
-    /// What is kept of a transaction, which is searched once for the calls that come next; none where it
-    /// is absent. Nothing that they answer changes.
-    pub fn seek(&mut self, tx: &TxId) -> Option<TableRow>
-        ensures value { result ≡ row_of tx.now self.old.rows }
+    /// What is kept of a transaction, and the place of its row; none where it is absent. It is searched
+    /// once for the calls that come next, and nothing that they answer changes.
+    pub fn seek(&mut self, tx: &TxId) -> Option<(usize, TableRow)>
+        ensures value { option_map (λ f. f.1) result ≡ row_of tx.now self.old.rows }
+        ensures at { IfSome result (λ f. IsRowAt tx.now self.old.rows f.0) }
         ensures same { self.new ≡ self.old }
     {
         self.rows.seek(tx)
@@ -91,14 +92,6 @@ impl TransactionTable {
         ensures { result ≡ row_of tx.now self.now.rows }
     {
         self.rows.get(tx)
-    }
-
-    /// What is kept of a transaction, and the place of its row; none where it is absent.
-    pub fn find(&self, tx: &TxId) -> Option<(usize, TableRow)>
-        ensures value { option_map (λ f. f.1) result ≡ row_of tx.now self.now.rows }
-        ensures at { IfSome result (λ f. IsRowAt tx.now self.now.rows f.0) }
-    {
-        self.rows.find(tx)
     }
 
     /// The id at a place, the first at 0; none past the last.

@@ -1,6 +1,7 @@
-use Rattle.std.proofs.Common.{arith, sym, ap, ◌∙◌, Some}
+use Rattle.std.proofs.Common.{arith, sym, ap, subst, ◌∙◌, Some}
 use Rattle.std.specs.FinMap.{find}
 use Rattle.transaction_map.specs.Map.{id_cmp}
+use Rattle.transaction_map.specs.Places.{IsAt}
 use Rattle.transaction_map.proofs.Places.{at_within, find_gap, find_at}
 use Rattle.transaction_map.proofs.map.TransactionMap.seek.Goals as goal
 
@@ -13,6 +14,11 @@ pub returns-in-Ok-clause-value : goal.returns-in-Ok-clause-value
 returns-in-Ok-clause-value g c =
     let at = rw c.deref.ensures.value at c.in-Ok.ensures.at in
     ap (λ v. Some v) (c.value.ensures ∙ ap (λ r. r.1) c.index.ensures) ∙ sym (find_at _ _ _ c.index.result.now at) ∙ ap (λ t. find id_cmp c.args.tx.now t.rows) c.self.view_is
+
+pub returns-in-Ok-clause-at : goal.returns-in-Ok-clause-at
+returns-in-Ok-clause-at g c =
+    let at = rw c.deref.ensures.value at c.in-Ok.ensures.at in
+    subst (λ t. IsAt c.args.tx.now t.rows c.in-Ok.at) c.self.view_is at
 
 pub returns-in-Err-clause-value : goal.returns-in-Err-clause-value
 returns-in-Err-clause-value g c =

@@ -1,0 +1,21 @@
+use Rattle.std.proofs.Common.{◌≡◌, ◌∙◌}
+use Rattle.ledger_model.specs.Deltas.{before_key, behind_key, first_reading, last_reading, own_readings}
+use Rattle.ledger_model.specs.declared.reading.Direction.TheVariants.{Import, Export}
+use Rattle.event_chain.specs.Edits.{carried}
+use Rattle.event_chain.specs.Flat.{flat}
+use Rattle.event_chain.specs.Sides.{by_direction, side_if}
+use Rattle.event_chain.proofs.around.around_of.Goals as goal
+
+pub sides_where-import-requires-clause-carry : goal.sides_where-import-requires-clause-carry
+sides_where-import-requires-clause-carry c = c.requires.carry Import
+
+pub sides_where-export-requires-clause-carry : goal.sides_where-export-requires-clause-carry
+sides_where-export-requires-clause-carry c = c.requires.carry Export
+
+pub returns-clause-before : goal.returns-clause-before
+returns-clause-before c Import = c.sides_where-import.ensures.before
+returns-clause-before c Export = c.sides_where-export.ensures.before
+
+pub returns-clause-behind : goal.returns-clause-behind
+returns-clause-behind c Import = c.sides_where-import.ensures.behind
+returns-clause-behind c Export = c.sides_where-export.ensures.behind

@@ -1,0 +1,147 @@
+//! The live readings on either side of an event's place.
+ghost use Rattle.std.specs.Prelude.{◌≡◌, None, option_map};
+ghost use Rattle.ledger_model.specs.Deltas.{before_key, behind_key, first_reading, last_reading, own_readings};
+ghost use Rattle.ledger_model.specs.declared.reading.Direction.{Direction};
+ghost use Rattle.transaction_table.specs.Table.{row_of};
+ghost use Rattle.event_chain.specs.Edits.{carried};
+ghost use Rattle.event_chain.specs.Flat.{flat};
+ghost use Rattle.event_chain.specs.Kept.{IsKeyed, IsSub, is_carrier};
+ghost use Rattle.event_chain.specs.Placed.{carriers_of};
+ghost use Rattle.event_chain.specs.Sides.{by_direction, side_if};
+
+use crate::carries::Carries;
+use crate::place_index::PlaceIndex;
+use crate::spots::{carriers_around, first_at, last_at};
+use event_store::EventStore;
+use key_index::{IndexKey, Place};
+use ledger_model::{Direction, Key, Reading};
+use transaction_table::{TableRow, TransactionTable};
+
+/// The live readings of a direction just before and just behind an event's place in its transaction;
+/// none where the event has no reading of the direction.
+#[derive(Clone, Copy)]
+pub struct Sides {
+    /// The last one in front of it.
+    pub before: Option<Reading>,
+    /// The first one behind it.
+    pub behind: Option<Reading>,
+}
+
+/// The same in each direction.
+#[derive(Clone, Copy)]
+pub struct Around {
+    /// Those of the import register.
+    pub import: Sides,
+    /// Those of the export register.
+    pub export: Sides,
+}
+
+// The readings of a direction on either side of the place of a key, whose transaction may have a row.
+#[inline(always)]
+pub(crate) fn sides_of(
+    table: &TransactionTable,
+    store: &EventStore,
+    places: &PlaceIndex,
+    row: Option<TableRow>,
+    place: Place,
+    key: &Key,
+    direction: Direction,
+) -> Sides
+    requires keyed { IsKeyed table.now.rows places.now.stored.entries store.now.slots }
+    requires carry { IsSub (is_carrier direction) places.now.stored.entries store.now.slots (carriers_of places.now direction).entries }
+    requires row { row ≡ row_of key.now.tx table.now.rows }
+    ensures before { result.before ≡ last_reading (own_readings direction key.now.tx (before_key key.now (flat table.now.rows places.now.stored.entries store.now.slots))) }
+    ensures behind { result.behind ≡ first_reading (own_readings direction key.now.tx (behind_key key.now (flat table.now.rows places.now.stored.entries store.now.slots))) }
+{
+    let _ = table;
+    match row {
+        Some(row) => {
+            let at = IndexKey::new(row.slot, key.seq());
+            let sides = carriers_around(places, direction, place, at);
+            let before = last_at(store, direction, sides.0);
+            let behind = first_at(store, direction, sides.1);
+            Sides { before, behind }
+        }
+        None => Sides {
+            before: None,
+            behind: None,
+        },
+    }
+}
+
+// The same, where the event of the key has a reading of the direction.
+#[inline(always)]
+fn sides_where(
+    has: bool,
+    table: &TransactionTable,
+    store: &EventStore,
+    places: &PlaceIndex,
+    row: Option<TableRow>,
+    place: Place,
+    key: &Key,
+    direction: Direction,
+) -> Sides
+    requires keyed { IsKeyed table.now.rows places.now.stored.entries store.now.slots }
+    requires carry { IsSub (is_carrier direction) places.now.stored.entries store.now.slots (carriers_of places.now direction).entries }
+    requires row { row ≡ row_of key.now.tx table.now.rows }
+    ensures before { result.before ≡ side_if has (last_reading (own_readings direction key.now.tx (before_key key.now (flat table.now.rows places.now.stored.entries store.now.slots)))) }
+    ensures behind { result.behind ≡ side_if has (first_reading (own_readings direction key.now.tx (behind_key key.now (flat table.now.rows places.now.stored.entries store.now.slots)))) }
+{
+    if !has {
+        return Sides {
+            before: None,
+            behind: None,
+        };
+    }
+    sides_of(table, store, places, row, place, key, direction)
+}
+
+// The row of a transaction, where it was found.
+fn row_in(known: Option<(usize, TableRow)>) -> Option<TableRow>
+    ensures { result ≡ option_map (λ f. f.1) known }
+{
+    match known {
+        Some((_, row)) => Some(row),
+        None => None,
+    }
+}
+
+// The same in each direction of which the event of the key has a reading.
+pub(crate) fn around_of(
+    table: &TransactionTable,
+    store: &EventStore,
+    places: &PlaceIndex,
+    known: Option<(usize, TableRow)>,
+    place: Place,
+    key: &Key,
+    carries: Carries,
+) -> Around
+    requires keyed { IsKeyed table.now.rows places.now.stored.entries store.now.slots }
+    requires carry { (d : Direction) → IsSub (is_carrier d) places.now.stored.entries store.now.slots (carriers_of places.now d).entries }
+    requires row { option_map (λ f. f.1) known ≡ row_of key.now.tx table.now.rows }
+    ensures before { (d : Direction) → by_direction result.import.before result.export.before d ≡ side_if (carried d carries) (last_reading (own_readings d key.now.tx (before_key key.now (flat table.now.rows places.now.stored.entries store.now.slots)))) }
+    ensures behind { (d : Direction) → by_direction result.import.behind result.export.behind d ≡ side_if (carried d carries) (first_reading (own_readings d key.now.tx (behind_key key.now (flat table.now.rows places.now.stored.entries store.now.slots)))) }
+{
+    let row = row_in(known);
+    let import = sides_where(
+        carries.imports,
+        table,
+        store,
+        places,
+        row,
+        place,
+        key,
+        Direction::Import,
+    );
+    let export = sides_where(
+        carries.exports,
+        table,
+        store,
+        places,
+        row,
+        place,
+        key,
+        Direction::Export,
+    );
+    Around { import, export }
+}
