@@ -13,7 +13,8 @@ use Rattle.ledger_model.proofs.Callers.{few_moved, few_toward}
 use Rattle.event_chain.specs.Chains.{Chained, stored}
 use Rattle.station_ledger.specs.Moved.{IsMoved}
 use Rattle.station_ledger.specs.Quarters.{both_length, readings_at}
-use Rattle.station_ledger.specs.Sides.{has_some, side_if, sides_across, sides_between}
+use Rattle.event_chain.specs.Sides.{side_if}
+use Rattle.station_ledger.specs.Sides.{has_some, sides_across, sides_between}
 use Rattle.station_ledger.specs.Sums.{AreAllowed, IsToCome, IsToGo}
 use Rattle.station_ledger.proofs.Moved.{moved_more, moved_back}
 use Rattle.station_ledger.proofs.Trades.{IsTraded, traded_more, traded_less}

@@ -31,7 +31,8 @@ use Rattle.station_ledger.specs.declared.standing.Standing.{Standing}
 use Rattle.station_ledger.specs.declared.totals.EvseSum.{EvseSum}
 use Rattle.station_ledger.specs.Kept.{voided_in}
 use Rattle.station_ledger.specs.Quarters.{both_quartered, readings_at}
-use Rattle.station_ledger.specs.Sides.{has_some, side_if}
+use Rattle.event_chain.specs.Sides.{side_if}
+use Rattle.station_ledger.specs.Sides.{has_some}
 use Rattle.station_ledger.specs.Spent.{most_under}
 use Rattle.station_ledger.specs.Coming.{HasCome}
 use Rattle.station_ledger.specs.Sums.{AreAllowed, AreSummed, IsToCome, IsToGo}

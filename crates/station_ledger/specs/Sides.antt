@@ -1,22 +1,12 @@
 -- The readings on either side of an event's place, direction by direction.
-use Rattle.std.specs.Prelude.{Bool, if◌then◌else◌, List, Option, None, is_some}
+use Rattle.std.specs.Prelude.{Bool, List, Option, is_some}
 use Rattle.ledger_model.specs.declared.reading.Direction.{Direction}
-use Rattle.ledger_model.specs.declared.reading.Direction.TheVariants.{Import, Export}
 use Rattle.ledger_model.specs.Deltas.{across, first_reading, pairs_between}
 use Rattle.ledger_model.specs.Energy.{Pair}
 use Rattle.ledger_model.specs.Event.{MeterReading}
 use Rattle.ledger_model.specs.Key.{KeyName}
 use Rattle.event_chain.specs.Chains.{Chained}
 use Rattle.station_ledger.specs.Quarters.{readings_at}
-
--- One of two, by the direction.
-abbrev pub by_direction : {A : Type 0} → A → A → Direction → A
-by_direction a b Import = a
-by_direction a b Export = b
-
--- A reading on a side, where the event has a reading of its direction.
-abbrev pub side_if : Bool → Option MeterReading → Option MeterReading
-side_if has o = if has then o else None
 
 -- The pair across the place, in each direction.
 abbrev pub sides_across : (Direction → Option MeterReading) → (Direction → Option MeterReading) → Direction → List Pair

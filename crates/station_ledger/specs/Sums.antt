@@ -28,7 +28,8 @@ use Rattle.station_ledger.specs.declared.standing.Standing.{Standing}
 use Rattle.station_ledger.specs.declared.totals.EvseSum.{EvseSum}
 use Rattle.station_ledger.specs.Moved.{sum_at, evse_sum}
 use Rattle.station_ledger.specs.Quarters.{readings_at}
-use Rattle.station_ledger.specs.Sides.{has_some, side_if}
+use Rattle.event_chain.specs.Sides.{side_if}
+use Rattle.station_ledger.specs.Sides.{has_some}
 use Rattle.station_ledger.specs.Standing.{kept_of}
 
 -- Each transaction with a live event is kept, and no other.

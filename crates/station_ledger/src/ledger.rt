@@ -155,7 +155,7 @@ impl StationLedger {
         command.keeps_ranges();
         let (answer, place) = self.judge_at(&command);
         if let Answer::Accepted(changes) = answer {
-            carry_out(&mut self.chains, &mut self.sums, place, command, work);
+            carry_out(&mut self.chains, &mut self.sums, place, &command, work);
             self.changes = changes;
         }
         answer

@@ -12,13 +12,12 @@ ghost use Rattle.ledger_model.specs.Step.{events_after};
 ghost use Rattle.ledger_model.specs.declared.command.Command.TheVariants.{Deliver, Erase, Restore, Void};
 ghost use Rattle.station_ledger.specs.Kept.{voided_in, IsReady};
 ghost use Rattle.station_ledger.specs.Spent.{most_spent, most_under, most_with};
-ghost use Rattle.station_ledger.specs.Sides.{by_direction, side_if};
+ghost use Rattle.event_chain.specs.Sides.{by_direction, side_if};
 ghost use Rattle.station_ledger.specs.Sums.{AreAllowed, AreSummed};
 
-use crate::pairs::{Around, Sides};
 use crate::sums::{Sums, add_event, take_event};
 use energy_flow::Work;
-use event_chain::{Carries, Chains};
+use event_chain::{Around, Chains, Sides};
 use key_index::Place;
 use ledger_model::{Command, Direction, Event, Key};
 
@@ -49,34 +48,33 @@ fn around(chains: &Chains, key: &Key, imports: bool, exports: bool) -> Around
     }
 }
 
-// Puts in a live event under a new key, for which there is room.
-pub(crate) fn deliver(
+// Puts in a live event under a new key, for which there is room, at the place of the key.
+fn deliver(
     chains: &mut Chains,
     sums: &mut Sums,
-    key: Key,
+    place: Place,
+    key: &Key,
     event: &Event,
     work: &mut Work,
 )
-    requires absent { finite.get chains.old.events key ≡ None }
-    requires room { room_of chains.old.limits (stored chains.old) key.tx (length event.now.readings) ≡ Fits }
+    requires absent { finite.get chains.old.events key.now ≡ None }
+    requires room { room_of chains.old.limits (stored chains.old) key.now.tx (length event.now.readings) ≡ Fits }
     requires before { AreAllowed chains.old.limits (stored chains.old) }
-    requires after { AreAllowed chains.old.limits (finite.entries (events_after chains.old.events (Deliver key event.now))) }
+    requires after { AreAllowed chains.old.limits (finite.entries (events_after chains.old.events (Deliver key.now event.now))) }
     requires summed { AreSummed chains.old.limits (stored chains.old) sums.old.kept sums.old.evses.items sums.old.period sums.old.quarters sums.old.energy sums.old.export sums.old.figures }
     ensures limits { chains.new.limits ≡ chains.old.limits }
-    ensures events { chains.new.events ≡ events_after chains.old.events (Deliver key event.now) }
+    ensures events { chains.new.events ≡ events_after chains.old.events (Deliver key.now event.now) }
     ensures summed { AreSummed chains.new.limits (stored chains.new) sums.new.kept sums.new.evses.items sums.new.period sums.new.quarters sums.new.energy sums.new.export sums.new.figures }
     ensures period { sums.new.period ≡ sums.old.period }
     ensures voided { sums.new.figures.voided ≡ sums.old.figures.voided }
     ensures work { work.new ≤ work.old + most_with event.now.readings }
     ensures grows { work.old ≤ work.new }
 {
-    let at = key.copied();
-    let has = Carries::of(event.readings());
-    let place = around(chains, &at, has.imports, has.exports);
-    chains.insert(key, event);
+    let around = chains.admit(key, event, place);
+    sums.kept.look_near(chains.near());
     let names = event.evse().is_some();
     let own = Some(event.readings());
-    add_event(chains, sums, &at, names, own, &place, work);
+    add_event(chains, sums, key, names, own, &around, work);
 }
 
 // Makes a voided event live again.
@@ -141,40 +139,44 @@ pub(crate) fn erase(chains: &mut Chains, sums: &mut Sums, key: &Key)
     sums.figures.voided -= 1;
 }
 
-// Finds a key for what is done there: at this place, or by a search where the place is not known.
+// Finds a key for what is done there, where its place is not known.
 fn seek(chains: &mut Chains, sums: &mut Sums, place: Place, key: &Key)
     ensures chains { chains.new ≡ chains.old }
     ensures sums { sums.new ≡ sums.old }
 {
     if place == Place::UNKNOWN {
         chains.seek(key);
-    } else {
-        chains.seek_at(key, place);
+        sums.kept.look_near(chains.near());
     }
-    sums.kept.look_near(chains.near());
 }
 
 // Carries out a command that may be accepted.
 #[tactic(auto, unfolding(crate::specs::Spent::most_spent))]
-fn carry(chains: &mut Chains, sums: &mut Sums, command: Command, work: &mut Work)
-    requires ready { IsReady chains.old command }
+fn carry(
+    chains: &mut Chains,
+    sums: &mut Sums,
+    place: Place,
+    command: &Command,
+    work: &mut Work,
+)
+    requires ready { IsReady chains.old command.now }
     requires before { AreAllowed chains.old.limits (stored chains.old) }
-    requires after { AreAllowed chains.old.limits (finite.entries (events_after chains.old.events command)) }
+    requires after { AreAllowed chains.old.limits (finite.entries (events_after chains.old.events command.now)) }
     requires summed { AreSummed chains.old.limits (stored chains.old) sums.old.kept sums.old.evses.items sums.old.period sums.old.quarters sums.old.energy sums.old.export sums.old.figures }
     requires voided { sums.old.figures.voided ≡ voided_in chains.old }
     ensures limits { chains.new.limits ≡ chains.old.limits }
-    ensures events { chains.new.events ≡ events_after chains.old.events command }
+    ensures events { chains.new.events ≡ events_after chains.old.events command.now }
     ensures summed { AreSummed chains.new.limits (stored chains.new) sums.new.kept sums.new.evses.items sums.new.period sums.new.quarters sums.new.energy sums.new.export sums.new.figures }
     ensures period { sums.new.period ≡ sums.old.period }
     ensures voided { sums.new.figures.voided ≡ voided_in chains.new }
-    ensures work { work.new ≤ work.old + most_spent chains.old.events command }
+    ensures work { work.new ≤ work.old + most_spent chains.old.events command.now }
     ensures grows { work.old ≤ work.new }
 {
     match command {
-        Command::Deliver(key, event) => deliver(chains, sums, key, &event, work),
-        Command::Void(key) => void(chains, sums, &key, work),
-        Command::Restore(key) => restore(chains, sums, &key, work),
-        Command::Erase(key) => erase(chains, sums, &key),
+        Command::Deliver(key, event) => deliver(chains, sums, place, key, event, work),
+        Command::Void(key) => void(chains, sums, key, work),
+        Command::Restore(key) => restore(chains, sums, key, work),
+        Command::Erase(key) => erase(chains, sums, key),
     }
 }
 
@@ -183,22 +185,22 @@ pub(crate) fn carry_out(
     chains: &mut Chains,
     sums: &mut Sums,
     place: Place,
-    command: Command,
+    command: &Command,
     work: &mut Work,
 )
-    requires ready { IsReady chains.old command }
+    requires ready { IsReady chains.old command.now }
     requires before { AreAllowed chains.old.limits (stored chains.old) }
-    requires after { AreAllowed chains.old.limits (finite.entries (events_after chains.old.events command)) }
+    requires after { AreAllowed chains.old.limits (finite.entries (events_after chains.old.events command.now)) }
     requires summed { AreSummed chains.old.limits (stored chains.old) sums.old.kept sums.old.evses.items sums.old.period sums.old.quarters sums.old.energy sums.old.export sums.old.figures }
     requires voided { sums.old.figures.voided ≡ voided_in chains.old }
     ensures limits { chains.new.limits ≡ chains.old.limits }
-    ensures events { chains.new.events ≡ events_after chains.old.events command }
+    ensures events { chains.new.events ≡ events_after chains.old.events command.now }
     ensures summed { AreSummed chains.new.limits (stored chains.new) sums.new.kept sums.new.evses.items sums.new.period sums.new.quarters sums.new.energy sums.new.export sums.new.figures }
     ensures period { sums.new.period ≡ sums.old.period }
     ensures voided { sums.new.figures.voided ≡ voided_in chains.new }
-    ensures work { work.new ≤ work.old + most_spent chains.old.events command }
+    ensures work { work.new ≤ work.old + most_spent chains.old.events command.now }
     ensures grows { work.old ≤ work.new }
 {
     seek(chains, sums, place, command.key());
-    carry(chains, sums, command, work);
+    carry(chains, sums, place, command, work);
 }

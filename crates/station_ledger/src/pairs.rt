@@ -9,28 +9,14 @@ ghost use Rattle.ledger_model.specs.declared.reading.Direction.{Direction};
 ghost use Rattle.ledger_model.specs.declared.reading.Direction.TheVariants.{Import, Export};
 ghost use Rattle.ledger_model.specs.Event.{toward};
 ghost use Rattle.station_ledger.specs.Quarters.{both_length, both_quartered, quartered, readings_at, HasRoom, HoldsBoth, HoldsPairs, IsDifference};
-ghost use Rattle.station_ledger.specs.Sides.{by_direction, sides_across, sides_between};
+ghost use Rattle.event_chain.specs.Sides.{by_direction};
+ghost use Rattle.station_ledger.specs.Sides.{sides_across, sides_between};
 
 use energy_flow::{Flow, Work, difference};
-use event_chain::Chains;
+use event_chain::{Around, Chains};
 use ledger_model::{Direction, Key, Period, Reading};
 use quarter_table::QuarterTable;
 use reading_decimal::quarter;
-
-// The readings of a direction just before and just behind an event's place in its transaction; none
-// where the event has no reading of the direction.
-#[derive(Clone, Copy)]
-pub(crate) struct Sides {
-    pub(crate) before: Option<Reading>,
-    pub(crate) behind: Option<Reading>,
-}
-
-// The same in each direction.
-#[derive(Clone, Copy)]
-pub(crate) struct Around {
-    pub(crate) import: Sides,
-    pub(crate) export: Sides,
-}
 
 // What pairs of each direction add up to.
 #[derive(Clone, Copy)]

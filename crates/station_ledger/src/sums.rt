@@ -15,14 +15,14 @@ ghost use Rattle.transaction_map.specs.Places.{IsAt};
 ghost use Rattle.station_ledger.specs.Moved.{sum_at, with_one, without_one, with_figures, without_figures, HasRoomAt, CountsAt, HaveRoom, DoCount, CanTrade, flow_in};
 ghost use Rattle.station_ledger.specs.Quarters.{readings_at};
 ghost use Rattle.station_ledger.specs.Coming.{HasCome};
-ghost use Rattle.station_ledger.specs.Sides.{by_direction};
+ghost use Rattle.event_chain.specs.Sides.{by_direction};
 ghost use Rattle.station_ledger.specs.Sums.{keep, AreStanding, AreSummed, AreAllowed, IsToCome, IsToGo};
 
-use crate::pairs::{Around, Energies, add_gap, add_own, take_gap, take_own};
+use crate::pairs::{Energies, add_gap, add_own, take_gap, take_own};
 use crate::standing::{Standing, standing_after, standing_of};
 use crate::totals::{Change, EvseSum, move_at_evses, move_in_figures};
 use energy_flow::{Flow, Work};
-use event_chain::Chains;
+use event_chain::{Around, Chains};
 use ledger_model::{Figures, GREATEST_EVSE, Key, Limits, Period, Reading, TxId};
 use quarter_table::QuarterTable;
 use std::alloc::{AllocError, Global};

@@ -1,7 +1,7 @@
 use Rattle.std.proofs.Common.{◌≡◌}
 use Rattle.event_chain.specs.Chains.{stored}
 use Rattle.ledger_model.specs.Deltas.{before_key, behind_key, first_reading, last_reading, own_readings}
-use Rattle.station_ledger.specs.Sides.{by_direction, side_if}
+use Rattle.event_chain.specs.Sides.{by_direction, side_if}
 use Rattle.station_ledger.proofs.Both.{each_way}
 use Rattle.station_ledger.proofs.moves.around.Goals as goal
 

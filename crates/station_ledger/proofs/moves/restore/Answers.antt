@@ -3,7 +3,8 @@ use Rattle.std.specs.FinMap as finite
 use Rattle.event_chain.specs.Chains.{stored}
 use Rattle.station_ledger.specs.Quarters.{readings_at}
 use Rattle.ledger_model.specs.declared.reading.Direction.TheVariants.{Import, Export}
-use Rattle.station_ledger.specs.Sides.{by_direction, has_some}
+use Rattle.event_chain.specs.Sides.{by_direction}
+use Rattle.station_ledger.specs.Sides.{has_some}
 use Rattle.station_ledger.proofs.Both.{each_way}
 use Rattle.station_ledger.specs.Sums.{AreAllowed, AreStanding, AreSummed}
 use Rattle.station_ledger.proofs.Commands.{found_voided, restored, few_found, marked_readings, most_found}

@@ -1,6 +1,7 @@
 use Rattle.std.proofs.Common.{ap, arith}
 use Rattle.energy_flow.specs.Flow.{Energy}
-use Rattle.station_ledger.specs.Sides.{by_direction, sides_between}
+use Rattle.event_chain.specs.Sides.{by_direction}
+use Rattle.station_ledger.specs.Sides.{sides_between}
 use Rattle.station_ledger.proofs.Both.{room_first, room_second, with_both}
 use Rattle.station_ledger.proofs.pairs.add_own.Goals as goal
 

@@ -1,4 +1,5 @@
-use Rattle.station_ledger.specs.Sides.{by_direction, sides_across}
+use Rattle.event_chain.specs.Sides.{by_direction}
+use Rattle.station_ledger.specs.Sides.{sides_across}
 use Rattle.station_ledger.proofs.Both.{holds_first, holds_second, without_both}
 use Rattle.station_ledger.proofs.pairs.take_gap.Goals as goal
 

@@ -1,4 +1,5 @@
-use Rattle.station_ledger.specs.Sides.{by_direction, sides_between}
+use Rattle.event_chain.specs.Sides.{by_direction}
+use Rattle.station_ledger.specs.Sides.{sides_between}
 use Rattle.station_ledger.proofs.Both.{holds_first, holds_second, without_both}
 use Rattle.station_ledger.proofs.pairs.take_own.Goals as goal
 

@@ -3,7 +3,8 @@ use Rattle.ledger_model.specs.declared.reading.Direction.TheVariants.{Import, Ex
 use Rattle.ledger_model.specs.Deltas.{most_for}
 use Rattle.event_chain.specs.Chains.{stored}
 use Rattle.station_ledger.specs.Quarters.{readings_at}
-use Rattle.station_ledger.specs.Sides.{by_direction, sides_across, sides_between}
+use Rattle.event_chain.specs.Sides.{by_direction}
+use Rattle.station_ledger.specs.Sides.{sides_across, sides_between}
 use Rattle.station_ledger.specs.Sums.{AreQuarterRows}
 use Rattle.station_ledger.proofs.Changes.{coming}
 use Rattle.station_ledger.proofs.Settled.{all_may, all_then, own_may, own_then, kept_is}
