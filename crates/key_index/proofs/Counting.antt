@@ -1,7 +1,7 @@
 -- How many entries have a mark, after an edit.
-use Rattle.std.proofs.Common.{◌≡◌, ℕ, zero, suc, ◌+◌, ◌-◌, ◌<◌, ◌≤◌, Bool, true, false, cond, List, [], ◌∷◌, ◌++◌, length, take, drop, get_or, set, refl, sym, ap, ◌∙◌, arith, length-append, length-drop, take-append-drop}
+use Rattle.std.proofs.Common.{◌≡◌, ℕ, zero, suc, ◌+◌, ◌-◌, ◌<◌, ◌≤◌, true, false, cond, List, [], ◌∷◌, ◌++◌, length, take, drop, get_or, set, refl, sym, ap, ◌∙◌, arith, length-append, length-drop, take-append-drop}
 use Rattle.std.proofs.lemmas.List.{take_all}
-use Rattle.std.specs.List.{filter, insert, remove}
+use Rattle.std.specs.List.{insert, remove}
 use Rattle.std.proofs.lemmas.List.Elements.{filter-append}
 use Rattle.key_index.specs.declared.filed.Mark.{Mark}
 use Rattle.key_index.specs.declared.filed.Marks.{Marks}

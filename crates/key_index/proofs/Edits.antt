@@ -1,6 +1,6 @@
 -- The edits of leaves: an entry put in or taken out, a leaf split, two joined, one that is empty left out.
-use Rattle.std.proofs.Common.{◌≡◌, ℕ, zero, suc, ◌+◌, ◌<◌, ◌≤◌, List, [], ◌∷◌, ◌++◌, length, take, drop, get_or, set, refl, sym, ap, ◌∙◌, subst, arith, append_assoc, length-append, length-set, length-take, length-drop, take-append-drop}
-use Rattle.std.specs.List.{insert, remove}
+use Rattle.std.proofs.Common.{◌≡◌, ℕ, zero, suc, ◌+◌, ◌-◌, ◌<◌, ◌≤◌, List, [], ◌∷◌, ◌++◌, length, take, drop, get_or, set, refl, sym, ap, ◌∙◌, subst, arith, append_assoc, length-append, length-set, length-take, length-drop, take-append-drop}
+use Rattle.std.specs.List.{copy_within, insert, remove}
 use Rattle.std.proofs.lemmas.List.Edits.{length-insert}
 use Rattle.key_index.specs.Entries.{Entry, AreAbove, AreRising}
 use Rattle.key_index.specs.Leaves.{all_of, AreFilled, AreEmpty, first_key, AreBelow, Belongs, IsReady}
@@ -206,3 +206,24 @@ ready_first new key is = subst (λ ls. IsReady [] ls key 0) (sym is) (record {
   front = tt;
   back = tt;
 })
+
+-- A list with one more, without it.
+without_last : (es : List Entry) (e : Entry) → take (length es) (es ++ e ∷ []) ++ drop (suc (length es)) (es ++ e ∷ []) ≡ es
+without_last [] e = refl
+without_last (x ∷ es) e = ap (λ l. x ∷ l) (without_last es e)
+
+-- The entries from a place on moved up by one, and one put there.
+moved_up : (es : List Entry) (i k : ℕ) (e : Entry) → i + k ≡ length es
+    → set (take (suc i) (es ++ e ∷ []) ++ take k (drop i (es ++ e ∷ [])) ++ drop (suc (length es)) (es ++ e ∷ [])) i e ≡ insert es i e
+moved_up [] zero k e is = let none : k ≡ 0 = omega arith in ap (λ n. set ((e ∷ []) ++ take n (e ∷ []) ++ []) 0 e) none
+moved_up (x ∷ es) zero k e is =
+    let all : k ≡ length (x ∷ es) = omega arith in let more = x ∷ es ++ e ∷ [] in
+    ap (λ n. e ∷ (take n more ++ drop (suc (length (x ∷ es))) more)) all ∙ ap (λ l. e ∷ l) (without_last (x ∷ es) e)
+moved_up [] (suc i) k e is = absurd (omega arith)
+moved_up (x ∷ es) (suc i) k e is = ap (λ l. x ∷ l) (moved_up es i k e (omega arith))
+
+-- An entry put in by way of the end.
+pub put_between : (es : List Entry) (i n at : ℕ) (e : Entry) → i ≤ length es → n ≡ length es → at ≡ suc i → set (copy_within (es ++ e ∷ []) i n at) i e ≡ insert es i e
+put_between es i n at e le is up =
+    let more = es ++ e ∷ [] in let end : at + (n - i) ≡ suc (length es) = omega arith in
+    (λ j. set (take (up j) more ++ take (n - i) (drop i more) ++ drop (end j) more) i e) ∙ moved_up es i (n - i) e (omega arith)

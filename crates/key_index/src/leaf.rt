@@ -174,11 +174,11 @@ impl Leaf {
         requires { (place ≤ length self.old) × (length self.old < LEAF_SIZE) }
         ensures { self.new ≡ insert self.old place (key, filed) }
     {
+        let len = self.entries.len();
         self.counts = self.counts.more(filed.marks);
-        match self.entries.insert(place, (key, filed)) {
-            Ok(()) => (),
-            Err(_) => unreachable!(),
-        }
+        self.entries.push_reserved((key, filed));
+        self.entries.copy_within(place..len, place + 1);
+        self.entries[place] = (key, filed);
     }
 
     /// Takes out the entry at a place; those after it move down.

@@ -23,6 +23,11 @@ impl Place {
         }
     }
 
+    /// This place, or the other where it is none that is known.
+    pub fn known_or(self, other: Place) -> Place {
+        if self == Place::UNKNOWN { other } else { self }
+    }
+
     /// This place once an entry was put in at another one, where no leaf was split by it.
     pub fn moved_by(self, put: Place) -> Place {
         if self.leaf == put.leaf && put.entry <= self.entry {

@@ -1,4 +1,4 @@
-use Rattle.std.proofs.Common.{take, length, arith, length-take}
+use Rattle.std.proofs.Common.{take, arith, length-take}
 use Rattle.key_index.proofs.Counting.{count_within}
 use Rattle.key_index.proofs.counts.counts_over.Goals as goal
 

@@ -1,4 +1,4 @@
-use Rattle.std.proofs.Common.{◌≡◌, ◌+◌, suc, [], ◌++◌, drop, get_or, sym, ap, ◌∙◌, arith}
+use Rattle.std.proofs.Common.{◌≡◌, ◌+◌, suc, [], drop, get_or, sym, ap, ◌∙◌, arith}
 use Rattle.key_index.specs.Entries.{first_of}
 use Rattle.key_index.specs.Leaves.{all_of}
 use Rattle.key_index.specs.Marks.{marked}

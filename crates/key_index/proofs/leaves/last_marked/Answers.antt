@@ -1,4 +1,4 @@
-use Rattle.std.proofs.Common.{[], ◌++◌, length, take, get_or, sym, ap, ◌∙◌}
+use Rattle.std.proofs.Common.{[], take, get_or, sym, ap, ◌∙◌}
 use Rattle.key_index.specs.Entries.{last_of}
 use Rattle.key_index.specs.Leaves.{all_of}
 use Rattle.key_index.specs.Marks.{marked}

@@ -1,4 +1,4 @@
-use Rattle.std.proofs.Common.{[], length, get_or, subst, sym, ap, ◌∙◌, ◌≤◌, arith}
+use Rattle.std.proofs.Common.{length, subst, sym, ap, ◌∙◌, ◌≤◌}
 use Rattle.key_index.specs.Entries.{below, AreRising}
 use Rattle.key_index.proofs.Belonging.{read_leaf}
 use Rattle.key_index.proofs.Cuts.{rising_leaf}

@@ -1,4 +1,4 @@
-use Rattle.std.proofs.Common.{◌≡◌, ◌<◌, ◌++◌, suc, true, [], is_some, length, drop, get_or, subst, sym, ap, ◌∙◌, arith, length-set, length-append}
+use Rattle.std.proofs.Common.{◌≡◌, ◌++◌, suc, true, [], is_some, length, drop, get_or, subst, sym, ap, ◌∙◌, arith, length-set, length-append}
 use Rattle.key_index.specs.Entries.{below, from, filed_at, AreRising}
 use Rattle.key_index.specs.Leaves.{all_of, AreFilled}
 use Rattle.key_index.specs.Marks.{mark_at}

@@ -1,6 +1,6 @@
 use Rattle.std.proofs.Common.{◌≡◌, ◌<◌, length, set, ap, ◌∙◌, arith, length-set}
 use Rattle.key_index.specs.Marks.{marked, mark_at, with_marks}
-use Rattle.key_index.proofs.Counting.{count_within, count_has, count_set, set_mark, length-mark_at}
+use Rattle.key_index.proofs.Counting.{count_within, count_has, count_set, set_mark}
 use Rattle.key_index.proofs.leaf.Leaf.set_marks.Goals as goal
 
 pub less-requires : goal.less-requires

@@ -1,4 +1,4 @@
-use Rattle.std.proofs.Common.{length, take, ap, arith, length-take}
+use Rattle.std.proofs.Common.{length, ap, arith, length-take}
 use Rattle.key_index.specs.Marks.{marked}
 use Rattle.key_index.proofs.Counting.{count_cut, count_rest}
 use Rattle.key_index.proofs.leaf.Leaf.split_at.Goals as goal
