@@ -36,7 +36,24 @@ pub struct Around {
     pub export: Sides,
 }
 
-// The readings of a direction on either side of the place of a key, whose transaction may have a row.
+impl Sides {
+    // No readings.
+    pub(crate) const NONE: Sides = Sides {
+        before: None,
+        behind: None,
+    };
+}
+
+impl Around {
+    // No readings.
+    pub(crate) const NONE: Around = Around {
+        import: Sides::NONE,
+        export: Sides::NONE,
+    };
+}
+
+// Finds the readings of a direction on either side of the place of a key, whose transaction may have a
+// row.
 #[inline(always)]
 pub(crate) fn sides_of(
     table: &TransactionTable,
@@ -46,26 +63,26 @@ pub(crate) fn sides_of(
     place: Place,
     key: &Key,
     direction: Direction,
-) -> Sides
+    sides: &mut Sides,
+)
     requires keyed { IsKeyed table.now.rows places.now.stored.entries store.now.slots }
     requires carry { IsSub (is_carrier direction) places.now.stored.entries store.now.slots (carriers_of places.now direction).entries }
     requires row { row ≡ row_of key.now.tx table.now.rows }
-    ensures before { result.before ≡ last_reading (own_readings direction key.now.tx (before_key key.now (flat table.now.rows places.now.stored.entries store.now.slots))) }
-    ensures behind { result.behind ≡ first_reading (own_readings direction key.now.tx (behind_key key.now (flat table.now.rows places.now.stored.entries store.now.slots))) }
+    ensures before { sides.new.before ≡ last_reading (own_readings direction key.now.tx (before_key key.now (flat table.now.rows places.now.stored.entries store.now.slots))) }
+    ensures behind { sides.new.behind ≡ first_reading (own_readings direction key.now.tx (behind_key key.now (flat table.now.rows places.now.stored.entries store.now.slots))) }
 {
     let _ = table;
     match row {
         Some(row) => {
             let at = IndexKey::new(row.slot, key.seq());
-            let sides = carriers_around(places, direction, place, at);
-            let before = last_at(store, direction, sides.0);
-            let behind = first_at(store, direction, sides.1);
-            Sides { before, behind }
+            let found = carriers_around(places, direction, place, at);
+            sides.before = last_at(store, direction, found.0);
+            sides.behind = first_at(store, direction, found.1);
         }
-        None => Sides {
-            before: None,
-            behind: None,
-        },
+        None => {
+            sides.before = None;
+            sides.behind = None;
+        }
     }
 }
 
@@ -80,20 +97,20 @@ fn sides_where(
     place: Place,
     key: &Key,
     direction: Direction,
-) -> Sides
+    sides: &mut Sides,
+)
     requires keyed { IsKeyed table.now.rows places.now.stored.entries store.now.slots }
     requires carry { IsSub (is_carrier direction) places.now.stored.entries store.now.slots (carriers_of places.now direction).entries }
     requires row { row ≡ row_of key.now.tx table.now.rows }
-    ensures before { result.before ≡ side_if has (last_reading (own_readings direction key.now.tx (before_key key.now (flat table.now.rows places.now.stored.entries store.now.slots)))) }
-    ensures behind { result.behind ≡ side_if has (first_reading (own_readings direction key.now.tx (behind_key key.now (flat table.now.rows places.now.stored.entries store.now.slots)))) }
+    ensures before { sides.new.before ≡ side_if has (last_reading (own_readings direction key.now.tx (before_key key.now (flat table.now.rows places.now.stored.entries store.now.slots)))) }
+    ensures behind { sides.new.behind ≡ side_if has (first_reading (own_readings direction key.now.tx (behind_key key.now (flat table.now.rows places.now.stored.entries store.now.slots)))) }
 {
     if !has {
-        return Sides {
-            before: None,
-            behind: None,
-        };
+        sides.before = None;
+        sides.behind = None;
+        return;
     }
-    sides_of(table, store, places, row, place, key, direction)
+    sides_of(table, store, places, row, place, key, direction, sides)
 }
 
 // The row of a transaction, where it was found.
@@ -115,15 +132,16 @@ pub(crate) fn around_of(
     place: Place,
     key: &Key,
     carries: Carries,
-) -> Around
+    around: &mut Around,
+)
     requires keyed { IsKeyed table.now.rows places.now.stored.entries store.now.slots }
     requires carry { (d : Direction) → IsSub (is_carrier d) places.now.stored.entries store.now.slots (carriers_of places.now d).entries }
     requires row { option_map (λ f. f.1) known ≡ row_of key.now.tx table.now.rows }
-    ensures before { (d : Direction) → by_direction result.import.before result.export.before d ≡ side_if (carried d carries) (last_reading (own_readings d key.now.tx (before_key key.now (flat table.now.rows places.now.stored.entries store.now.slots)))) }
-    ensures behind { (d : Direction) → by_direction result.import.behind result.export.behind d ≡ side_if (carried d carries) (first_reading (own_readings d key.now.tx (behind_key key.now (flat table.now.rows places.now.stored.entries store.now.slots)))) }
+    ensures before { (d : Direction) → by_direction around.new.import.before around.new.export.before d ≡ side_if (carried d carries) (last_reading (own_readings d key.now.tx (before_key key.now (flat table.now.rows places.now.stored.entries store.now.slots)))) }
+    ensures behind { (d : Direction) → by_direction around.new.import.behind around.new.export.behind d ≡ side_if (carried d carries) (first_reading (own_readings d key.now.tx (behind_key key.now (flat table.now.rows places.now.stored.entries store.now.slots)))) }
 {
     let row = row_in(known);
-    let import = sides_where(
+    sides_where(
         carries.imports,
         table,
         store,
@@ -132,8 +150,9 @@ pub(crate) fn around_of(
         place,
         key,
         Direction::Import,
+        &mut around.import,
     );
-    let export = sides_where(
+    sides_where(
         carries.exports,
         table,
         store,
@@ -142,6 +161,6 @@ pub(crate) fn around_of(
         place,
         key,
         Direction::Export,
+        &mut around.export,
     );
-    Around { import, export }
 }

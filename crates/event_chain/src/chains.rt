@@ -19,7 +19,7 @@ ghost use Rattle.event_chain.specs.Edits.{carried as carried_by, counts_under};
 ghost use Rattle.event_chain.specs.Sides.{by_direction, side_if};
 
 use crate::answers::{Found, Room, TxStanding};
-use crate::around::{Around, around_of, sides_of};
+use crate::around::{Around, Sides, around_of, sides_of};
 use crate::carries::Carries;
 use crate::place_index::PlaceIndex;
 use crate::spots::{
@@ -206,7 +206,8 @@ impl Chains {
     {
         let carries = Carries::of(event.readings());
         let found = self.table.seek(key.tx());
-        let around = around_of(
+        let mut around = Around::NONE;
+        around_of(
             &self.table,
             &self.store,
             &self.places,
@@ -214,6 +215,7 @@ impl Chains {
             place,
             key,
             carries,
+            &mut around,
         );
         let (row, known) = enter(&mut self.table, found, key.tx());
         let at = IndexKey::new(row.slot, key.seq());
@@ -315,7 +317,8 @@ impl Chains {
     {
         let row = self.table.get(key.tx());
         let place = self.places.near();
-        let sides = sides_of(
+        let mut sides = Sides::NONE;
+        sides_of(
             &self.table,
             &self.store,
             &self.places,
@@ -323,6 +326,7 @@ impl Chains {
             place,
             key,
             direction,
+            &mut sides,
         );
         (sides.before, sides.behind)
     }

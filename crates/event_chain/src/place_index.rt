@@ -148,7 +148,7 @@ impl PlaceIndex {
         // A transaction's events mostly come in order.
         let start = self.index.place_near(place, IndexKey::new(slot, 0));
         let next = IndexKey::new(slot.saturating_add(1), 0);
-        (start, self.index.place_near(place, next))
+        (start, self.index.place_near(start, next))
     }
 
     // The first place from a key on, and where the key stands or belongs.
@@ -253,8 +253,9 @@ impl PlaceIndex {
         ensures naming { self.new.naming ≡ index (put_if names key slot self.old.naming.entries) self.old.naming.capacity }
     {
         self.index.keys_rise();
-        let place = self.index.place_near(place, key);
         let ends = self.ends_at(key, place);
+        // A new transaction's first key belongs where it begins.
+        let place = place.known_or(ends.0);
         link_live(&self.index, &mut self.links, place, key, slot);
         let marks = Marks {
             live: true,

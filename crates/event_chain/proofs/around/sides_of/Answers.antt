@@ -6,32 +6,32 @@ use Rattle.event_chain.specs.Edits.{IsStored, first_at, last_at}
 use Rattle.event_chain.proofs.Neighbours.{none_before, none_behind, before_stored, behind_stored, before_is, behind_is}
 use Rattle.event_chain.proofs.around.sides_of.Goals as goal
 
-pub last_at-before-requires : goal.last_at-before-requires
-last_at-before-requires c =
+pub last_at-sides-requires : goal.last_at-sides-requires
+last_at-sides-requires c =
     let p = c.args.places.now in let d = c.args.direction in let slots = c.args.store.now.slots in let key = c.args.key.now in let row = c.in-Some.row in
     let lt : key.seq < 2 ^ 31 = omega (arith, c.seq.ensures.value, c.seq.ensures.range) in
-    subst (IsStored slots) (sym c.carriers_around-sides.ensures.before)
+    subst (IsStored slots) (sym c.carriers_around-found.ensures.before)
     (before_stored d c.args.table.now.rows p.stored.entries (carriers_of p d).entries slots c.requires.keyed c.requires.carry key row c.new-at.result (sym c.requires.row ∙ c.in-Some.is) lt (c.new-at.ensures ∙ ap (rank row.slot) c.seq.ensures.value))
 
-pub first_at-behind-requires : goal.first_at-behind-requires
-first_at-behind-requires c =
+pub first_at-sides-requires : goal.first_at-sides-requires
+first_at-sides-requires c =
     let p = c.args.places.now in let d = c.args.direction in let slots = c.args.store.now.slots in let key = c.args.key.now in let row = c.in-Some.row in
     let lt : key.seq < 2 ^ 31 = omega (arith, c.seq.ensures.value, c.seq.ensures.range) in
-    subst (IsStored slots) (sym c.carriers_around-sides.ensures.behind)
+    subst (IsStored slots) (sym c.carriers_around-found.ensures.behind)
     (behind_stored d c.args.table.now.rows p.stored.entries (carriers_of p d).entries slots c.requires.keyed c.requires.carry key row c.new-at.result (sym c.requires.row ∙ c.in-Some.is) lt (c.new-at.ensures ∙ ap (rank row.slot) c.seq.ensures.value))
 
 pub returns-in-Some-clause-before : goal.returns-in-Some-clause-before
 returns-in-Some-clause-before c =
     let p = c.args.places.now in let d = c.args.direction in let slots = c.args.store.now.slots in let key = c.args.key.now in let row = c.in-Some.row in
     let lt : key.seq < 2 ^ 31 = omega (arith, c.seq.ensures.value, c.seq.ensures.range) in
-    c.last_at-before.ensures ∙ ap (last_at slots d) c.carriers_around-sides.ensures.before
+    c.last_at-sides.ensures ∙ ap (last_at slots d) c.carriers_around-found.ensures.before
     ∙ sym (before_is d c.args.table.now.rows p.stored.entries (carriers_of p d).entries slots c.requires.keyed c.requires.carry key row c.new-at.result (sym c.requires.row ∙ c.in-Some.is) lt (c.new-at.ensures ∙ ap (rank row.slot) c.seq.ensures.value))
 
 pub returns-in-Some-clause-behind : goal.returns-in-Some-clause-behind
 returns-in-Some-clause-behind c =
     let p = c.args.places.now in let d = c.args.direction in let slots = c.args.store.now.slots in let key = c.args.key.now in let row = c.in-Some.row in
     let lt : key.seq < 2 ^ 31 = omega (arith, c.seq.ensures.value, c.seq.ensures.range) in
-    c.first_at-behind.ensures ∙ ap (first_at slots d) c.carriers_around-sides.ensures.behind
+    c.first_at-sides.ensures ∙ ap (first_at slots d) c.carriers_around-found.ensures.behind
     ∙ sym (behind_is d c.args.table.now.rows p.stored.entries (carriers_of p d).entries slots c.requires.keyed c.requires.carry key row c.new-at.result (sym c.requires.row ∙ c.in-Some.is) lt (c.new-at.ensures ∙ ap (rank row.slot) c.seq.ensures.value))
 
 pub returns-in-None-clause-before : goal.returns-in-None-clause-before

@@ -18,14 +18,14 @@ use Rattle.event_chain.proofs.Used.{unused_free}
 use Rattle.event_chain.proofs.Inserts.{opened, inserted, inserted_events}
 use Rattle.event_chain.proofs.chains.Chains.admit.Goals as goal
 
-pub around_of-around-requires-clause-keyed : goal.around_of-around-requires-clause-keyed
-around_of-around-requires-clause-keyed c = let m = c.self.inside in subst (λ (x : Table). IsKeyed x.rows m.places.stored.entries m.store.slots) (sym c.seek-found.ensures.same) c.self.invariant.keyed
+pub around_of-requires-clause-keyed : goal.around_of-requires-clause-keyed
+around_of-requires-clause-keyed c = let m = c.self.inside in subst (λ (x : Table). IsKeyed x.rows m.places.stored.entries m.store.slots) (sym c.seek-found.ensures.same) c.self.invariant.keyed
 
-pub around_of-around-requires-clause-carry : goal.around_of-around-requires-clause-carry
-around_of-around-requires-clause-carry c d = c.self.invariant.indexed.carry d
+pub around_of-requires-clause-carry : goal.around_of-requires-clause-carry
+around_of-requires-clause-carry c d = c.self.invariant.indexed.carry d
 
-pub around_of-around-requires-clause-row : goal.around_of-around-requires-clause-row
-around_of-around-requires-clause-row c = c.seek-found.ensures.value ∙ ap (λ t. row_of t c.self.inside.table.rows) c.tx.ensures ∙ ap (λ (x : Table). row_of c.args.key.now.tx x.rows) (sym c.seek-found.ensures.same)
+pub around_of-requires-clause-row : goal.around_of-requires-clause-row
+around_of-requires-clause-row c = c.seek-found.ensures.value ∙ ap (λ t. row_of t c.self.inside.table.rows) c.tx.ensures ∙ ap (λ (x : Table). row_of c.args.key.now.tx x.rows) (sym c.seek-found.ensures.same)
 
 pub enter-known-requires-clause-known : goal.enter-known-requires-clause-known
 enter-known-requires-clause-known c = c.seek-found.ensures.value ∙ ap (λ t. row_of t c.self.inside.table.rows) (c.tx.ensures ∙ sym c.tx-2.ensures) ∙ ap (λ (x : Table). row_of c.tx-2.result.now x.rows) (sym c.seek-found.ensures.same)
@@ -165,7 +165,7 @@ pub returns-clause-before : goal.returns-clause-before
 returns-clause-before c d =
     let m = c.self.inside in let key = c.args.key.now in let slots = m.store.slots in
     let has = c.of-carries.ensures d ∙ ap (λ rs. is_some (first_reading (toward d rs))) c.readings.ensures.value in
-    c.around_of-around.ensures.before d ∙ ap (λ b. side_if b (last_reading (own_readings d key.tx (before_key key (flat c.seek-found.new.self.rows m.places.stored.entries slots))))) has
+    c.around_of.ensures.before d ∙ ap (λ b. side_if b (last_reading (own_readings d key.tx (before_key key (flat c.seek-found.new.self.rows m.places.stored.entries slots))))) has
     ∙ ap (λ (x : Table). side_if (is_some (first_reading (toward d c.args.event.now.readings))) (last_reading (own_readings d key.tx (before_key key (flat x.rows m.places.stored.entries slots))))) c.seek-found.ensures.same
     ∙ ap (λ xs. side_if (is_some (first_reading (toward d c.args.event.now.readings))) (last_reading (own_readings d key.tx (before_key key xs)))) (sym (entries_all m.limits m.table m.store m.places.stored m.places.live (carriers_of m.places) m.places.naming c.self.invariant))
     ∙ ap (λ (x : Chained). side_if (is_some (first_reading (toward d c.args.event.now.readings))) (last_reading (own_readings d key.tx (before_key key (stored x))))) c.self.view_is
@@ -174,7 +174,7 @@ pub returns-clause-behind : goal.returns-clause-behind
 returns-clause-behind c d =
     let m = c.self.inside in let key = c.args.key.now in let slots = m.store.slots in
     let has = c.of-carries.ensures d ∙ ap (λ rs. is_some (first_reading (toward d rs))) c.readings.ensures.value in
-    c.around_of-around.ensures.behind d ∙ ap (λ b. side_if b (first_reading (own_readings d key.tx (behind_key key (flat c.seek-found.new.self.rows m.places.stored.entries slots))))) has
+    c.around_of.ensures.behind d ∙ ap (λ b. side_if b (first_reading (own_readings d key.tx (behind_key key (flat c.seek-found.new.self.rows m.places.stored.entries slots))))) has
     ∙ ap (λ (x : Table). side_if (is_some (first_reading (toward d c.args.event.now.readings))) (first_reading (own_readings d key.tx (behind_key key (flat x.rows m.places.stored.entries slots))))) c.seek-found.ensures.same
     ∙ ap (λ xs. side_if (is_some (first_reading (toward d c.args.event.now.readings))) (first_reading (own_readings d key.tx (behind_key key xs)))) (sym (entries_all m.limits m.table m.store m.places.stored m.places.live (carriers_of m.places) m.places.naming c.self.invariant))
     ∙ ap (λ (x : Chained). side_if (is_some (first_reading (toward d c.args.event.now.readings))) (first_reading (own_readings d key.tx (behind_key key (stored x))))) c.self.view_is

@@ -6,23 +6,23 @@ use Rattle.event_chain.specs.Chains.{Chained, stored}
 use Rattle.event_chain.proofs.Facts.{entries_all}
 use Rattle.event_chain.proofs.chains.Chains.neighbours.Goals as goal
 
-pub sides_of-sides-requires-clause-keyed : goal.sides_of-sides-requires-clause-keyed
-sides_of-sides-requires-clause-keyed c = c.self.invariant.keyed
+pub sides_of-requires-clause-keyed : goal.sides_of-requires-clause-keyed
+sides_of-requires-clause-keyed c = c.self.invariant.keyed
 
-pub sides_of-sides-requires-clause-carry : goal.sides_of-sides-requires-clause-carry
-sides_of-sides-requires-clause-carry c = c.self.invariant.indexed.carry c.args.direction
+pub sides_of-requires-clause-carry : goal.sides_of-requires-clause-carry
+sides_of-requires-clause-carry c = c.self.invariant.indexed.carry c.args.direction
 
-pub sides_of-sides-requires-clause-row : goal.sides_of-sides-requires-clause-row
-sides_of-sides-requires-clause-row c = c.get-row.ensures ∙ ap (λ t. row_of t c.self.inside.table.rows) c.tx.ensures
+pub sides_of-requires-clause-row : goal.sides_of-requires-clause-row
+sides_of-requires-clause-row c = c.get-row.ensures ∙ ap (λ t. row_of t c.self.inside.table.rows) c.tx.ensures
 
 pub returns-clause-before : goal.returns-clause-before
 returns-clause-before c =
     let m = c.self.inside in let d = c.args.direction in let key = c.args.key.now in
-    c.sides_of-sides.ensures.before ∙ ap (λ xs. last_reading (own_readings d key.tx (before_key key xs))) (sym (entries_all m.limits m.table m.store m.places.stored m.places.live (carriers_of m.places) m.places.naming c.self.invariant))
+    c.sides_of.ensures.before ∙ ap (λ xs. last_reading (own_readings d key.tx (before_key key xs))) (sym (entries_all m.limits m.table m.store m.places.stored m.places.live (carriers_of m.places) m.places.naming c.self.invariant))
     ∙ ap (λ (x : Chained). last_reading (own_readings d key.tx (before_key key (stored x)))) c.self.view_is
 
 pub returns-clause-behind : goal.returns-clause-behind
 returns-clause-behind c =
     let m = c.self.inside in let d = c.args.direction in let key = c.args.key.now in
-    c.sides_of-sides.ensures.behind ∙ ap (λ xs. first_reading (own_readings d key.tx (behind_key key xs))) (sym (entries_all m.limits m.table m.store m.places.stored m.places.live (carriers_of m.places) m.places.naming c.self.invariant))
+    c.sides_of.ensures.behind ∙ ap (λ xs. first_reading (own_readings d key.tx (behind_key key xs))) (sym (entries_all m.limits m.table m.store m.places.stored m.places.live (carriers_of m.places) m.places.naming c.self.invariant))
     ∙ ap (λ (x : Chained). first_reading (own_readings d key.tx (behind_key key (stored x)))) c.self.view_is
