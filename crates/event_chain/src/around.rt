@@ -53,7 +53,8 @@ impl Around {
 }
 
 // Finds the readings of a direction on either side of the place of a key, whose transaction may have a
-// row.
+// row. They are written where they are to stand, since each function that hands such values on by
+// value copies them.
 #[inline(always)]
 pub(crate) fn sides_of(
     table: &TransactionTable,
@@ -71,6 +72,7 @@ pub(crate) fn sides_of(
     ensures before { sides.new.before ≡ last_reading (own_readings direction key.now.tx (before_key key.now (flat table.now.rows places.now.stored.entries store.now.slots))) }
     ensures behind { sides.new.behind ≡ first_reading (own_readings direction key.now.tx (behind_key key.now (flat table.now.rows places.now.stored.entries store.now.slots))) }
 {
+    // The table is there for the clauses alone.
     let _ = table;
     match row {
         Some(row) => {

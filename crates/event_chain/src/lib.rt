@@ -8,7 +8,8 @@
 //! lies far, it goes over the counts of leaves.
 //!
 //! The crate's one contract: chains are a map from keys to stored events, each live or voided, within
-//! the station's limits. [`Chains::insert`] puts in a live event, [`Chains::unlink`] voids one,
+//! the station's limits. [`Chains::insert`] puts in a live event, and so does [`Chains::admit`], which
+//! answers the live readings on either side of it as well; [`Chains::unlink`] voids one,
 //! [`Chains::relink`] makes it live again, [`Chains::remove`] takes a voided one out. Of a transaction
 //! [`Chains::standing`] tells the two ends with their kinds, two counts, and the EVSE, and
 //! [`Chains::walk`] goes over its live numbers, one link a step. [`Chains::neighbours`] gives the live

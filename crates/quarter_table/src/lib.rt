@@ -1,11 +1,10 @@
 //! How many pairs of readings each quarter has, and what their differences add up to in each direction.
 //!
 //! A pair is a reading and the one that follows it in its direction; it counts for the quarter of the
-//! later one. A
-//! quarter has a row exactly while it has a pair, even one of difference zero, and rows stand in
-//! rising order. All memory is taken by [`QuarterTable::reserve`]. A pair of a quarter that has a row
-//! costs one binary search; a row that comes or goes moves those behind it, and none where quarters
-//! come in the order of time.
+//! later one. A quarter has a row exactly while it has a pair, even one of difference zero, and rows
+//! stand in rising order. All memory is taken by [`QuarterTable::reserve`]. A pair of a quarter that has
+//! a row costs one binary search, or none where that row was changed last; a row that comes or goes
+//! moves those behind it, and none where quarters come in the order of time.
 //!
 //! The crate's one contract: after any pairs were added and others removed, the rows are those of the
 //! pairs that are left, whatever the order, each with their number and their sum. [`laws`] says so of

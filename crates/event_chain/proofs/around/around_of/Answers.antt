@@ -1,9 +1,4 @@
-use Rattle.std.proofs.Common.{◌≡◌, ◌∙◌}
-use Rattle.ledger_model.specs.Deltas.{before_key, behind_key, first_reading, last_reading, own_readings}
 use Rattle.ledger_model.specs.declared.reading.Direction.TheVariants.{Import, Export}
-use Rattle.event_chain.specs.Edits.{carried}
-use Rattle.event_chain.specs.Flat.{flat}
-use Rattle.event_chain.specs.Sides.{by_direction, side_if}
 use Rattle.event_chain.proofs.around.around_of.Goals as goal
 
 pub sides_where-requires-clause-carry : goal.sides_where-requires-clause-carry

@@ -1,7 +1,6 @@
-use Rattle.std.proofs.Common.{◌≡◌, ◌<◌, ◌^◌, None, sym, ap, ◌∙◌, subst, arith}
+use Rattle.std.proofs.Common.{◌<◌, ◌^◌, sym, ap, ◌∙◌, subst, arith}
 use Rattle.event_chain.specs.Placed.{carriers_of}
 use Rattle.key_index.specs.Key.{rank}
-use Rattle.transaction_table.specs.Table.{row_of}
 use Rattle.event_chain.specs.Edits.{IsStored, first_at, last_at}
 use Rattle.event_chain.proofs.Neighbours.{none_before, none_behind, before_stored, behind_stored, before_is, behind_is}
 use Rattle.event_chain.proofs.around.sides_of.Goals as goal

@@ -1,4 +1,4 @@
-use Rattle.std.proofs.Common.{◌≡◌, ℕ, ◌+◌, ◌<◌, ◌^◌, Bool, None, false, IfSome, is_some, option_map, length, refl, sym, ap, ◌∙◌, subst, arith}
+use Rattle.std.proofs.Common.{◌≡◌, ◌+◌, ◌<◌, ◌^◌, Bool, None, false, IfSome, is_some, option_map, length, refl, sym, ap, ◌∙◌, subst, arith}
 use Rattle.event_chain.specs.Placed.{carriers_of}
 use Rattle.ledger_model.specs.declared.reading.Direction.{Direction}
 use Rattle.event_chain.specs.Edits.{carried}
@@ -37,7 +37,7 @@ enter-known-requires-clause-at c =
 pub enter-known-requires-clause-room : goal.enter-known-requires-clause-room
 enter-known-requires-clause-room c = let m = c.self.inside in
     subst (λ (x : Table). row_of c.tx-2.result.now x.rows ≡ None → length x.rows < x.capacity) (sym c.seek-found.ensures.same)
-        (λ absent. enter_room m.limits m.table m.store m.places.stored m.places.live (carriers_of m.places) m.places.naming c.self.invariant c.args.key.now.tx (length c.args.event.now.readings) (ap (λ (x : Chained). room_of x.limits (finite.entries x.events) c.args.key.now.tx (length c.args.event.now.readings)) c.self.view_is ∙ c.requires.room) (ap (λ t. row_of t m.table.rows) (sym c.tx-2.ensures) ∙ absent))
+    (λ absent. enter_room m.limits m.table m.store m.places.stored m.places.live (carriers_of m.places) m.places.naming c.self.invariant c.args.key.now.tx (length c.args.event.now.readings) (ap (λ (x : Chained). room_of x.limits (finite.entries x.events) c.args.key.now.tx (length c.args.event.now.readings)) c.self.view_is ∙ c.requires.room) (ap (λ t. row_of t m.table.rows) (sym c.tx-2.ensures) ∙ absent))
 
 pub put-slot-requires-clause-free : goal.put-slot-requires-clause-free
 put-slot-requires-clause-free c = let m = c.self.inside in let lt = event_room m.limits m.table m.store m.places.stored m.places.live (carriers_of m.places) m.places.naming c.self.invariant c.args.key.now.tx (length c.args.event.now.readings) (ap (λ (x : Chained). room_of x.limits (finite.entries x.events) c.args.key.now.tx (length c.args.event.now.readings)) c.self.view_is ∙ c.requires.room) in omega (arith, lt, c.self.invariant.counted.held_are, c.self.invariant.counted.slots_are)

@@ -1,7 +1,7 @@
 use Rattle.std.proofs.Common.{option_map, None, sym, ap, ◌∙◌}
 use Rattle.key_index.specs.Entries as entries
 use Rattle.event_chain.specs.Ranked.{from, first_of}
-use Rattle.event_chain.specs.Placed.{Placed, lane, place_in}
+use Rattle.event_chain.specs.Placed.{Placed, place_in}
 use Rattle.event_chain.proofs.Lanes.{lane_from, first_place_in}
 use Rattle.event_chain.proofs.place_index.PlaceIndex.first_from.Goals as goal
 
