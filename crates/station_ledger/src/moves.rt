@@ -152,13 +152,7 @@ fn seek(chains: &mut Chains, sums: &mut Sums, place: Place, key: &Key)
 
 // Carries out a command that may be accepted.
 #[tactic(auto, unfolding(crate::specs::Spent::most_spent))]
-fn carry(
-    chains: &mut Chains,
-    sums: &mut Sums,
-    place: Place,
-    command: &Command,
-    work: &mut Work,
-)
+fn carry(chains: &mut Chains, sums: &mut Sums, place: Place, command: &Command, work: &mut Work)
     requires ready { IsReady chains.old command.now }
     requires before { AreAllowed chains.old.limits (stored chains.old) }
     requires after { AreAllowed chains.old.limits (finite.entries (events_after chains.old.events command.now)) }
