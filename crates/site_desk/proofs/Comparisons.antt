@@ -1,6 +1,7 @@
 -- What a loop of comparisons tells of all elements.
 use Rattle.std.proofs.Common.{◌≡◌, ◌≢◌, ℕ, ◌+◌, ◌-◌, ◌<◌, ◌≤◌, true, false, cond, eqb, List, ◌∷◌, length, drop, map, get_or, Some, None, refl, ap, sym, ◌∙◌, subst, ⊎_elim, arith}
 use Rattle.std.specs.Prelude.{Option, IfSome, filter, slice_get}
+use Rattle.std.proofs.Math.ListN.{get_or-map}
 use Rattle.std.proofs.lemmas.Bool.{cases_eq, eq-eqb}
 use Rattle.std.proofs.lemmas.List.{drop_more}
 use Rattle.std.proofs.lemmas.Option.{slice_get_within, get_or_from_slice_get}
@@ -26,6 +27,12 @@ module _ {X : Type 0} (P : ℕ → X → Type 0) where
   -- all of them
   pub each_all : (xs : List X) (k : ℕ) → length xs ≤ k → ((j : ℕ) (x : X) → j < k → slice_get xs j ≡ Some x → P j x) → (j : ℕ) (x : X) → slice_get xs j ≡ Some x → P j x
   each_all xs k past before j x at = before j x (let less = slice_get_within xs j x at in omega arith) at
+
+-- the cell of what stands at this place stands there among all cells
+pub cell_at : {X : Type 0} (cell : X → Cell) (xs : List X) (k : ℕ) (x : X) (d : Cell) → x ≡ get_or xs k x → d ≡ cell x → d ≡ get_or (map cell xs) k d
+cell_at cell xs k x d at is =
+    let P : Cell → Type 0 = λ e. e ≡ get_or (map cell xs) k e in
+    subst P (sym is) (ap cell at ∙ sym (get_or-map cell xs k x))
 
 -- the sums with one station more in front
 figures_cons : (c : Cell) (cells : List Cell) (site : ℕ) → figures_at (c ∷ cells) site ≡ figures_with c site (figures_at cells site)

@@ -152,3 +152,20 @@ planned_sites sites stations k s h at =
     all_below (length sites) stations k s
     (and_right (leb (sum_by (λ s. s.limits.readings) stations) most_plan_readings && list_all (λ s. leb s.viewers most_viewers) sites) _
     (and_left (leb (sum_by (λ s. s.limits.readings) stations) most_plan_readings && list_all (λ s. leb s.viewers most_viewers) sites && list_all (λ s. ltb s.site (length sites)) stations) _ within)) at
+
+not_twice : (b : Bool) → not b ≡ true → b ≡ false
+not_twice true h = absurd (cc (h))
+not_twice false h = refl
+
+no_twin : (a twice : Bool) → ◌≡◌ {A = Option DeskFault} (cond (not a) (Some PlanLimit) (cond twice (Some StationTwice) None)) None → twice ≡ false
+no_twin true true h = absurd (cc (h))
+no_twin true false h = refl
+no_twin false twice h = absurd (cc (h))
+
+-- the names of a plan without a fault stand once
+pub planned_names : (sites : List SitePlan) (stations : List StationPlan) → plan_fault sites stations ≡ None → (has_twice (map (λ s. s.name) sites) ≡ false) × (has_twice (map (λ s. s.name) stations) ≡ false)
+planned_names sites stations h =
+    let within : is_within_limits sites stations ≡ true = within_of (is_within_limits sites stations) (has_twice (map (λ s. s.name) stations)) h in (
+      not_twice (has_twice (map (λ s. s.name) sites)) (and_right (leb (sum_by (λ s. s.limits.readings) stations) most_plan_readings && list_all (λ s. leb s.viewers most_viewers) sites && list_all (λ s. ltb s.site (length sites)) stations) _ within),
+      no_twin (is_within_limits sites stations) (has_twice (map (λ s. s.name) stations)) h,
+    )

@@ -41,3 +41,8 @@ pub record IsDesk (places : List Place) (cells books : ℕ) : Type 0 where
   pub few_cells : cells ≤ 64
   pub few_books : books ≤ 16
   pub sites : (k : ℕ) (p : Place) → slice_get places k ≡ Some p → p.site < books
+
+-- The cells of a plan's stations, in the plan's order, each where the plan has its station.
+pub record AreCellsOf (sites : List SitePlan) (stations : List StationPlan) (cells : List Cell) : Type 0 where
+  pub count : length cells ≡ length stations
+  pub each : (k : ℕ) (s : StationPlan) (c : Cell) → slice_get stations k ≡ Some s → slice_get cells k ≡ Some c → StandsAt k (new_place sites stations k s) c

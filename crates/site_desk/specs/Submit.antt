@@ -1,4 +1,4 @@
-use Rattle.std.specs.Prelude.{◌≡◌, ℕ, suc, ◌+◌, ◌≤◌, List, [], ◌∷◌, ◌++◌, Option, None, Some}
+use Rattle.std.specs.Prelude.{◌≡◌, ℕ, suc, ◌+◌, ◌<◌, ◌≤◌, ◌^◌, List, [], ◌∷◌, ◌++◌, length, sum, Option, None, Some}
 use Rattle.ledger_model.specs.declared.answer.Answer.{Answer}
 use Rattle.ledger_model.specs.declared.answer.Answer.TheVariants.{Accepted, Repeat, Refused}
 use Rattle.ledger_model.specs.declared.answer.Refusal.TheVariants.{ConflictingEvent, TooManyTransactions, EventsFull, ReadingsFull, NoSuchEvent, AlreadyVoided, NotVoided, ChangesExhausted}
@@ -8,10 +8,11 @@ use Rattle.ledger_model.specs.Content.{Content, entries}
 use Rattle.ledger_model.specs.Limits.{Bounds}
 use Rattle.ledger_model.specs.Posts.{Post}
 use Rattle.ledger_model.specs.Step.{Reached, answer, step}
-use Rattle.site_book.specs.Book.{Known, known}
+use Rattle.site_book.specs.Book.{Book, Known, known}
 use Rattle.site_desk.specs.declared.roster.Place.{Place}
-use Rattle.site_desk.specs.Cell.{Held}
-use Rattle.site_desk.specs.Roster.{IsNamed}
+use Rattle.site_desk.specs.Cell.{Cell, Held, Knows}
+use Rattle.site_desk.specs.Roster.{IsNamed, StandsAt}
+use Rattle.site_desk.specs.Settle.{Holds, Tied}
 
 -- The command was accepted as change n at some content that n - 1 accepted commands leave; its station's figures after it were posted last, and the pass made one change more.
 pub record IsTaken (at : Place) (p : Held) (command : Command) (n : ℕ) (p' : Held) (told : Option Known) : Type 0 where
@@ -36,6 +37,17 @@ pub record IsAnswered (at : Place) (p : Held) (command : Command) (told_answer :
   pub reached : Reached at.limits before.changes before
   pub answered : answer at.limits before command ≡ told_answer
   pub unchanged : IsUnchanged p p' told
+
+-- All that settling a command of a pass asks, at the cell of the station of this number, which stands at this place; and what is known of such a cell.
+pub record CanSettle (number : ℕ) (at : Place) (c : Cell) (b : Book) (p : Held) : Type 0 where
+  pub stands : StandsAt number at c
+  pub site : b.site ≡ at.site
+  pub knows : Knows c p
+  pub held : Holds c b
+  pub room : length b.posts < 2 ^ 62
+  pub tied : Tied c b
+  pub reached : Reached c.limits c.content.changes c.content
+  pub counted : sum c.counts ≡ c.content.changes
 
 -- What a submitted command comes to, at a station of this place.
 abbrev pub Submitted : Place → Held → Command → Answer → Held → Option Known → Type 0

@@ -1,5 +1,5 @@
 //! What a desk compares before it is closed.
-ghost use Rattle.std.specs.Prelude.{◌≡◌, ◌≢◌, IsTrue, IfNone, IfSome, length};
+ghost use Rattle.std.specs.Prelude.{◌≡◌, ◌≢◌, IsTrue, IfNone, IfSome, length, map};
 ghost use Rattle.ledger_model.specs.Board.{plus_figures};
 ghost use Rattle.site_desk.specs.Close.{AreAllPasses, AreSummed, AreViewed, AreWhole, IsClosable, IsCounted, IsPlaced, IsSummed, IsWhole, changes_of, figures_at, figures_with, passes_of};
 ghost use Rattle.site_desk.specs.Parts.{IsTied};
@@ -7,6 +7,7 @@ ghost use Rattle.site_desk.specs.declared.fault.CloseFault.{CloseFault};
 
 use crate::cell::StationCell;
 use crate::fault::CloseFault;
+use crate::has_cell::HasCell;
 use crate::pass::Pass;
 use crate::roster::Place;
 use crate::steps::{are_same, tied};
@@ -41,11 +42,11 @@ fn changes_of(passes: &[Pass], number: usize) -> Option<u64>
 }
 
 // Tells whether all passes that the cells gave out are here.
-pub(crate) fn are_all_passes(cells: &[StationCell], passes: &[Pass]) -> bool
-    ensures { IsTrue result → AreAllPasses cells.now passes.now }
+pub(crate) fn are_all_passes<C: HasCell>(cells: &[C], passes: &[Pass]) -> bool
+    ensures { IsTrue result → AreAllPasses (map C.cell cells.now) passes.now }
 {
     for k in 0..cells.len() {
-        if passes_of(passes, k) != cells[k].passes() {
+        if passes_of(passes, k) != cells[k].cell().passes() {
             return false;
         }
     }
@@ -96,16 +97,16 @@ fn is_whole<J: Naming>(
 }
 
 // Tells whether each cell is whole.
-pub(crate) fn are_whole<J: Naming>(
-    cells: &[StationCell],
+pub(crate) fn are_whole<C: HasCell, J: Naming>(
+    cells: &[C],
     places: &[Place],
     books: &[SiteBook<J>],
     passes: &[Pass],
 ) -> bool
-    ensures { IsTrue result → AreWhole places.now books.now passes.now cells.now }
+    ensures { IsTrue result → AreWhole places.now books.now passes.now (map C.cell cells.now) }
 {
     for k in 0..cells.len() {
-        if !is_whole(&cells[k], k, places, books, passes) {
+        if !is_whole(cells[k].cell(), k, places, books, passes) {
             return false;
         }
     }
@@ -141,19 +142,19 @@ fn plus_at(cell: &StationCell, site: usize, sum: &Figures) -> Option<Figures>
 }
 
 // The sums over the stations of a site, where they fit.
-fn figures_at(cells: &[StationCell], site: usize) -> Option<Figures>
-    ensures { IfSome result (λ f. f ≡ figures_at cells.now site) }
+fn figures_at<C: HasCell>(cells: &[C], site: usize) -> Option<Figures>
+    ensures { IfSome result (λ f. f ≡ figures_at (map C.cell cells.now) site) }
 {
     let mut sum = Figures::zero();
     for done in 0..cells.len() {
-        sum = plus_at(&cells[cells.len() - 1 - done], site, &sum)?;
+        sum = plus_at(cells[cells.len() - 1 - done].cell(), site, &sum)?;
     }
     Some(sum)
 }
 
 // Tells whether the book is that of this site, and its totals the sums over the site's stations.
-fn is_summed<J: Naming>(book: &SiteBook<J>, site: usize, cells: &[StationCell]) -> bool
-    ensures { IsTrue result → IsSummed cells.now site book.now }
+fn is_summed<C: HasCell, J: Naming>(book: &SiteBook<J>, site: usize, cells: &[C]) -> bool
+    ensures { IsTrue result → IsSummed (map C.cell cells.now) site book.now }
 {
     match figures_at(cells, site) {
         Some(figures) => book.site() as usize == site && are_same(&book.totals(), &figures),
@@ -162,8 +163,8 @@ fn is_summed<J: Naming>(book: &SiteBook<J>, site: usize, cells: &[StationCell]) 
 }
 
 // Tells whether each book's totals are the sums over its site's stations.
-pub(crate) fn are_summed<J: Naming>(books: &[SiteBook<J>], cells: &[StationCell]) -> bool
-    ensures { IsTrue result → AreSummed cells.now books.now }
+pub(crate) fn are_summed<C: HasCell, J: Naming>(books: &[SiteBook<J>], cells: &[C]) -> bool
+    ensures { IsTrue result → AreSummed (map C.cell cells.now) books.now }
 {
     for site in 0..books.len() {
         if !is_summed(&books[site], site, cells) {
@@ -186,15 +187,15 @@ pub(crate) fn are_viewed<J: Naming>(viewers: &[Viewer<J>], sites: usize) -> bool
 }
 
 // What keeps a desk from being closed, if anything does.
-pub(crate) fn fault_of<J: Naming>(
+pub(crate) fn fault_of<C: HasCell, J: Naming>(
     places: &[Place],
     given: usize,
-    cells: &[StationCell],
+    cells: &[C],
     books: &[SiteBook<J>],
     passes: &[Pass],
     viewers: &[Viewer<J>],
 ) -> Option<CloseFault>
-    ensures whole { IfNone result (IsClosable places.now given cells.now books.now passes.now viewers.now) }
+    ensures whole { IfNone result (IsClosable places.now given (map C.cell cells.now) books.now passes.now viewers.now) }
     ensures missing { result ≡ Some CloseFault.ViewerMissing → length viewers.now ≢ given }
 {
     if !are_all_passes(cells, passes) {

@@ -37,8 +37,10 @@ impl<J: Naming> Model for Closed<J> {
 }
 
 impl<J: Naming> Closed<J> {
-    // What was under the locks.
-    pub(crate) fn of(cells: Vec<StationCell>, books: Vec<SiteBook<J>>) -> Self
+    /// What was under the locks of a desk.
+    ///
+    /// Condition: each cell's row is tied, as [`Desk::take_apart`] tells.
+    pub fn of(cells: Vec<StationCell>, books: Vec<SiteBook<J>>) -> Self
         requires { AreTied cells.items books.items }
         ensures { result ≡ record { cells = cells.items; books = books.items } }
     {
@@ -110,9 +112,9 @@ impl<J: Naming> Closed<J> {
 
 /// A desk that was not closed, with the passes and viewers that were handed in, all as they were.
 #[derive(Drop)]
-pub struct CloseRefused<J: Naming> {
+pub struct CloseRefused<J: Naming, C = StationCell> {
     /// The desk.
-    pub desk: Desk<J>,
+    pub desk: Desk<J, C>,
     /// The passes.
     pub passes: Listed<Pass>,
     /// The viewers.

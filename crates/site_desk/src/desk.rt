@@ -1,4 +1,4 @@
-ghost use Rattle.std.specs.Prelude.{◌≡◌, ◌≢◌, ◌↔◌, ℕ, ◌<◌, All, length, map, IfOk, IfErr, IfSome, OnOk, None, Some, false, is_some, slice_get};
+ghost use Rattle.std.specs.Prelude.{◌≡◌, ◌≢◌, ◌↔◌, ℕ, ◌<◌, All, length, map, IfOk, IfErr, IfSome, OnOk, None, Some, false, is_some, slice_get, vec_len};
 ghost use Rattle.std.specs.List.{list_any};
 ghost use Rattle.std.specs.Str.{bytes_eq};
 ghost use Rattle.ledger_model.specs.declared.answer.Answer.{Answer};
@@ -10,25 +10,27 @@ ghost use Rattle.site_desk.specs.declared.fault.DeskFault.{DeskFault};
 ghost use Rattle.site_desk.specs.declared.fault.EnlistFault.{EnlistFault};
 ghost use Rattle.site_desk.specs.declared.roster.Place.{Place};
 ghost use Rattle.site_desk.specs.Close.{IsClosable, Saw};
-ghost use Rattle.site_desk.specs.Parts.{new_viewers};
+ghost use Rattle.site_desk.specs.Parts.{AreTied, new_viewers};
 ghost use Rattle.site_desk.specs.Plan.{plan_fault};
 ghost use Rattle.site_desk.specs.Roster.{AreNewPlaces, IsNamed};
 ghost use Rattle.ledger_model.specs.Board.{sum_of_figures};
 ghost use Rattle.site_desk.specs.Operator.{AreBoardsAt, AreTotalsOfName};
 ghost use Rattle.site_desk.specs.Submit.{IsBoardOfName, IsUnchanged, Submitted};
 
-use crate::cell::{StationCell, enlist_cell};
+use crate::cell::StationCell;
 use crate::checks::fault_of;
 use crate::closed::{CloseRefused, Closed};
 use crate::fault::{BoardFault, DeskFault, EnlistFault};
 use crate::gate::Gate;
+use crate::has_cell::HasCell;
 use crate::locks::{Locked, Spare, lock_up, take_viewers, unlock};
 use crate::operator::{hold_stations, site_boards_of, sum_of, totals_of};
 use crate::parts::Parts;
 use crate::pass::Pass;
 use crate::plan::Plan;
 use crate::roster::{Place, number_of, open_places};
-use crate::submit::{board_of, stands_at, try_settle};
+use crate::settles::{AtCell, Settles};
+use crate::submit::{board_of, stands_at};
 use energy_flow::Flow;
 use ledger_model::{Answer, Command, Figures, Listed, Name, Refusal};
 use site_book::{Naming, SiteBook, Tables, Told, Viewer};
@@ -40,18 +42,18 @@ use std::thread::Threads;
 use std::time::Clock;
 
 /// The stations and sites of a plan, each station and each site's book behind a lock of its own, the
-/// station's taken first. Contracts see where each station stands, how many sites it has, and how many
-/// viewers were given out.
+/// station's taken first. Behind a station's lock is its cell, alone or with what belongs to it (C).
+/// Contracts see where each station stands, how many sites it has, and how many viewers were given out.
 #[derive(Drop)]
-pub struct Desk<J: Naming> {
+pub struct Desk<J: Naming, C = StationCell> {
     places: Vec<Place>,
     viewers: usize,
-    cells: Vec<Locked<StationCell>>,
+    cells: Vec<Locked<C>>,
     books: Vec<Locked<SiteBook<J>>>,
-    spare: Mutex<Spare<J>>,
+    spare: Mutex<Spare<J, C>>,
 }
 
-impl<J: Naming> Model for Desk<J> {
+impl<J: Naming, C> Model for Desk<J, C> {
     ghost use Rattle.site_desk.specs.Roster.{Roster};
 
     ghost Value = { Roster };
@@ -64,7 +66,7 @@ impl<J: Naming> Model for Desk<J> {
     ghost invariant = { λ d. IsDesk d.places.items (vec_len d.cells) (vec_len d.books) };
 }
 
-impl<J: Naming> Desk<J> {
+impl<J: Naming> Desk<J, StationCell> {
     /// The desk of a plan, all without events, and its viewers, each with its site's number, site by
     /// site. Faults come as from [`Parts::open`]; a refusal drops the tables.
     ///
@@ -93,6 +95,83 @@ impl<J: Naming> Desk<J> {
         }
     }
 
+    /// Takes a command of a pass and answers it, under the station's lock and then its site's: where it
+    /// is accepted, the station's new figures are posted, and what the book told comes with the answer.
+    /// Any other answer changes nothing. `ChangesExhausted` also answers a pass of no station of this
+    /// desk, and where what lies behind the locks is not as it should be, which no run of fewer than
+    /// 2^62 accepted changes a site meets.
+    pub fn submit<G: Gate, R: Wait + Clock>(
+        &self,
+        rt: &R,
+        pass: &mut Pass,
+        command: Command,
+        gate: &G,
+    ) -> (Answer, Option<Told<J>>)
+        ensures settled { (at : Place) → slice_get self.now.stations pass.old.station ≡ Some at → Submitted at pass.old command result.0 pass.new result.1 }
+        ensures stranger { slice_get self.now.stations pass.old.station ≡ None → (result.0 ≡ Answer.Refused Refusal.ChangesExhausted) × IsUnchanged pass.old pass.new result.1 }
+    {
+        self.submit_by(rt, pass, command, gate, &AtCell)
+    }
+
+    /// Closes the desk. All values are moved out of their locks and compared, and only then is anything
+    /// given up; it takes no memory. The passes and viewers are to be all that were given out: a
+    /// missing one is told, passes first, and what does not fit together is `Torn`.
+    pub fn close(
+        self,
+        passes: Vec<Pass>,
+        viewers: Vec<Viewer<J>>,
+    ) -> Result<Closed<J>, CloseRefused<J>>
+        ensures stations { IfOk result (λ s. length s.cells ≡ length self.stations) }
+        ensures sites { IfOk result (λ s. length s.books ≡ self.sites) }
+        ensures whole { IfOk result (λ s. IsClosable self.stations self.viewers s.cells s.books passes.items viewers.items) }
+        ensures seen { IfOk result (λ s. All (Saw s.books) viewers.items) }
+        ensures viewer { IfErr result (λ r. r.fault ≡ CloseFault.ViewerMissing → length viewers.items ≢ self.viewers) }
+        ensures desk { IfErr result (λ r. r.desk ≡ self) }
+        ensures passes { IfErr result (λ r. r.passes ≡ passes.items) }
+        ensures viewers { IfErr result (λ r. r.viewers ≡ viewers.items) }
+    {
+        match self.take_apart(passes, viewers) {
+            Ok((cells, books)) => Ok(Closed::of(cells, books)),
+            Err(refused) => Err(refused),
+        }
+    }
+}
+
+impl<J: Naming, C: HasCell> Desk<J, C> {
+    /// The desk of a plan over what is to be behind its locks, in the plan's order, of which so many
+    /// viewers were given out. It takes memory for the locks.
+    ///
+    /// Conditions: the plan has no fault ([`Plan::fault`] tells), and each station has its cell and each
+    /// site its book, as [`Parts::open`] gives them.
+    pub fn over(
+        alloc: Global,
+        plan: &Plan,
+        mut free_cells: Vec<C>,
+        mut free_books: Vec<SiteBook<J>>,
+        viewers: usize,
+    ) -> Result<Self, AllocError>
+        requires faultless { plan_fault plan.now.sites.items plan.now.stations.items ≡ None }
+        requires cells { vec_len free_cells ≡ length plan.now.stations.items }
+        requires books { vec_len free_books ≡ length plan.now.sites.items }
+        ensures stations { IfOk result (λ d. AreNewPlaces plan.now.sites.items plan.now.stations.items d.stations) }
+        ensures sites { IfOk result (λ d. d.sites ≡ length plan.now.sites.items) }
+        ensures given { IfOk result (λ d. d.viewers ≡ viewers) }
+    {
+        let places = open_places(alloc, plan.sites.as_slice(), plan.stations.as_slice())?;
+        let spare = Spare::open(alloc)?;
+        let mut cells = Vec::with_capacity(alloc, plan.stations.len())?;
+        let mut books = Vec::with_capacity(alloc, plan.sites.len())?;
+        lock_up(&mut free_cells, &mut cells);
+        lock_up(&mut free_books, &mut books);
+        Ok(Desk {
+            places,
+            viewers,
+            cells,
+            books,
+            spare: Mutex::new(spare),
+        })
+    }
+
     /// How many stations it has.
     pub fn stations(&self) -> usize
         ensures { result ≡ length self.now.stations }
@@ -109,29 +188,30 @@ impl<J: Naming> Desk<J> {
         let Some(number) = number_of(&self.places, name) else {
             return Err(EnlistFault::UnknownStation);
         };
-        let lock: &Mutex<StationCell> = &self.cells[number];
-        let mut cell = lock.lock(rt);
-        if cell.station() as usize != number {
+        let lock: &Mutex<C> = &self.cells[number];
+        let mut held = lock.lock(rt);
+        if held.cell().station() as usize != number {
             return Err(EnlistFault::TooManyPasses);
         }
-        match enlist_cell(rt, &mut cell) {
+        match held.enlist(rt) {
             Ok(pass) => Ok(pass),
             Err(_) => Err(EnlistFault::TooManyPasses),
         }
     }
 
-    /// Takes a command of a pass and answers it, under the station's lock and then its site's: where it
-    /// is accepted, the station's new figures are posted, and what the book told comes with the answer.
-    /// Any other answer changes nothing. `ChangesExhausted` also answers a pass of no station of this
-    /// desk, and where what lies behind the locks is not as it should be, which no run of fewer than
-    /// 2^62 accepted changes a site meets.
-    pub fn submit<G: Gate, R: Wait + Clock>(
+    /// Takes a command of a pass and answers it as [`Desk::submit`] does, by this way to settle it, under
+    /// the station's lock and then its site's.
+    ///
+    /// Condition: what the way asks of the command on the pass's station, where the desk has it.
+    pub fn submit_by<G: Gate, S: Settles<J, C>, R: Wait + Clock>(
         &self,
         rt: &R,
         pass: &mut Pass,
         command: Command,
         gate: &G,
+        way: &S,
     ) -> (Answer, Option<Told<J>>)
+        requires { (at : Place) → slice_get self.now.stations pass.old.station ≡ Some at → S.asks way.now pass.old.station command }
         ensures settled { (at : Place) → slice_get self.now.stations pass.old.station ≡ Some at → Submitted at pass.old command result.0 pass.new result.1 }
         ensures stranger { slice_get self.now.stations pass.old.station ≡ None → (result.0 ≡ Answer.Refused Refusal.ChangesExhausted) × IsUnchanged pass.old pass.new result.1 }
     {
@@ -139,12 +219,12 @@ impl<J: Naming> Desk<J> {
         let Some(place) = self.places.get(number) else {
             return (Answer::Refused(Refusal::ChangesExhausted), None);
         };
-        let lock: &Mutex<StationCell> = &self.cells[number];
-        let mut cell = lock.lock(rt);
+        let lock: &Mutex<C> = &self.cells[number];
+        let mut held = lock.lock(rt);
         gate.held(rt, &place.name);
         let lock: &Mutex<SiteBook<J>> = &self.books[place.site as usize];
         let mut book = lock.lock(rt);
-        try_settle(&mut cell, &mut book, number, place, pass, command)
+        way.settle(rt, &mut held, &mut book, number, place, pass, command)
     }
 
     /// The board of the station of this name. It waits for the station's lock. A cell there that is not
@@ -161,12 +241,13 @@ impl<J: Naming> Desk<J> {
         let Some(number) = number_of(&self.places, name) else {
             return Err(BoardFault::UnknownStation);
         };
-        let lock: &Mutex<StationCell> = &self.cells[number];
-        let cell = lock.lock(rt);
-        if !stands_at(&cell, number, &self.places[number]) {
+        let lock: &Mutex<C> = &self.cells[number];
+        let held = lock.lock(rt);
+        let cell = held.cell();
+        if !stands_at(cell, number, &self.places[number]) {
             return Err(BoardFault::Torn);
         }
-        match board_of(&cell, alloc) {
+        match board_of(cell, alloc) {
             Ok(board) => Ok(board),
             Err(_) => Err(BoardFault::OutOfMemory),
         }
@@ -179,6 +260,16 @@ impl<J: Naming> Desk<J> {
     {
         match number_of(&self.places, name) {
             Some(number) => Some(number as u16),
+            None => None,
+        }
+    }
+
+    /// The name of the station of this number in the plan, if there is the station.
+    pub fn name_of(&self, station: u16) -> Option<&Name>
+        ensures { IfSome result (λ name. IsNamed self.now.stations name.now station) }
+    {
+        match self.places.get(station as usize) {
+            Some(place) => Some(&place.name),
             None => None,
         }
     }
@@ -197,12 +288,13 @@ impl<J: Naming> Desk<J> {
         let Some(number) = number_of(&self.places, name) else {
             return Err(BoardFault::UnknownStation);
         };
-        let lock: &Mutex<StationCell> = &self.cells[number];
+        let lock: &Mutex<C> = &self.cells[number];
         let held = lock.lock(rt);
-        if !stands_at(&held, number, &self.places[number]) {
+        let own = held.cell();
+        if !stands_at(own, number, &self.places[number]) {
             return Err(BoardFault::Torn);
         }
-        Ok(totals_of(&held))
+        Ok(totals_of(own))
     }
 
     /// The boards of the stations of the site of this number, in the plan's order and each with the
@@ -235,18 +327,18 @@ impl<J: Naming> Desk<J> {
         }
     }
 
-    /// Closes the desk. All values are moved out of their locks and compared, and only then is anything
-    /// given up; it takes no memory. The passes and viewers are to be all that were given out: a
-    /// missing one is told, passes first, and what does not fit together is `Torn`.
-    pub fn close(
+    /// Moves all values out of their locks and compares them as [`Desk::close`] does, and only then gives
+    /// anything up: what was behind the stations' locks, and the books, both in the plan's order.
+    pub fn take_apart(
         self,
         passes: Vec<Pass>,
         viewers: Vec<Viewer<J>>,
-    ) -> Result<Closed<J>, CloseRefused<J>>
-        ensures stations { IfOk result (λ s. length s.cells ≡ length self.stations) }
-        ensures sites { IfOk result (λ s. length s.books ≡ self.sites) }
-        ensures whole { IfOk result (λ s. IsClosable self.stations self.viewers s.cells s.books passes.items viewers.items) }
-        ensures seen { IfOk result (λ s. All (Saw s.books) viewers.items) }
+    ) -> Result<(Vec<C>, Vec<SiteBook<J>>), CloseRefused<J, C>>
+        ensures stations { IfOk result (λ s. vec_len s.0 ≡ length self.stations) }
+        ensures sites { IfOk result (λ s. length s.1.items ≡ self.sites) }
+        ensures whole { IfOk result (λ s. IsClosable self.stations self.viewers (map C.cell s.0.items) s.1.items passes.items viewers.items) }
+        ensures tied { IfOk result (λ s. AreTied (map C.cell s.0.items) s.1.items) }
+        ensures seen { IfOk result (λ s. All (Saw s.1.items) viewers.items) }
         ensures viewer { IfErr result (λ r. r.fault ≡ CloseFault.ViewerMissing → length viewers.items ≢ self.viewers) }
         ensures desk { IfErr result (λ r. r.desk ≡ self) }
         ensures passes { IfErr result (λ r. r.passes ≡ passes.items) }
@@ -268,7 +360,7 @@ impl<J: Naming> Desk<J> {
         match fault_of(&places, given, &cells, &books, &passes, &viewers) {
             None => {
                 take_viewers(&mut books, viewers);
-                Ok(Closed::of(cells, books))
+                Ok((cells, books))
             }
             Some(fault) => {
                 lock_up(&mut cells, &mut locked_cells);
@@ -310,20 +402,8 @@ fn lock_parts<J: Naming>(
         books,
         viewers,
     } = parts;
-    let (mut free_cells, mut free_books) = (cells.into_vec(), books.into_vec());
     let viewers = viewers.into_vec();
-    let places = open_places(alloc, plan.sites.as_slice(), plan.stations.as_slice())?;
-    let spare = Spare::open(alloc)?;
-    let mut cells = Vec::with_capacity(alloc, plan.stations.len())?;
-    let mut books = Vec::with_capacity(alloc, plan.sites.len())?;
-    lock_up(&mut free_cells, &mut cells);
-    lock_up(&mut free_books, &mut books);
-    let desk = Desk {
-        places,
-        viewers: viewers.len(),
-        cells,
-        books,
-        spare: Mutex::new(spare),
-    };
+    let (cells, books) = (cells.into_vec(), books.into_vec());
+    let desk = Desk::over(alloc, plan, cells, books, viewers.len())?;
     Ok((desk, viewers))
 }

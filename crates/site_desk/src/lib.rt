@@ -10,6 +10,10 @@
 //! An operator reads a running desk by [`Desk::station_totals`] and [`Desk::site_boards`], whose boards are of one
 //! moment. `open`, [`Desk::station_board`] and `site_boards` alone take memory.
 //!
+//! A desk may keep more than a cell behind a station's lock, as one with a journal does: anything that [`HasCell`]
+//! ([`Desk::over`], [`Desk::take_apart`]), and a command is then taken by a way of its own that [`Settles`]
+//! ([`Desk::submit_by`]; [`can_settle`] and [`settle_at`] are its parts).
+//!
 //! The crate's one contract: a cell's content is always one that as many accepted commands as its
 //! passes made leave of the empty content, under its limits. `settle` takes the step of the ledger
 //! and posts the figures after it, no more and no less, and leaves the row tied to the content. What
@@ -33,12 +37,14 @@ mod closed;
 mod desk;
 mod fault;
 mod gate;
+mod has_cell;
 mod locks;
 mod operator;
 mod parts;
 mod pass;
 mod plan;
 mod roster;
+mod settles;
 mod steps;
 mod submit;
 
@@ -47,7 +53,11 @@ pub use closed::{CloseRefused, Closed};
 pub use desk::Desk;
 pub use fault::{BoardFault, CloseFault, DeskFault, EnlistFault, TooManyPasses};
 pub use gate::{Gate, NoGate};
+pub use has_cell::HasCell;
 pub use parts::Parts;
 pub use pass::Pass;
 pub use plan::{MAX_VIEWERS, Plan, SitePlan, StationPlan};
+pub use roster::Place;
+pub use settles::Settles;
 pub use steps::{settle, tied};
+pub use submit::{can_settle, settle_at};

@@ -3,7 +3,6 @@ ghost use Rattle.std.specs.Prelude.{◌≡◌, ℕ, ◌+◌, ◌<◌, ◌≤◌,
 ghost use Rattle.site_book.specs.Book.{Book};
 ghost use Rattle.site_desk.specs.Close.{AreViewed, Saw};
 
-use crate::cell::StationCell;
 use crossbeam_utils::CachePadded;
 use ledger_model::{MAX_SITES, MAX_STATIONS};
 use site_book::{Naming, SiteBook, Viewer};
@@ -15,8 +14,8 @@ pub(crate) type Locked<T> = CachePadded<Mutex<T>>;
 
 // Room for all that lies behind a desk's locks.
 #[derive(Drop)]
-pub(crate) struct Spare<J: Naming> {
-    pub(crate) cells: Vec<StationCell>,
+pub(crate) struct Spare<J: Naming, C> {
+    pub(crate) cells: Vec<C>,
     pub(crate) books: Vec<SiteBook<J>>,
     ghost no_cells: { vec_len cells ≡ 0 },
     ghost no_books: { vec_len books ≡ 0 },
@@ -24,7 +23,7 @@ pub(crate) struct Spare<J: Naming> {
     ghost book_room: { 16 ≤ vec_capacity books },
 }
 
-impl<J: Naming> Spare<J> {
+impl<J: Naming, C: Drop> Spare<J, C> {
     // Room for as many stations and sites as a plan may have.
     pub(crate) fn open(alloc: Global) -> Result<Self, AllocError> {
         let cells = Vec::with_capacity(alloc, MAX_STATIONS)?;

@@ -7,6 +7,7 @@ ghost use Rattle.site_desk.specs.Operator.{AreBoardsAt, AreTotalsWithin, IsBoard
 use crate::cell::StationCell;
 use crate::checks::plus;
 use crate::fault::BoardFault;
+use crate::has_cell::HasCell;
 use crate::locks::Locked;
 use crate::roster::Place;
 use crate::submit::{board_of, stands_at};
@@ -25,17 +26,17 @@ pub(crate) fn totals_of(cell: &StationCell) -> (Figures, Flow, Flow)
 }
 
 // The cells of a site's stations, each with its lock held, in the plan's order.
-pub(crate) fn hold_stations<'a, R: Wait>(
+pub(crate) fn hold_stations<'a, R: Wait, C>(
     rt: &R,
     alloc: Global,
     places: &[Place],
-    cells: &'a [Locked<StationCell>],
+    cells: &'a [Locked<C>],
     site: u16,
-) -> Result<Vec<MutexGuard<'a, StationCell>>, AllocError> {
+) -> Result<Vec<MutexGuard<'a, C>>, AllocError> {
     let mut held = Vec::with_capacity(alloc, cells.len())?;
     for (place, cell) in places.iter().zip(cells) {
         if place.site == site {
-            let lock: &Mutex<StationCell> = cell;
+            let lock: &Mutex<C> = cell;
             held.push(lock.lock(rt))?;
         }
     }
@@ -43,10 +44,10 @@ pub(crate) fn hold_stations<'a, R: Wait>(
 }
 
 // The boards of a site's stations, whose cells are held in the plan's order.
-pub(crate) fn site_boards_of(
+pub(crate) fn site_boards_of<C: HasCell>(
     alloc: Global,
     places: &[Place],
-    held: &[MutexGuard<'_, StationCell>],
+    held: &[MutexGuard<'_, C>],
     site: u16,
 ) -> Result<Vec<(Name, StationBoard)>, BoardFault>
     ensures known { result ≢ Err BoardFault.UnknownStation }
@@ -61,11 +62,11 @@ pub(crate) fn site_boards_of(
 
 // Adds the board of the station of this number and place to those before it, where it is at the site: its
 // cell is the first that none of those has.
-fn add_board(
+fn add_board<C: HasCell>(
     alloc: Global,
     place: &Place,
     number: usize,
-    held: &[MutexGuard<'_, StationCell>],
+    held: &[MutexGuard<'_, C>],
     site: u16,
     boards: &mut Vec<(Name, StationBoard)>,
 ) -> Result<(), BoardFault>
@@ -76,9 +77,10 @@ fn add_board(
     if place.site != site {
         return Ok(());
     }
-    let Some(cell) = held.get(boards.len()) else {
+    let Some(held) = held.get(boards.len()) else {
         return Err(BoardFault::Torn);
     };
+    let cell = held.cell();
     if !stands_at(cell, number, place) {
         return Err(BoardFault::Torn);
     }

@@ -4,6 +4,7 @@ ghost use Rattle.site_book.specs.Tables.{HasTable, NamedBy};
 ghost use Rattle.site_desk.specs.declared.fault.DeskFault.{DeskFault};
 ghost use Rattle.site_desk.specs.Parts.{AreApart, AreNewBooks, AreNewCells, AreTied, limits_at, new_viewers, row_at};
 ghost use Rattle.site_desk.specs.Plan.{plan_fault};
+ghost use Rattle.site_desk.specs.Roster.{AreCellsOf};
 
 use crate::cell::StationCell;
 use crate::fault::DeskFault;
@@ -48,6 +49,53 @@ impl<J: Naming> Parts<J> {
             Err(_) => Err(DeskFault::OutOfMemory),
         }
     }
+
+    /// The parts of a plan over cells that took commands before, whose figures are posted in new books; each site
+    /// has so many viewers, whatever the plan says. A refusal drops the tables.
+    ///
+    /// Conditions: the tables are as [`Parts::open`] wants them, the plan has no fault ([`Plan::fault`] tells), and
+    /// the cells are those of its stations, in the plan's order.
+    pub fn over(
+        alloc: Global,
+        tables: Tables,
+        plan: &Plan,
+        cells: Vec<StationCell>,
+        viewers: u16,
+    ) -> Result<Self, AllocError>
+        requires named { NamedBy J.table tables }
+        requires there { (site : ℕ) → site < length plan.now.sites.items → HasTable tables site }
+        requires faultless { plan_fault plan.now.sites.items plan.now.stations.items ≡ None }
+        requires cells { AreCellsOf plan.now.sites.items plan.now.stations.items cells.items }
+        ensures cells { IfOk result (λ p. p.cells ≡ cells.items) }
+        ensures books { IfOk result (λ p. length p.books ≡ length plan.now.sites.items) }
+    {
+        let (sites, stations) = (plan.sites.as_slice(), plan.stations.as_slice());
+        let (mut books, viewers) = open_books(alloc, tables, sites, stations, Some(viewers))?;
+        post_all(&cells, &mut books);
+        Ok(Parts {
+            cells: Listed::of(cells),
+            books: Listed::of(books),
+            viewers: Listed::of(viewers),
+        })
+    }
+}
+
+// Posts the figures of each cell in the book of its site.
+fn post_all<J: Naming>(cells: &[StationCell], books: &mut [SiteBook<J>])
+    ensures { length books.new ≡ length books.old }
+{
+    for cell in cells {
+        if let Some(book) = books.get_mut(cell.site() as usize) {
+            post_first(cell, book);
+        }
+    }
+}
+
+// Posts the figures of a cell in its row of a book without posts, where it is there.
+fn post_first<J: Naming>(cell: &StationCell, book: &mut SiteBook<J>) {
+    if book.holds(cell.row(), cell.ledger().limits()) && book.can_post() {
+        book.post(cell.row(), cell.ledger().figures());
+    }
 }
 
 // The parts of a plan that has no fault.
@@ -64,7 +112,7 @@ fn open_parts<J: Naming>(alloc: Global, tables: Tables, plan: &Plan) -> Result<P
     let sites = plan.sites.as_slice();
     let stations = plan.stations.as_slice();
     let cells = open_cells(alloc, sites, stations)?;
-    let (books, viewers) = open_books(alloc, tables, sites, stations)?;
+    let (books, viewers) = open_books(alloc, tables, sites, stations, None)?;
     Ok(Parts {
         cells: Listed::of(cells),
         books: Listed::of(books),
@@ -120,19 +168,20 @@ fn limits_of(stations: &[StationPlan], site: u16) -> ArrayVec<Limits, MAX_STATIO
     limits
 }
 
-// A book for each site, and all viewers.
+// A book for each site, and all viewers: so many for each, or as many as the plan says.
 fn open_books<J: Naming>(
     alloc: Global,
     mut tables: Tables,
     sites: &[SitePlan],
     stations: &[StationPlan],
+    viewers_each: Option<u16>,
 ) -> Result<(Vec<SiteBook<J>>, Vec<(u16, Viewer<J>)>), AllocError>
     requires named { NamedBy J.table tables }
     requires there { (site : ℕ) → site < length sites.now → HasTable tables site }
     requires few { (length sites.now ≤ 16) × (length stations.now ≤ 64) }
     requires faultless { plan_fault sites.now stations.now ≡ None }
     ensures books { IfOk result (λ r. AreNewBooks stations.now (length sites.now) r.0.items) }
-    ensures viewers { IfOk result (λ r. r.1.items ≡ new_viewers 0 sites.now) }
+    ensures viewers { viewers_each ≡ None → IfOk result (λ r. r.1.items ≡ new_viewers 0 sites.now) }
 {
     let mut books = Vec::with_capacity(alloc, sites.len())?;
     let mut viewers = Vec::new(alloc);
@@ -143,7 +192,7 @@ fn open_books<J: Naming>(
             &mut tables,
             site as u16,
             limits.as_slice(),
-            sites[site].viewers,
+            viewers_each.unwrap_or(sites[site].viewers),
         )?;
         books.push(book)?;
         add_viewers(&mut viewers, site as u16, seats)?;

@@ -9,8 +9,8 @@ use crate::plan::{SitePlan, StationPlan, period_of};
 use ledger_model::{Limits, Name, Period};
 use std::alloc::{AllocError, Global};
 
-// Where a station stands: its name, its site's number, its row in the site's book, its limits, and its
-// settlement period.
+/// Where a station stands: its name, its site's number, its row in the site's book, its limits, and its
+/// settlement period.
 #[derive(Drop)]
 pub struct Place {
     pub(crate) name: Name,

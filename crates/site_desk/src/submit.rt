@@ -1,7 +1,9 @@
 ghost use Rattle.std.specs.Prelude.{◌≡◌, IsTrue, IfOk};
 ghost use Rattle.ledger_model.specs.Figures.{AreWithin};
+ghost use Rattle.ledger_model.specs.Step.{answer};
 ghost use Rattle.site_desk.specs.Roster.{StandsAt};
-ghost use Rattle.site_desk.specs.Submit.{IsBoardWithin, Submitted};
+ghost use Rattle.site_desk.specs.Settle.{cell_after};
+ghost use Rattle.site_desk.specs.Submit.{CanSettle, IsBoardWithin, Submitted};
 
 use crate::cell::StationCell;
 use crate::pass::Pass;
@@ -30,6 +32,44 @@ fn are_at<J: Naming>(cell: &StationCell, book: &SiteBook<J>, number: usize, plac
     stands_at(cell, number, place) && book.site() == place.site
 }
 
+/// Tells whether all is so that settling a command of the pass asks, at the cell of the station of this
+/// number and place.
+pub fn can_settle<J: Naming>(
+    cell: &StationCell,
+    book: &SiteBook<J>,
+    number: usize,
+    place: &Place,
+    pass: &Pass,
+) -> bool
+    ensures { IsTrue result → CanSettle number place.now cell.now book.now pass.now }
+{
+    are_at(cell, book, number, place)
+        && cell.knows(pass)
+        && book.holds(cell.row(), cell.ledger().limits())
+        && book.can_post()
+        && tied(cell, book)
+}
+
+/// Settles the command ([`settle`]), and tells also what that means to one who does not know what lay
+/// behind the locks.
+///
+/// Condition: what settling asks ([`can_settle`] tells).
+pub fn settle_at<J: Naming>(
+    cell: &mut StationCell,
+    book: &mut SiteBook<J>,
+    number: usize,
+    place: &Place,
+    pass: &mut Pass,
+    command: Command,
+) -> (Answer, Option<Told<J>>)
+    requires { CanSettle number place.now cell.old book.old pass.old }
+    ensures answer { result.0 ≡ answer cell.old.limits cell.old.content command }
+    ensures cell { cell.new ≡ cell_after cell.old pass.old command }
+    ensures submitted { Submitted place.now pass.old command result.0 pass.new result.1 }
+{
+    settle(cell, book, pass, command)
+}
+
 // Settles the command where all that settling asks is so; else nothing changes.
 pub(crate) fn try_settle<J: Naming>(
     cell: &mut StationCell,
@@ -41,13 +81,8 @@ pub(crate) fn try_settle<J: Naming>(
 ) -> (Answer, Option<Told<J>>)
     ensures { Submitted place.now pass.old command result.0 pass.new result.1 }
 {
-    if are_at(cell, book, number, place)
-        && cell.knows(pass)
-        && book.holds(cell.row(), cell.ledger().limits())
-        && book.can_post()
-        && tied(cell, book)
-    {
-        settle(cell, book, pass, command)
+    if can_settle(cell, book, number, place, pass) {
+        settle_at(cell, book, number, place, pass, command)
     } else {
         (Answer::Refused(Refusal::ChangesExhausted), None)
     }

@@ -1,11 +1,14 @@
-use Rattle.std.proofs.Common.{arith}
+use Rattle.std.proofs.Common.{map, arith}
+use Rattle.std.proofs.lemmas.List.{length-map}
 use Rattle.site_desk.specs.Close.{IsWhole}
-use Rattle.site_desk.proofs.Comparisons.{each_more, each_all}
+use Rattle.site_desk.proofs.Comparisons.{each_more, each_all, cell_at}
 use Rattle.site_desk.proofs.checks.are_whole.Goals as goal
 
 pub loop-k-preserved : goal.loop-k-preserved
 loop-k-preserved g c =
-    each_more (IsWhole c.args.places.now c.args.books.now c.args.passes.now) c.args.cells.now c.loop-k.k c.index-cells-k.result c.index-cells-k.is c.loop-k.invariant (c.is_whole.ensures c.if-not-is_whole.false)
+    let cell = g.C.HasCell.cell in
+    each_more (IsWhole c.args.places.now c.args.books.now c.args.passes.now) (map cell c.args.cells.now) c.loop-k.k c.cell.result.now (cell_at cell c.args.cells.now c.loop-k.k c.index-cells-k.result c.cell.result.now c.index-cells-k.is c.cell.ensures)
+    c.loop-k.invariant (c.is_whole.ensures c.if-not-is_whole.false)
 
 pub returns : goal.returns
-returns g c = λ _. each_all (IsWhole c.args.places.now c.args.books.now c.args.passes.now) c.args.cells.now c.loop-k.k (omega arith) c.loop-k.invariant
+returns g c = λ _. each_all (IsWhole c.args.places.now c.args.books.now c.args.passes.now) (map g.C.HasCell.cell c.args.cells.now) c.loop-k.k (omega (arith, length-map c.args.cells.now g.C.HasCell.cell)) c.loop-k.invariant

@@ -1,5 +1,6 @@
-use Rattle.std.proofs.Common.{◌+◌, ◌∷◌, [], ◌++◌, ap, sym, ◌∙◌, subst, arith}
-use Rattle.site_book.specs.Book.{ArePlanned}
+use Rattle.std.proofs.Common.{get_or, ◌+◌, ◌∷◌, [], ◌++◌, ap, sym, ◌∙◌, subst, arith}
+use Rattle.std.specs.Prelude.{replicate, unwrap_or}
+use Rattle.site_book.specs.Book.{ArePlanned, known}
 use Rattle.site_book.specs.Tables.{HasTable}
 use Rattle.site_book.proofs.Named.{has-others}
 use Rattle.site_desk.specs.Parts.{AreNewBooks}
@@ -20,5 +21,5 @@ loop-site-preserved g c =
       there = λ other least less. subst (λ ts. HasTable ts other) (sym opened.taken) (has-others c.loop-site.tables n other (λ e. absurd (omega (arith, e))) (i.there other (omega arith) less));
       books = subst (AreNewBooks c.args.stations.now (n + 1)) (sym (c.in_ok-push.ensures.items ∙ ap (λ b. c.loop-site.books.items ++ b ∷ []) (opened.book ∙ ap (λ ls. record { site = n; limits = ls; posts = [] }) (c.as_slice.ensures.value ∙ c.limits_of-limits.ensures))))
           (books_more c.args.stations.now c.loop-site.books.items n i.books);
-      viewers = viewers_more c.args.sites.now n c.index-sites-site.result c.loop-site.viewers.items c.add_viewers.new.viewers.items _ c.in_ok-book.seats.items (omega arith) i.viewers opened.viewers c.in_ok-add_viewers.ensures;
+      viewers = λ none. viewers_more c.args.sites.now n c.index-sites-site.result c.loop-site.viewers.items c.add_viewers.new.viewers.items _ c.in_ok-book.seats.items (omega arith) (i.viewers none) (opened.viewers ∙ ap (λ v. replicate v (known n [])) (c.unwrap_or.ensures ∙ ap (λ o. unwrap_or o (get_or c.args.sites.now n c.index-sites-site.result).viewers) none)) c.in_ok-add_viewers.ensures;
     }

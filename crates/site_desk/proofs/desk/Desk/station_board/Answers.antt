@@ -26,5 +26,5 @@ returns-in-Ok-clause-board g c =
     let same = ap (λ r. r.stations) c.self.view_is in
     let named = subst (λ ps. IsNamed ps name number) (c.deref.ensures.value ∙ same) c.in-Some.ensures.named in
     let place = c.index-2.ensures ∙ ap (λ ps. get_or ps number at) same in
-    let stands = subst (StandsAt number at) (c.deref-2.ensures ∙ sym c.deref-3.ensures) (c.stands_at.ensures c.if-not-stands_at.false) in
-    board_named c.args.self.now.stations name number at c.deref-3.result.now c.in-Ok.board named place stands c.in-Ok.ensures.board
+    let stands = c.stands_at.ensures c.if-not-stands_at.false in
+    board_named c.args.self.now.stations name number at c.cell-cell.result.now c.in-Ok.board named place stands c.in-Ok.ensures.board

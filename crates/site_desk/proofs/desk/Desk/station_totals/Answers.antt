@@ -22,5 +22,5 @@ returns-clause-totals g c =
     let same = ap (λ r. r.stations) c.self.view_is in
     let named = subst (λ ps. IsNamed ps name number) (c.deref.ensures.value ∙ same) c.in-Some.ensures.named in
     let place = c.index-2.ensures ∙ ap (λ ps. get_or ps number at) same in
-    let stands = subst (StandsAt number at) (c.deref-2.ensures ∙ sym c.deref-3.ensures) (c.stands_at.ensures c.if-not-stands_at.false) in
-    totals_named c.args.self.now.stations name number at c.deref-3.result.now c.totals_of.result.0 c.totals_of.result.1 c.totals_of.result.2 named place stands c.totals_of.ensures
+    let stands = c.stands_at.ensures c.if-not-stands_at.false in
+    totals_named c.args.self.now.stations name number at c.cell-own.result.now c.totals_of.result.0 c.totals_of.result.1 c.totals_of.result.2 named place stands c.totals_of.ensures

@@ -1,0 +1,3 @@
+mod Moves
+mod Written
+mod Lines

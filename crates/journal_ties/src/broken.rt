@@ -1,0 +1,3 @@
+/// The journal takes nothing more: a write or a flush failed, at this line or at an earlier one.
+#[derive(Clone, Copy, Debug, PartialEq, Eq)]
+pub struct Broken;

@@ -1,0 +1,5 @@
+//! The tests of `journal_ties`.
+#![tactic(auto)]
+
+#[cfg(test)]
+mod tests;

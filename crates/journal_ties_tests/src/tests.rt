@@ -1,0 +1,5 @@
+mod failing;
+mod lines;
+mod station;
+mod threads;
+mod writers;

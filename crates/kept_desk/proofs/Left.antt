@@ -1,0 +1,64 @@
+-- What one command more leaves of a station's first content.
+use Rattle.std.proofs.Common.{◌≡◌, ℕ, ◌+◌, List, [], ◌∷◌, ◌++◌, refl, ap, sym, ◌∙◌, subst, arith, length-append}
+use Rattle.std.proofs.lemmas.List.{map-append}
+use Rattle.std.proofs.lemmas.List.Elements.{All-nil, All-push}
+use Rattle.journal_ties.specs.declared.entry.Entry.{Entry}
+use Rattle.journal_ties.specs.Entries.{entry}
+use Rattle.journal_ties.specs.Journal.{Share}
+use Rattle.ledger_model.specs.declared.command.Command.{Command}
+use Rattle.ledger_model.specs.Admissible.{IsAdmissible}
+use Rattle.ledger_model.specs.Content.{Content}
+use Rattle.ledger_model.specs.Laws.{AreAccepted, IsAccepted, left_by}
+use Rattle.ledger_model.specs.Limits.{Bounds}
+use Rattle.ledger_model.specs.Step.{answer, step}
+use Rattle.ledger_model.proofs.Callers.{is_counted}
+use Rattle.site_desk.specs.Cell.{Cell, Held}
+use Rattle.site_desk.specs.Settle.{cell_after}
+use Rattle.site_desk.proofs.Counts.{one_more}
+use Rattle.kept_desk.specs.Kept.{IsKeptCell, IsLeftFrom, commands_of}
+
+-- commands that are accepted, behind others
+pub accepted_append : (limits : Bounds) (c : Content) (xs ys : List Command) → AreAccepted limits c xs → AreAccepted limits (left_by limits c xs) ys → AreAccepted limits c (xs ++ ys)
+accepted_append limits c [] ys h k = k
+accepted_append limits c (x ∷ xs) ys h k = (h.0, accepted_append limits (step limits c x).0 xs ys h.1 k)
+
+pub left_by-append : (limits : Bounds) (c : Content) (xs ys : List Command) → left_by limits c (xs ++ ys) ≡ left_by limits (left_by limits c xs) ys
+left_by-append limits c [] ys = refl
+left_by-append limits c (x ∷ xs) ys = left_by-append limits (step limits c x).0 xs ys
+
+-- no command leaves what was there first
+pub none_left : (limits : Bounds) (first c : Content) → c ≡ first → IsLeftFrom limits first c []
+none_left limits first c same = record {
+  admissible = All-nil IsAdmissible;
+  accepted = tt;
+  left = sym same;
+  counted = let count : c.changes ≡ first.changes = ap (λ (d : Content). d.changes) same in omega (arith, count);
+}
+
+-- an accepted command more
+pub left_more : (limits : Bounds) (first c : Content) (commands : List Command) (command : Command) → IsAdmissible command → IsAccepted (answer limits c command) → IsLeftFrom limits first c commands
+    → IsLeftFrom limits first (step limits c command).0 (commands ++ command ∷ [])
+left_more limits first c commands command may accepted l =
+    let last = command ∷ [] in
+    let told : AreAccepted limits c last = (accepted, tt) in
+    let more : (step limits c command).0.changes ≡ c.changes + 1 = one_more limits c command (c.changes + 1) (is_counted limits c command accepted).next in
+    record {
+      admissible = All-push IsAdmissible commands command l.admissible may;
+      accepted = accepted_append limits first commands last l.accepted (subst (λ (d : Content). AreAccepted limits d last) (sym l.left) told);
+      left = left_by-append limits first commands last ∙ ap (λ (d : Content). (step limits d command).0) l.left;
+      counted = omega (arith, more, l.counted, length-append commands last);
+    }
+
+-- the cell and its hand after a command whose line was written
+pub kept_more : (first : ℕ → Content) (c c' : Cell) (p : Held) (hand hand' : Share Command) (line : List ℕ) (command : Command) → IsAdmissible command → IsAccepted (answer c.limits c.content command)
+    → c' ≡ cell_after c p command → hand' ≡ record hand { entries = hand.entries ++ entry hand.station line command ∷ [] } → IsKeptCell first c hand → IsKeptCell first c' hand'
+kept_more first c c' p hand hand' line command may accepted cells hands k =
+    let now = cell_after c p command in
+    let es = hand.entries ++ entry hand.station line command ∷ [] in
+    let with : Share Command = record hand { entries = es } in
+    let same : commands_of hand.entries ++ command ∷ [] ≡ commands_of es = sym (map-append (λ (e : Entry Command). e.command) hand.entries (entry hand.station line command ∷ [])) in
+    let base : IsKeptCell first now with = record {
+      station = k.station;
+      left = subst (IsLeftFrom c.limits (first c.station) now.content) same (left_more c.limits (first c.station) c.content (commands_of hand.entries) command may accepted k.left);
+    } in
+    subst (λ d. IsKeptCell first d hand') (sym cells) (subst (IsKeptCell first now) (sym hands) base)

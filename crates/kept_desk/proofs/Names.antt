@@ -1,0 +1,40 @@
+-- The names of a desk's stations, and what is known of its cells once it is closed.
+use Rattle.std.proofs.Common.{◌≡◌, ℕ, zero, suc, ◌<◌, List, [], ◌∷◌, length, Some, refl, ap, sym, ◌∙◌, subst, arith}
+use Rattle.std.specs.Prelude.{All, slice_get}
+use Rattle.std.proofs.lemmas.Option.{slice_get_within, get_or_from_slice_get}
+use Rattle.site_desk.specs.declared.plan.SitePlan.{SitePlan}
+use Rattle.site_desk.specs.declared.plan.StationPlan.{StationPlan}
+use Rattle.site_desk.specs.declared.roster.Place.{Place}
+use Rattle.site_desk.specs.Cell.{Cell}
+use Rattle.site_desk.specs.Roster.{AreNewPlaces, new_place}
+use Rattle.kept_desk.specs.Opened.{AreFirst, AreNames, contents_of, content_or_empty, names_of, name_or_none}
+
+-- the names of places
+pub named_places : (name : ℕ → List ℕ) (sites : List SitePlan) (stations : List StationPlan) (places : List Place) → AreNames name stations → AreNewPlaces sites stations places
+    → (k : ℕ) (p : Place) → slice_get places k ≡ Some p → name k ≡ p.name
+named_places name sites stations places names new k p at =
+    let in_places = slice_get_within places k p at in
+    let less : k < length stations = omega (arith, in_places, new.count) in
+    let found = found_at stations k less in
+    let same : Some (new_place sites stations k found.0) ≡ Some p = sym (new.each k found.0 found.1) ∙ at in
+    names k found.0 found.1 ∙ ap (λ (q : Place). q.name) (some_same _ _ same)
+  where
+    found_at : (xs : List StationPlan) (k : ℕ) → k < length xs → (s : StationPlan) × (slice_get xs k ≡ Some s)
+    found_at [] k less = absurd (omega arith)
+    found_at (x ∷ xs) zero less = (x, refl)
+    found_at (x ∷ xs) (suc k) less = found_at xs k (omega arith)
+
+    some_same : (a b : Place) → Some a ≡ Some b → a ≡ b
+    some_same a b h = cc
+
+-- what holds of all elements holds of the one that stands here
+pub all_at : {A : Type 0} (P : A → Type 0) (xs : List A) (k : ℕ) (x : A) → All P xs → slice_get xs k ≡ Some x → P x
+all_at P xs k x all at = subst P (get_or_from_slice_get xs k x x at) (all k x (slice_get_within xs k x at))
+
+-- the names of a plan's stations are those
+pub names_of_plan : (stations : List StationPlan) → AreNames (names_of stations) stations
+names_of_plan stations k s at = ap name_or_none at ∙ refl
+
+-- cells in their order hold what they hold
+pub first_of_cells : (cells : List Cell) → ((k : ℕ) (c : Cell) → slice_get cells k ≡ Some c → c.station ≡ k) → AreFirst (contents_of cells) cells
+first_of_cells cells order k c at = (order k c at, sym (ap content_or_empty at))

@@ -1,0 +1,64 @@
+//! Cells with their hands, and without them.
+ghost use Rattle.std.specs.Prelude.{◌≡◌, ℕ, ◌+◌, ◌≤◌, [], ◌++◌, length, IfOk, OnOk, Some, All, slice_get, vec_len, vec_capacity};
+ghost use Rattle.journal_ties.specs.Entries.{of_station};
+ghost use Rattle.site_desk.specs.Cell.{Cell};
+ghost use Rattle.kept_desk.specs.Kept.{IsLeftFrom, commands_of};
+ghost use Rattle.kept_desk.specs.Opened.{AreFirst};
+
+use crate::cell::KeptCell;
+use crate::log::Log;
+use crate::opening::{Opening, Speaks};
+use journal_ties::Ties;
+use site_desk::StationCell;
+use std::alloc::{AllocError, Global};
+use std::io::Write;
+
+// Gives each cell its hand of a journal of no entries.
+pub(crate) fn keep_cells<K: Ties + Opening, L: Speaks, W: Write + Drop>(
+    alloc: Global,
+    cells: Vec<StationCell>,
+    log: &mut Log<K, L, W>,
+) -> Result<Vec<KeptCell<K>>, AllocError>
+    requires first { AreFirst K.first cells.items }
+    requires log { (log.old.entries ≡ []) × (log.old.hands ≡ 0) }
+    ensures { IfOk result (λ kept. kept.items ≡ cells.items) }
+{
+    let mut kept = Vec::with_capacity(alloc, cells.len())?;
+    for cell in cells {
+        let hand = log.hand(cell.station());
+        kept.push(KeptCell::new(cell, hand))?;
+    }
+    Ok(kept)
+}
+
+// Gives each cell back without its hand, which is compared with the journal.
+pub(crate) fn free_cells<K: Ties + Opening, L: Speaks, W: Write + Drop>(
+    kept: Vec<KeptCell<K>>,
+    log: &mut Log<K, L, W>,
+    cells: &mut Vec<StationCell>,
+)
+    requires none { vec_len cells.old ≡ 0 }
+    requires room { vec_len kept ≤ vec_capacity cells.old }
+    ensures cells { cells.new.items ≡ kept.items }
+    ensures log { log.new ≡ log.old }
+    ensures left { All (λ c. IsLeftFrom c.limits (K.first c.station) c.content (commands_of (of_station c.station log.old.entries))) kept.items }
+{
+    for each in kept {
+        let cell = free_cell(each, log);
+        cells.push_reserved(cell);
+    }
+}
+
+// Gives the cell back without its hand.
+fn free_cell<K: Ties + Opening, L: Speaks, W: Write + Drop>(
+    kept: KeptCell<K>,
+    log: &mut Log<K, L, W>,
+) -> StationCell
+    ensures cell { result ≡ kept }
+    ensures log { log.new ≡ log.old }
+    ensures left { IsLeftFrom kept.limits (K.first kept.station) kept.content (commands_of (of_station kept.station log.old.entries)) }
+{
+    let (cell, mut hand) = kept.into_parts();
+    log.compare(&mut hand);
+    cell
+}

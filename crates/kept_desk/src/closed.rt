@@ -1,0 +1,31 @@
+use crate::desk::KeptDesk;
+use crate::opening::{Opening, Speaks};
+use journal_ties::Ties;
+use ledger_model::Listed;
+use site_book::{Naming, Viewer};
+use site_desk::{CloseFault, Closed, Pass};
+use std::io::Write;
+
+/// A desk with a journal that was closed.
+#[derive(Drop)]
+pub struct KeptClosed<J: Naming, W: Write + Drop> {
+    /// All ledgers, rows and totals.
+    pub closed: Closed<J>,
+    /// The journal's writer.
+    pub writer: W,
+    /// A write or a flush failed.
+    pub is_broken: bool,
+}
+
+/// A desk that was not closed, with the passes and viewers that were handed in, all as they were.
+#[derive(Drop)]
+pub struct KeptRefused<J: Naming, K: Ties + Opening, L: Speaks, W: Write + Drop> {
+    /// The desk.
+    pub desk: KeptDesk<J, K, L, W>,
+    /// The passes.
+    pub passes: Listed<Pass>,
+    /// The viewers.
+    pub viewers: Listed<Viewer<J>>,
+    /// Why it was not closed.
+    pub fault: CloseFault,
+}

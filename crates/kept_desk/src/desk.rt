@@ -1,0 +1,185 @@
+ghost use Rattle.std.specs.Prelude.{◌≡◌, ◌≢◌, ℕ, All, length, IfOk, IfErr, None, Some, slice_get};
+ghost use Rattle.journal_ties.specs.Entries.{HasNoFeed};
+ghost use Rattle.ledger_model.specs.declared.answer.Answer.{Answer};
+ghost use Rattle.ledger_model.specs.declared.answer.Refusal.{Refusal};
+ghost use Rattle.site_desk.specs.declared.fault.CloseFault.{CloseFault};
+ghost use Rattle.site_desk.specs.declared.roster.Place.{Place};
+ghost use Rattle.site_desk.specs.Close.{IsClosable, Saw};
+ghost use Rattle.site_desk.specs.Plan.{plan_fault};
+ghost use Rattle.site_desk.specs.Roster.{AreNewPlaces};
+ghost use Rattle.site_desk.specs.Submit.{IsUnchanged, Submitted};
+ghost use Rattle.kept_desk.specs.Kept.{IsWrittenDown};
+ghost use Rattle.kept_desk.specs.Opened.{AreFirst, AreNames};
+
+use crate::cell::KeptCell;
+use crate::cells::{free_cells, keep_cells};
+use crate::closed::{KeptClosed, KeptRefused};
+use crate::log::Log;
+use crate::opening::{Opening, Speaks};
+use crate::way::Journalled;
+use journal_ties::{Blank, Ties};
+use ledger_model::{Answer, Command};
+use site_book::{Naming, Told, Viewer};
+use site_desk::{CloseRefused, Closed, Desk, Gate, Parts, Pass, Plan, StationCell};
+use std::alloc::{AllocError, Global};
+use std::io::Write;
+use std::marker::Model;
+use std::sync::{Mutex, Wait};
+use std::time::Clock;
+
+/// The stations and sites of a plan under locks, as a [`Desk`], with a journal under a lock of its own,
+/// which is taken last and held while no other lock is asked for. Contracts see what they see of a
+/// [`Desk`].
+#[derive(Drop)]
+pub struct KeptDesk<J: Naming, K: Ties + Opening, L: Speaks, W: Write + Drop> {
+    desk: Desk<J, KeptCell<K>>,
+    log: Mutex<Log<K, L, W>>,
+    spare: Vec<StationCell>,
+}
+
+impl<J: Naming, K: Ties + Opening, L: Speaks, W: Write + Drop> Model for KeptDesk<J, K, L, W> {
+    ghost use Rattle.site_desk.specs.Roster.{Roster};
+
+    ghost Value = { Roster };
+
+    ghost use Rattle.std.specs.Prelude.{vec_len, vec_capacity};
+    ghost use Rattle.kept_desk.specs.Kept.{IsKeptDesk};
+
+    ghost view = { λ d. d.desk };
+
+    ghost invariant = { λ d. IsKeptDesk K.name d.desk.stations (vec_len d.spare) (vec_capacity d.spare) };
+}
+
+impl<J: Naming, K: Ties + Opening, L: Speaks, W: Write + Drop> KeptDesk<J, K, L, W> {
+    /// The desk of a plan over these parts, with a journal of no entries that writes behind what the writer
+    /// holds, and the viewers, each with its site's number.
+    ///
+    /// Conditions: K names this table, what the writer holds, what the stations hold and what they are
+    /// called; the plan has no fault ([`Plan::fault`] tells), and the parts are a cell for each of its
+    /// stations and a book for each of its sites, as [`Parts::open`] gives them, whatever commands they
+    /// took since.
+    pub fn open(
+        alloc: Global,
+        plan: &Plan,
+        parts: Parts<J>,
+        blank: Blank<Command>,
+        writer: W,
+    ) -> Result<(Self, Vec<(u16, Viewer<J>)>), AllocError>
+        requires table { blank ≡ K.table }
+        requires before { W.contents writer ≡ K.before }
+        requires first { AreFirst K.first parts.cells }
+        requires names { AreNames K.name plan.now.stations.items }
+        requires faultless { plan_fault plan.now.sites.items plan.now.stations.items ≡ None }
+        requires cells { length parts.cells ≡ length plan.now.stations.items }
+        requires books { length parts.books ≡ length plan.now.sites.items }
+        ensures stations { IfOk result (λ r. AreNewPlaces plan.now.sites.items plan.now.stations.items r.0.stations) }
+        ensures sites { IfOk result (λ r. r.0.sites ≡ length plan.now.sites.items) }
+        ensures viewers { IfOk result (λ r. r.1.items ≡ parts.viewers) }
+        ensures given { IfOk result (λ r. r.0.viewers ≡ length r.1.items) }
+    {
+        let Parts {
+            cells,
+            books,
+            viewers,
+        } = parts;
+        let viewers = viewers.into_vec();
+        let spare = Vec::with_capacity(alloc, plan.stations.len())?;
+        let mut log = Log::open(blank, writer);
+        let cells = keep_cells(alloc, cells.into_vec(), &mut log)?;
+        let desk = Desk::over(alloc, plan, cells, books.into_vec(), viewers.len())?;
+        let kept = KeptDesk {
+            desk,
+            log: Mutex::new(log),
+            spare,
+        };
+        Ok((kept, viewers))
+    }
+
+    /// The desk without its journal: what is read of it, and passes.
+    pub fn desk(&self) -> &Desk<J, KeptCell<K>>
+        ensures { result.now ≡ self.now }
+    {
+        &self.desk
+    }
+
+    /// Tells whether the journal took no line to its end, and takes no more. It waits for nobody: while a
+    /// line is being written it tells that this is not so.
+    pub fn is_broken(&self) -> bool {
+        match self.log.try_lock() {
+            Some(log) => log.is_broken(),
+            None => false,
+        }
+    }
+
+    /// Takes a command of a pass and answers it as [`Desk::submit`] does. Where it is accepted, the line was
+    /// written and flushed before: under the station's lock and its site's, and then the journal's.
+    /// `ChangesExhausted` also answers where the line can't be written, then and from then on.
+    ///
+    /// Conditions: the line has no line feed ([`is_line`](journal_ties::is_line) tells), and it speaks for
+    /// the command on the pass's station.
+    pub fn submit<G: Gate, R: Wait + Clock>(
+        &self,
+        rt: &R,
+        pass: &mut Pass,
+        command: Command,
+        line: &[u8],
+        gate: &G,
+    ) -> (Answer, Option<Told<J>>)
+        requires line { HasNoFeed line.now }
+        requires speaks { (at : Place) → slice_get self.now.stations pass.old.station ≡ Some at → L.speaks at.name line.now command }
+        ensures settled { (at : Place) → slice_get self.now.stations pass.old.station ≡ Some at → Submitted at pass.old command result.0 pass.new result.1 }
+        ensures stranger { slice_get self.now.stations pass.old.station ≡ None → (result.0 ≡ Answer.Refused Refusal.ChangesExhausted) × IsUnchanged pass.old pass.new result.1 }
+    {
+        let way = Journalled {
+            log: &self.log,
+            line,
+        };
+        self.desk.submit_by(rt, pass, command, gate, &way)
+    }
+
+    /// Closes the desk as [`Desk::close`] does, and then compares each station's side with the journal. It
+    /// takes no memory.
+    pub fn close(
+        self,
+        passes: Vec<Pass>,
+        viewers: Vec<Viewer<J>>,
+    ) -> Result<KeptClosed<J, W>, KeptRefused<J, K, L, W>>
+        ensures kept { IfOk result (λ s. IsWrittenDown L.speaks K.name K.first K.before s.is_broken (W.contents s.writer) s.closed.cells) }
+        ensures stations { IfOk result (λ s. length s.closed.cells ≡ length self.stations) }
+        ensures sites { IfOk result (λ s. length s.closed.books ≡ self.sites) }
+        ensures whole { IfOk result (λ s. IsClosable self.stations self.viewers s.closed.cells s.closed.books passes.items viewers.items) }
+        ensures seen { IfOk result (λ s. All (Saw s.closed.books) viewers.items) }
+        ensures viewer { IfErr result (λ r. r.fault ≡ CloseFault.ViewerMissing → length viewers.items ≢ self.viewers) }
+        ensures desk { IfErr result (λ r. r.desk ≡ self) }
+        ensures passes { IfErr result (λ r. r.passes ≡ passes.items) }
+        ensures viewers { IfErr result (λ r. r.viewers ≡ viewers.items) }
+    {
+        let KeptDesk { desk, log, spare } = self;
+        match desk.take_apart(passes, viewers) {
+            Ok((kept, books)) => {
+                let (mut log, mut cells) = (log.into_inner(), spare);
+                free_cells(kept, &mut log, &mut cells);
+                let (writer, is_broken) = log.into_writer();
+                Ok(KeptClosed {
+                    closed: Closed::of(cells, books),
+                    writer,
+                    is_broken,
+                })
+            }
+            Err(refused) => {
+                let CloseRefused {
+                    desk,
+                    passes,
+                    viewers,
+                    fault,
+                } = refused;
+                Err(KeptRefused {
+                    desk: KeptDesk { desk, log, spare },
+                    passes,
+                    viewers,
+                    fault,
+                })
+            }
+        }
+    }
+}

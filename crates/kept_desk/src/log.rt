@@ -1,0 +1,94 @@
+//! The journal of a desk, whose lines speak for their commands.
+ghost use Rattle.std.specs.Prelude.{◌≡◌, ◌+◌, ◌≤◌, false, true, [], ◌∷◌, ◌++◌, OnOk, OnErr};
+ghost use Rattle.journal_ties.specs.Entries.{HasNoFeed, entry, of_station};
+ghost use Rattle.journal_ties.specs.Journal.{IsWritten};
+ghost use Rattle.kept_desk.specs.Kept.{AreSpoken};
+
+use crate::opening::{Opening, Speaks};
+use journal_ties::{Blank, Broken, Hand, Journal, Ties};
+use ledger_model::Command;
+use std::io::Write;
+use std::marker::{Model, PhantomData};
+
+// The journal of a desk.
+#[derive(Drop)]
+pub(crate) struct Log<K: Ties + Opening, L: Speaks, W: Write + Drop> {
+    journal: Journal<W, K, Command>,
+    speech: PhantomData<L>,
+}
+
+impl<K: Ties + Opening, L: Speaks, W: Write + Drop> Model for Log<K, L, W> {
+    ghost use Rattle.journal_ties.specs.Journal.{Ledger};
+    ghost use Rattle.ledger_model.specs.declared.command.Command.{Command};
+    ghost use Rattle.kept_desk.specs.Kept.{AreSpoken};
+
+    ghost Value = { Ledger Command };
+
+    ghost view = { λ l. l.journal };
+
+    ghost invariant = { λ l. AreSpoken L.speaks K.name l.journal.entries };
+}
+
+impl<K: Ties + Opening, L: Speaks, W: Write + Drop> Log<K, L, W> {
+    // A journal of no entries.
+    pub(crate) fn open(blank: Blank<Command>, writer: W) -> Self
+        requires table { blank ≡ K.table }
+        requires before { W.contents writer ≡ K.before }
+        ensures { result ≡ record { entries = []; hands = 0; broken = false } }
+    {
+        Log {
+            journal: Journal::open(blank, writer),
+            speech: PhantomData,
+        }
+    }
+
+    // The hand of a station that has none.
+    pub(crate) fn hand(&mut self, station: u16) -> Hand<K, Command>
+        requires { self.old.hands ≤ station }
+        ensures hand { result ≡ record { station = station; entries = of_station station self.old.entries } }
+        ensures log { self.new ≡ record self.old { hands = station + 1 } }
+    {
+        self.journal.hand(station)
+    }
+
+    // Tells whether nothing more can be written.
+    pub(crate) fn is_broken(&self) -> bool
+        ensures { result ≡ self.now.broken }
+    {
+        self.journal.is_broken()
+    }
+
+    // Writes the line, and notes it with its command here and in the hand.
+    pub(crate) fn add(
+        &mut self,
+        hand: &mut Hand<K, Command>,
+        line: &[u8],
+        command: &Command,
+    ) -> Result<(), Broken>
+        requires line { HasNoFeed line.now }
+        requires speaks { L.speaks (K.name hand.old.station) line.now command.now }
+        ensures known { OnOk result (hand.new ≡ record hand.old { entries = hand.old.entries ++ entry hand.old.station line.now command.now ∷ [] }) }
+        ensures same { OnErr result (hand.new ≡ hand.old) }
+    {
+        self.journal.add(hand, line, command)
+    }
+
+    // The hand's entries are just those of its station.
+    pub(crate) fn compare(&mut self, hand: &mut Hand<K, Command>)
+        ensures own { hand.old.entries ≡ of_station hand.old.station self.old.entries }
+        ensures same { (self.new ≡ self.old) × (hand.new ≡ hand.old) }
+    {
+        self.journal.compare(hand);
+    }
+
+    // The writer, and whether it failed.
+    pub(crate) fn into_writer(self) -> (W, bool)
+        ensures broken { result.1 ≡ self.broken }
+        ensures written { IsWritten self.broken K.before (W.contents result.0) self.entries }
+        ensures spoken { AreSpoken L.speaks K.name self.entries }
+    {
+        let Log { journal, speech: _ } = self;
+        let is_broken = journal.is_broken();
+        (journal.into_writer(), is_broken)
+    }
+}

@@ -1,0 +1,62 @@
+//! How a desk with a journal takes a command.
+ghost use Rattle.std.specs.Prelude.{◌≡◌, ◌++◌, ◌∷◌, [], OnOk, OnErr};
+ghost use Rattle.journal_ties.specs.Entries.{HasNoFeed, entry};
+
+use crate::cell::KeptCell;
+use crate::log::Log;
+use crate::opening::{Opening, Speaks};
+use journal_ties::{Broken, Hand, Ties};
+use ledger_model::{Answer, Command, Refusal};
+use site_book::{Naming, SiteBook, Told};
+use site_desk::{HasCell, Pass, Place, Settles, can_settle};
+use std::io::Write;
+use std::sync::{Mutex, Wait};
+
+// The journal, and the line that speaks for the command.
+#[derive(Drop)]
+pub(crate) struct Journalled<'a, K: Ties + Opening, L: Speaks, W: Write + Drop> {
+    pub(crate) log: &'a Mutex<Log<K, L, W>>,
+    pub(crate) line: &'a [u8],
+}
+
+impl<'a, K: Ties + Opening, L: Speaks, W: Write + Drop> Journalled<'a, K, L, W> {
+    // Writes the line under the journal's lock, and notes it with its command.
+    pub(crate) fn write<R: Wait>(
+        &self,
+        rt: &R,
+        hand: &mut Hand<K, Command>,
+        command: &Command,
+    ) -> Result<(), Broken>
+        requires line { HasNoFeed self.now.line.now }
+        requires speaks { L.speaks (K.name hand.old.station) self.now.line.now command.now }
+        ensures known { OnOk result (hand.new ≡ record hand.old { entries = hand.old.entries ++ entry hand.old.station self.now.line.now command.now ∷ [] }) }
+        ensures same { OnErr result (hand.new ≡ hand.old) }
+    {
+        let mut log = self.log.lock(rt);
+        log.add(hand, self.line, command)
+    }
+}
+
+impl<'a, J: Naming, K: Ties + Opening, L: Speaks, W: Write + Drop> Settles<J, KeptCell<K>>
+    for Journalled<'a, K, L, W> {
+    ghost use Rattle.journal_ties.specs.Entries.{HasNoFeed};
+
+    ghost asks = { λ w number command. HasNoFeed w.line.now × L.speaks (K.name number) w.line.now command };
+
+    fn settle<R: Wait>(
+        &self,
+        rt: &R,
+        held: &mut KeptCell<K>,
+        book: &mut SiteBook<J>,
+        number: usize,
+        place: &Place,
+        pass: &mut Pass,
+        command: Command,
+    ) -> (Answer, Option<Told<J>>) {
+        if can_settle(held.cell(), book, number, place, pass) {
+            held.take(rt, book, number, place, pass, command, self)
+        } else {
+            (Answer::Refused(Refusal::ChangesExhausted), None)
+        }
+    }
+}

@@ -1,0 +1,5 @@
+//! The tests of `kept_desk`.
+#![tactic(auto)]
+
+#[cfg(test)]
+mod tests;
