@@ -6,7 +6,7 @@ ghost use Rattle.desk_report.specs.Running.{IsRunningBoard};
 
 use board_report::{site_board, write_board};
 use site_book::Naming;
-use site_desk::{BoardFault, Desk, Plan};
+use site_desk::{BoardFault, Desk, HasCell, Plan};
 use std::alloc::Global;
 use std::sync::Wait;
 
@@ -16,11 +16,11 @@ use std::sync::Wait;
 ///
 /// Condition: the desk was opened for this plan, the plan has the site, and its limits allow no more than 1,048,576
 /// readings in all.
-pub fn running_board<J: Naming, R: Wait>(
+pub fn running_board<J: Naming, C: HasCell, R: Wait>(
     rt: &R,
     alloc: Global,
     plan: &Plan,
-    desk: &Desk<J>,
+    desk: &Desk<J, C>,
     site: u16,
 ) -> Result<Vec<u8>, BoardFault>
     requires opened { AreNewPlaces plan.now.sites.items plan.now.stations.items desk.now.stations }

@@ -4,10 +4,11 @@ use crate::door::Door;
 use crate::reply::{Status, response};
 use crate::request::{Request, read_request};
 use crate::running::{Running, site_of};
+use crate::serves::Serves;
 use crate::visit::{Patience, Visit, VisitStream};
 use ledger_model::Name;
 use site_book::Naming;
-use site_desk::Plan;
+use site_desk::{HasCell, Plan};
 use station_link::Attendant;
 use std::alloc::{AllocError, Global};
 use std::io;
@@ -39,11 +40,11 @@ const NO_MEMORY: &[u8] =
     b"HTTP/1.1 503 Service Unavailable\r\nContent-Length: 0\r\nConnection: close\r\n\r\n";
 
 // Answers one request after the other until the server closes.
-pub(crate) fn serve_boards<J: Naming, R: Wait + Clock>(
+pub(crate) fn serve_boards<J: Naming, C: HasCell, S: Serves<J, C>, R: Wait + Clock>(
     rt: &R,
     alloc: Global,
     door: &Door<'_>,
-    running: &Running<'_, J>,
+    running: &Running<'_, J, C, S>,
     crew: &Crew,
 ) {
     for _ in rt.forever() {
@@ -56,10 +57,10 @@ pub(crate) fn serve_boards<J: Naming, R: Wait + Clock>(
 }
 
 // Reads a request and writes its answer.
-fn serve_request<J: Naming, R: Wait + Clock>(
+fn serve_request<J: Naming, C: HasCell, S: Serves<J, C>, R: Wait + Clock>(
     rt: &R,
     alloc: Global,
-    running: &Running<'_, J>,
+    running: &Running<'_, J, C, S>,
     crew: &Crew,
     stream: TcpStream,
 ) {
@@ -73,10 +74,10 @@ fn serve_request<J: Naming, R: Wait + Clock>(
 }
 
 // The same, over the stream of a visit.
-fn answer_request<J: Naming, R: Wait + Clock>(
+fn answer_request<J: Naming, C: HasCell, S: Serves<J, C>, R: Wait + Clock>(
     rt: &R,
     alloc: Global,
-    running: &Running<'_, J>,
+    running: &Running<'_, J, C, S>,
     visit: &Visit<'_, R>,
     stream: &mut VisitStream<'_, R>,
 ) -> io::Result<()> {
@@ -130,12 +131,12 @@ fn read_head<S: Read>(stream: &mut S, head: &mut [u8]) -> io::Result<Request> {
 }
 
 // Writes the answer to a request.
-fn put_answer<J: Naming, R: Wait, S: Write>(
+fn put_answer<J: Naming, C: HasCell, S: Serves<J, C>, R: Wait, W: Write>(
     rt: &R,
     alloc: Global,
-    running: &Running<'_, J>,
+    running: &Running<'_, J, C, S>,
     request: Request,
-    stream: &mut S,
+    stream: &mut W,
 ) -> io::Result<()> {
     match answer(rt, alloc, running, request) {
         Ok(bytes) => stream.write_all(&bytes)?,
@@ -156,10 +157,10 @@ fn read_rest<S: Read>(stream: &mut S) {
 }
 
 // The bytes that answer a request.
-fn answer<J: Naming, R: Wait>(
+fn answer<J: Naming, C: HasCell, S: Serves<J, C>, R: Wait>(
     rt: &R,
     alloc: Global,
-    running: &Running<'_, J>,
+    running: &Running<'_, J, C, S>,
     request: Request,
 ) -> Result<Vec<u8>, AllocError> {
     match request {
@@ -178,10 +179,10 @@ fn told(alloc: Global, status: Status) -> Result<Vec<u8>, AllocError> {
 }
 
 // The board of the site of this name.
-fn answer_board<J: Naming, R: Wait>(
+fn answer_board<J: Naming, C: HasCell, S: Serves<J, C>, R: Wait>(
     rt: &R,
     alloc: Global,
-    running: &Running<'_, J>,
+    running: &Running<'_, J, C, S>,
     name: &Name,
 ) -> Result<Vec<u8>, AllocError> {
     let Some(site) = site_of(running.plan, name) else {

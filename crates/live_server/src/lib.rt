@@ -5,6 +5,8 @@
 //! `Log` where sessions are told, and a `Visit` what one connection knows of its time. Meanwhile the calling thread
 //! answers an operator's lines (`operate`), a thread glances at the totals, and another one answers browsers with boards
 //! ([`response`]). At the end it joins them all, closes the desk with all its checks, and writes the board of each site.
+//! [`serve_plan_at`] serves so at anything that [`Serves`], a desk or one that keeps more, with lines from anything that
+//! gives [`Orders`], and gives passes and viewers back.
 //!
 //! The crate's one contract: what is written last is, for each site in the plan's order, the board from scratch from
 //! the content of its stations' ledgers. An operator's command goes to the station that it names, and a session gets a
@@ -22,14 +24,18 @@ mod door;
 mod listeners;
 mod log;
 mod operator;
+mod orders;
 mod reply;
 mod request;
 mod running;
+mod serves;
 mod service;
 mod session;
 mod shared;
 mod visit;
 mod watch;
 
+pub use orders::{Came, Orders, ReadOrders, ending_of, fault_of};
 pub use reply::{Status, response};
-pub use service::{Live, serve_live};
+pub use serves::Serves;
+pub use service::{Live, Ran, serve_live, serve_plan_at};

@@ -1,22 +1,23 @@
 //! An operator's lines, which are answered while stations are served.
 ghost use Rattle.std.specs.Prelude.{◌≡◌};
+ghost use Rattle.script_lines.specs.LineMeaning.{commands, line_meaning};
+ghost use Rattle.script_lines.specs.Lines.{line_bytes};
 
+use crate::orders::{Came, Orders};
 use crate::running::{Running, site_of};
+use crate::serves::Serves;
 use board_report::{energy_text, export_text, total_text};
 use desk_report::write_out;
 use energy_flow::Flow;
 use ledger_model::{Command, Figures, Name};
 use pass_shelf::PassFault;
-use script_lines::{
-    LineEnd, LineFault, LineReader, MAX_LINE_BYTES, ReplayFault, ScriptLine, put_answer, put_fault,
-    put_line, read_line,
-};
+use script_lines::{LineFault, ScriptLine, put_answer, put_fault, put_line, read_line};
 use site_book::Naming;
-use site_desk::{BoardFault, NoGate, Pass};
+use site_desk::{BoardFault, HasCell, NoGate, Pass};
 use site_server::{ServiceFault, SystemMoments};
 use station_link::{answer_text, present};
 use std::alloc::{AllocError, Global};
-use std::io::{BufRead, Write};
+use std::io::Write;
 use std::sync::Wait;
 use std::thread::Threads;
 use std::time::Clock;
@@ -30,74 +31,54 @@ const NO_MEMORY: &[u8] = b"fault OutOfMemory\n";
 // What a line is answered whose station or site does not stand behind its lock as it should, which no run meets.
 const TORN: &str = "fault Torn";
 
-// Answers line after line until the input ends or a line says `close`. An answer is out before the next line is read.
-pub(crate) fn operate<J: Naming, R: Threads + Wait + Clock, I: BufRead, W: Write>(
+// Answers line after line until the input ends, a line says `close`, or no change is accepted any more. An answer is out
+// before the next line is read.
+pub(crate) fn operate<
+    J: Naming,
+    C: HasCell,
+    S: Serves<J, C>,
+    R: Threads + Wait + Clock,
+    O: Orders,
+    W: Write,
+>(
     rt: &R,
     alloc: Global,
-    running: &Running<'_, J>,
-    reader: &mut I,
+    running: &Running<'_, J, C, S>,
+    orders: &mut O,
     writer: &mut W,
 ) -> Result<(), ServiceFault> {
-    let mut lines = LineReader::open(alloc, MAX_LINE_BYTES, usize::MAX);
     for _ in rt.forever() {
-        if !answer_next(rt, alloc, running, &mut lines, reader, writer)? {
+        let came = orders.next(rt)?;
+        if is_last(came, orders.line()) {
+            return Ok(());
+        }
+        if came != Came::Nothing {
+            put_reply(rt, alloc, running, orders.line(), writer)?;
+        }
+        if running.serves.is_broken() {
+            return Err(ServiceFault::WriteFault);
+        }
+        if came == Came::LastLine {
             return Ok(());
         }
     }
     unreachable!()
 }
 
-// Answers the next line, and tells whether another one may come.
-fn answer_next<J: Naming, R: Threads + Wait + Clock, I: BufRead, W: Write>(
-    rt: &R,
-    alloc: Global,
-    running: &Running<'_, J>,
-    lines: &mut LineReader,
-    reader: &mut I,
-    writer: &mut W,
-) -> Result<bool, ServiceFault>
-    requires { lines.old.max_line_bytes ≡ 262400 }
-    ensures { lines.new.max_line_bytes ≡ 262400 }
-{
-    let end = next_line(lines, reader, writer)?;
-    if is_last(lines, end) {
-        return Ok(false);
-    }
-    put_reply(rt, alloc, running, lines.line(end), writer)?;
-    Ok(end == LineEnd::Feed)
-}
-
-// Reads a line.
-fn next_line<I: BufRead, W: Write>(
-    lines: &mut LineReader,
-    reader: &mut I,
-    writer: &mut W,
-) -> Result<LineEnd, ServiceFault>
-    requires { lines.old.max_line_bytes ≡ 262400 }
-    ensures { lines.new.max_line_bytes ≡ 262400 }
-{
-    match lines.next_line(reader, writer) {
-        Ok(end) => Ok(end),
-        Err(fault) => Err(fault_of(fault)),
-    }
-}
-
-// Tells whether the line that was read ends the server: it says `close`, or is the end of the input and nothing else.
-fn is_last(lines: &LineReader, end: LineEnd) -> bool {
-    if end == LineEnd::Input && lines.held.is_empty() {
-        return true;
-    }
-    match lines.line(end) {
-        Some(bytes) => bytes == CLOSE,
-        None => false,
+// Tells whether what came ends the server: a line that says `close`, or the end of the input and nothing else.
+fn is_last(came: Came, line: Option<&[u8]>) -> bool {
+    match came {
+        Came::End => true,
+        Came::Nothing => false,
+        Came::Line | Came::LastLine => line == Some(CLOSE),
     }
 }
 
 // Writes the answer to a line.
-fn put_reply<J: Naming, R: Threads + Wait + Clock, W: Write>(
+fn put_reply<J: Naming, C: HasCell, S: Serves<J, C>, R: Threads + Wait + Clock, W: Write>(
     rt: &R,
     alloc: Global,
-    running: &Running<'_, J>,
+    running: &Running<'_, J, C, S>,
     line: Option<&[u8]>,
     writer: &mut W,
 ) -> Result<(), ServiceFault> {
@@ -110,21 +91,12 @@ fn put_reply<J: Naming, R: Threads + Wait + Clock, W: Write>(
     Ok(())
 }
 
-// Why no line more is read.
-fn fault_of(fault: ReplayFault) -> ServiceFault {
-    match fault {
-        ReplayFault::ReadFault | ReplayFault::TooMuchInput => ServiceFault::ReadFault,
-        ReplayFault::WriteFault => ServiceFault::WriteFault,
-        ReplayFault::OutOfMemory => ServiceFault::OutOfMemory,
-    }
-}
-
 // Appends the answer to an operator's line, which is that of a script's line after its declarations. A moment is the
 // clock's, so a line that tells one is `BadLine`.
-fn answer_line<J: Naming, R: Threads + Wait + Clock>(
+fn answer_line<J: Naming, C: HasCell, S: Serves<J, C>, R: Threads + Wait + Clock>(
     rt: &R,
     alloc: Global,
-    running: &Running<'_, J>,
+    running: &Running<'_, J, C, S>,
     line: Option<&[u8]>,
     reply: &mut Vec<u8>,
 ) -> Result<(), AllocError> {
@@ -136,7 +108,7 @@ fn answer_line<J: Naming, R: Threads + Wait + Clock>(
         | ScriptLine::SetsPeriod(_, _) => put_fault(reply, LineFault::DeclaredLate),
         ScriptLine::Tells(_) => put_fault(reply, LineFault::BadLine),
         ScriptLine::Sends(name, text) => receive(rt, alloc, running, &name, text, reply),
-        ScriptLine::Commands(name, what) => put_command(rt, running, &name, what, reply),
+        ScriptLine::Commands(name, what) => put_command(rt, running, &name, what, line, reply),
         ScriptLine::AsksEnergy(name) => put_totals(rt, running, &name, Asked::Import, reply),
         ScriptLine::AsksExport(name) => put_totals(rt, running, &name, Asked::Export, reply),
         ScriptLine::AsksTotal(name) => put_totals(rt, running, &name, Asked::Figures, reply),
@@ -145,10 +117,10 @@ fn answer_line<J: Naming, R: Threads + Wait + Clock>(
 }
 
 // Delivers a message of the station of this name at the clock's moment, and appends its reply.
-fn receive<J: Naming, R: Threads + Wait + Clock>(
+fn receive<J: Naming, C: HasCell, S: Serves<J, C>, R: Threads + Wait + Clock>(
     rt: &R,
     alloc: Global,
-    running: &Running<'_, J>,
+    running: &Running<'_, J, C, S>,
     name: &Name,
     text: &str,
     reply: &mut Vec<u8>,
@@ -160,17 +132,16 @@ fn receive<J: Naming, R: Threads + Wait + Clock>(
 }
 
 // Delivers a message with a pass, and lays the pass back.
-fn deliver<J: Naming, R: Threads + Wait + Clock>(
+fn deliver<J: Naming, C: HasCell, S: Serves<J, C>, R: Threads + Wait + Clock>(
     rt: &R,
     alloc: Global,
-    running: &Running<'_, J>,
+    running: &Running<'_, J, C, S>,
     mut pass: Pass,
     text: &str,
     reply: &mut Vec<u8>,
 ) -> Result<(), AllocError> {
     let now = present(&mut SystemMoments { rt });
-    let desk = running.desk.desk;
-    let answered = answer_text(desk, rt, alloc, &mut pass, text, now, &NoGate);
+    let answered = answer_text(running.serves, rt, alloc, &mut pass, text, now, &NoGate);
     running.desk.lay(rt, pass);
     match answered.text {
         Some(text) => put_line(reply, text.as_str()),
@@ -179,14 +150,17 @@ fn deliver<J: Naming, R: Threads + Wait + Clock>(
 }
 
 // Appends the answer to an operator's command.
-fn put_command<J: Naming, R: Threads + Wait + Clock>(
+fn put_command<J: Naming, C: HasCell, S: Serves<J, C>, R: Threads + Wait + Clock>(
     rt: &R,
-    running: &Running<'_, J>,
+    running: &Running<'_, J, C, S>,
     name: &Name,
     what: Command,
+    line: Option<&[u8]>,
     reply: &mut Vec<u8>,
-) -> Result<(), AllocError> {
-    match running.desk.command(rt, name, what) {
+) -> Result<(), AllocError>
+    requires { line_meaning (line_bytes line) ≡ commands name.now what }
+{
+    match running.serves.command(rt, &running.desk, name, what, line) {
         Ok(answer) => put_answer(reply, answer),
         Err(fault) => put_pass_fault(reply, fault),
     }
@@ -209,9 +183,9 @@ enum Asked {
 }
 
 // Appends totals of the station of this name.
-fn put_totals<J: Naming, R: Wait>(
+fn put_totals<J: Naming, C: HasCell, S: Serves<J, C>, R: Wait>(
     rt: &R,
-    running: &Running<'_, J>,
+    running: &Running<'_, J, C, S>,
     name: &Name,
     asked: Asked,
     reply: &mut Vec<u8>,
@@ -238,10 +212,10 @@ fn put_total(
 }
 
 // Appends the board of the site of this name.
-fn put_board<J: Naming, R: Wait>(
+fn put_board<J: Naming, C: HasCell, S: Serves<J, C>, R: Wait>(
     rt: &R,
     alloc: Global,
-    running: &Running<'_, J>,
+    running: &Running<'_, J, C, S>,
     name: &Name,
     reply: &mut Vec<u8>,
 ) -> Result<(), AllocError> {

@@ -4,11 +4,12 @@ ghost use Rattle.ledger_model.specs.Ranges.{most_plan_readings};
 ghost use Rattle.site_desk.specs.Roster.{AreNewPlaces, IsNamed};
 ghost use Rattle.station_link.specs.Session.{MayLackPass};
 
+use crate::serves::Serves;
 use desk_report::running_board;
 use ledger_model::Name;
 use pass_shelf::{PassFault, ShelfDesk};
 use site_book::Naming;
-use site_desk::{BoardFault, Desk, Pass, Plan};
+use site_desk::{BoardFault, HasCell, Pass, Plan};
 use station_link::Why;
 use std::alloc::Global;
 use std::sync::Wait;
@@ -16,21 +17,23 @@ use std::thread::Threads;
 
 // The desk of a plan while it is served, with the shelf of its passes.
 #[derive(Drop)]
-pub(crate) struct Running<'a, J: Naming> {
+pub(crate) struct Running<'a, J: Naming, C: HasCell, S: Serves<J, C>> {
     pub(crate) plan: &'a Plan,
-    pub(crate) desk: ShelfDesk<'a, J>,
+    pub(crate) serves: &'a S,
+    pub(crate) desk: ShelfDesk<'a, J, C>,
+    ghost same: { desk.desk.now ≡ S.roster serves.now },
     ghost opened: { AreNewPlaces plan.now.sites.items plan.now.stations.items desk.desk.now.stations },
     ghost readings: { sum_by (λ s. s.limits.readings) plan.now.stations.items ≤ most_plan_readings },
 }
 
-impl<'a, J: Naming> Running<'a, J> {
-    // The desk of this plan, with an empty shelf.
-    pub(crate) fn open(alloc: Global, plan: &'a Plan, desk: &'a Desk<J>) -> Self
-        requires opened { AreNewPlaces plan.now.sites.items plan.now.stations.items desk.now.stations }
+impl<'a, J: Naming, C: HasCell, S: Serves<J, C>> Running<'a, J, C, S> {
+    // The desk of this plan, with the passes on the shelf that were given out before.
+    pub(crate) fn open(plan: &'a Plan, serves: &'a S, passes: Vec<Pass>) -> Self
+        requires opened { AreNewPlaces plan.now.sites.items plan.now.stations.items (S.roster serves.now).stations }
         requires readings { sum_by (λ s. s.limits.readings) plan.now.stations.items ≤ most_plan_readings }
     {
-        let desk = ShelfDesk::open(alloc, desk);
-        Running { plan, desk }
+        let desk = ShelfDesk::open(serves.desk(), passes);
+        Running { plan, serves, desk }
     }
 
     // A pass of the station that a request asks for, with its name.

@@ -11,12 +11,14 @@ use crate::boards::serve_boards;
 use crate::door::{Door, Doors};
 use crate::listeners::Listeners;
 use crate::operator::operate;
+use crate::orders::{Orders, ReadOrders};
+use crate::serves::Serves;
 use crate::session::work;
 use crate::shared::Shared;
 use crate::watch::watch;
 use core::thread::{Anything, Stack};
 use site_book::{Naming, Tables, Viewer};
-use site_desk::{Desk, Pass, Plan};
+use site_desk::{Desk, HasCell, Pass, Plan};
 use site_server::{ServiceFault, close_desk, open_desk};
 use std::alloc::Global;
 use std::io::{BufRead, Write};
@@ -49,9 +51,6 @@ pub struct Live {
     /// The port of 127.0.0.1 where browsers find boards, if any; for 0 the system chooses one.
     pub board_port: Option<u16>,
 }
-
-/// What stands at the end of the threads: how the operator's lines ended, and the viewers.
-type Ended<J> = (Result<(), ServiceFault>, Vec<Viewer<J>>);
 
 /// Serves a plan's stations until the operator's lines end or say `close`: opens its desk, writes
 /// `listening 127.0.0.1:<port>` to `output`, and serves connections without end, two sessions of each station at once.
@@ -104,14 +103,25 @@ fn serve_under<
         × AreBoards plan.now.sites.items plan.now.stations.items boards) }
 {
     let (desk, viewers) = open_desk::<J>(alloc, tables, plan)?;
-    serve_desk(rt, alloc, plan, desk, viewers, live, input, output, lines)
+    let mut orders = ReadOrders::open(alloc, input);
+    serve_desk(
+        rt,
+        alloc,
+        plan,
+        desk,
+        viewers,
+        live,
+        &mut orders,
+        output,
+        lines,
+    )
 }
 
 // The same, at the desk that was opened.
 fn serve_desk<
     J: Naming + Send + Sync,
     R: Threads + Wait + Clock + Sync + Net<Listener = TcpListener, Stream = TcpStream>,
-    I: BufRead,
+    O: Orders,
     W: Write,
     L: Write + Send + Drop,
 >(
@@ -121,7 +131,7 @@ fn serve_desk<
     desk: Desk<J>,
     viewers: Vec<Viewer<J>>,
     live: Live,
-    input: &mut I,
+    orders: &mut O,
     output: &mut W,
     lines: L,
 ) -> Result<(), ServiceFault>
@@ -131,39 +141,60 @@ fn serve_desk<
     ensures { OnOk result ((before : Option (List ℕ)) × (boards : List ℕ) × Appends before (W.contents output.new) boards
         × AreBoards plan.now.sites.items plan.now.stations.items boards) }
 {
-    let (passes, viewers, ended) = run(
-        rt, alloc, plan, &desk, viewers, live, input, output, lines,
+    let passes = Vec::new(alloc);
+    let Ran {
+        passes,
+        viewers,
+        ended,
+    } = serve_plan_at(
+        rt, alloc, plan, &desk, passes, viewers, live, orders, output, lines,
     )?;
     close_desk(alloc, plan, desk, passes, viewers, output)?;
     ended
 }
 
-// What stands when all threads have ended: all passes, the viewers, and how the operator's lines ended.
-type Ran<J> = (Vec<Pass>, Vec<Viewer<J>>, Result<(), ServiceFault>);
+/// What stands when all threads have ended.
+#[derive(Drop)]
+pub struct Ran<J: Naming> {
+    /// All passes that were given out.
+    pub passes: Vec<Pass>,
+    /// The viewers.
+    pub viewers: Vec<Viewer<J>>,
+    /// How the operator's lines ended, or why no connection was served.
+    pub ended: Result<(), ServiceFault>,
+}
 
-// Listens, and serves until the operator's lines end.
-fn run<
+/// Listens, writes `listening 127.0.0.1:<port>` to `output`, and serves a plan's stations as [`serve_live`] does, at the
+/// desk that is handed in, until the operator's lines end or say `close`, or the desk accepts no change any more, which is
+/// a `WriteFault`. The passes that were given out before lie on its shelf.
+///
+/// Condition: the desk was opened for this plan, whose limits allow no more than 1,048,576 readings in all.
+pub fn serve_plan_at<
     J: Naming + Send + Sync,
+    C: HasCell + Send,
+    S: Serves<J, C> + Sync,
     R: Threads + Wait + Clock + Sync + Net<Listener = TcpListener, Stream = TcpStream>,
-    I: BufRead,
+    O: Orders,
     W: Write,
     L: Write + Send + Drop,
 >(
     rt: &R,
     alloc: Global,
     plan: &Plan,
-    desk: &Desk<J>,
+    serves: &S,
+    passes: Vec<Pass>,
     viewers: Vec<Viewer<J>>,
     live: Live,
-    input: &mut I,
+    orders: &mut O,
     output: &mut W,
     lines: L,
 ) -> Result<Ran<J>, ServiceFault>
-    requires opened { AreNewPlaces plan.now.sites.items plan.now.stations.items desk.now.stations }
+    requires opened { AreNewPlaces plan.now.sites.items plan.now.stations.items (S.roster serves.now).stations }
     requires readings { sum_by (λ s. s.limits.readings) plan.now.stations.items ≤ most_plan_readings }
 {
     let listeners = Listeners::open(rt, live, output)?;
-    let shared = Shared::open(alloc, plan, desk, workers_for(plan), lines, live.is_logged)?;
+    let workers = workers_for(plan);
+    let shared = Shared::open(alloc, plan, serves, passes, workers, lines, live.is_logged)?;
     Ok(serve_all(
         rt,
         alloc,
@@ -171,7 +202,7 @@ fn run<
         &listeners,
         live.glances,
         viewers,
-        input,
+        orders,
         output,
     ))
 }
@@ -185,56 +216,67 @@ fn workers_for(plan: &Plan) -> usize {
 // Serves until the operator's lines end, and takes the passes from the shelf.
 fn serve_all<
     J: Naming + Send + Sync,
+    C: HasCell + Send,
+    S: Serves<J, C> + Sync,
     R: Threads + Wait + Clock + Sync + Net<Listener = TcpListener, Stream = TcpStream>,
-    I: BufRead,
+    O: Orders,
     W: Write,
     L: Write + Send + Drop,
 >(
     rt: &R,
     alloc: Global,
-    shared: Shared<'_, J, L>,
+    shared: Shared<'_, J, C, S, L>,
     listeners: &Listeners,
     glances: u16,
     viewers: Vec<Viewer<J>>,
-    input: &mut I,
+    orders: &mut O,
     output: &mut W,
 ) -> Ran<J> {
     let doors = Doors::open(&listeners.stations, listeners.browsers.as_ref());
     let (ended, viewers) = serve_beside(
-        rt, alloc, &shared, &doors, glances, viewers, input, output,
+        rt, alloc, &shared, &doors, glances, viewers, orders, output,
     );
-    (shared.into_passes(), viewers, ended)
+    Ran {
+        passes: shared.into_passes(),
+        viewers,
+        ended,
+    }
 }
+
+/// What stands at the end of the threads: how the operator's lines ended, and the viewers.
+type Ended<J> = (Result<(), ServiceFault>, Vec<Viewer<J>>);
 
 // Serves on threads while this one answers the operator's lines, and then ends them all.
 fn serve_beside<
     J: Naming + Send + Sync,
+    C: HasCell + Send,
+    S: Serves<J, C> + Sync,
     R: Threads + Wait + Clock + Sync + Net<Listener = TcpListener, Stream = TcpStream>,
-    I: BufRead,
+    O: Orders,
     W: Write,
     L: Write + Send + Drop,
 >(
     rt: &R,
     alloc: Global,
-    shared: &Shared<'_, J, L>,
+    shared: &Shared<'_, J, C, S, L>,
     doors: &Doors<'_>,
     glances: u16,
     viewers: Vec<Viewer<J>>,
-    input: &mut I,
+    orders: &mut O,
     output: &mut W,
 ) -> Ended<J> {
     thread::scope(
         thread::scope_env(),
         rt,
         |scope| -> Ended<J>
-            requires { IsSync R.row × IsSend J.row × IsSync J.row × IsSend L.row }
+            requires { IsSync R.row × IsSend J.row × IsSync J.row × IsSend C.row × IsSync S.row × IsSend L.row }
         {
             let watching = Stack::new().stack_size(SMALL_STACK).spawn_scoped_with(
                 scope,
                 Anything,
                 move || watch(rt, shared, glances, viewers),
             );
-            let ended = serve_until_end(scope, rt, alloc, shared, doors, input, output);
+            let ended = serve_until_end(scope, rt, alloc, shared, doors, orders, output);
             let viewers = match watching {
                 Ok(watching) => watching.join(rt),
                 Err(refused) => (refused.value)(),
@@ -249,21 +291,23 @@ fn serve_until_end<
     's,
     E: 's,
     J: Naming + Send + Sync,
+    C: HasCell + Send,
+    S: Serves<J, C> + Sync,
     R: Threads + Wait + Clock + Sync + Net<Listener = TcpListener, Stream = TcpStream>,
-    I: BufRead,
+    O: Orders,
     W: Write,
     L: Write + Send + Drop,
 >(
     scope: &'s Scope<'s, E>,
     rt: &'s R,
     alloc: Global,
-    shared: &'s Shared<'_, J, L>,
+    shared: &'s Shared<'_, J, C, S, L>,
     doors: &'s Doors<'_>,
-    input: &mut I,
+    orders: &mut O,
     output: &mut W,
 ) -> Result<(), ServiceFault> {
     let ended = if start_all(scope, rt, alloc, shared, doors) {
-        operate(rt, alloc, &shared.running, input, output)
+        operate(rt, alloc, &shared.running, orders, output)
     } else {
         Err(ServiceFault::OutOfMemory)
     };
@@ -277,13 +321,15 @@ fn start_all<
     's,
     E: 's,
     J: Naming + Send + Sync,
+    C: HasCell + Send,
+    S: Serves<J, C> + Sync,
     R: Threads + Wait + Clock + Sync,
     L: Write + Send + Drop,
 >(
     scope: &'s Scope<'s, E>,
     rt: &'s R,
     alloc: Global,
-    shared: &'s Shared<'_, J, L>,
+    shared: &'s Shared<'_, J, C, S, L>,
     doors: &'s Doors<'_>,
 ) -> bool {
     for worker in 0..shared.crew.marks.len() {
@@ -302,13 +348,15 @@ fn start_worker<
     's,
     E: 's,
     J: Naming + Send + Sync,
+    C: HasCell + Send,
+    S: Serves<J, C> + Sync,
     R: Threads + Wait + Clock + Sync,
     L: Write + Send + Drop,
 >(
     scope: &'s Scope<'s, E>,
     rt: &'s R,
     alloc: Global,
-    shared: &'s Shared<'_, J, L>,
+    shared: &'s Shared<'_, J, C, S, L>,
     door: &'s Door<'_>,
     worker: usize,
 ) -> bool {
@@ -328,13 +376,15 @@ fn start_boards<
     's,
     E: 's,
     J: Naming + Send + Sync,
+    C: HasCell + Send,
+    S: Serves<J, C> + Sync,
     R: Threads + Wait + Clock + Sync,
     L: Write + Send + Drop,
 >(
     scope: &'s Scope<'s, E>,
     rt: &'s R,
     alloc: Global,
-    shared: &'s Shared<'_, J, L>,
+    shared: &'s Shared<'_, J, C, S, L>,
     door: &'s Door<'_>,
 ) -> bool {
     let started = Stack::new().stack_size(SMALL_STACK).spawn_scoped_with(

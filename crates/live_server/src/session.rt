@@ -1,11 +1,12 @@
 //! A worker's connections, from accept to end.
 use crate::door::Door;
+use crate::serves::Serves;
 use crate::shared::Shared;
 use crate::visit::{Patience, Visit, VisitStream};
 use arrayvec::ArrayString;
 use ledger_model::Name;
 use site_book::Naming;
-use site_desk::{NoGate, Pass};
+use site_desk::{HasCell, NoGate, Pass};
 use site_server::SystemMoments;
 use station_link::{Attendant, Greeted, LiveEnd, greet, refuse, serve_live};
 use std::alloc::Global;
@@ -24,11 +25,17 @@ const PATIENCE: Patience = Patience {
 };
 
 // Accepts connections and serves each, until the server closes.
-pub(crate) fn work<J: Naming, R: Threads + Wait + Clock, L: Write + Drop>(
+pub(crate) fn work<
+    J: Naming,
+    C: HasCell,
+    S: Serves<J, C>,
+    R: Threads + Wait + Clock,
+    L: Write + Drop,
+>(
     rt: &R,
     alloc: Global,
     door: &Door<'_>,
-    shared: &Shared<'_, J, L>,
+    shared: &Shared<'_, J, C, S, L>,
     worker: usize,
     mark: &AtomicBool,
 ) {
@@ -44,10 +51,10 @@ pub(crate) fn work<J: Naming, R: Threads + Wait + Clock, L: Write + Drop>(
 }
 
 // Serves a connection: its handshake, and what comes behind it.
-fn visit<J: Naming, R: Threads + Wait + Clock, L: Write + Drop>(
+fn visit<J: Naming, C: HasCell, S: Serves<J, C>, R: Threads + Wait + Clock, L: Write + Drop>(
     rt: &R,
     alloc: Global,
-    shared: &Shared<'_, J, L>,
+    shared: &Shared<'_, J, C, S, L>,
     worker: usize,
     mark: &AtomicBool,
     stream: TcpStream,
@@ -65,10 +72,10 @@ fn visit<J: Naming, R: Threads + Wait + Clock, L: Write + Drop>(
 }
 
 // Serves the session of a client behind its handshake, where it is let in.
-fn receive<J: Naming, R: Threads + Wait + Clock, L: Write + Drop>(
+fn receive<J: Naming, C: HasCell, S: Serves<J, C>, R: Threads + Wait + Clock, L: Write + Drop>(
     rt: &R,
     alloc: Global,
-    shared: &Shared<'_, J, L>,
+    shared: &Shared<'_, J, C, S, L>,
     worker: usize,
     visit: &Visit<'_, R>,
     greeted: Greeted<VisitStream<'_, R>>,
@@ -92,10 +99,10 @@ fn receive<J: Naming, R: Threads + Wait + Clock, L: Write + Drop>(
 }
 
 // Serves a session to its end.
-fn attend<J: Naming, R: Threads + Wait + Clock, L: Write + Drop>(
+fn attend<J: Naming, C: HasCell, S: Serves<J, C>, R: Threads + Wait + Clock, L: Write + Drop>(
     rt: &R,
     alloc: Global,
-    shared: &Shared<'_, J, L>,
+    shared: &Shared<'_, J, C, S, L>,
     socket: &mut WebSocket<VisitStream<'_, R>, NoMask>,
     name: &Name,
     pass: Pass,
@@ -104,7 +111,7 @@ fn attend<J: Naming, R: Threads + Wait + Clock, L: Write + Drop>(
     shared.log.tell_begun(rt, name);
     visit.serves();
     let before = pass.changes();
-    let desk = shared.running.desk.desk;
+    let desk = shared.running.serves;
     let mut clock = SystemMoments { rt };
     let end = serve_live(
         rt, alloc, socket, desk, name, pass, &NoGate, &mut clock, visit,
@@ -113,9 +120,9 @@ fn attend<J: Naming, R: Threads + Wait + Clock, L: Write + Drop>(
 }
 
 // Tells how a session ended that began with so many changes, and lays its pass back.
-fn finish<J: Naming, R: Wait, L: Write + Drop>(
+fn finish<J: Naming, C: HasCell, S: Serves<J, C>, R: Wait, L: Write + Drop>(
     rt: &R,
-    shared: &Shared<'_, J, L>,
+    shared: &Shared<'_, J, C, S, L>,
     name: &Name,
     before: u64,
     end: LiveEnd,

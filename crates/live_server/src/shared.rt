@@ -6,35 +6,37 @@ ghost use Rattle.site_desk.specs.Roster.{AreNewPlaces};
 use crate::crew::Crew;
 use crate::log::Log;
 use crate::running::Running;
+use crate::serves::Serves;
 use site_book::Naming;
-use site_desk::{Desk, Pass, Plan};
+use site_desk::{HasCell, Pass, Plan};
 use std::alloc::{AllocError, Global};
 use std::io::Write;
 
 // What all threads of a live server look at.
 #[derive(Drop)]
-pub(crate) struct Shared<'a, J: Naming, L: Write + Drop> {
-    pub(crate) running: Running<'a, J>,
+pub(crate) struct Shared<'a, J: Naming, C: HasCell, S: Serves<J, C>, L: Write + Drop> {
+    pub(crate) running: Running<'a, J, C, S>,
     pub(crate) crew: Crew,
     pub(crate) log: Log<L>,
 }
 
-impl<'a, J: Naming, L: Write + Drop> Shared<'a, J, L> {
-    // The desk of this plan with an empty shelf, so many workers who serve nobody, and where it is told.
+impl<'a, J: Naming, C: HasCell, S: Serves<J, C>, L: Write + Drop> Shared<'a, J, C, S, L> {
+    // The desk of this plan, so many workers who serve nobody, and where it is told. The passes lie on the shelf.
     pub(crate) fn open(
         alloc: Global,
         plan: &'a Plan,
-        desk: &'a Desk<J>,
+        serves: &'a S,
+        passes: Vec<Pass>,
         workers: usize,
         lines: L,
         is_logged: bool,
     ) -> Result<Self, AllocError>
-        requires opened { AreNewPlaces plan.now.sites.items plan.now.stations.items desk.now.stations }
+        requires opened { AreNewPlaces plan.now.sites.items plan.now.stations.items (S.roster serves.now).stations }
         requires readings { sum_by (λ s. s.limits.readings) plan.now.stations.items ≤ most_plan_readings }
     {
         let crew = Crew::open(alloc, workers)?;
         Ok(Shared {
-            running: Running::open(alloc, plan, desk),
+            running: Running::open(plan, serves, passes),
             crew,
             log: Log::open(lines, is_logged),
         })

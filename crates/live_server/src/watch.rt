@@ -1,6 +1,8 @@
 //! A thread that glances at the totals while a live server serves.
+use crate::serves::Serves;
 use crate::shared::Shared;
 use site_book::{Naming, Viewer};
+use site_desk::HasCell;
 use site_server::tell_totals;
 use std::io::Write;
 use std::sync::Wait;
@@ -12,9 +14,9 @@ use std::time::{Clock, Duration};
 const SECONDS_BETWEEN: u64 = 1;
 
 // Glances so often at the totals of each viewer's site, a second apart, and tells them, until the server closes.
-pub(crate) fn watch<J: Naming, R: Wait + Clock, L: Write + Drop>(
+pub(crate) fn watch<J: Naming, C: HasCell, S: Serves<J, C>, R: Wait + Clock, L: Write + Drop>(
     rt: &R,
-    shared: &Shared<'_, J, L>,
+    shared: &Shared<'_, J, C, S, L>,
     glances: u16,
     mut viewers: Vec<Viewer<J>>,
 ) -> Vec<Viewer<J>> {

@@ -9,8 +9,7 @@ ghost use Rattle.pass_shelf.specs.Operated.{IsCommanded};
 use crate::shelf::Shelf;
 use ledger_model::{Answer, Command, Name};
 use site_book::Naming;
-use site_desk::{Desk, EnlistFault, NoGate, Pass};
-use std::alloc::Global;
+use site_desk::{Desk, EnlistFault, HasCell, NoGate, Pass, StationCell};
 use std::sync::{Mutex, Wait};
 use std::thread::Threads;
 use std::time::Clock;
@@ -28,20 +27,20 @@ pub enum PassFault {
 
 /// A running desk with a shelf for the passes of its stations.
 #[derive(Drop)]
-pub struct ShelfDesk<'a, J: Naming> {
+pub struct ShelfDesk<'a, J: Naming, C: HasCell = StationCell> {
     /// The desk.
-    pub desk: &'a Desk<J>,
+    pub desk: &'a Desk<J, C>,
     shelf: Mutex<Shelf>,
 }
 
-impl<'a, J: Naming> ShelfDesk<'a, J> {
-    /// The desk with an empty shelf.
-    pub fn open(alloc: Global, desk: &'a Desk<J>) -> Self
+impl<'a, J: Naming, C: HasCell> ShelfDesk<'a, J, C> {
+    /// The desk, with the passes on the shelf that were given out before.
+    pub fn open(desk: &'a Desk<J, C>, passes: Vec<Pass>) -> Self
         ensures { result.desk.now ≡ desk.now }
     {
         ShelfDesk {
             desk,
-            shelf: Mutex::new(Shelf::open(alloc)),
+            shelf: Mutex::new(Shelf::of(passes)),
         }
     }
 
@@ -87,6 +86,13 @@ impl<'a, J: Naming> ShelfDesk<'a, J> {
         self.shelf.lock(rt).lay(pass);
     }
 
+    /// All passes that were laid back.
+    pub fn into_passes(self) -> Vec<Pass> {
+        self.shelf.into_inner().into_passes()
+    }
+}
+
+impl<J: Naming> ShelfDesk<'_, J> {
     /// Takes an operator's command on the station of this name, with a pass that it lays back, and gives the answer. It
     /// may wait for the locks of the station and its site.
     pub fn command<R: Wait + Threads + Clock>(
@@ -102,10 +108,5 @@ impl<'a, J: Naming> ShelfDesk<'a, J> {
         let (answer, _told) = self.desk.submit(rt, &mut pass, what, &NoGate);
         self.lay(rt, pass);
         Ok(answer)
-    }
-
-    /// All passes that were laid back.
-    pub fn into_passes(self) -> Vec<Pass> {
-        self.shelf.into_inner().into_passes()
     }
 }

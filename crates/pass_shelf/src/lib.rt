@@ -9,7 +9,7 @@
 //! such a pass. That passes come back, and who is sent away, is shown by tests.
 //!
 //! ```text
-//! let shelf_desk = ShelfDesk::open(alloc, &desk);
+//! let shelf_desk = ShelfDesk::open(&desk, Vec::new(alloc));
 //! let pass = shelf_desk.pass_of(rt, &name)?;             // one that lay on the shelf, or else a new one
 //! shelf_desk.lay(rt, pass);
 //! shelf_desk.command(rt, &name, Command::Void(key))?;    // Accepted(3)

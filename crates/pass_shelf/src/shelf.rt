@@ -2,7 +2,7 @@
 ghost use Rattle.std.specs.Prelude.{◌≡◌, IfSome};
 
 use site_desk::Pass;
-use std::alloc::{AllocError, Global};
+use std::alloc::AllocError;
 
 /// Where a session lays its pass, and from where a later one of the same station takes it back.
 #[derive(Drop)]
@@ -13,12 +13,10 @@ pub struct Shelf {
 }
 
 impl Shelf {
-    /// An empty shelf.
-    pub fn open(alloc: Global) -> Shelf {
-        Shelf {
-            passes: Vec::new(alloc),
-            given: 0,
-        }
+    /// A shelf with the passes that were given out.
+    pub fn of(passes: Vec<Pass>) -> Shelf {
+        let given = passes.len();
+        Shelf { passes, given }
     }
 
     /// Makes room for one pass more than were given out.

@@ -1,5 +1,7 @@
 -- What a desk answers to the delivery of an event.
-use Rattle.std.proofs.Common.{◌≡◌, List, Option, None, Some, true, refl, sym, subst, arith, slice_get}
+use Rattle.std.proofs.Common.{◌≡◌, ℕ, ◌≤◌, List, Option, None, Some, Result, Ok, Err, true, length, refl, sym, subst, cond, ltb, Bool, false, inl, ap, ◌∙◌, arith, slice_get}
+use Rattle.std.specs.Prelude.{IfOk, OnErr, codes}
+use Rattle.std.proofs.lemmas.Bool.Decides.{nat_tests}
 use Rattle.ledger_model.specs.declared.answer.Answer.{Answer}
 use Rattle.ledger_model.specs.declared.answer.Answer.TheVariants.{Accepted, Repeat, Refused}
 use Rattle.ledger_model.specs.declared.answer.Refusal.TheVariants.{ConflictingEvent, TooManyTransactions, EventsFull, ReadingsFull, NoSuchEvent, AlreadyVoided, NotVoided, ChangesExhausted}
@@ -7,13 +9,19 @@ use Rattle.ledger_model.specs.declared.command.Command.{Command}
 use Rattle.ledger_model.specs.declared.command.Command.TheVariants.{Deliver}
 use Rattle.ledger_model.specs.Event.{EventContent}
 use Rattle.ledger_model.specs.Key.{KeyName}
+use Rattle.ocppj_frame.specs.declared.action.Action.TheVariants.{BootNotification, Heartbeat, StatusNotification, MeterValues, TransactionEvent}
+use Rattle.ocppj_frame.specs.Frame.{Frame, Called, Ready, Silence, frame}
+use Rattle.ocppj_frame.specs.Ranges.{longest_message}
 use Rattle.site_book.specs.Book.{Known}
 use Rattle.site_desk.specs.declared.roster.Place.{Place}
 use Rattle.site_desk.specs.Cell.{Held}
 use Rattle.site_desk.specs.Submit.{IsAnswered, IsUnchanged, Submitted}
 use Rattle.transaction_event.specs.Laws.{EachDeliveryIsAnswered}
-use Rattle.transaction_event.specs.Reply.{answers_delivery}
-use Rattle.station_link.specs.Answer.{IsNextPass, IsSubmitted}
+use Rattle.transaction_event.specs.Message.{Event, meaning_of, message}
+use Rattle.transaction_event.specs.MessageMeaning.{IsMemoryReply}
+use Rattle.transaction_event.specs.Request.{Request}
+use Rattle.transaction_event.specs.Reply.{answers_delivery, memory_reply}
+use Rattle.station_link.specs.Answer.{IsNextPass, IsSubmitted, TellsMemory}
 
 -- an answer of the step to a delivery has a reply
 by_step : (at : Place) (p : Held) (key : KeyName) (event : EventContent) (a : Answer) (p' : Held) (told : Option Known) → EachDeliveryIsAnswered → IsAnswered at p (Deliver key event) a p' told → answers_delivery a ≡ true
@@ -72,3 +80,44 @@ submitted_is_replied stations p key event a p' told law h = replied_by stations 
 -- the pass after a command to a desk
 pub submitted_pass : (stations : List Place) (p : Held) (command : Command) (a : Answer) (p' : Held) (told : Option Known) → IsSubmitted stations p command a p' told → IsNextPass p p'
 submitted_pass stations p command a p' told h = next_by stations (slice_get stations p.station) p command a p' told refl h
+
+-- what is answered to a delivery has a reply
+pub delivered_is_replied : {E : Type 0} (stations : List Place) (p : Held) (key : KeyName) (event : EventContent) (result : Result (Answer × Option Known) E) (p' : Held) → EachDeliveryIsAnswered
+    → IfOk result (λ r. IsSubmitted stations p (Deliver key event) r.0 p' r.1) → IfOk result (λ r. answers_delivery r.0 ≡ true)
+delivered_is_replied stations p key event (Ok r) p' law h = submitted_is_replied stations p key event r.0 p' r.1 law h
+delivered_is_replied stations p key event (Err e) p' law h = h
+
+-- the pass after a delivery, and where there was no memory for it
+pub delivered_pass : {E : Type 0} (stations : List Place) (p : Held) (command : Command) (result : Result (Answer × Option Known) E) (p' : Held)
+    → IfOk result (λ r. IsSubmitted stations p command r.0 p' r.1) → OnErr result (p' ≡ p) → IsNextPass p p'
+delivered_pass stations p command (Ok r) p' h same = submitted_pass stations p command r.0 p' r.1 h
+delivered_pass stations p command (Err e) p' h same =
+    let P : Held → Type 0 = λ q. IsNextPass p q in
+    subst P (sym same) (record { station = refl; changes = omega arith })
+
+-- the reply that tells that there was no memory
+memory_at : (f : Frame) → IsMemoryReply f (memory_reply (codes "-1"))
+memory_at (Called id TransactionEvent payload) = inl refl
+memory_at (Called id BootNotification payload) = refl
+memory_at (Called id Heartbeat payload) = refl
+memory_at (Called id StatusNotification payload) = refl
+memory_at (Called id MeterValues payload) = refl
+memory_at Silence = refl
+memory_at (Ready reply) = refl
+
+pub memory_told : (words reply : List ℕ) (p p' : Held) → reply ≡ memory_reply (codes "-1") → p' ≡ p → TellsMemory words p (Some reply) p' None
+memory_told words reply p p' is same = record {
+  reply = reply;
+  tells = subst (IsMemoryReply (frame words)) (sym is) (memory_at (frame words));
+  ready = record { same = refl; unchanged = record { pass = same; untold = refl } };
+}
+
+too_long : (b : Bool) (reply : List ℕ) (rest : Frame) (now : ℕ) (id : List ℕ) (request : Request) → meaning_of now (cond b (Ready reply) rest) ≡ Event id request → b ≡ false
+too_long true reply rest now id request e = cc e
+too_long false reply rest now id request e = refl
+
+-- a text that asks for an event is no longer than a message may be
+pub event_is_short : (words : List ℕ) (now : ℕ) (id : List ℕ) (request : Request) → message words now ≡ Event id request → length words ≤ longest_message
+event_is_short words now id request e =
+    let fits : ltb longest_message (length words) ≡ false = too_long (ltb longest_message (length words)) _ _ now id request e in
+    grind (arith, nat_tests, fits)

@@ -5,6 +5,8 @@ use Rattle.ledger_model.specs.declared.answer.Answer.TheVariants.{Refused}
 use Rattle.ledger_model.specs.declared.answer.Refusal.TheVariants.{ChangesExhausted}
 use Rattle.ledger_model.specs.declared.command.Command.{Command}
 use Rattle.ledger_model.specs.declared.command.Command.TheVariants.{Deliver}
+use Rattle.ledger_model.specs.Event.{EventContent}
+use Rattle.ledger_model.specs.Key.{KeyName}
 use Rattle.ocppj_frame.specs.Frame.{frame}
 use Rattle.site_book.specs.Book.{Known}
 use Rattle.site_desk.specs.declared.roster.Place.{Place}
@@ -14,6 +16,15 @@ use Rattle.transaction_event.specs.Message.{Meaning, Event, Ready, Silence, mess
 use Rattle.transaction_event.specs.MessageMeaning.{IsMemoryReply}
 use Rattle.transaction_event.specs.Reply.{event_reply_bytes}
 use Rattle.transaction_event.specs.Request.{Request}
+
+-- The text is a message that asks, at some moment, to deliver this event.
+pub record Asks (text : List ℕ) (key : KeyName) (event : EventContent) : Type 0 where
+  pub now : ℕ
+  pub id : List ℕ
+  pub request : Request
+  pub means : message text now ≡ Event id request
+  pub key_is : request.key ≡ key
+  pub event_is : request.event ≡ event
 
 -- What a desk of these stations can answer to a command of a pass; a pass of no station of the desk is told that changes are exhausted.
 pub record IsSubmitted (stations : List Place) (p : Held) (command : Command) (answer : Answer) (p' : Held) (told : Option Known) : Type 0 where

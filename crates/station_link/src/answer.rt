@@ -1,15 +1,17 @@
 //! The answer to one text of a station.
-ghost use Rattle.std.specs.Prelude.{◌≡◌, ◌≤◌, IsTrue, length, true, option_map};
+ghost use Rattle.std.specs.Prelude.{◌≡◌, ◌≤◌, IsTrue, IfOk, OnErr, codes, length, true, option_map};
 ghost use Rattle.ledger_model.specs.declared.command.Command.{Command};
 ghost use Rattle.ocppj_frame.specs.Ranges.{longest_message};
-ghost use Rattle.transaction_event.specs.Reply.{answers_delivery};
-ghost use Rattle.station_link.specs.Answer.{Answers, IsNextPass, IsSubmitted};
+ghost use Rattle.transaction_event.specs.Reply.{answers_delivery, memory_reply};
+ghost use Rattle.station_link.specs.Answer.{Answers, Asks, IsNextPass, IsSubmitted};
 
+use crate::delivers::Delivers;
 use arrayvec::ArrayString;
-use ledger_model::{Answer, Command, Event, Key, Moment};
+use ledger_model::{Answer, Event, Key, Moment};
+use ocppj_frame::{ErrorCode, error_text};
 use site_book::{Naming, Told};
-use site_desk::{Desk, Gate, Pass};
-use std::alloc::Global;
+use site_desk::{Gate, Pass};
+use std::alloc::{AllocError, Global};
 use std::sync::Wait;
 use std::time::Clock;
 use transaction_event::{Message, deliveries_are_answered, event_reply, message_of};
@@ -26,28 +28,39 @@ pub struct Answered<J: Naming> {
 }
 
 // The answer to the delivery of an event, which always has a reply.
-fn deliver<J: Naming, G: Gate, R: Wait + Clock>(
-    desk: &Desk<J>,
+fn deliver<J: Naming, D: Delivers<J>, G: Gate, R: Wait + Clock>(
+    desk: &D,
     rt: &R,
+    alloc: Global,
     pass: &mut Pass,
+    text: &str,
     key: Key,
     event: Event,
     gate: &G,
-) -> (Answer, Option<Told<J>>)
-    ensures submitted { IsSubmitted desk.now.stations pass.old (Command.Deliver key event) result.0 pass.new result.1 }
-    ensures answered { answers_delivery result.0 ≡ true }
+) -> Result<(Answer, Option<Told<J>>), AllocError>
+    requires { Asks text.now key event }
+    ensures submitted { IfOk result (λ r. IsSubmitted (D.stations desk.now) pass.old (Command.Deliver key event) r.0 pass.new r.1) }
+    ensures answered { IfOk result (λ r. answers_delivery r.0 ≡ true) }
+    ensures same { OnErr result (pass.new ≡ pass.old) }
     ensures next { IsNextPass pass.old pass.new }
 {
     deliveries_are_answered();
-    desk.submit(rt, pass, Command::Deliver(key, event), gate)
+    desk.deliver(rt, alloc, pass, text, key, event, gate)
+}
+
+// The reply that tells that there was no memory.
+fn memory_reply() -> ArrayString<512>
+    ensures { result.bytes ≡ memory_reply (codes "-1") }
+{
+    error_text("-1", ErrorCode::InternalError, "OutOfMemory")
 }
 
 /// Answers a text of a pass's station at a moment (OCPP 2.0.1 Part 4): an event is delivered to the desk,
 /// and the reply is that to the desk's answer; any other text has a ready reply or none. It may wait for the
-/// locks of the station and its site. Memory is taken only while the text is read, so a text that finds
+/// locks of the station and its site. Memory is taken only before the desk takes the event, so a text that finds
 /// none changes nothing.
-pub fn answer_text<J: Naming, G: Gate, R: Wait + Clock>(
-    desk: &Desk<J>,
+pub fn answer_text<J: Naming, D: Delivers<J>, G: Gate, R: Wait + Clock>(
+    desk: &D,
     rt: &R,
     alloc: Global,
     pass: &mut Pass,
@@ -55,7 +68,7 @@ pub fn answer_text<J: Naming, G: Gate, R: Wait + Clock>(
     now: Moment,
     gate: &G,
 ) -> Answered<J>
-    ensures answers { Answers desk.now.stations pass.old text.now now (option_map (λ t. t.bytes) result.text) pass.new result.told result.memory }
+    ensures answers { Answers (D.stations desk.now) pass.old text.now now (option_map (λ t. t.bytes) result.text) pass.new result.told result.memory }
     ensures next { IsNextPass pass.old pass.new }
     ensures while_reading { IsTrue result.memory → length text.now ≤ longest_message }
 {
@@ -65,14 +78,18 @@ pub fn answer_text<J: Naming, G: Gate, R: Wait + Clock>(
             key,
             event,
             token,
-        } => {
-            let (answer, told) = deliver(desk, rt, pass, key, event, gate);
-            Answered {
+        } => match deliver(desk, rt, alloc, pass, text, key, event, gate) {
+            Ok((answer, told)) => Answered {
                 text: Some(event_reply(id.as_str(), token, &answer)),
                 told,
                 memory: false,
-            }
-        }
+            },
+            Err(_) => Answered {
+                text: Some(memory_reply()),
+                told: None,
+                memory: true,
+            },
+        },
         Message::Reply { text, memory } => Answered {
             text: Some(text),
             told: None,

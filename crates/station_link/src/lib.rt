@@ -9,8 +9,8 @@
 //!
 //! The crate's one contract is that of `answer_text`: what is answered is what the text means at the moment,
 //! a ready reply or silence; where it means an event, the reply to an answer that the desk can give to that
-//! event's delivery. All memory is taken before the desk is asked, so that a message that found none changed
-//! nothing. A session gives back the pass that it was given, whatever ends it, with at most a million
+//! event's delivery. What takes the delivery is a desk, or anything else that [`Delivers`]. All memory is taken
+//! before it takes the event, so that a message that found none changed nothing. A session gives back the pass that it was given, whatever ends it, with at most a million
 //! changes; whom it lets in is fixed by what the handshake saw. What a socket delivered, the paths and the close codes are shown by tests.
 //!
 //! ```text
@@ -21,6 +21,7 @@
 #![tactic(auto)]
 
 mod answer;
+mod delivers;
 mod ending;
 mod live;
 mod moment;
@@ -28,6 +29,7 @@ mod request;
 mod session;
 
 pub use answer::{Answered, answer_text};
+pub use delivers::Delivers;
 pub use ending::Why;
 pub use live::{Attendant, Cause, Dismissal, Greeted, LiveEnd, greet, refuse, serve_live};
 pub use moment::{MomentSource, present};

@@ -3,6 +3,7 @@ ghost use Rattle.std.specs.Prelude.{◌≡◌, ◌≤◌, ◌+◌, IsSome, IfErr
 ghost use Rattle.station_link.specs.Live.{IsAsked, IsLivePass, MayLeave};
 ghost use Rattle.station_link.specs.Session.{MayHavePass, MayLackPass, most_messages};
 
+use crate::delivers::Delivers;
 use crate::ending::{Ending, Why, end_of_read, end_of_refusal};
 use crate::moment::MomentSource;
 use crate::request::{Look, Seen, station_text};
@@ -11,7 +12,7 @@ use arrayvec::ArrayString;
 use http::{Request, Response};
 use ledger_model::{MAX_NAME, Name};
 use site_book::Naming;
-use site_desk::{Desk, Gate, Pass};
+use site_desk::{Gate, Pass};
 use std::alloc::Global;
 use std::cell::Cell;
 use std::io::{ErrorKind, Read, Write};
@@ -166,6 +167,7 @@ pub fn refuse<S: Read + Write + Drop>(socket: &mut WebSocket<S, NoMask>, why: Wh
 /// cause as its reason. A read that gives up waiting is no end. It gives the pass back whatever ends the session.
 pub fn serve_live<
     J: Naming,
+    D: Delivers<J>,
     R: Wait + Clock,
     S: Read + Write + Drop,
     G: Gate,
@@ -175,7 +177,7 @@ pub fn serve_live<
     rt: &R,
     alloc: Global,
     socket: &mut WebSocket<S, NoMask>,
-    desk: &Desk<J>,
+    desk: &D,
     name: &Name,
     mut pass: Pass,
     gate: &G,
@@ -231,6 +233,7 @@ impl Parting {
 // Answers message after message until the session ends, and tells how many texts it took.
 fn answer_live<
     J: Naming,
+    D: Delivers<J>,
     R: Wait + Clock,
     S: Read + Write + Drop,
     G: Gate,
@@ -240,7 +243,7 @@ fn answer_live<
     rt: &R,
     alloc: Global,
     socket: &mut WebSocket<S, NoMask>,
-    desk: &Desk<J>,
+    desk: &D,
     name: &Name,
     pass: &mut Pass,
     gate: &G,

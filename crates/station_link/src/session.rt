@@ -3,6 +3,7 @@ ghost use Rattle.std.specs.Prelude.{◌≡◌, ◌≤◌, ◌<◌, ◌+◌, IsNo
 ghost use Rattle.station_link.specs.Session.{MayHavePass, MayLackPass, most_messages};
 
 use crate::answer::{Answered, answer_text};
+use crate::delivers::Delivers;
 use crate::ending::{Ending, Why, end_of_read, end_of_refusal};
 use crate::moment::{MomentSource, present};
 use crate::request::{Look, Seen, admit};
@@ -177,6 +178,7 @@ fn take_message<J: Naming, R: Wait + Clock, S: Read + Write + Drop, G: Gate, C: 
 // Answers a message that came, and tells whether it was a text.
 pub(crate) fn answer_message<
     J: Naming,
+    D: Delivers<J>,
     R: Wait + Clock,
     S: Read + Write + Drop,
     G: Gate,
@@ -185,7 +187,7 @@ pub(crate) fn answer_message<
     rt: &R,
     alloc: Global,
     socket: &mut WebSocket<S, NoMask>,
-    desk: &Desk<J>,
+    desk: &D,
     pass: &mut Pass,
     gate: &G,
     clock: &mut C,

@@ -87,7 +87,7 @@ fn play<J: Naming, R: Threads + Wait + Clock>(
     desk: &Desk<J>,
     scene: Scene,
 ) -> Option<Vec<Pass>> {
-    let desk = ShelfDesk::open(alloc, desk);
+    let desk = ShelfDesk::open(desk, Vec::new(alloc));
     match scene {
         Scene::SessionsInTurn => in_turn(rt, &desk)?,
         Scene::OperatorsCommand => commands(rt, &desk)?,
