@@ -20,7 +20,7 @@ use Rattle.site_desk.specs.Cell.{Cell, Held}
 use Rattle.site_desk.specs.Parts.{limits_at, row_at}
 use Rattle.site_desk.specs.Plan.{has_twice}
 use Rattle.site_desk.proofs.Rows.{limits_more_no, limits_more_yes}
-use Rattle.script_replay.specs.Drafts.{Drafted, IsPlan, planned_world, site_name}
+use Rattle.script_replay.specs.Drafts.{Drafted, planned_world, site_name}
 use Rattle.desk_report.specs.Boards.{boards_at}
 use Rattle.desk_report.proofs.SiteBoards.{boards_more_no, boards_more_yes, stands}
 use Rattle.script_replay.specs.Running.{IsRunning, filled}
@@ -79,7 +79,7 @@ module _ (d : Drafted) (cells : List Cell) (books : List Book) (passes : List He
 
 -- ---- the stations of a site
 
-none_at : (names : List (List ℕ)) (n : List ℕ) (k : ℕ) → list_any (bytes_eq n) names ≡ false → k < length names → bytes_eq n (get_or names k []) ≡ false
+pub none_at : (names : List (List ℕ)) (n : List ℕ) (k : ℕ) → list_any (bytes_eq n) names ≡ false → k < length names → bytes_eq n (get_or names k []) ≡ false
 none_at [] n k none less = absurd (omega arith)
 none_at (m ∷ names) n zero none less = (neither (bytes_eq n m) (list_any (bytes_eq n) names) none).0
 none_at (m ∷ names) n (suc k) none less = none_at names n k (neither (bytes_eq n m) (list_any (bytes_eq n) names) none).1 (omega (arith, less))
@@ -88,7 +88,7 @@ differ : (m n : List ℕ) → bytes_eq m n ≡ false → m ≡ n → ⊥
 differ m n apart same = false≢true (sym apart ∙ (bytes_eq-Decides m n).1 same)
 
 -- names that stand once stand in one place
-one_place : (names : List (List ℕ)) (j k : ℕ) → has_twice names ≡ false → j < length names → k < length names → get_or names j [] ≡ get_or names k [] → j ≡ k
+pub one_place : (names : List (List ℕ)) (j k : ℕ) → has_twice names ≡ false → j < length names → k < length names → get_or names j [] ≡ get_or names k [] → j ≡ k
 one_place [] j k once lj lk same = absurd (omega arith)
 one_place (m ∷ names) zero zero once lj lk same = refl
 one_place (m ∷ names) zero (suc k) once lj lk same = absurd (differ m (get_or names k []) (none_at names m k (neither (list_any (bytes_eq m) names) (has_twice names) once).0 (omega (arith, lk))) same)
@@ -130,12 +130,11 @@ shown_alike period sites (s ∷ stations) (c ∷ cells) name site all =
     one true e = ap (λ l. (s.name, board period (entries c.content)) ∷ l) e
     one false e = e
 
-pub site_shown : (period : ℕ) (d : Drafted) (cells : List Cell) (name : List ℕ) (site : ℕ) (plan : IsPlan d.sites d.stations) → position (λ s. bytes_eq name s.name) d.sites ≡ Some site
-    → map (shown_station period) (stations_of name (filled (planned_world d.sites d.stations) cells)) ≡ boards_at period d.stations cells site
-site_shown period d cells name site plan e =
-    let there = some_placed {X = SitePlan} (λ s. s.name) name d.sites site e in
-    shown_alike period d.sites d.stations cells name site
-    (λ k s lt. found_alike d.sites name site (get_or d.stations k s).site plan.sites_once there.less (plan.placed k s lt) there.named)
+pub site_shown : (period : ℕ) (sites : List SitePlan) (stations : List StationPlan) (cells : List Cell) (name : List ℕ) (site : ℕ) → has_twice (map (λ s. s.name) sites) ≡ false → All (λ s. s.site < length sites) stations
+    → position (λ s. bytes_eq name s.name) sites ≡ Some site → map (shown_station period) (stations_of name (filled (planned_world sites stations) cells)) ≡ boards_at period stations cells site
+site_shown period sites stations cells name site once placed e =
+    let there = some_placed {X = SitePlan} (λ s. s.name) name sites site e in
+    shown_alike period sites stations cells name site (λ k s lt. found_alike sites name site (get_or stations k s).site once there.less (placed k s lt) there.named)
 
 -- ---- the board
 

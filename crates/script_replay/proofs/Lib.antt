@@ -8,6 +8,7 @@ pub mod Answered
 pub mod Settling
 pub mod Enlisted
 pub mod Opened
+pub mod Parted
 pub mod Named
 pub mod Boards
 pub mod AdmissibleLines

@@ -42,7 +42,7 @@ module _ (sites : List SitePlan) (stations : List StationPlan) (old : List Cell)
       let o = was k c at in
       let is : o.0 ≡ new_cell k s.site (row_at stations s.site k) s.limits (period_at sites s.site) = some_same o.0 (new_cell k s.site (row_at stations s.site k) s.limits (period_at sites s.site)) (sym o.1.0 ∙ new.each k s planned) in
       let c_is : first_given (new_cell k s.site (row_at stations s.site k) s.limits (period_at sites s.site)) ≡ c = ap first_given (sym is) ∙ o.1.1 in
-      subst (IsPlaced sites stations k s) c_is (record { site = refl; row = refl; limits = refl; period = refl })
+      subst (IsPlaced sites stations k s) c_is (record { station = refl; site = refl; row = refl; limits = refl; period = refl })
 
   books_new : (site : ℕ) (b : Book) → slice_get books site ≡ Some b → b.limits ≡ limits_at stations site
   books_new site b at =

@@ -26,7 +26,7 @@ same_command : (station : Option Station) (s : Script) (command : Command) → c
 same_command None s command = refl
 same_command (Some station) s command = refl
 
-same_step : (s : Script) (meaning : LineMeaning) → opening meaning ≡ true → step_by s meaning ≡ step_by (opened_script s) meaning
+pub same_step : (s : Script) (meaning : LineMeaning) → opening meaning ≡ true → step_by s meaning ≡ step_by (opened_script s) meaning
 same_step s nothing e = absurd (false≢true e)
 same_step s (fails _) e = absurd (false≢true e)
 same_step s (declares _ _) e = absurd (false≢true e)

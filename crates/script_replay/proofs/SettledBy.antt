@@ -1,6 +1,5 @@
 -- Another settlement period for a site of a plan, and the script that it is seen as.
-use Rattle.std.proofs.Common.{◌≡◌, ℕ, zero, suc, ◌+◌, ◌<◌, Bool, true, cond, false, List, [], ◌∷◌, Option, None, Some, All, length, map, get_or, slice_set, refl, ap, sym, subst, ◌∙◌, bytes_eq, arith}
-use Rattle.std.specs.Prelude.{slice_get}
+use Rattle.std.proofs.Common.{◌≡◌, ℕ, zero, suc, ◌+◌, true, cond, List, [], ◌∷◌, None, Some, All, length, map, get_or, slice_set, refl, ap, sym, ◌∙◌, bytes_eq, arith}
 use Rattle.std.specs.List.{position, position_from}
 use Rattle.std.proofs.lemmas.Iterator.Adapters.{position_from-zero}
 use Rattle.ledger_model.specs.Quarter.{default_period}
@@ -9,7 +8,7 @@ use Rattle.site_desk.specs.declared.plan.StationPlan.{StationPlan}
 use Rattle.site_desk.specs.Plan.{has_twice, period_at, sites_by}
 use Rattle.script_lines.specs.declared.script_line.LineFault.TheVariants.{PlanLimit, UnknownSite}
 use Rattle.script_lines.specs.Texts.{fault_line}
-use Rattle.script_replay.specs.Drafts.{Drafted, IsPlan, planned, planned_world, site_name}
+use Rattle.script_replay.specs.Drafts.{Drafted, IsPlan, planned}
 use Rattle.script_replay.specs.Script.{is_period, new_station, period_of, period_to, settled_by, site_number}
 
 -- a site stands at one place in the plan and in the list of names

@@ -87,6 +87,7 @@ module _ (sites : List SitePlan) (stations : List StationPlan) (cells : List Cel
 
     kept_place : (s : StationPlan) → IsPlaced sites stations k s c → IsPlaced sites stations k s c'
     kept_place s place = record {
+      station = ap (λ (x : Cell). x.station) cell_is ∙ place.station;
       site = ap (λ (x : Cell). x.site) cell_is ∙ place.site;
       row = ap (λ (x : Cell). x.row) cell_is ∙ place.row;
       limits = ap (λ (x : Cell). x.limits) cell_is ∙ place.limits;

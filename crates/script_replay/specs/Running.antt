@@ -30,6 +30,7 @@ posts_in books = sum_by (λ b. length b.posts) books
 
 -- A cell is that of the station of this number, by its site's settlement period.
 pub record IsPlaced (sites : List SitePlan) (stations : List StationPlan) (number : ℕ) (s : StationPlan) (c : Cell) : Type 0 where
+  pub station : c.station ≡ number
   pub site : c.site ≡ s.site
   pub row : c.row ≡ row_at stations s.site number
   pub limits : c.limits ≡ s.limits

@@ -19,7 +19,6 @@ use Rattle.board_report.specs.Named.{NamedBoard}
 use Rattle.board_report.specs.Texts.{board_text, energy_text, export_text, total_text}
 use Rattle.transaction_event.specs.Message.{Meaning, Event, Ready, Silence, message}
 use Rattle.transaction_event.specs.Reply.{event_reply_bytes}
-use Rattle.script_lines.specs.declared.script_line.LineFault.{LineFault}
 use Rattle.script_lines.specs.declared.script_line.LineFault.TheVariants.{DeclaredLate, PlanLimit, StationTwice, UnknownStation, UnknownSite}
 use Rattle.script_lines.specs.Lines.{Line, text_by}
 use Rattle.script_lines.specs.LineMeaning.{LineMeaning, nothing, fails, sets_limits, declares, sets_period, tells, sends, commands, asks_energy, asks_export, asks_total, asks_board, line_meaning}

@@ -1,4 +1,4 @@
-ghost use Rattle.std.specs.Prelude.{◌≡◌, ℕ, ◌+◌, ◌<◌, ◌≤◌, ◌^◌, ◌++◌, ◌∷◌, [], All, length, map, true, OnOk, IfOk, IfSome, slice_get, take, Some, refl};
+ghost use Rattle.std.specs.Prelude.{◌≡◌, ℕ, ◌+◌, ◌<◌, ◌≤◌, ◌^◌, ◌++◌, ◌∷◌, [], All, length, map, true, OnOk, IfOk, IfSome, slice_get, take, None, Some, refl};
 ghost use Rattle.std.specs.Io.KnownBytes.{Keeps};
 ghost use Rattle.std.specs.List.{position};
 ghost use Rattle.std.specs.Str.{bytes_eq};
@@ -6,6 +6,8 @@ ghost use Rattle.board_report.specs.Texts.{board_text};
 ghost use Rattle.site_book.specs.Tables.{HasTable, NamedBy};
 ghost use Rattle.site_desk.specs.Cell.{Cell, new_pass};
 ghost use Rattle.message_ahead.specs.Ahead.{asking};
+ghost use Rattle.site_desk.specs.Plan.{plan_fault};
+ghost use Rattle.site_desk.specs.Roster.{AreCellsOf};
 ghost use Rattle.script_replay.specs.Drafts.{planned};
 ghost use Rattle.script_lines.specs.Lines.{line_bytes};
 ghost use Rattle.script_replay.specs.Received.{ReceivesText, TakesMessage};
@@ -75,6 +77,46 @@ impl<J: Naming> Ledgers<J> {
             }
             Err(_) => Err(AllocError),
         }
+    }
+
+    /// The plan and the moment, and for each station, in the plan's order, its cell and the pass that its changes count
+    /// for. The plan has no fault, and each cell is where the plan has its station.
+    pub fn into_parts(self) -> (Draft, Vec<StationCell>, Vec<Pass>)
+        ensures draft { result.0 ≡ self.draft }
+        ensures cells { result.1.items ≡ self.cells.items }
+        ensures faultless { plan_fault result.0.sites result.0.stations ≡ None }
+        ensures placed { AreCellsOf result.0.sites result.0.stations result.1.items }
+    {
+        let Ledgers {
+            draft,
+            cells,
+            books: _,
+            ahead: _,
+            passes,
+            alloc: _,
+        } = self;
+        (draft, cells, passes)
+    }
+
+    /// Has threads read the lines to come that the reader shows, where that is due. It consumes none and waits for none.
+    /// Where the reader fails to show them, its error is the answer.
+    pub fn look<X: Threads, R: BufRead>(
+        &mut self,
+        rt: &X,
+        lines: &LineReader,
+        reader: &mut R,
+    ) -> io::Result<()>
+        ensures reader { Keeps (R.remaining reader.old) (R.remaining reader.new) }
+        ensures script { running self.new.draft self.new.cells.items ≡ running self.old.draft self.old.cells.items }
+        ensures posts { posts_in self.new.books.items ≡ posts_in self.old.books.items }
+    {
+        let is_due = self.ahead.is_due(lines.room);
+        if lines.is_drained || !is_due {
+            return Ok(());
+        }
+        let shown = reader.fill_buf()?;
+        self.ahead.look::<ScriptMessages, X>(rt, shown);
+        Ok(())
     }
 
     /// Answers one line.
@@ -329,13 +371,7 @@ impl<J: Naming> Machine for Ledgers<J> {
         lines: &LineReader,
         reader: &mut R,
     ) -> io::Result<()> {
-        let is_due = self.ahead.is_due(lines.room);
-        if lines.is_drained || !is_due {
-            return Ok(());
-        }
-        let shown = reader.fill_buf()?;
-        self.ahead.look::<ScriptMessages, X>(rt, shown);
-        Ok(())
+        self.look(rt, lines, reader)
     }
 }
 

@@ -24,6 +24,8 @@ mod messages;
 mod replay;
 mod stream;
 
+pub use draft::Draft;
+pub use ledgers::Ledgers;
 pub use machine::{Declarations, LineOutcome, Machine};
 pub use replay::{Declared, replay_from, replay_lines};
 pub use script_lines::{MAX_LINE_BYTES, ReplayFault};

@@ -1,7 +1,6 @@
 use Rattle.std.proofs.Common.{◌≡◌, ◌≤◌, ◌<◌, List, length, refl, ap, sym, subst, ◌∙◌, arith}
 use Rattle.std.specs.Prelude.{sum_by}
 use Rattle.std.proofs.lemmas.Option.{slice_get_read}
-use Rattle.ledger_model.specs.Board.{site_board}
 use Rattle.ledger_model.specs.Ranges.{most_plan_readings}
 use Rattle.board_report.specs.Texts.{board_text}
 use Rattle.site_desk.specs.declared.plan.SitePlan.{SitePlan}
@@ -45,5 +44,5 @@ returns g c =
     let totals = c.totals-totals.ensures.sums ∙ totals_are s.draft s.cells.items s.books.items s.passes.items s.running period site c.index.result.now book in
     let alike : site_named name (period_at c.plan.result.now.sites.items site) c.totals-totals.result (boards_at (period_at c.plan.result.now.sites.items site) c.plan.result.now.stations.items c.deref.result.now site) ≡ site_named name period c.totals-totals.result boards =
     (λ i. site_named name (period_at (c.plan.ensures.sites i) site) c.totals-totals.result (boards_at (period_at (c.plan.ensures.sites i) site) (c.plan.ensures.stations i) (c.deref.ensures.value i) site)) in
-    let is = board_is name (period_named (running s.draft s.cells.items) name) period (site_named name period c.totals-totals.result boards) stations boards (site_shown period s.draft s.cells.items name site s.running.plan c.requires) (period_found name s.draft.sites site c.requires) refl refl totals refl refl in
+    let is = board_is name (period_named (running s.draft s.cells.items) name) period (site_named name period c.totals-totals.result boards) stations boards (site_shown period s.draft.sites s.draft.stations s.cells.items name site s.running.plan.sites_once s.running.plan.placed c.requires) (period_found name s.draft.sites site c.requires) refl refl totals refl refl in
     value_told c.site_text.result _ _ (λ text h. h ∙ ap board_text alike ∙ ap board_text is) c.site_text.ensures

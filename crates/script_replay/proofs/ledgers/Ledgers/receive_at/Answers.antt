@@ -1,4 +1,4 @@
-use Rattle.std.proofs.Common.{◌≡◌, subst}
+use Rattle.std.proofs.Common.{subst}
 use Rattle.std.specs.Prelude.{slice_get}
 use Rattle.transaction_event.specs.MessageMeaning.{IsMeaningOf}
 use Rattle.message_ahead.specs.Ahead.{asking}

@@ -1,0 +1,46 @@
+-- A journal's text behind a script leaves what its entries leave.
+use Rattle.std.proofs.Common.{◌≡◌, ℕ, zero, suc, ◌<◌, List, [], ◌∷◌, ◌++◌, Some, map, length, true, refl, sym, ap, subst, ◌∙◌, arith}
+use Rattle.std.proofs.lemmas.Slice.Eq.{bytes_eq-Decides}
+use Rattle.journal_ties.specs.declared.entry.Entry.{Entry}
+use Rattle.journal_ties.specs.Entries.{text_of}
+use Rattle.ledger_model.specs.declared.command.Command.{Command}
+use Rattle.ledger_model.specs.World.{run}
+use Rattle.script_lines.specs.Lines.{lines_of}
+use Rattle.script_lines.specs.Ranges.{longest_line}
+use Rattle.script_replay.specs.Drafts.{planned_world, site_name}
+use Rattle.script_replay.specs.Laws.{script_after}
+use Rattle.script_replay.specs.Running.{filled}
+use Rattle.script_replay.specs.Script.{Script, new_station, start}
+use Rattle.site_desk.specs.declared.plan.SitePlan.{SitePlan}
+use Rattle.site_desk.specs.declared.plan.StationPlan.{StationPlan}
+use Rattle.site_desk.specs.Cell.{Cell}
+use Rattle.journal_script.specs.Journals.{JournalsAreScripts, station_name}
+use Rattle.journal_script.proofs.Contents.{all_left}
+use Rattle.journal_script.proofs.Steps.{Has, asked_in, cut_entries, has_here, has_more, takes_lines}
+use Rattle.journal_script.proofs.Whole.{after_both, lines_apart}
+
+-- each station of a plan is found by its name
+has_all : (sites : List SitePlan) (stations : List StationPlan) (cells : List Cell) → length cells ≡ length stations → (k : ℕ) → k < length stations → Has (filled (planned_world sites stations) cells) (station_name stations k)
+has_all sites [] cells same k less = absurd (omega arith)
+has_all sites (s ∷ stations) [] same k less = absurd (omega arith)
+has_all sites (s ∷ stations) (c ∷ cells) same zero less =
+    let first = record (new_station s.limits (site_name sites s.site) s.name) { content = c.content } in
+    has_here first (filled (planned_world sites stations) cells) s.name true ((bytes_eq-Decides s.name s.name).1 refl) (λ e. cc e)
+has_all sites (s ∷ stations) (c ∷ cells) same (suc k) less =
+    let first = record (new_station s.limits (site_name sites s.site) s.name) { content = c.content } in
+    has_more first (filled (planned_world sites stations) cells) (station_name stations k) (has_all sites stations cells (omega arith) k (omega arith))
+
+pub journals_are_scripts : JournalsAreScripts
+journals_are_scripts read sites stations firsts cells log whole once shows all left =
+    let s = script_after start (lines_of longest_line read) in
+    let lines : lines_of longest_line (read ++ text_of log) ≡ lines_of longest_line read ++ map (λ (e : Entry Command). Some e.line) log =
+    lines_apart longest_line read (text_of log) whole ∙ ap (λ l. lines_of longest_line read ++ l) (cut_entries stations log all) in
+    let after : script_after start (lines_of longest_line (read ++ text_of log)) ≡ script_after s (map (λ (e : Entry Command). Some e.line) log) =
+    ap (script_after start) lines ∙ after_both start (lines_of longest_line read) (map (λ (e : Entry Command). Some e.line) log) in
+    let has = λ (k : ℕ) (less : k < length stations). subst (λ w. Has w (station_name stations k)) (sym shows.world_is) (has_all sites stations firsts left.count_first k less) in
+    let took = takes_lines stations s log all has in
+    record {
+      sites_are = ap (λ (t : Script). t.sites) after ∙ took.1.0 ∙ shows.sites_are;
+      periods_are = ap (λ (t : Script). t.periods) after ∙ took.1.1 ∙ shows.periods_are;
+      world_is = ap (λ (t : Script). t.world) after ∙ took.0 ∙ ap (λ w. run w (asked_in stations log)) shows.world_is ∙ all_left sites stations firsts cells log once.stations_once all left;
+    }

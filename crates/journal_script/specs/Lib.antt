@@ -1,0 +1,4 @@
+pub mod Speaking
+pub mod Journals
+pub mod Restoring
+pub mod Reading

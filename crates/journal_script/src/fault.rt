@@ -1,0 +1,36 @@
+use script_lines::ReplayFault;
+use std::alloc::AllocError;
+use thiserror::Error;
+
+/// Why a script was not restored. Nothing is kept of what was read.
+#[derive(Clone, Copy, Debug, PartialEq, Eq, Error)]
+pub enum RestoreFault {
+    /// The input ended before the line `listen`.
+    #[error("NotRestored")]
+    NotRestored,
+    /// The reader answered an error.
+    #[error("ReadFault")]
+    ReadFault,
+    /// The script has more bytes than a replay reads, 1 GiB.
+    #[error("TooMuchInput")]
+    TooMuchInput,
+    /// No memory was found for a line, its answer or the ledgers.
+    #[error("OutOfMemory")]
+    OutOfMemory,
+}
+
+impl From<AllocError> for RestoreFault {
+    fn from(_error: AllocError) -> RestoreFault {
+        RestoreFault::OutOfMemory
+    }
+}
+
+impl From<ReplayFault> for RestoreFault {
+    fn from(fault: ReplayFault) -> RestoreFault {
+        match fault {
+            ReplayFault::ReadFault | ReplayFault::WriteFault => RestoreFault::ReadFault,
+            ReplayFault::TooMuchInput => RestoreFault::TooMuchInput,
+            ReplayFault::OutOfMemory => RestoreFault::OutOfMemory,
+        }
+    }
+}

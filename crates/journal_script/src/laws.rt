@@ -1,0 +1,19 @@
+//! Laws of a journal's text. Each function's contract is the law; the functions do nothing.
+ghost use Rattle.journal_script.specs.Journals.{BoardsAreThoseOfCells, JournalsAreScripts};
+ghost use Rattle.journal_script.specs.Speaking.{EventsAskAtAnyMoment};
+
+/// A script with a journal's text behind it ends with the contents that the journal's entries leave, each station's
+/// own.
+pub fn journals()
+    ensures { JournalsAreScripts }
+{}
+
+/// A script whose stations have the contents of a desk's cells answers `board` with that desk's boards.
+pub fn boards()
+    ensures { BoardsAreThoseOfCells }
+{}
+
+/// A text that is an event at one moment asks for its delivery at any.
+pub fn events()
+    ensures { EventsAskAtAnyMoment }
+{}

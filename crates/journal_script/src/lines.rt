@@ -1,0 +1,129 @@
+//! The lines of a journal.
+ghost use Rattle.std.specs.Prelude.{◌≡◌, ◌↔◌, ◌≤◌, length, IsTrue, IfOk};
+ghost use Rattle.std.specs.Io.BufRead.{strip_last};
+ghost use Rattle.ledger_model.specs.declared.command.Command.TheVariants.{Deliver};
+ghost use Rattle.script_lines.specs.LineMeaning.{line_meaning, sends};
+ghost use Rattle.script_lines.specs.Lines.{HasNoFeed, line_bytes};
+ghost use Rattle.script_lines.specs.Ranges.{longest_line};
+ghost use Rattle.journal_script.specs.Speaking.{AsksFor, Says, Speaks};
+
+use journal_ties::is_line;
+use ledger_model::{Event, Key, Moment, Name};
+use script_lines::{MAX_LINE_BYTES, ScriptLine, read_line, without_return};
+use std::alloc::{AllocError, Global};
+use transaction_event::{Message, message_of};
+
+/// Makes the line of a station's message, and tells whether it asks for the delivery that the message asks for. Line
+/// feeds and carriage returns, which may stand between the tokens of a text, are spaces in the line; such a line is
+/// read, and its event compared.
+///
+/// Condition: the text asks for this delivery.
+pub fn message_line(
+    alloc: Global,
+    line: &mut Vec<u8>,
+    name: &Name,
+    text: &str,
+    key: &Key,
+    event: &Event,
+) -> Result<bool, AllocError>
+    requires { AsksFor text.now (Deliver key.now event.now) }
+    ensures { IfOk result (λ is. IsTrue is → Speaks name.now line.new.items (Deliver key.now event.now)) }
+{
+    put_message(line, name, text)?;
+    if is_script_line(line) && is_message(Some(line), name, text) {
+        return Ok(true);
+    }
+    put_spaces(line);
+    Ok(is_script_line(line) && is_delivery(alloc, Some(line), name, key, event))
+}
+
+// Makes the line `msg <name> <text>`.
+fn put_message(line: &mut Vec<u8>, name: &Name, text: &str) -> Result<(), AllocError> {
+    line.clear();
+    line.extend_from_slice(b"msg ")?;
+    line.extend_from_slice(name.text().as_bytes())?;
+    line.push(b' ')?;
+    line.extend_from_slice(text.as_bytes())
+}
+
+// Puts a space in the place of each line feed and carriage return.
+fn put_spaces(line: &mut Vec<u8>) {
+    for byte in line.iter_mut() {
+        if *byte == b'\n' || *byte == b'\r' {
+            *byte = b' ';
+        }
+    }
+}
+
+/// Tells whether the bytes stand in a script as they are, as one line: at most [`MAX_LINE_BYTES`], without a line feed
+/// and with no carriage return at their end.
+pub fn is_script_line(line: &[u8]) -> bool
+    ensures feedless { IsTrue result → HasNoFeed line.now }
+    ensures bare { IsTrue result → strip_last 13 line.now ≡ line.now }
+    ensures short { IsTrue result → length line.now ≤ longest_line }
+    ensures all { HasNoFeed line.now → strip_last 13 line.now ≡ line.now → length line.now ≤ longest_line → IsTrue result }
+{
+    line.len() <= MAX_LINE_BYTES && is_bare(line) && is_line(line)
+}
+
+// Tells whether no carriage return ends the bytes.
+fn is_bare(line: &[u8]) -> bool
+    ensures { IsTrue result ↔ (strip_last 13 line.now ≡ line.now) }
+{
+    without_return(line).len() == line.len()
+}
+
+// Tells whether the line says that this station sends this text.
+fn is_message(line: Option<&[u8]>, name: &Name, text: &str) -> bool
+    ensures { IsTrue result → line_meaning (line_bytes line.entry) ≡ sends name.now text.now }
+{
+    match &read_line(line) {
+        ScriptLine::Sends(to, said) => is_sent(to, said, name, text),
+        _ => false,
+    }
+}
+
+// Tells whether both names are one, and both texts.
+fn is_sent(to: &Name, said: &str, name: &Name, text: &str) -> bool
+    ensures { IsTrue result → (to.now ≡ name.now) × (said.now ≡ text.now) }
+{
+    *to == *name && *said == *text
+}
+
+// Tells whether the line asks for this delivery by a message of this station.
+fn is_delivery(alloc: Global, line: Option<&[u8]>, name: &Name, key: &Key, event: &Event) -> bool
+    ensures { IsTrue result → Says (line_meaning (line_bytes line.entry)) name.now (Deliver key.now event.now) }
+{
+    match &read_line(line) {
+        ScriptLine::Sends(to, said) => is_same_name(to, name) && asks(alloc, said, key, event),
+        _ => false,
+    }
+}
+
+fn is_same_name(to: &Name, name: &Name) -> bool
+    ensures { IsTrue result → to.now ≡ name.now }
+{
+    *to == *name
+}
+
+// Tells whether the text asks for this delivery.
+fn asks(alloc: Global, text: &str, key: &Key, event: &Event) -> bool
+    ensures { IsTrue result → AsksFor text.now (Deliver key.now event.now) }
+{
+    match message_of(alloc, text, Moment::first()) {
+        Message::Event {
+            id: _,
+            key: other,
+            event: content,
+            token: _,
+        } => is_same_event(&other, &content, key, event),
+        Message::Reply { .. } | Message::Silent => false,
+    }
+}
+
+// Tells whether both keys are one, and both events.
+fn is_same_event(other: &Key, content: &Event, key: &Key, event: &Event) -> bool
+    ensures { IsTrue result → (other.now ≡ key.now) × (content.now ≡ event.now) }
+{
+    *other == *key && content.is_same(event)
+}

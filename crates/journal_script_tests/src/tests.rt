@@ -1,0 +1,4 @@
+// Scripts that are restored, and lines of messages.
+mod lines;
+mod restoring;
+mod scripts;
