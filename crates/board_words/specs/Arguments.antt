@@ -6,7 +6,7 @@ use Rattle.clap.specs.declared.parser.matches.Found.{Found}
 use Rattle.std.specs.declared.result.Result.{Result}
 use Rattle.site_desk.specs.declared.plan.Plan.{Plan}
 use Rattle.board_words.specs.declared.asked.Asked.{Asked}
-use Rattle.board_words.specs.declared.asked.Asked.TheVariants.{Replay, Serve, ServeLive, Simulate}
+use Rattle.board_words.specs.declared.asked.Asked.TheVariants.{Replay, Serve, ServeLive, ServeJournalled, ServeRestored, Simulate}
 use Rattle.live_server.specs.declared.service.Live.{Live}
 use Rattle.ledger_model.specs.Quarter.{IsPeriod, default_period}
 use Rattle.board_words.specs.StationWords.{AnswersWords}
@@ -19,6 +19,8 @@ abbrev pub IsAskable : Asked → Type 0
 IsAskable Replay = ⊤
 IsAskable (Serve plan service) = (1 ≤ service.connections) × (service.connections ≤ 64)
 IsAskable (ServeLive plan live) = ⊤
+IsAskable (ServeJournalled plan live) = ⊤
+IsAskable (ServeRestored live journalled) = ⊤
 IsAskable (Simulate stations events) = IsSimulated stations events
 
 -- An option gives this number: what its text says, where that is a decimal below this power of 2, and the other where it has no text.
@@ -57,6 +59,8 @@ abbrev pub is_live : Asked → Bool
 is_live Replay = false
 is_live (Serve plan service) = false
 is_live (ServeLive plan live) = true
+is_live (ServeJournalled plan live) = true
+is_live (ServeRestored live journalled) = true
 is_live (Simulate stations events) = false
 
 -- What the options of `serve` ask for where it does not live.
@@ -79,11 +83,18 @@ words_of found = unwrap_or (option_map raw_values (matched_of found (codes "stat
 abbrev pub AsksPlan : Found → ℕ → Result Plan WordFault → Type 0
 AsksPlan found glances plan = (period : ℕ) × (AsksPeriod found period × AnswersWords plan (if nat_lt 0 glances then 1 else 0) period (words_of found))
 
--- A server is asked for with what its options say, and the plan of its words.
+-- Whether a server that lives has a journal, and whether it is restored.
+pub record AsksKept (found : Found) (journal restore : Bool) : Type 0 where
+  pub journals : IsFlag found (codes "journal") journal
+  pub restores : IsFlag found (codes "restore") restore
+
+-- A server is asked for with what its options say, and the plan of its words, or of a script.
 abbrev pub AsksServe : Found → Asked → Type 0
 AsksServe found Replay = ⊥
 AsksServe found (Serve plan service) = AsksService found service × AsksPlan found service.glances plan
-AsksServe found (ServeLive plan live) = AsksLive found live × AsksPlan found live.glances plan
+AsksServe found (ServeLive plan live) = AsksLive found live × AsksPlan found live.glances plan × AsksKept found false false
+AsksServe found (ServeJournalled plan live) = AsksLive found live × AsksPlan found live.glances plan × AsksKept found true false
+AsksServe found (ServeRestored live journalled) = AsksLive found live × AsksKept found journalled true
 AsksServe found (Simulate stations events) = ⊥
 
 -- A simulation is asked for.
@@ -91,4 +102,6 @@ abbrev pub AsksSimulate : Found → Asked → Type 0
 AsksSimulate found Replay = ⊥
 AsksSimulate found (Serve plan service) = ⊥
 AsksSimulate found (ServeLive plan live) = ⊥
+AsksSimulate found (ServeJournalled plan live) = ⊥
+AsksSimulate found (ServeRestored live journalled) = ⊥
 AsksSimulate found (Simulate stations events) = GivesWithin found (codes "stations") 16 2 1 64 stations × GivesWithin found (codes "events") 32 3 2 64 events

@@ -1,5 +1,5 @@
 //! What the options of a command ask for.
-ghost use Rattle.std.specs.Prelude.{◌≤◌, codes};
+ghost use Rattle.std.specs.Prelude.{◌≡◌, ◌≤◌, codes, true};
 ghost use Rattle.clap.specs.Matches.{found_of};
 ghost use Rattle.board_words.specs.Arguments.{AsksLive, AsksPeriod, AsksPlan, AsksServe, AsksService, AsksSimulate, IsAskable, IsFlag, is_live};
 
@@ -21,6 +21,10 @@ pub enum Asked<'a> {
     Serve(Result<Plan, WordFault<'a>>, Service),
     /// To serve the stations of a plan for as long as an operator's lines come; or what is wrong with their words.
     ServeLive(Result<Plan, WordFault<'a>>, Live),
+    /// The same, with a journal on standard output.
+    ServeJournalled(Result<Plan, WordFault<'a>>, Live),
+    /// To serve the stations of a script that standard input begins with, and whether with a journal.
+    ServeRestored(Live, bool),
     /// To play so many simulated stations, 1 to 64, each with so many events, 2 to 64.
     Simulate(u16, u32),
 }
@@ -32,11 +36,27 @@ pub fn serve_asked<'a>(matches: &ArgMatches<'a>) -> Asked<'a>
     ensures lives { IsFlag (found_of matches.now) (codes "live") (is_live result) }
 {
     if matches.get_flag("live") {
-        let live = live_of(matches);
-        Asked::ServeLive(plan_asked(matches, live.glances), live)
+        live_asked(matches)
     } else {
         let service = service_of(matches);
         Asked::Serve(plan_asked(matches, service.glances), service)
+    }
+}
+
+// What `serve --live` is asked for.
+fn live_asked<'a>(matches: &ArgMatches<'a>) -> Asked<'a>
+    ensures range { IsAskable result }
+    ensures asked { AsksServe (found_of matches.now) result }
+    ensures lives { is_live result ≡ true }
+{
+    let live = live_of(matches);
+    let is_journalled = matches.get_flag("journal");
+    if matches.get_flag("restore") {
+        Asked::ServeRestored(live, is_journalled)
+    } else if is_journalled {
+        Asked::ServeJournalled(plan_asked(matches, live.glances), live)
+    } else {
+        Asked::ServeLive(plan_asked(matches, live.glances), live)
     }
 }
 

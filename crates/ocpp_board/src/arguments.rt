@@ -49,7 +49,7 @@ const SERVE_EXAMPLE: &str = "\
 Writes `listening 127.0.0.1:<port>`, serves the connections, each of a station at
 ws://127.0.0.1:<port>/ocpp/<station> with the subprotocol ocpp2.0.1, and when all have ended
 writes the board of each site. It ends after one connection unless --connections says more.
-Nothing is kept when it ends.
+Nothing is kept when it ends, but by --journal.
 
 A connection is given up after 600 seconds in which its station sends nothing, and after 30
 seconds in which it takes nothing.
@@ -62,8 +62,16 @@ oldest. Meanwhile it answers lines on standard input, as `ocpp_board --help` lis
 declarations and `now`; it ends when its input ends or says `close`, and writes the boards.
   ocpp_board serve --live --port 9000 --log --board-port 9080 north/CS-01 north/CS-02
 
+With --journal standard output is a script of the declarations and of each accepted change, which
+is out before its answer; all else goes to standard error. With --restore standard input begins
+with such a script, up to a line `listen`: `left out <line> <answer>` tells a line that changed
+nothing, and `restored <n>` how many changes the stations hold.
+  ocpp_board serve --live --journal --port 9000 north/CS-01 north/CS-02 >> journal < orders
+  { cat journal; printf '#\nlisten\n'; tail -n 0 -f orders; } |
+    ocpp_board serve --live --journal --restore --port 9000 >> journal
+
 Exit status: 0; 1 with `fault <name>` (ListenFailed, ReadFault, WriteFault, OutOfMemory,
-Torn); 2 for a fault of the arguments, or with `fault BadStation`, `fault PlanLimit` or `fault StationTwice`.
+Torn, NotRestored, TooMuchInput); 2 for a fault of the arguments, or with `fault BadStation`, `fault PlanLimit` or `fault StationTwice`.
 A second line tells the cause: the word, the station, or the system's words for the port.";
 
 const SIM_EXAMPLE: &str = "\
@@ -114,7 +122,7 @@ fn serve_command<'a>(alloc: Global) -> Result<Command<'a>, AllocError> {
         .after_help(SERVE_EXAMPLE);
     let command = with_numbers(alloc, command)?;
     let command = with_life(alloc, command)?;
-    command.arg(station_words(alloc))
+    command.arg(station_words(alloc)?)
 }
 
 // The command with the options that have a number.
@@ -129,6 +137,8 @@ fn with_numbers<'a>(alloc: Global, command: Command<'a>) -> Result<Command<'a>, 
 // The command with the options of a server that lives.
 fn with_life<'a>(alloc: Global, command: Command<'a>) -> Result<Command<'a>, AllocError> {
     let command = command.arg(live_option(alloc)?)?;
+    let command = command.arg(journal_option(alloc)?)?;
+    let command = command.arg(restore_option(alloc)?)?;
     let command = command.arg(log_option(alloc)?)?;
     command.arg(board_port_option(alloc)?)
 }
@@ -181,6 +191,26 @@ fn live_option<'a>(alloc: Global) -> Result<Arg<'a>, AllocError> {
         .conflicts_with("connections")
 }
 
+fn journal_option<'a>(alloc: Global) -> Result<Arg<'a>, AllocError> {
+    Arg::new(alloc, "journal")
+        .long("journal")
+        .action(ArgAction::SetTrue)
+        .help(
+            "With --live, write a journal to standard output: a line for each change before its answer",
+        )
+        .requires_arg("live")
+}
+
+fn restore_option<'a>(alloc: Global) -> Result<Arg<'a>, AllocError> {
+    Arg::new(alloc, "restore")
+        .long("restore")
+        .action(ArgAction::SetTrue)
+        .help("With --live, begin with the script on standard input up to its line `listen`")
+        .conflicts_with("stations")?
+        .conflicts_with("period")?
+        .requires_arg("live")
+}
+
 fn log_option<'a>(alloc: Global) -> Result<Arg<'a>, AllocError> {
     Arg::new(alloc, "log")
         .long("log")
@@ -200,13 +230,13 @@ fn board_port_option<'a>(alloc: Global) -> Result<Arg<'a>, AllocError> {
         .requires_arg("live")
 }
 
-fn station_words<'a>(alloc: Global) -> Arg<'a> {
+fn station_words<'a>(alloc: Global) -> Result<Arg<'a>, AllocError> {
     Arg::new(alloc, "stations")
         .value_name("SITE/STATION")
-        .required(true)
         .num_args(1..)
         .action(ArgAction::Append)
         .help("The stations, each with its site")
+        .required_unless_present("restore")
 }
 
 // The command `sim`.

@@ -5,6 +5,7 @@ use crate::arguments::read_arguments;
 use board_words::{Asked, WordFault};
 use clap::Error;
 use clap::error::ErrorKind;
+use journal_server::{JournalFault, Served, serve_journalled, serve_restored};
 use ledger_model::{MAX_SITES, MAX_STATIONS};
 use live_server::{Live, serve_live};
 use script_replay::{ReplayFault, replay_buffered};
@@ -34,17 +35,20 @@ pub fn run_command_line<
         + Wait
         + Clock
         + RandomSource
+        + Clone
+        + Send
         + Sync
-        + Net<Listener = TcpListener, Stream = TcpStream>,
+        + Net<Listener = TcpListener, Stream = TcpStream>
+        + 'static,
     S: AsStr,
-    R: BufRead,
-    W: Write + Drop,
+    R: BufRead + Send + Drop + 'static,
+    W: Write + Send + Drop,
     E: Write,
     L: Write + Send + Drop,
->(rt: &X, words: &[S], reader: &mut R, writer: &mut BufWriter<W>, errors: &mut E, lines: L) -> u8 {
+>(rt: &X, words: &[S], reader: R, mut writer: BufWriter<W>, errors: &mut E, lines: L) -> u8 {
     match read_arguments(rt.alloc(), words) {
         Ok(asked) => run_asked(rt, asked, reader, writer, errors, lines),
-        Err(error) => tell_mistake(writer, errors, &error),
+        Err(error) => tell_mistake(&mut writer, errors, &error),
     }
 }
 
@@ -55,29 +59,40 @@ fn run_asked<
         + Wait
         + Clock
         + RandomSource
+        + Clone
+        + Send
         + Sync
-        + Net<Listener = TcpListener, Stream = TcpStream>,
-    R: BufRead,
-    W: Write + Drop,
+        + Net<Listener = TcpListener, Stream = TcpStream>
+        + 'static,
+    R: BufRead + Send + Drop + 'static,
+    W: Write + Send + Drop,
     E: Write,
     L: Write + Send + Drop,
->(
-    rt: &X,
-    asked: Asked<'_>,
-    reader: &mut R,
-    writer: &mut BufWriter<W>,
-    errors: &mut E,
-    lines: L,
-) -> u8
+>(rt: &X, asked: Asked<'_>, mut reader: R, mut writer: BufWriter<W>, errors: &mut E, lines: L) -> u8
     requires { IsAskable asked }
 {
     match asked {
-        Asked::Replay => tell_replay(errors, replay_buffered(rt, reader, writer)),
-        Asked::Serve(plan, service) => serve(rt, plan, service, writer, errors, lines),
-        Asked::ServeLive(plan, live) => live_on(rt, plan, live, reader, writer, errors, lines),
-        Asked::Simulate(stations, events) => {
-            tell_end(errors, simulate(rt, rt.alloc(), stations, events, writer))
+        Asked::Replay => tell_replay(errors, replay_buffered(rt, &mut reader, &mut writer)),
+        Asked::Serve(plan, service) => serve(rt, plan, service, &mut writer, errors, lines),
+        Asked::ServeLive(plan, live) => live_on(
+            rt,
+            plan,
+            live,
+            &mut reader,
+            &mut writer,
+            errors,
+            lines,
+        ),
+        Asked::ServeJournalled(plan, live) => {
+            journalled_on(rt, plan, live, reader, writer, errors, lines)
         }
+        Asked::ServeRestored(live, is_journalled) => {
+            restored_on(rt, live, is_journalled, reader, writer, errors, lines)
+        }
+        Asked::Simulate(stations, events) => tell_end(
+            errors,
+            simulate(rt, rt.alloc(), stations, events, &mut writer),
+        ),
     }
 }
 
@@ -138,6 +153,104 @@ fn live_on<
             tell_server(errors, &plan, live.port, ended)
         }
         Err(fault) => tell_word(errors, fault),
+    }
+}
+
+// Serves a plan as `live_on` does, with a journal.
+fn journalled_on<
+    X: AllocGlobal
+        + Threads
+        + Wait
+        + Clock
+        + Clone
+        + Send
+        + Sync
+        + Net<Listener = TcpListener, Stream = TcpStream>
+        + 'static,
+    R: BufRead + Send + Drop + 'static,
+    W: Write + Send + Drop,
+    E: Write,
+    L: Write + Send + Drop,
+>(
+    rt: &X,
+    plan: Result<Plan, WordFault<'_>>,
+    live: Live,
+    reader: R,
+    journal: BufWriter<W>,
+    errors: &mut E,
+    lines: L,
+) -> u8 {
+    match plan {
+        Ok(plan) => {
+            let served = serve_journalled(rt, &plan, live, reader, journal, errors, lines);
+            tell_journalled(errors, &plan, live.port, without_rest(served))
+        }
+        Err(fault) => tell_word(errors, fault),
+    }
+}
+
+// Serves the stations of the script that the input begins with, with a journal where one is asked for.
+fn restored_on<
+    X: AllocGlobal
+        + Threads
+        + Wait
+        + Clock
+        + Clone
+        + Send
+        + Sync
+        + Net<Listener = TcpListener, Stream = TcpStream>
+        + 'static,
+    R: BufRead + Send + Drop + 'static,
+    W: Write + Send + Drop,
+    E: Write,
+    L: Write + Send + Drop,
+>(
+    rt: &X,
+    live: Live,
+    is_journalled: bool,
+    reader: R,
+    mut writer: BufWriter<W>,
+    errors: &mut E,
+    lines: L,
+) -> u8 {
+    let plan = Plan::new();
+    if is_journalled {
+        let served = serve_restored(rt, live, reader, writer, errors, lines);
+        return tell_journalled(errors, &plan, live.port, without_rest(served));
+    }
+    let served = serve_restored(rt, live, reader, io::sink(), &mut writer, lines);
+    tell_journalled(errors, &plan, live.port, served)
+}
+
+// What a server leaves, without what the writer of its journal kept back: where a line could not be written its change was
+// refused, so it is not written later.
+fn without_rest<W: Write + Drop>(
+    served: Result<Served<BufWriter<W>>, JournalFault>,
+) -> Result<Served<W>, JournalFault> {
+    let Served {
+        journal,
+        is_broken,
+        ended,
+    } = served?;
+    let (journal, _rest) = journal.into_parts();
+    Ok(Served {
+        journal,
+        is_broken,
+        ended,
+    })
+}
+
+// The exit status of a server with a journal; its fault is told, with its cause.
+fn tell_journalled<E: Write, W: Drop>(
+    errors: &mut E,
+    plan: &Plan,
+    port: u16,
+    served: Result<Served<W>, JournalFault>,
+) -> u8 {
+    match served {
+        Ok(served) => tell_server(errors, plan, port, served.ended),
+        Err(JournalFault::Service(fault)) => tell_server(errors, plan, port, Err(fault)),
+        Err(JournalFault::Restore(fault)) => tell_fault(errors, fault, STOPPED),
     }
 }
 

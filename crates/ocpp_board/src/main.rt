@@ -1,7 +1,8 @@
 //! `ocpp_board`, the program: its words, and what they start.
 //!
 //! `ocpp_board` or `ocpp_board replay` answers a script from standard input on standard output, by
-//! `script_replay`; `serve` and `sim` run a server of stations, and simulated ones, by `site_server`.
+//! `script_replay`; `serve` and `sim` run a server of stations, and simulated ones, by `site_server`, a server that
+//! lives by `live_server`, and one with a journal by `journal_server`.
 //! `arguments` has its commands and options, `board_words` says what they ask for, and `cli` starts it and
 //! tells faults and exit statuses.
 #![tactic(auto)]
@@ -31,13 +32,7 @@ const OUTPUT_BUFFER: usize = 65_536;
 fn main(rt: HostRuntime) -> ExitCode {
     let mut errors = rt.stderr();
     let status = match buffered(rt.alloc(), rt.stdin(), rt.stdout()) {
-        Ok((mut reader, mut writer)) => run(
-            &rt,
-            &mut reader,
-            &mut writer,
-            &mut errors,
-            rt.stderr(),
-        ),
+        Ok((reader, writer)) => run(&rt, reader, writer, &mut errors, rt.stderr()),
         Err(_) => tell_fault(&mut errors, ReplayFault::OutOfMemory, STOPPED),
     };
     ExitCode::from(status)
@@ -62,13 +57,16 @@ fn run<
         + Wait
         + Clock
         + RandomSource
+        + Clone
+        + Send
         + Sync
-        + Net<Listener = TcpListener, Stream = TcpStream>,
-    R: BufRead,
-    W: Write + Drop,
+        + Net<Listener = TcpListener, Stream = TcpStream>
+        + 'static,
+    R: BufRead + Send + Drop + 'static,
+    W: Write + Send + Drop,
     E: Write,
     L: Write + Send + Drop,
->(rt: &X, reader: &mut R, writer: &mut BufWriter<W>, errors: &mut E, lines: L) -> u8 {
+>(rt: &X, reader: R, writer: BufWriter<W>, errors: &mut E, lines: L) -> u8 {
     match program_words(rt) {
         Ok(words) => run_command_line(rt, words.as_slice(), reader, writer, errors, lines),
         Err(error) => tell_no_words(errors, &error),

@@ -1,0 +1,128 @@
+-- What a server's script and its boards are, of what its desk was when it was closed.
+use Rattle.std.proofs.Common.{◌≡◌, ℕ, zero, suc, ◌<◌, ◌≤◌, Bool, true, false, List, [], ◌∷◌, ◌++◌, Option, None, Some, All, map, length, slice_get, refl, sym, ap, subst, ◌∙◌, arith}
+use Rattle.std.proofs.lemmas.List.Elements.{All-cons, All-head, All-nil, All-tail}
+use Rattle.board_report.specs.Texts.{board_text}
+use Rattle.desk_report.specs.Closed.{boards_text, closed_site}
+use Rattle.journal_ties.specs.declared.entry.Entry.{Entry}
+use Rattle.journal_ties.specs.Entries.{of_station, text_of}
+use Rattle.journal_script.specs.Journals.{AreLeft, HasOnce, IsSpoken, station_name}
+use Rattle.journal_script.specs.Speaking.{Speaks}
+use Rattle.journal_script.specs.Restoring.{IsRestored}
+use Rattle.journal_script.proofs.Boards.{boards_are_those_of_cells}
+use Rattle.journal_script.proofs.Journals.{journals_are_scripts}
+use Rattle.kept_desk.specs.Kept.{AreSpoken, commands_of}
+use Rattle.kept_desk.specs.Opened.{AreFirst, content_or_empty, contents_of, names_of}
+use Rattle.std.proofs.lemmas.Option.{slice_get_within}
+use Rattle.ledger_model.specs.declared.command.Command.{Command}
+use Rattle.ledger_model.specs.Content.{Content}
+use Rattle.ledger_model.specs.Laws.{left_by}
+use Rattle.site_desk.specs.declared.plan.SitePlan.{SitePlan}
+use Rattle.site_desk.specs.declared.plan.StationPlan.{StationPlan}
+use Rattle.site_desk.specs.Cell.{Cell}
+use Rattle.site_desk.specs.Plan.{plan_fault}
+use Rattle.site_desk.specs.Roster.{AreCellsOf}
+use Rattle.site_desk.proofs.NewParts.{planned_names, planned_sites}
+use Rattle.journal_server.specs.Served.{IsEnded, IsItsScript, SpeaksOf, after, joined}
+
+all_placed : (n : ℕ) (stations : List StationPlan) → ((k : ℕ) (s : StationPlan) → slice_get stations k ≡ Some s → s.site < n) → All (λ s. s.site < n) stations
+all_placed n [] each = All-nil (λ s. s.site < n)
+all_placed n (s ∷ stations) each = All-cons (λ s. s.site < n) s stations (each zero s refl) (all_placed n stations (λ k t at. each (suc k) t at))
+
+-- a plan without a fault has each name once
+pub has_once : (sites : List SitePlan) (stations : List StationPlan) → plan_fault sites stations ≡ None → HasOnce sites stations
+has_once sites stations none =
+    let names = planned_names sites stations none in
+    record { sites_once = names.0; stations_once = names.1; placed = all_placed (length sites) stations (λ k s at. planned_sites sites stations k s none at) }
+
+-- a name that is not empty is that of a station which the plan has
+named_there : (stations : List StationPlan) (k : ℕ) → 0 < length (names_of stations k) → k < length stations
+named_there [] k some = absurd (omega (arith, some))
+named_there (s ∷ stations) zero some = omega arith
+named_there (s ∷ stations) (suc k) some = let less = named_there stations k some in omega (arith, less)
+
+name_is : (stations : List StationPlan) (k : ℕ) → names_of stations k ≡ station_name stations k
+name_is [] k = refl
+name_is (s ∷ stations) zero = refl
+name_is (s ∷ stations) (suc k) = name_is stations k
+
+-- the line of an entry speaks for its command on the station of its name
+abbrev Own : List StationPlan → Entry Command → Type 0
+Own stations e = SpeaksOf (names_of stations e.station) e.line e.command
+
+-- lines that speak for stations of a plan
+all_spoken : (stations : List StationPlan) (log : List (Entry Command)) → AreSpoken SpeaksOf (names_of stations) log → All (IsSpoken stations) log
+all_spoken stations [] all = All-nil (IsSpoken stations)
+all_spoken stations (e ∷ log) all =
+    let own = All-head (Own stations) e log all in
+    All-cons (IsSpoken stations) e log (record { there = named_there stations e.station own.some; speaks = subst (λ n. Speaks n e.line e.command) (name_is stations e.station) own.speaks })
+    (all_spoken stations log (All-tail (Own stations) e log all))
+
+boards_joined : (sites : List SitePlan) (stations : List StationPlan) (cells : List Cell) (n : ℕ) → boards_text sites stations cells n ≡ joined (λ k. board_text (closed_site sites stations cells k)) n
+boards_joined sites stations cells zero = refl
+boards_joined sites stations cells (suc n) = ap (λ l. l ++ board_text (closed_site sites stations cells n)) (boards_joined sites stations cells n)
+
+pub its_script : (front : List ℕ) (sites : List SitePlan) (stations : List StationPlan) (firsts : List Cell) (before now : Option (List ℕ)) (broken : Bool) (boards : List ℕ)
+    → plan_fault sites stations ≡ None → AreCellsOf sites stations firsts → IsRestored front sites stations firsts
+    → IsEnded (names_of stations) (contents_of firsts) before now broken sites stations boards
+    → IsItsScript front before now broken boards
+its_script front sites stations firsts before now broken boards none of_plan restored e =
+    let once = has_once sites stations none in
+    let log = e.written.log in
+    let spoken = all_spoken stations log e.written.spoken in
+    let left : AreLeft stations firsts e.cells log = record {
+      count_first = of_plan.count;
+      count = e.count;
+      left = λ k s f c at first there.
+          (λ i. left_by (sym (e.limits k s c at there) i) (ap content_or_empty (sym first) i) (commands_of (of_station k log))) ∙ (e.written.left k c there).left;
+    } in
+    let ended = journals_are_scripts front sites stations firsts e.cells log restored.whole once restored.shows spoken left in
+    record {
+      log = log;
+      written = e.written.written;
+      sites = sites;
+      stations = stations;
+      firsts = firsts;
+      cells = e.cells;
+      opened = restored.shows;
+      spoken = spoken;
+      left = left;
+      ended = ended;
+      shown = record {
+        texts = λ k. board_text (closed_site sites stations e.cells k);
+        is = e.is ∙ boards_joined sites stations e.cells (length sites);
+        answers = λ site line less says. boards_are_those_of_cells (after (front ++ text_of log)) sites stations e.cells site line once ended less says;
+      };
+    }
+
+-- the same, by what is named
+pub ended_as : (name name' : ℕ → List ℕ) (first first' : ℕ → Content) (before before' now : Option (List ℕ)) (broken : Bool) (sites : List SitePlan) (stations : List StationPlan) (boards : List ℕ)
+    → name ≡ name' → first ≡ first' → before ≡ before' → IsEnded name first before now broken sites stations boards → IsEnded name' first' before' now broken sites stations boards
+ended_as name name' first first' before before' now broken sites stations boards n f b e =
+    subst (λ x. IsEnded name' first' x now broken sites stations boards) b
+    (subst (λ x. IsEnded name' x before now broken sites stations boards) f (subst (λ x. IsEnded x first before now broken sites stations boards) n e))
+
+none_past : (stations : List StationPlan) (k : ℕ) → slice_get stations k ≡ None → length stations ≤ k
+none_past [] k e = omega arith
+none_past (s ∷ stations) zero e = cc e
+none_past (s ∷ stations) (suc k) e = let past = none_past stations k e in omega (arith, past)
+
+-- the cells that a desk is opened over hold what they held
+pub are_first : (sites : List SitePlan) (stations : List StationPlan) (cells parts : List Cell) (first : ℕ → Content) → AreCellsOf sites stations cells → first ≡ contents_of cells → parts ≡ cells → AreFirst first parts
+are_first sites stations cells parts first of_plan named same k c at = (own (slice_get stations k) refl, sym (ap (λ f. f k) named ∙ ap content_or_empty there))
+  where
+    there : slice_get cells k ≡ Some c
+    there = sym (ap (λ cs. slice_get cs k) same) ∙ at
+
+    own : (s : Option StationPlan) → slice_get stations k ≡ s → c.station ≡ k
+    own None e = absurd (omega (arith, none_past stations k e, slice_get_within cells k c there, of_plan.count))
+    own (Some s) e = (of_plan.each k s c e there).station
+
+-- the same, where the sites and stations are those of a plan
+pub script_of_plan : (front : List ℕ) (sites planned : List SitePlan) (stations plan : List StationPlan) (firsts : List Cell) (before now : Option (List ℕ)) (broken : Bool) (boards : List ℕ)
+    → planned ≡ sites → plan ≡ stations → plan_fault sites stations ≡ None → AreCellsOf sites stations firsts → IsRestored front sites stations firsts
+    → IsEnded (names_of plan) (contents_of firsts) before now broken planned plan boards
+    → IsItsScript front before now broken boards
+script_of_plan front sites planned stations plan firsts before now broken boards s t none of_plan restored e =
+    its_script front planned plan firsts before now broken boards ((λ i. plan_fault (s i) (t i)) ∙ none)
+    (subst (λ x. AreCellsOf x plan firsts) (sym s) (subst (λ x. AreCellsOf sites x firsts) (sym t) of_plan))
+    (subst (λ x. IsRestored front x plan firsts) (sym s) (subst (λ x. IsRestored front sites x firsts) (sym t) restored)) e

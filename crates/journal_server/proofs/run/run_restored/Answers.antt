@@ -1,0 +1,14 @@
+use Rattle.desk_report.proofs.ClosedSites.{value_told}
+use Rattle.site_book.proofs.Named.{named-made}
+use Rattle.journal_server.proofs.Ends.{script_of_plan}
+use Rattle.journal_server.proofs.run.run_restored.Goals as goal
+
+pub run_over-requires-clause-named : goal.run_over-requires-clause-named
+run_over-requires-clause-named g c κs lives = named-made _
+
+pub returns : goal.returns
+returns g c =
+    value_told c.run_over.result _ _
+    (λ s h front restored.
+    (h.0, h.1, h.2, script_of_plan front c.args.restored.draft.sites c.plan-2.result.now.sites.items c.args.restored.draft.stations c.plan-2.result.now.stations.items c.args.restored.cells.items _ _ _ h.1 c.plan-2.ensures.sites c.plan-2.ensures.stations c.requires.faultless c.requires.cells restored h.3))
+    c.run_over.ensures

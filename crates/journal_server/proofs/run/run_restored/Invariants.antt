@@ -1,0 +1,15 @@
+use Rattle.site_book.specs.Tables as tables
+use Rattle.kept_desk.specs.Opened.{contents_of, names_of}
+use Rattle.journal_server.proofs.run.run_restored.Given as goal
+
+-- the tables that were just made
+abbrev pub ghosts-run_over-J-Naming : goal.ghosts-run_over-J-Naming
+ghosts-run_over-J-Naming g a = record { table = tables.names_of a.tables }
+
+-- the table that was just made, and what the writer holds
+abbrev pub ghosts-run_over-K-Ties : goal.ghosts-run_over-K-Ties
+ghosts-run_over-K-Ties g a = record { table = a.blank; before = g.W.Write.contents a.journal }
+
+-- what the cells hold, and the names of the plan's stations
+abbrev pub ghosts-run_over-K-Opening : goal.ghosts-run_over-K-Opening
+ghosts-run_over-K-Opening g a = record { first = contents_of a.cells.items; name = names_of a.plan.now.stations.items }

@@ -1,0 +1,89 @@
+-- What a server with a journal read, wrote and showed.
+use Rattle.std.specs.Prelude.{◌≡◌, ℕ, zero, suc, ◌<◌, Bool, List, [], ◌++◌, length, Option, Some, All, slice_get}
+use Rattle.std.specs.Io.KnownBytes.{Appends, Consumes}
+use Rattle.desk_report.specs.Closed.{boards_text}
+use Rattle.journal_ties.specs.declared.entry.Entry.{Entry}
+use Rattle.journal_ties.specs.Entries.{text_of}
+use Rattle.journal_ties.specs.Journal.{IsWritten}
+use Rattle.journal_script.specs.Journals.{AreLeft, IsSpoken, Shows}
+use Rattle.journal_script.specs.Restoring.{IsListen}
+use Rattle.journal_script.specs.Speaking.{Speaks}
+use Rattle.kept_desk.specs.Kept.{IsWrittenDown}
+use Rattle.ledger_model.specs.declared.command.Command.{Command}
+use Rattle.ledger_model.specs.Content.{Content}
+use Rattle.script_lines.specs.LineMeaning.{asks_board, line_meaning}
+use Rattle.script_lines.specs.Lines.{Line, lines_of}
+use Rattle.script_lines.specs.Ranges.{longest_line}
+use Rattle.script_replay.specs.Drafts.{site_name}
+use Rattle.script_replay.specs.Laws.{script_after}
+use Rattle.script_replay.specs.Script.{Script, line_step, start}
+use Rattle.site_desk.specs.declared.plan.SitePlan.{SitePlan}
+use Rattle.site_desk.specs.declared.plan.StationPlan.{StationPlan}
+use Rattle.site_desk.specs.Cell.{Cell}
+
+-- The line stands in a script, and asks for the command on the station of this name, which is not empty.
+pub record SpeaksOf (name line : List ℕ) (command : Command) : Type 0 where
+  pub some : 0 < length name
+  pub speaks : Speaks name line command
+
+-- The state in which these bytes leave a replay.
+abbrev pub after : List ℕ → Script
+after bytes = script_after start (lines_of longest_line bytes)
+
+-- The texts of the first so many sites, one behind the other.
+abbrev pub joined : (ℕ → List ℕ) → ℕ → List ℕ
+joined texts zero = []
+joined texts (suc k) = joined texts k ++ texts k
+
+-- These boards are what a replay in this state answers to `board <site>`, site by site.
+pub record AreAnswers (s : Script) (sites : List SitePlan) (boards : List ℕ) : Type 0 where
+  pub texts : ℕ → List ℕ
+  pub is : boards ≡ joined texts (length sites)
+  pub answers : (site : ℕ) (line : Line) → site < length sites → line_meaning line ≡ asks_board (site_name sites site) → (line_step s line).1 ≡ texts site
+
+-- What a server wrote behind the front of its script, and the boards that it showed last. There is one list of lines: the writer, which held `before`, took their text, and where a write failed a front of one line more; each line speaks for its command on its station; behind the front, each station's content is what just its own lines leave; and the boards are what `replay` answers after the front and the lines.
+pub record IsItsScript (front : List ℕ) (before now : Option (List ℕ)) (broken : Bool) (boards : List ℕ) : Type 0 where
+  pub log : List (Entry Command)
+  pub written : IsWritten broken before now log
+  pub sites : List SitePlan
+  pub stations : List StationPlan
+  pub firsts : List Cell
+  pub cells : List Cell
+  pub opened : Shows (after front) sites stations firsts
+  pub spoken : All (IsSpoken stations) log
+  pub left : AreLeft stations firsts cells log
+  pub ended : Shows (after (front ++ text_of log)) sites stations cells
+  pub shown : AreAnswers (after (front ++ text_of log)) sites boards
+
+-- A server that began anew: its script is what it wrote, a head and its lines.
+pub record IsNewRun (before now told : Option (List ℕ)) (broken : Bool) : Type 0 where
+  pub head : List ℕ
+  pub begun : Option (List ℕ)
+  pub begins : Appends before begun head
+  pub boards : List ℕ
+  pub told_before : Option (List ℕ)
+  pub tells : Appends told_before told boards
+  pub script : IsItsScript head begun now broken boards
+
+-- A server that was restored: its script is what it read before the line `listen`, followed by what it wrote, a head and its lines.
+pub record IsRestoredRun (input before now told : Option (List ℕ)) (broken : Bool) : Type 0 where
+  pub read : List ℕ
+  pub last : List ℕ
+  pub rest : Option (List ℕ)
+  pub reads : Consumes input rest (read ++ last)
+  pub listens : IsListen last
+  pub head : List ℕ
+  pub begun : Option (List ℕ)
+  pub begins : Appends before begun head
+  pub boards : List ℕ
+  pub told_before : Option (List ℕ)
+  pub tells : Appends told_before told boards
+  pub script : IsItsScript (read ++ head) begun now broken boards
+
+-- What a desk with a journal was when it was closed, and its boards.
+pub record IsEnded (name : ℕ → List ℕ) (first : ℕ → Content) (before now : Option (List ℕ)) (broken : Bool) (sites : List SitePlan) (stations : List StationPlan) (boards : List ℕ) : Type 0 where
+  pub cells : List Cell
+  pub written : IsWrittenDown SpeaksOf name first before broken now cells
+  pub count : length cells ≡ length stations
+  pub limits : (k : ℕ) (s : StationPlan) (c : Cell) → slice_get stations k ≡ Some s → slice_get cells k ≡ Some c → c.limits ≡ s.limits
+  pub is : boards ≡ boards_text sites stations cells (length sites)

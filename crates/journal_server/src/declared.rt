@@ -1,0 +1,70 @@
+//! The declarations of a plan, as a script.
+use itoa::Buffer;
+use ledger_model::{Limits, Name};
+use site_desk::{Plan, SitePlan, StationPlan};
+use std::alloc::{AllocError, Global};
+
+// How a run begins in a journal. Behind a line that a kill cut, it makes of that line and itself one that changes nothing.
+pub(crate) const RUN: &[u8] = b"# a run of ocpp_board begins\n";
+
+// How a journal begins: the comment of its run, and the declarations of the plan.
+pub(crate) fn journal_head(alloc: Global, plan: &Plan) -> Result<Vec<u8>, AllocError> {
+    let mut head = Vec::new(alloc);
+    head.extend_from_slice(RUN)?;
+    for station in plan.stations.as_slice() {
+        put_limits(&mut head, &station.limits)?;
+        put_station(&mut head, plan.sites.as_slice(), station)?;
+    }
+    for site in plan.sites.as_slice() {
+        put_period(&mut head, site)?;
+    }
+    Ok(head)
+}
+
+// The line of the limits of the stations that follow.
+fn put_limits(head: &mut Vec<u8>, limits: &Limits) -> Result<(), AllocError> {
+    head.extend_from_slice(b"limits")?;
+    put_number(head, u64::from(limits.transactions()))?;
+    put_number(head, u64::from(limits.events()))?;
+    put_number(head, u64::from(limits.readings()))?;
+    put_number(head, limits.changes())?;
+    head.push(b'\n')?;
+    Ok(())
+}
+
+// A space and a number.
+fn put_number(head: &mut Vec<u8>, number: u64) -> Result<(), AllocError> {
+    head.push(b' ')?;
+    head.extend_from_slice(Buffer::new().format(number).as_bytes())
+}
+
+// A space and a name.
+fn put_name(head: &mut Vec<u8>, name: &Name) -> Result<(), AllocError> {
+    head.push(b' ')?;
+    head.extend_from_slice(name.text().as_bytes())
+}
+
+// The line that declares a station.
+fn put_station(
+    head: &mut Vec<u8>,
+    sites: &[SitePlan],
+    station: &StationPlan,
+) -> Result<(), AllocError> {
+    let Some(site) = sites.get(station.site as usize) else {
+        return Ok(());
+    };
+    head.extend_from_slice(b"station")?;
+    put_name(head, &site.name)?;
+    put_name(head, &station.name)?;
+    head.push(b'\n')?;
+    Ok(())
+}
+
+// The line of a site's settlement period.
+fn put_period(head: &mut Vec<u8>, site: &SitePlan) -> Result<(), AllocError> {
+    head.extend_from_slice(b"period")?;
+    put_name(head, &site.name)?;
+    put_number(head, u64::from(site.period.seconds()))?;
+    head.push(b'\n')?;
+    Ok(())
+}

@@ -1,0 +1,31 @@
+//! A server that lives and writes a journal: a crash loses nothing that was answered.
+//!
+//! [`serve_journalled`] serves a plan's stations as [`serve_live`](live_server::serve_live) does, over a desk with a
+//! journal ([`KeptDesk`](kept_desk::KeptDesk)): before an answer goes out, the line of its change was written. The journal
+//! is a script: a comment, the plan's declarations, and one line for each accepted change. [`serve_restored`] begins with
+//! such a script, up to the line `listen`, and goes on behind it. An operator's lines are read on a thread of their own, so
+//! that a journal that can't be written ends the server at once.
+//!
+//! The crate's one contract ([`Served`], `IsItsScript` of `specs/Served.antt`): the boards that a server writes at its end
+//! are the answers to `board <site>` behind one script, which is what it read and wrote; behind its front that script is
+//! the text of one list of lines, and each station's content is what just its own lines leave. That lines are out before
+//! their replies, and what a kill leaves, is shown by tests.
+//!
+//! ```text
+//! serve_journalled(rt, &plan, live, stdin, stdout, &mut stderr, lines)?    // standard output is the journal
+//! serve_restored(rt, live, stdin, stdout, &mut stderr, lines)?             // standard input begins with a journal
+//! ```
+#![tactic(auto)]
+
+mod declared;
+mod fault;
+mod mail;
+mod run;
+mod serve;
+mod serving;
+mod speech;
+
+pub use fault::JournalFault;
+pub use run::Served;
+pub use serve::{serve_journalled, serve_restored};
+pub use speech::ScriptSpeech;

@@ -1,0 +1,231 @@
+//! A server with a journal, from its desk to its boards.
+ghost use Rattle.std.specs.Prelude.{◌≡◌, ◌<◌, ℕ, List, Option, None, IfOk, length};
+ghost use Rattle.std.specs.Io.KnownBytes.{Appends};
+ghost use Rattle.journal_script.specs.Restoring.{IsRestored};
+ghost use Rattle.kept_desk.specs.Opened.{contents_of, names_of};
+ghost use Rattle.site_book.specs.Tables.{HasTable, NamedBy};
+ghost use Rattle.site_desk.specs.Plan.{plan_fault};
+ghost use Rattle.site_desk.specs.Roster.{AreCellsOf, AreNewPlaces};
+ghost use Rattle.journal_server.specs.Served.{IsEnded, IsItsScript};
+
+use crate::fault::JournalFault;
+use crate::mail::{Mail, MailOrders, read_all};
+use crate::serving::Serving;
+use crate::speech::ScriptSpeech;
+use desk_report::write_boards;
+use journal_script::Restored;
+use journal_ties::{Blank, Ties};
+use kept_desk::{KeptDesk, Opening};
+use ledger_model::Command;
+use live_server::{Live, Orders, Ran, serve_plan_at};
+use site_book::{Naming, Tables, Viewer};
+use site_desk::{Parts, Pass, Plan, StationCell};
+use site_server::ServiceFault;
+use std::alloc::{AllocError, Global};
+use std::io::{BufRead, Write};
+use std::marker::Brand;
+use std::net::{Net, TcpListener, TcpStream};
+use std::sync::{Arc, Mutex, Wait};
+use std::thread;
+use std::thread::Threads;
+use std::time::Clock;
+
+/// What a server with a journal leaves.
+#[derive(Drop)]
+pub struct Served<W> {
+    /// The writer of the journal.
+    pub journal: W,
+    /// Whether a write to it failed.
+    pub is_broken: bool,
+    /// How the operator's lines ended.
+    pub ended: Result<(), ServiceFault>,
+}
+
+// Serves the stations of a script that was restored until the operator's lines end, which a thread reads from the input.
+pub(crate) fn run_restored<
+    R: AllocGlobal
+        + Threads
+        + Wait
+        + Clock
+        + Clone
+        + Send
+        + Sync
+        + Net<Listener = TcpListener, Stream = TcpStream>
+        + 'static,
+    I: BufRead + Send + Drop + 'static,
+    W: Write + Send + Drop,
+    T: Write,
+    L: Write + Send + Drop,
+>(
+    rt: &R,
+    restored: Restored,
+    live: Live,
+    input: I,
+    journal: W,
+    told: &mut T,
+    lines: L,
+) -> Result<Served<W>, JournalFault>
+    requires faultless { plan_fault restored.draft.sites restored.draft.stations ≡ None }
+    requires cells { AreCellsOf restored.draft.sites restored.draft.stations restored.cells.items }
+    ensures { IfOk result (λ s. (front : List ℕ) → IsRestored front restored.draft.sites restored.draft.stations restored.cells.items
+        → (told0 : Option (List ℕ)) × (boards : List ℕ) × Appends told0 (T.contents told.new) boards × IsItsScript front (W.contents journal) (W.contents s.journal) s.is_broken boards) }
+{
+    let alloc = rt.alloc();
+    let Restored {
+        draft,
+        cells,
+        passes,
+    } = restored;
+    let tables = Tables::make(alloc, draft.plan().sites.len() as u16)?;
+    let blank = Blank::new(alloc)?;
+    let mail = mail_box(alloc)?;
+    start_reader(rt, alloc, input, Arc::try_clone(&mail)?)?;
+    let mut orders = MailOrders::open(alloc, &*mail);
+    run_over::<Brand, Brand, R, MailOrders<'_>, W, T, L>(
+        rt,
+        alloc,
+        tables,
+        blank,
+        draft.plan(),
+        cells,
+        passes,
+        live,
+        &mut orders,
+        journal,
+        told,
+        lines,
+    )
+}
+
+// A box that is empty.
+fn mail_box(alloc: Global) -> Result<Arc<Mail, Global>, AllocError> {
+    match Arc::new(alloc, Mutex::new(Vec::new(alloc))) {
+        Ok(mail) => Ok(mail),
+        Err(refused) => Err(AllocError::from(refused)),
+    }
+}
+
+// Starts the thread that reads an operator's lines. It is not joined: it may wait for a line that never comes.
+fn start_reader<
+    R: Threads + Wait + Clock + Clone + Send + 'static,
+    I: BufRead + Send + Drop + 'static,
+>(rt: &R, alloc: Global, input: I, mail: Arc<Mail, Global>) -> Result<(), ServiceFault> {
+    let own = rt.clone()?;
+    match thread::spawn(rt, move || read_all(&own, alloc, input, &*mail)) {
+        Ok(_reader) => Ok(()),
+        Err(_refused) => Err(ServiceFault::OutOfMemory),
+    }
+}
+
+// The same, under the naming of the desk's tables and of its journal.
+fn run_over<
+    J: Naming + Send + Sync,
+    K: Ties + Opening + Send + Sync,
+    R: Threads + Wait + Clock + Sync + Net<Listener = TcpListener, Stream = TcpStream>,
+    O: Orders,
+    W: Write + Send + Drop,
+    T: Write,
+    L: Write + Send + Drop,
+>(
+    rt: &R,
+    alloc: Global,
+    tables: Tables,
+    blank: Blank<Command>,
+    plan: &Plan,
+    cells: Vec<StationCell>,
+    passes: Vec<Pass>,
+    live: Live,
+    orders: &mut O,
+    journal: W,
+    told: &mut T,
+    lines: L,
+) -> Result<Served<W>, JournalFault>
+    requires named { NamedBy J.table tables }
+    requires there { (site : ℕ) → site < length plan.now.sites.items → HasTable tables site }
+    requires table { blank ≡ K.table }
+    requires before { W.contents journal ≡ K.before }
+    requires first { K.first ≡ contents_of cells.items }
+    requires names { K.name ≡ names_of plan.now.stations.items }
+    requires faultless { plan_fault plan.now.sites.items plan.now.stations.items ≡ None }
+    requires cells { AreCellsOf plan.now.sites.items plan.now.stations.items cells.items }
+    ensures { IfOk result (λ s. (told0 : Option (List ℕ)) × (boards : List ℕ) × Appends told0 (T.contents told.new) boards
+        × IsEnded (names_of plan.now.stations.items) (contents_of cells.items) (W.contents journal) (W.contents s.journal) s.is_broken plan.now.sites.items plan.now.stations.items boards) }
+{
+    let (serving, viewers) = open_over::<J, K, W>(
+        alloc,
+        tables,
+        blank,
+        plan,
+        cells,
+        live.glances,
+        journal,
+    )?;
+    let ran = serve_plan_at(
+        rt, alloc, plan, &serving, passes, viewers, live, orders, told, lines,
+    )?;
+    end_run(alloc, plan, serving.kept, ran, told)
+}
+
+// The desk of a plan over cells that took commands before, with a journal that has no lines yet, and its viewers.
+fn open_over<J: Naming, K: Ties + Opening, W: Write + Drop>(
+    alloc: Global,
+    tables: Tables,
+    blank: Blank<Command>,
+    plan: &Plan,
+    cells: Vec<StationCell>,
+    glances: u16,
+    journal: W,
+) -> Result<(Serving<J, K, W>, Vec<Viewer<J>>), AllocError>
+    requires named { NamedBy J.table tables }
+    requires there { (site : ℕ) → site < length plan.now.sites.items → HasTable tables site }
+    requires table { blank ≡ K.table }
+    requires before { W.contents journal ≡ K.before }
+    requires first { K.first ≡ contents_of cells.items }
+    requires names { K.name ≡ names_of plan.now.stations.items }
+    requires faultless { plan_fault plan.now.sites.items plan.now.stations.items ≡ None }
+    requires cells { AreCellsOf plan.now.sites.items plan.now.stations.items cells.items }
+    ensures opened { IfOk result (λ r. AreNewPlaces plan.now.sites.items plan.now.stations.items r.0.kept.stations) }
+    ensures sites { IfOk result (λ r. r.0.kept.sites ≡ length plan.now.sites.items) }
+{
+    let each = if glances > 0 { 1 } else { 0 };
+    let parts = Parts::over(alloc, tables, plan, cells, each)?;
+    let (kept, numbered) = KeptDesk::open(alloc, plan, parts, blank, journal)?;
+    let mut viewers = Vec::with_capacity(alloc, numbered.len())?;
+    for (_site, viewer) in numbered {
+        viewers.push(viewer)?;
+    }
+    Ok((Serving { kept }, viewers))
+}
+
+// Closes a desk with a journal whose sessions have ended, and writes the board of each site, in the plan's order.
+fn end_run<J: Naming, K: Ties + Opening, W: Write + Drop, T: Write>(
+    alloc: Global,
+    plan: &Plan,
+    kept: KeptDesk<J, K, ScriptSpeech, W>,
+    ran: Ran<J>,
+    told: &mut T,
+) -> Result<Served<W>, JournalFault>
+    requires opened { AreNewPlaces plan.now.sites.items plan.now.stations.items kept.stations }
+    requires sites { kept.sites ≡ length plan.now.sites.items }
+    requires faultless { plan_fault plan.now.sites.items plan.now.stations.items ≡ None }
+    ensures { IfOk result (λ s. (boards : List ℕ) × Appends (T.contents told.old) (T.contents told.new) boards
+        × IsEnded K.name K.first K.before (W.contents s.journal) s.is_broken plan.now.sites.items plan.now.stations.items boards) }
+{
+    let Ran {
+        passes,
+        viewers,
+        ended,
+    } = ran;
+    let closed = match kept.close(passes, viewers) {
+        Ok(closed) => closed,
+        Err(refused) => return Err(JournalFault::Service(ServiceFault::from(refused.fault))),
+    };
+    if let Err(fault) = write_boards(alloc, plan, &closed.closed, told) {
+        return Err(JournalFault::Service(ServiceFault::from(fault)));
+    }
+    Ok(Served {
+        journal: closed.writer,
+        is_broken: closed.is_broken,
+        ended,
+    })
+}

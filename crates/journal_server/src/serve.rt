@@ -1,0 +1,139 @@
+//! Servers with a journal: one that begins anew, and one that is restored.
+ghost use Rattle.std.specs.Prelude.{◌≡◌, None, IfOk};
+ghost use Rattle.std.specs.Io.KnownBytes.{Appends};
+ghost use Rattle.journal_script.specs.Restoring.{IsRestored};
+ghost use Rattle.site_desk.specs.Plan.{plan_fault};
+ghost use Rattle.site_desk.specs.Roster.{AreCellsOf};
+ghost use Rattle.journal_server.specs.Served.{IsNewRun, IsRestoredRun};
+
+use crate::declared::{RUN, journal_head};
+use crate::fault::JournalFault;
+use crate::run::{Served, run_restored};
+use desk_report::write_out;
+use itoa::Buffer;
+use journal_script::{Restored, restore};
+use live_server::Live;
+use site_desk::{Plan, StationCell};
+use site_server::ServiceFault;
+use std::io;
+use std::io::{BufRead, Write};
+use std::net::{Net, TcpListener, TcpStream};
+use std::sync::Wait;
+use std::thread::Threads;
+use std::time::Clock;
+
+// What ends a script that is restored.
+const LISTEN: &[u8] = b"listen\n";
+
+/// Serves a plan's stations as [`serve_live`](live_server::serve_live) does, and writes a journal: a comment, the plan's
+/// declarations, and the line of each accepted change before its answer. What a server without a journal writes to its
+/// output goes to `told`. Where the journal can't be written nothing more is accepted, and the server ends itself with
+/// `WriteFault` behind its boards.
+///
+/// A plan with a fault is told before anything is written.
+pub fn serve_journalled<
+    R: AllocGlobal
+        + Threads
+        + Wait
+        + Clock
+        + Clone
+        + Send
+        + Sync
+        + Net<Listener = TcpListener, Stream = TcpStream>
+        + 'static,
+    I: BufRead + Send + Drop + 'static,
+    W: Write + Send + Drop,
+    T: Write,
+    L: Write + Send + Drop,
+>(
+    rt: &R,
+    plan: &Plan,
+    live: Live,
+    input: I,
+    journal: W,
+    told: &mut T,
+    lines: L,
+) -> Result<Served<W>, JournalFault>
+    ensures { IfOk result (λ s. IsNewRun (W.contents journal) (W.contents s.journal) (T.contents told.new) s.is_broken) }
+{
+    if let Some(fault) = plan.fault() {
+        return Err(JournalFault::Service(ServiceFault::from(fault)));
+    }
+    let head = journal_head(rt.alloc(), plan)?;
+    let restored = restore_declared(rt, head.as_slice())?;
+    let journal = begin(journal, head.as_slice())?;
+    run_restored(rt, restored, live, input, journal, told, lines)
+}
+
+/// Serves the stations of a script as [`serve_journalled`] serves those of a plan: it restores the script with which the
+/// input begins, up to the line `listen`, and goes on behind it. Restored lines are not written again, nor are the
+/// declarations. A line that left nothing is told as `left out <line number> <answer>`, and then how many changes the
+/// stations hold, as `restored <n>`. An operator's lines follow on the input.
+pub fn serve_restored<
+    R: AllocGlobal
+        + Threads
+        + Wait
+        + Clock
+        + Clone
+        + Send
+        + Sync
+        + Net<Listener = TcpListener, Stream = TcpStream>
+        + 'static,
+    I: BufRead + Send + Drop + 'static,
+    W: Write + Send + Drop,
+    T: Write,
+    L: Write + Send + Drop,
+>(
+    rt: &R,
+    live: Live,
+    mut input: I,
+    journal: W,
+    told: &mut T,
+    lines: L,
+) -> Result<Served<W>, JournalFault>
+    ensures { IfOk result (λ s. IsRestoredRun (I.remaining input) (W.contents journal) (W.contents s.journal) (T.contents told.new) s.is_broken) }
+{
+    let restored = restore(rt, &mut input, told)?;
+    tell_restored(told, restored.cells.as_slice());
+    let journal = begin(journal, RUN)?;
+    run_restored(rt, restored, live, input, journal, told, lines)
+}
+
+// Writes how a run begins.
+fn begin<W: Write + Drop>(mut journal: W, head: &[u8]) -> Result<W, JournalFault>
+    ensures { IfOk result (λ w. Appends (W.contents journal) (W.contents w) head.now) }
+{
+    match write_out(&mut journal, head) {
+        Ok(()) => Ok(journal),
+        Err(fault) => Err(JournalFault::Service(ServiceFault::from(fault))),
+    }
+}
+
+// Tells how many changes the stations hold that were restored. Whether that can be written does not matter.
+fn tell_restored<T: Write>(told: &mut T, cells: &[StationCell]) {
+    let mut changes: u64 = 0;
+    for cell in cells {
+        changes = changes.saturating_add(cell.ledger().changes());
+    }
+    let mut digits = Buffer::new();
+    let _ = told.write_all(b"restored ");
+    let _ = told.write_all(digits.format(changes).as_bytes());
+    let _ = told.write_all(b"\n");
+    let _ = told.flush();
+}
+
+// What the head of a journal leaves: the stations that it declares, without events.
+fn restore_declared<R: AllocGlobal + Threads>(rt: &R, head: &[u8]) -> Result<Restored, JournalFault>
+    ensures restored { IfOk result (λ r. IsRestored head.now r.draft.sites r.draft.stations r.cells.items) }
+    ensures makes_desk { IfOk result (λ r. (plan_fault r.draft.sites r.draft.stations ≡ None) × AreCellsOf r.draft.sites r.draft.stations r.cells.items) }
+{
+    let mut text = Vec::with_capacity(rt.alloc(), head.len().saturating_add(LISTEN.len()))?;
+    text.extend_from_slice(head)?;
+    text.extend_from_slice(LISTEN)?;
+    let mut reader = text.as_slice();
+    let restored = restore(rt, &mut reader, &mut io::sink())?;
+    if !reader.is_empty() {
+        return Err(JournalFault::Service(ServiceFault::Torn));
+    }
+    Ok(restored)
+}

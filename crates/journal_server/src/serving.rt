@@ -1,0 +1,123 @@
+//! A desk with a journal, as a live server serves it.
+ghost use Rattle.std.specs.Prelude.{◌≡◌, IfOk, None, OnErr, Some, slice_get};
+ghost use Rattle.ledger_model.specs.declared.answer.Answer.{Answer};
+ghost use Rattle.ledger_model.specs.declared.answer.Refusal.{Refusal};
+ghost use Rattle.ledger_model.specs.declared.command.Command.{Command};
+ghost use Rattle.script_lines.specs.LineMeaning.{commands, line_meaning};
+ghost use Rattle.script_lines.specs.Lines.{line_bytes};
+ghost use Rattle.site_desk.specs.declared.roster.Place.{Place};
+ghost use Rattle.site_desk.specs.Roster.{IsNamed};
+ghost use Rattle.site_desk.specs.Submit.{Submitted};
+ghost use Rattle.station_link.specs.Answer.{Asks, IsSubmitted};
+
+use crate::speech::ScriptSpeech;
+use journal_script::{is_script_line, laws, message_line};
+use journal_ties::Ties;
+use kept_desk::{KeptCell, KeptDesk, Opening};
+use ledger_model::{Answer, Command, Event, Key, Name, Refusal};
+use live_server::Serves;
+use pass_shelf::{PassFault, ShelfDesk};
+use site_book::{Naming, Told};
+use site_desk::{Desk, Gate, NoGate, Pass};
+use station_link::Delivers;
+use std::alloc::{AllocError, Global};
+use std::io::Write;
+use std::sync::Wait;
+use std::thread::Threads;
+use std::time::Clock;
+
+// How many bytes of a message's line stand before its text at most: `msg`, two spaces and a name.
+const LINE_START: usize = 53;
+
+// A desk with a journal, as a live server serves it.
+#[derive(Drop)]
+pub(crate) struct Serving<J: Naming, K: Ties + Opening, W: Write + Drop> {
+    pub(crate) kept: KeptDesk<J, K, ScriptSpeech, W>,
+}
+
+impl<J: Naming, K: Ties + Opening, W: Write + Drop> Serving<J, K, W> {
+    // Takes an operator's command with a pass of the station of this name, by the line that says it.
+    fn take<R: Wait + Clock>(
+        &self,
+        rt: &R,
+        pass: &mut Pass,
+        name: &Name,
+        what: Command,
+        line: Option<&[u8]>,
+    ) -> (Answer, Option<Told<J>>)
+        requires named { IsNamed self.now.kept.stations name.now pass.old.station }
+        requires line { line_meaning (line_bytes line) ≡ commands name.now what }
+        ensures { (at : Place) → slice_get self.now.kept.stations pass.old.station ≡ Some at → Submitted at pass.old what result.0 pass.new result.1 }
+    {
+        let Some(bytes) = line else {
+            return exhausted();
+        };
+        if name.text().is_empty() || !is_script_line(bytes) {
+            return exhausted();
+        }
+        self.kept.submit(rt, pass, what, bytes, &NoGate)
+    }
+}
+
+// The answer that nothing more is accepted.
+fn exhausted<J: Naming>() -> (Answer, Option<Told<J>>)
+    ensures answer { result.0 ≡ Answer.Refused Refusal.ChangesExhausted }
+    ensures told { result.1 ≡ None }
+{
+    (Answer::Refused(Refusal::ChangesExhausted), None)
+}
+
+impl<J: Naming, K: Ties + Opening, W: Write + Drop> Delivers<J> for Serving<J, K, W> {
+    ghost stations = { λ s. s.kept.stations };
+
+    fn deliver<G: Gate, R: Wait + Clock>(
+        &self,
+        rt: &R,
+        alloc: Global,
+        pass: &mut Pass,
+        text: &str,
+        key: Key,
+        event: Event,
+        gate: &G,
+    ) -> Result<(Answer, Option<Told<J>>), AllocError> {
+        let Some(name) = self.kept.desk().name_of(pass.station()) else {
+            return Ok(exhausted());
+        };
+        if name.text().is_empty() {
+            return Ok(exhausted());
+        }
+        laws::events();
+        let mut line = Vec::with_capacity(alloc, text.len().saturating_add(LINE_START))?;
+        if !message_line(alloc, &mut line, name, text, &key, &event)? {
+            return Ok(exhausted());
+        }
+        let command = Command::Deliver(key, event);
+        Ok(self.kept.submit(rt, pass, command, line.as_slice(), gate))
+    }
+}
+
+impl<J: Naming, K: Ties + Opening, W: Write + Drop> Serves<J, KeptCell<K>> for Serving<J, K, W> {
+    ghost roster = { λ s. s.kept };
+
+    fn desk(&self) -> &Desk<J, KeptCell<K>> {
+        self.kept.desk()
+    }
+
+    fn command<R: Threads + Wait + Clock>(
+        &self,
+        rt: &R,
+        shelf: &ShelfDesk<'_, J, KeptCell<K>>,
+        name: &Name,
+        what: Command,
+        line: Option<&[u8]>,
+    ) -> Result<Answer, PassFault> {
+        let mut pass = shelf.pass_of(rt, name)?;
+        let (answer, _told) = self.take(rt, &mut pass, name, what, line);
+        shelf.lay(rt, pass);
+        Ok(answer)
+    }
+
+    fn is_broken(&self) -> bool {
+        self.kept.is_broken()
+    }
+}
