@@ -148,12 +148,13 @@ if [ -n "$program" ]; then
     ./sessions.py "$program" || differs sessions.py
     ./serving.py "$program" || differs serving.py
     ./living.py "$program" || differs living.py
+    ./journalling.py "$program" || differs journalling.py
     with_program
 else
     (cd ../crates/ocpp_board && rt try --steps 1 --seconds 300 --cases "$made/cases" -- replay) 2>&1 |
         grep -v ' output=expected '
     [ "${PIPESTATUS[0]}" = 0 ] || differs "scripts"
-    echo "words.txt, sessions.py, serving.py, living.py, explain.py and live_board.py: not run, which needs a built program"
+    echo "words.txt, sessions.py, serving.py, living.py, journalling.py, explain.py and live_board.py: not run, which needs a built program"
 fi
 
 # The boards become tables and pages, in UTC and in a zone whose days have 23 and 25 hours.

@@ -22,6 +22,8 @@ INNER = {
     "station_ledger": set(),
     "board_report": {"Lines"},
     "site_book": set(),
+    "journal_ties": {"Writing"},
+    "journal_script": {"Reading"},
     "slot_arena": set(),
 }
 

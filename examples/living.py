@@ -23,6 +23,7 @@ import tempfile
 import threading
 import time
 from collections.abc import Callable
+from typing import IO
 
 from serving import REPLIES, STATIONS, TOLD, Client, Differs, Served, Station, board, boards, play
 from sessions import FIRST, LONGEST_WAIT, OFFER, OTHER, SECOND, TEXT, Frame, close, event, request
@@ -43,13 +44,19 @@ class Live(Served):
     """A server that lives, and its operator."""
 
     def __init__(self, program: str, *options: str, stations: tuple[str, ...] = STATIONS) -> None:
-        words = [program, "serve", "--live", *options, *stations]
         self.told = tempfile.TemporaryFile()
-        self.process = subprocess.Popen(
-            words, bufsize=0, stdin=subprocess.PIPE, stdout=subprocess.PIPE, stderr=self.told
-        )
-        assert self.process.stdin and self.process.stdout
-        self.input, self.out = self.process.stdin, self.process.stdout
+        self.starts([program, "serve", "--live", *options, *stations], subprocess.PIPE, self.told)
+        assert self.process.stdout
+        self.out = self.process.stdout
+        self.listens(*options)
+
+    def starts(self, words: list[str], out: int | IO[bytes], err: int | IO[bytes], **how: bool) -> None:
+        self.process = subprocess.Popen(words, bufsize=0, stdin=subprocess.PIPE, stdout=out, stderr=err, **how)
+        assert self.process.stdin
+        self.input = self.process.stdin
+
+    def listens(self, *options: str) -> None:
+        """It has to tell its ports."""
         self.port = self.port_of(b"listening")
         self.board_port = self.port_of(b"boards") if "--board-port" in options else 0
 
@@ -112,9 +119,13 @@ class Live(Served):
         self.process.stdin = None
 
     def ends(self, written: str, told: str = "", status: int = 0, within: float = END) -> str:
-        """Its input ends; it has to write this and to tell lines that this expression fits, in this time."""
-        began = time.monotonic()
+        """Its input ends, and then it has to end."""
         self.close()
+        return self.has_ended(written, told, status, within)
+
+    def has_ended(self, written: str, told: str = "", status: int = 0, within: float = END) -> str:
+        """It has to write this, to tell lines that this expression fits, and to end, in this time."""
+        began = time.monotonic()
         rest = self.rest().decode()
         try:
             self.process.wait(LONGEST_WAIT)
