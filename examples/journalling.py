@@ -96,6 +96,15 @@ def restored(program: str, journal: Path, told: str, *words: str) -> Journalled:
         return Journalled(program, file.fileno(), *words, restored=journal.read_bytes(), told=told)
 
 
+def one_event(program: str, journal: Path) -> None:
+    """A run that takes the first event of one station."""
+    with begun(program, journal) as server:
+        station = Station(server, "A")
+        station.tells(0)
+        station.leaves()
+        server.ends(boards(1, 0, 0))
+
+
 def holds(journal: Path, wanted: bytes) -> None:
     """The journal has to hold these bytes."""
     if (held := journal.read_bytes()) != wanted:
@@ -204,11 +213,7 @@ def restored_after_each_byte(program: str) -> None:
 def restored_twice(program: str) -> None:
     """Three runs of one journal: the boards go on where they were."""
     with folder() as journal:
-        with begun(program, journal) as server:
-            station = Station(server, "A")
-            station.tells(0)
-            station.leaves()
-            server.ends(boards(1, 0, 0))
+        one_event(program, journal)
         with restored(program, journal, "restored 1\n") as server:
             for name in "AB":
                 station = Station(server, name)
@@ -446,11 +451,7 @@ def quiet_messages(program: str) -> None:
 def restored_lines_are_not_written_again(program: str) -> None:
     """A run that was restored writes the comment of its run, and what is new."""
     with folder() as journal:
-        with begun(program, journal) as server:
-            station = Station(server, "A")
-            station.tells(0)
-            station.leaves()
-            server.ends(boards(1, 0, 0))
+        one_event(program, journal)
         with restored(program, journal, "restored 1\n") as server:
             holds(journal, RUN + DECLARED + LINES[0] + RUN)
             station = Station(server, "A")
