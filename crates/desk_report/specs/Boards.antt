@@ -10,7 +10,7 @@ use Rattle.site_desk.specs.Cell.{Cell}
 use Rattle.site_desk.specs.Plan.{period_at}
 
 -- Each station has its cell, opened with its limits and by its site's settlement period.
-pub record AreCellsOf (sites : List SitePlan) (stations : List StationPlan) (cells : List Cell) : Type 0 where
+pub record AreOpenedFor (sites : List SitePlan) (stations : List StationPlan) (cells : List Cell) : Type 0 where
   pub count : length cells ≡ length stations
   pub limits : (k : ℕ) (s : StationPlan) (c : Cell) → slice_get stations k ≡ Some s → slice_get cells k ≡ Some c → c.limits ≡ s.limits
   pub periods : (k : ℕ) (s : StationPlan) (c : Cell) → slice_get stations k ≡ Some s → slice_get cells k ≡ Some c → c.period ≡ period_at sites s.site

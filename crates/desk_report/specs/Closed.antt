@@ -9,12 +9,12 @@ use Rattle.site_desk.specs.declared.plan.StationPlan.{StationPlan}
 use Rattle.site_desk.specs.Cell.{Cell}
 use Rattle.site_desk.specs.Plan.{period_at}
 use Rattle.site_desk.specs.Close.{AreSummed, Ended}
-use Rattle.desk_report.specs.Boards.{AreCellsOf, boards_at}
+use Rattle.desk_report.specs.Boards.{AreOpenedFor, boards_at}
 
 -- A closed desk of these sites and stations: each site has its book, each station its cell at its site, and each book's totals are the sums over its site's cells.
 pub record IsClosedOf (sites : List SitePlan) (stations : List StationPlan) (closed : Ended) : Type 0 where
   pub books : length closed.books ≡ length sites
-  pub cells : AreCellsOf sites stations closed.cells
+  pub cells : AreOpenedFor sites stations closed.cells
   pub at_sites : (k : ℕ) (s : StationPlan) (c : Cell) → slice_get stations k ≡ Some s → slice_get closed.cells k ≡ Some c → c.site ≡ s.site
   pub summed : AreSummed closed.cells closed.books
 
@@ -32,7 +32,7 @@ boards_text sites stations cells (suc site) = boards_text sites stations cells s
 -- These are the texts of the boards of all sites, in the plan's order: over cells of which each was opened for its station, with its limits at its site and by its site's settlement period, and holds what accepted commands lead to from the empty content.
 pub record AreBoards (sites : List SitePlan) (stations : List StationPlan) (text : List ℕ) : Type 0 where
   pub cells : List Cell
-  pub of_plan : AreCellsOf sites stations cells
+  pub of_plan : AreOpenedFor sites stations cells
   pub at_sites : (k : ℕ) (s : StationPlan) (c : Cell) → slice_get stations k ≡ Some s → slice_get cells k ≡ Some c → c.site ≡ s.site
   pub reached : (k : ℕ) (c : Cell) → slice_get cells k ≡ Some c → Reached c.limits c.content.changes c.content
   pub is : text ≡ boards_text sites stations cells (length sites)

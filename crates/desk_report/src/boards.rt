@@ -4,7 +4,7 @@ ghost use Rattle.board_report.specs.Plans.{AreBoardsWithin};
 ghost use Rattle.board_report.specs.Texts.{board_text};
 ghost use Rattle.site_desk.specs.Parts.{limits_at};
 ghost use Rattle.site_desk.specs.Plan.{period_at};
-ghost use Rattle.desk_report.specs.Boards.{AreCellsOf, boards_at, site_named};
+ghost use Rattle.desk_report.specs.Boards.{AreOpenedFor, boards_at, site_named};
 
 use board_report::{site_board, write_board};
 use ledger_model::{Figures, Name};
@@ -26,7 +26,7 @@ pub fn site_text(
     totals: Figures,
 ) -> Result<Vec<u8>, AllocError>
     requires planned { site < length plan.now.sites.items }
-    requires cells { AreCellsOf plan.now.sites.items plan.now.stations.items cells.now }
+    requires cells { AreOpenedFor plan.now.sites.items plan.now.stations.items cells.now }
     requires readings { sum_by (λ s. s.limits.readings) plan.now.stations.items ≤ most_plan_readings }
     ensures { IfOk result (λ text. text.items ≡ board_text (site_named name.now (period_at plan.now.sites.items site) totals (boards_at (period_at plan.now.sites.items site) plan.now.stations.items cells.now site))) }
 {
@@ -43,7 +43,7 @@ fn boards_of(
     cells: &[StationCell],
     site: usize,
 ) -> Result<Vec<(Name, StationBoard)>, AllocError>
-    requires { AreCellsOf plan.now.sites.items plan.now.stations.items cells.now }
+    requires { AreOpenedFor plan.now.sites.items plan.now.stations.items cells.now }
     ensures boards { IfOk result (λ boards. boards.items ≡ boards_at (period_at plan.now.sites.items site) plan.now.stations.items cells.now site) }
     ensures within { IfOk result (λ boards. AreBoardsWithin (limits_at plan.now.stations.items site) boards.items) }
 {
@@ -64,7 +64,7 @@ fn add_board(
     boards: &mut Vec<(Name, StationBoard)>,
 ) -> Result<(), AllocError>
     requires there { number < length plan.now.stations.items }
-    requires cells { AreCellsOf plan.now.sites.items plan.now.stations.items cells.now }
+    requires cells { AreOpenedFor plan.now.sites.items plan.now.stations.items cells.now }
     requires boards { boards.old.items ≡ boards_at (period_at plan.now.sites.items site) (take number plan.now.stations.items) cells.now site }
     requires within { AreBoardsWithin (limits_at (take number plan.now.stations.items) site) boards.old.items }
     ensures boards { OnOk result (boards.new.items ≡ boards_at (period_at plan.now.sites.items site) (take (number + 1) plan.now.stations.items) cells.now site) }

@@ -1,5 +1,7 @@
 -- Whom a desk lets in, by what a handshake saw.
 use Rattle.std.specs.Prelude.{◌≡◌, ◌≢◌, ℕ, List, ◌++◌, true, false, Option, None, Some, unwrap_or, if◌then◌else◌, codes}
+use Rattle.std.specs.declared.result.Result.{Result}
+use Rattle.std.specs.declared.result.Result.TheVariants.{Ok, Err}
 use Rattle.std.specs.List.{list_any}
 use Rattle.std.specs.Str.{bytes_eq}
 use Rattle.ledger_model.specs.Name.{is_name}
@@ -34,3 +36,8 @@ pub record IsAdmitted (stations : List Place) (seen : Seen) (name : List ℕ) (p
   pub asked : seen ≡ Request true (Some name)
   pub named : IsNamed stations name p.station
   pub fresh : p.changes ≡ 0
+
+-- A request asks for the station of this name, or is refused for this reason whatever stations there are.
+abbrev pub IsAsked : Seen → Result (List ℕ) Why → Type 0
+IsAsked seen (Ok name) = seen ≡ Request true (Some name)
+IsAsked seen (Err why) = (stations : List Place) → refusal stations seen ≡ Some why

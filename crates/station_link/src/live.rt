@@ -1,12 +1,12 @@
 //! Sessions of a server that lives: each is handed a pass, and is asked again and again whether it is still wanted.
 ghost use Rattle.std.specs.Prelude.{◌≡◌, ◌≤◌, ◌+◌, IsSome, IfErr, IfOk, IfSome, Some};
-ghost use Rattle.station_link.specs.Live.{IsAsked, IsLivePass, MayLeave};
+ghost use Rattle.station_link.specs.Live.{IsLivePass, MayLeave};
 ghost use Rattle.station_link.specs.Session.{MayHavePass, MayLackPass, most_messages};
 
 use crate::delivers::Delivers;
 use crate::ending::{Ending, Why, end_of_read, end_of_refusal};
 use crate::moment::MomentSource;
-use crate::request::{Look, Seen, station_text};
+use crate::request::{Look, Seen, asked_of, station_text};
 use crate::session::{MAX_MESSAGES, answer_message, say_goodbye, shake_hands};
 use arrayvec::ArrayString;
 use http::{Request, Response};
@@ -117,25 +117,6 @@ fn shown_text(text: &str) -> ArrayString<MAX_NAME> {
 // Tells whether a name may have this character.
 fn is_name_character(character: char) -> bool {
     character.is_ascii_alphanumeric() || "*-_=:+|@.".contains(character)
-}
-
-// The name that a request asks for, or why it is refused whatever stations there are.
-fn asked_of(seen: Seen) -> Result<Name, Why>
-    ensures { IsAsked seen result }
-{
-    match seen {
-        Seen::Nothing => Err(Why::HandshakeFailed),
-        Seen::NoMemory => Err(Why::OutOfMemory),
-        Seen::Request { offered: false, .. } => Err(Why::NotOcpp),
-        Seen::Request {
-            offered: true,
-            station: None,
-        } => Err(Why::UnknownStation),
-        Seen::Request {
-            offered: true,
-            station: Some(name),
-        } => Ok(name),
-    }
 }
 
 /// Answers the opening handshake of a live server's connection (RFC 6455).

@@ -1,6 +1,7 @@
 //! What a handshake sees of a client's request, and whom the desk lets in.
 ghost use Rattle.std.specs.Prelude.{IfOk, IfErr, true, Some};
-ghost use Rattle.station_link.specs.Request.{IsAdmitted, IsPathOf, IsRefusal};
+ghost use Rattle.station_link.specs.Request.{IsAdmitted, IsAsked, IsPathOf, IsRefusal};
+ghost use Rattle.station_link.specs.Session.{MayLackPass};
 
 use crate::ending::Why;
 use http::{HeaderMap, HeaderName, HeaderValue, Request, Response};
@@ -116,16 +117,10 @@ fn enlist<J: Naming, R: Wait + Threads>(rt: &R, desk: &Desk<J>, name: &Name) -> 
     }
 }
 
-/// Lets a request in: a pass of the station that it names, which made no change yet, with that name. Else it
-/// tells why not: no request was seen, there was no memory to take up the subprotocol, the subprotocol is
-/// not offered, the path names no station of the desk, or the station gave out all its passes, in this order.
-pub fn admit<J: Naming, R: Wait + Threads>(
-    rt: &R,
-    desk: &Desk<J>,
-    seen: Seen,
-) -> Result<(Name, Pass), Why>
-    ensures refused { IfErr result (IsRefusal desk.now.stations seen) }
-    ensures admitted { IfOk result (λ r. IsAdmitted desk.now.stations seen r.0 r.1) }
+// The name that a request asks for, or why it is refused whatever stations there are.
+pub(crate) fn asked_of(seen: Seen) -> Result<Name, Why>
+    ensures asked { IsAsked seen result }
+    ensures lacks { IfErr result MayLackPass }
 {
     match seen {
         Seen::Nothing => Err(Why::HandshakeFailed),
@@ -138,9 +133,22 @@ pub fn admit<J: Naming, R: Wait + Threads>(
         Seen::Request {
             offered: true,
             station: Some(name),
-        } => {
-            let pass = enlist(rt, desk, &name)?;
-            Ok((name, pass))
-        }
+        } => Ok(name),
     }
+}
+
+/// Lets a request in: a pass of the station that it names, which made no change yet, with that name. Else it
+/// tells why not: no request was seen, there was no memory to take up the subprotocol, the subprotocol is
+/// not offered, the path names no station of the desk, or the station gave out all its passes, in this order.
+pub fn admit<J: Naming, R: Wait + Threads>(
+    rt: &R,
+    desk: &Desk<J>,
+    seen: Seen,
+) -> Result<(Name, Pass), Why>
+    ensures refused { IfErr result (IsRefusal desk.now.stations seen) }
+    ensures admitted { IfOk result (λ r. IsAdmitted desk.now.stations seen r.0 r.1) }
+{
+    let name = asked_of(seen)?;
+    let pass = enlist(rt, desk, &name)?;
+    Ok((name, pass))
 }

@@ -6,7 +6,7 @@ use Rattle.board_report.specs.Texts.{board_text}
 use Rattle.site_desk.specs.declared.plan.SitePlan.{SitePlan}
 use Rattle.site_desk.specs.declared.plan.StationPlan.{StationPlan}
 use Rattle.site_desk.specs.Plan.{period_at}
-use Rattle.desk_report.specs.Boards.{AreCellsOf, boards_at, site_named}
+use Rattle.desk_report.specs.Boards.{AreOpenedFor, boards_at, site_named}
 use Rattle.script_replay.specs.Running.{running}
 use Rattle.script_replay.specs.Script.{period_named, stations_of}
 use Rattle.script_replay.proofs.Answered.{value_told}
@@ -23,9 +23,9 @@ site_text-requires-clause-planned g c =
 pub site_text-requires-clause-cells : goal.site_text-requires-clause-cells
 site_text-requires-clause-cells g c =
     let s = c.args.self.now in
-    let all : AreCellsOf s.draft.sites s.draft.stations s.cells.items = record { count = s.running.all_cells; limits = λ k t d at is. (s.running.placed k t d at is).limits; periods = λ k t d at is. (s.running.placed k t d at is).period } in
-    subst (λ xs. AreCellsOf c.plan.result.now.sites.items xs c.deref.result.now) (sym c.plan.ensures.stations)
-    (subst (λ l. AreCellsOf l s.draft.stations c.deref.result.now) (sym c.plan.ensures.sites) (subst (AreCellsOf s.draft.sites s.draft.stations) (sym c.deref.ensures.value) all))
+    let all : AreOpenedFor s.draft.sites s.draft.stations s.cells.items = record { count = s.running.all_cells; limits = λ k t d at is. (s.running.placed k t d at is).limits; periods = λ k t d at is. (s.running.placed k t d at is).period } in
+    subst (λ xs. AreOpenedFor c.plan.result.now.sites.items xs c.deref.result.now) (sym c.plan.ensures.stations)
+    (subst (λ l. AreOpenedFor l s.draft.stations c.deref.result.now) (sym c.plan.ensures.sites) (subst (AreOpenedFor s.draft.sites s.draft.stations) (sym c.deref.ensures.value) all))
 
 pub site_text-requires-clause-readings : goal.site_text-requires-clause-readings
 site_text-requires-clause-readings g c =
