@@ -64,7 +64,7 @@ boards_joined sites stations cells (suc n) = ap (λ l. l ++ board_text (closed_s
 pub its_script : (front : List ℕ) (sites : List SitePlan) (stations : List StationPlan) (firsts : List Cell) (before now : Option (List ℕ)) (broken : Bool) (boards : List ℕ)
     → plan_fault sites stations ≡ None → AreCellsOf sites stations firsts → IsRestored front sites stations firsts
     → IsEnded (names_of stations) (contents_of firsts) before now broken sites stations boards
-    → IsItsScript front before now broken boards
+    → IsItsScript front sites stations firsts before now broken boards
 its_script front sites stations firsts before now broken boards none of_plan restored e =
     let once = has_once sites stations none in
     let log = e.written.log in
@@ -79,9 +79,6 @@ its_script front sites stations firsts before now broken boards none of_plan res
     record {
       log = log;
       written = e.written.written;
-      sites = sites;
-      stations = stations;
-      firsts = firsts;
       cells = e.cells;
       opened = restored.shows;
       spoken = spoken;
@@ -121,8 +118,8 @@ are_first sites stations cells parts first of_plan named same k c at = (own (sli
 pub script_of_plan : (front : List ℕ) (sites planned : List SitePlan) (stations plan : List StationPlan) (firsts : List Cell) (before now : Option (List ℕ)) (broken : Bool) (boards : List ℕ)
     → planned ≡ sites → plan ≡ stations → plan_fault sites stations ≡ None → AreCellsOf sites stations firsts → IsRestored front sites stations firsts
     → IsEnded (names_of plan) (contents_of firsts) before now broken planned plan boards
-    → IsItsScript front before now broken boards
+    → IsItsScript front sites stations firsts before now broken boards
 script_of_plan front sites planned stations plan firsts before now broken boards s t none of_plan restored e =
-    its_script front planned plan firsts before now broken boards ((λ i. plan_fault (s i) (t i)) ∙ none)
-    (subst (λ x. AreCellsOf x plan firsts) (sym s) (subst (λ x. AreCellsOf sites x firsts) (sym t) of_plan))
-    (subst (λ x. IsRestored front x plan firsts) (sym s) (subst (λ x. IsRestored front sites x firsts) (sym t) restored)) e
+    its_script front sites stations firsts before now broken boards none of_plan restored
+    (subst (λ x. IsEnded (names_of stations) (contents_of firsts) before now broken x stations boards) s
+    (subst (λ x. IsEnded (names_of x) (contents_of firsts) before now broken planned x boards) t e))

@@ -1,5 +1,5 @@
 -- What a server with a journal read, wrote and showed.
-use Rattle.std.specs.Prelude.{◌≡◌, ℕ, zero, suc, ◌<◌, Bool, List, [], ◌++◌, length, Option, Some, All, slice_get}
+use Rattle.std.specs.Prelude.{◌≡◌, ℕ, zero, suc, ◌<◌, Bool, List, [], ◌++◌, length, Option, Some, All, map, slice_get}
 use Rattle.std.specs.Io.KnownBytes.{Appends, Consumes}
 use Rattle.desk_report.specs.Closed.{boards_text}
 use Rattle.journal_ties.specs.declared.entry.Entry.{Entry}
@@ -10,7 +10,7 @@ use Rattle.journal_script.specs.Restoring.{IsListen}
 use Rattle.journal_script.specs.Speaking.{Speaks}
 use Rattle.kept_desk.specs.Kept.{IsWrittenDown}
 use Rattle.ledger_model.specs.declared.command.Command.{Command}
-use Rattle.ledger_model.specs.Content.{Content}
+use Rattle.ledger_model.specs.Content.{Content, empty_content}
 use Rattle.script_lines.specs.LineMeaning.{asks_board, line_meaning}
 use Rattle.script_lines.specs.Lines.{Line, lines_of}
 use Rattle.script_lines.specs.Ranges.{longest_line}
@@ -41,13 +41,16 @@ pub record AreAnswers (s : Script) (sites : List SitePlan) (boards : List ℕ) :
   pub is : boards ≡ joined texts (length sites)
   pub answers : (site : ℕ) (line : Line) → site < length sites → line_meaning line ≡ asks_board (site_name sites site) → (line_step s line).1 ≡ texts site
 
--- What a server wrote behind the front of its script, and the boards that it showed last. There is one list of lines: the writer, which held `before`, took their text, and where a write failed a front of one line more; each line speaks for its command on its station; behind the front, each station's content is what just its own lines leave; and the boards are what `replay` answers after the front and the lines.
-pub record IsItsScript (front : List ℕ) (before now : Option (List ℕ)) (broken : Bool) (boards : List ℕ) : Type 0 where
+-- What was read declares a plan's sites, and the cells of its stations took no change.
+pub record Declares (sites read : List SitePlan) (cells : List Cell) : Type 0 where
+  pub names : map (λ s. s.name) read ≡ map (λ s. s.name) sites
+  pub periods : map (λ s. s.period) read ≡ map (λ s. s.period) sites
+  pub unchanged : All (λ c. c.content ≡ empty_content) cells
+
+-- What a server wrote behind the front of its script, which leaves these sites and stations in the contents of the cells `firsts`, and the boards that it showed last. There is one list of lines: the writer, which held `before`, took their text, and where a write failed a front of one line more; each line speaks for its command on its station; behind the front, each station's content is what just its own lines leave; and the boards are what `replay` answers after the front and the lines.
+pub record IsItsScript (front : List ℕ) (sites : List SitePlan) (stations : List StationPlan) (firsts : List Cell) (before now : Option (List ℕ)) (broken : Bool) (boards : List ℕ) : Type 0 where
   pub log : List (Entry Command)
   pub written : IsWritten broken before now log
-  pub sites : List SitePlan
-  pub stations : List StationPlan
-  pub firsts : List Cell
   pub cells : List Cell
   pub opened : Shows (after front) sites stations firsts
   pub spoken : All (IsSpoken stations) log
@@ -55,15 +58,18 @@ pub record IsItsScript (front : List ℕ) (before now : Option (List ℕ)) (brok
   pub ended : Shows (after (front ++ text_of log)) sites stations cells
   pub shown : AreAnswers (after (front ++ text_of log)) sites boards
 
--- A server that began anew: its script is what it wrote, a head and its lines.
-pub record IsNewRun (before now told : Option (List ℕ)) (broken : Bool) : Type 0 where
+-- A server that began anew with this plan: its script is what it wrote, a head that declares the plan's sites and stations, without a change, and its lines.
+pub record IsNewRun (sites : List SitePlan) (stations : List StationPlan) (before now told : Option (List ℕ)) (broken : Bool) : Type 0 where
   pub head : List ℕ
   pub begun : Option (List ℕ)
   pub begins : Appends before begun head
   pub boards : List ℕ
   pub told_before : Option (List ℕ)
   pub tells : Appends told_before told boards
-  pub script : IsItsScript head begun now broken boards
+  pub read : List SitePlan
+  pub firsts : List Cell
+  pub declares : Declares sites read firsts
+  pub script : IsItsScript head read stations firsts begun now broken boards
 
 -- A server that was restored: its script is what it read before the line `listen`, followed by what it wrote, a head and its lines.
 pub record IsRestoredRun (input before now told : Option (List ℕ)) (broken : Bool) : Type 0 where
@@ -78,7 +84,10 @@ pub record IsRestoredRun (input before now told : Option (List ℕ)) (broken : B
   pub boards : List ℕ
   pub told_before : Option (List ℕ)
   pub tells : Appends told_before told boards
-  pub script : IsItsScript (read ++ head) begun now broken boards
+  pub sites : List SitePlan
+  pub stations : List StationPlan
+  pub firsts : List Cell
+  pub script : IsItsScript (read ++ head) sites stations firsts begun now broken boards
 
 -- What a desk with a journal was when it was closed, and its boards.
 pub record IsEnded (name : ℕ → List ℕ) (first : ℕ → Content) (before now : Option (List ℕ)) (broken : Bool) (sites : List SitePlan) (stations : List StationPlan) (boards : List ℕ) : Type 0 where

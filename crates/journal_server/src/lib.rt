@@ -21,6 +21,7 @@ mod declared;
 mod fault;
 mod mail;
 mod run;
+mod same;
 mod serve;
 mod serving;
 mod speech;

@@ -68,7 +68,7 @@ pub(crate) fn run_restored<
     requires faultless { plan_fault restored.draft.sites restored.draft.stations ≡ None }
     requires cells { AreCellsOf restored.draft.sites restored.draft.stations restored.cells.items }
     ensures { IfOk result (λ s. (front : List ℕ) → IsRestored front restored.draft.sites restored.draft.stations restored.cells.items
-        → (told0 : Option (List ℕ)) × (boards : List ℕ) × Appends told0 (T.contents told.new) boards × IsItsScript front (W.contents journal) (W.contents s.journal) s.is_broken boards) }
+        → (told0 : Option (List ℕ)) × (boards : List ℕ) × Appends told0 (T.contents told.new) boards × IsItsScript front restored.draft.sites restored.draft.stations restored.cells.items (W.contents journal) (W.contents s.journal) s.is_broken boards) }
 {
     let alloc = rt.alloc();
     let Restored {

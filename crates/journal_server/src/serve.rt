@@ -9,6 +9,7 @@ ghost use Rattle.journal_server.specs.Served.{IsNewRun, IsRestoredRun};
 use crate::declared::{RUN, journal_head};
 use crate::fault::JournalFault;
 use crate::run::{Served, run_restored};
+use crate::same::is_declared;
 use desk_report::write_out;
 use itoa::Buffer;
 use journal_script::{Restored, restore};
@@ -54,13 +55,16 @@ pub fn serve_journalled<
     told: &mut T,
     lines: L,
 ) -> Result<Served<W>, JournalFault>
-    ensures { IfOk result (λ s. IsNewRun (W.contents journal) (W.contents s.journal) (T.contents told.new) s.is_broken) }
+    ensures { IfOk result (λ s. IsNewRun plan.now.sites.items plan.now.stations.items (W.contents journal) (W.contents s.journal) (T.contents told.new) s.is_broken) }
 {
     if let Some(fault) = plan.fault() {
         return Err(JournalFault::Service(ServiceFault::from(fault)));
     }
     let head = journal_head(rt.alloc(), plan)?;
     let restored = restore_declared(rt, head.as_slice())?;
+    if !is_declared(plan, restored.draft.plan(), restored.cells.as_slice()) {
+        return Err(JournalFault::Service(ServiceFault::Torn));
+    }
     let journal = begin(journal, head.as_slice())?;
     run_restored(rt, restored, live, input, journal, told, lines)
 }

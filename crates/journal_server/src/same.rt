@@ -1,0 +1,76 @@
+//! Whether what a journal's head declares is the plan that it was made of.
+ghost use Rattle.std.specs.Prelude.{◌≡◌, ◌↔◌, IsTrue, All, map};
+ghost use Rattle.ledger_model.specs.Content.{empty_content};
+ghost use Rattle.journal_server.specs.Served.{Declares};
+
+use site_desk::{Plan, SitePlan, StationCell, StationPlan};
+
+// Tells whether a plan that was read, with the cells of its stations, is one that declares the plan: the names and
+// settlement periods of its sites, and its stations, none of which has changed.
+pub(crate) fn is_declared(plan: &Plan, read: &Plan, cells: &[StationCell]) -> bool
+    ensures sites { IsTrue result → Declares plan.now.sites.items read.now.sites.items cells.now }
+    ensures stations { IsTrue result → read.now.stations.items ≡ plan.now.stations.items }
+{
+    are_same_sites(plan.sites.as_slice(), read.sites.as_slice())
+        && are_same_stations(plan.stations.as_slice(), read.stations.as_slice())
+        && are_unchanged(cells)
+}
+
+// Tells whether these sites have the same names and settlement periods, in one order.
+fn are_same_sites(sites: &[SitePlan], read: &[SitePlan]) -> bool
+    ensures names { IsTrue result → map (λ s. s.name) read.now ≡ map (λ s. s.name) sites.now }
+    ensures periods { IsTrue result → map (λ s. s.period) read.now ≡ map (λ s. s.period) sites.now }
+{
+    let [site, rest @ ..] = sites else {
+        return read.is_empty();
+    };
+    let [other, others @ ..] = read else {
+        return false;
+    };
+    is_same_site(site, other) && are_same_sites(rest, others)
+}
+
+// Tells whether these sites have one name and one settlement period.
+fn is_same_site(site: &SitePlan, other: &SitePlan) -> bool
+    ensures name { IsTrue result → other.now.name ≡ site.now.name }
+    ensures period { IsTrue result → other.now.period ≡ site.now.period }
+{
+    other.name == site.name && other.period == site.period
+}
+
+// Tells whether these are the same stations, in one order.
+fn are_same_stations(stations: &[StationPlan], read: &[StationPlan]) -> bool
+    ensures { IsTrue result → read.now ≡ stations.now }
+{
+    let [station, rest @ ..] = stations else {
+        return read.is_empty();
+    };
+    let [other, others @ ..] = read else {
+        return false;
+    };
+    is_same_station(station, other) && are_same_stations(rest, others)
+}
+
+// Tells whether this is the same station.
+fn is_same_station(station: &StationPlan, other: &StationPlan) -> bool
+    ensures { IsTrue result → other.now ≡ station.now }
+{
+    other.site == station.site && other.name == station.name && other.limits == station.limits
+}
+
+// Tells whether no cell has taken a change.
+fn are_unchanged(cells: &[StationCell]) -> bool
+    ensures { IsTrue result → All (λ c. c.content ≡ empty_content) cells.now }
+{
+    let [cell, rest @ ..] = cells else {
+        return true;
+    };
+    is_unchanged(cell) && are_unchanged(rest)
+}
+
+// Tells whether a cell has taken no change.
+fn is_unchanged(cell: &StationCell) -> bool
+    ensures { IsTrue result → cell.now.content ≡ empty_content }
+{
+    cell.ledger().changes() == 0
+}
