@@ -18,7 +18,6 @@ BEGIN, END = "<!-- definitions: made by examples/definitions.py -->", "<!-- end 
 INNER = {
     "script_lines": {"Reading", "ScriptLines"},
     "script_replay": {"Answering", "Writing", "Received"},
-    "script_replay_tests": {"Echoes"},
     "station_ledger": set(),
     "board_report": {"Lines"},
     "site_book": set(),

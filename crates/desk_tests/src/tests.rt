@@ -1,0 +1,4 @@
+mod desk;
+mod kept;
+mod shelf;
+mod ties;

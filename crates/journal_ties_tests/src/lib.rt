@@ -1,5 +1,0 @@
-//! The tests of `journal_ties`.
-#![tactic(auto)]
-
-#[cfg(test)]
-mod tests;

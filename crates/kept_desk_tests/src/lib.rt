@@ -1,5 +1,0 @@
-//! The tests of `kept_desk`.
-#![tactic(auto)]
-
-#[cfg(test)]
-mod tests;

@@ -1,5 +1,0 @@
-//! The tests of `site_server`.
-#![tactic(auto)]
-
-#[cfg(test)]
-mod tests;

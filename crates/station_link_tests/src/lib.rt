@@ -1,5 +1,0 @@
-//! The tests of `station_link`.
-#![tactic(auto)]
-
-#[cfg(test)]
-mod tests;
