@@ -12,7 +12,7 @@ returns g c =
     let same : c.as_slice-3.result.now ≡ c.as_slice.result.now = c.as_slice-3.ensures.value ∙ sym c.as_slice.ensures.value in
     let told : c.is_declared.result ≡ true = search rules in
     let declares = subst (λ x. Declares c.args.plan.now.sites.items x firsts) c.plan.ensures.sites
-      (subst (Declares c.args.plan.now.sites.items c.plan.result.now.sites.items) c.as_slice-2.ensures.value (c.is_declared.ensures.sites told)) in
+    (subst (Declares c.args.plan.now.sites.items c.plan.result.now.sites.items) c.as_slice-2.ensures.value (c.is_declared.ensures.sites told)) in
     value_told c.run_restored.result _ _
     (λ s h.
     let ran = h c.as_slice.result.now c.in_ok-restored.ensures.restored in
@@ -27,6 +27,6 @@ returns g c =
       firsts = firsts;
       declares = declares;
       script = subst (λ x. IsItsScript c.as_slice.result.now sites x firsts begun (g.W.Write.contents s.journal) s.is_broken ran.1)
-        (sym c.plan.ensures.stations ∙ c.is_declared.ensures.stations told) ran.3;
+          (sym c.plan.ensures.stations ∙ c.is_declared.ensures.stations told) ran.3;
     })
     c.run_restored.ensures
