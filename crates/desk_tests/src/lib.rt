@@ -1,5 +1,5 @@
-//! The tests of `site_book`, `site_desk`, `journal_ties`, `pass_shelf` and `kept_desk`. Whole servers are played by
-//! `examples/living.py` and `examples/journalling.py`.
+//! The tests of `site_book`, `site_desk`, `journal_ties` and `pass_shelf`. Whole servers are played by `examples/living.py`
+//! and, with a journal, by `examples/journalling.py`.
 #![tactic(auto)]
 
 #[cfg(test)]

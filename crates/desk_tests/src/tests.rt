@@ -1,4 +1,3 @@
 mod desk;
-mod kept;
 mod shelf;
 mod ties;

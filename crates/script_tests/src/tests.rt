@@ -1,2 +1,1 @@
-mod journal;
 mod replay;

@@ -1,4 +1,0 @@
-// Scripts that are restored, and lines of messages.
-mod lines;
-mod restoring;
-mod scripts;
