@@ -8,7 +8,7 @@ use Rattle.ledger_model.specs.Content.{Content}
 use Rattle.ledger_model.specs.Laws.{AreAccepted, left_by}
 use Rattle.ledger_model.specs.Limits.{Bounds}
 use Rattle.site_desk.specs.declared.roster.Place.{Place}
-use Rattle.site_desk.specs.Cell.{Cell}
+use Rattle.site_desk.specs.Cell.{Cell, IsInService}
 
 -- The commands of entries, in their order.
 abbrev pub commands_of : List (Entry Command) → List Command
@@ -26,15 +26,20 @@ pub record IsKeptCell (first : ℕ → Content) (c : Cell) (hand : Share Command
   pub station : hand.station ≡ c.station
   pub left : IsLeftFrom c.limits (first c.station) c.content (commands_of hand.entries)
 
+-- That stands so behind the lock of a station whose cell is in service.
+abbrev pub KeepsCell : (ℕ → Content) → Cell → Share Command → Type 0
+KeepsCell first c hand = IsInService c → IsKeptCell first c hand
+
 -- Each entry's line speaks for its command on the station of this name.
 abbrev pub AreSpoken : (List ℕ → List ℕ → Command → Type 0) → (ℕ → List ℕ) → List (Entry Command) → Type 0
 AreSpoken speaks name entries = All (λ e. speaks (name e.station) e.line e.command) entries
 
--- What a desk with a journal keeps: the names are those of its stations, and there is room for their cells.
+-- What a desk with a journal keeps: the names are those of its stations, there is room for their cells, and they are few.
 pub record IsKeptDesk (name : ℕ → List ℕ) (places : List Place) (cells room : ℕ) : Type 0 where
   pub names : (k : ℕ) (p : Place) → slice_get places k ≡ Some p → name k ≡ p.name
   pub none : cells ≡ 0
   pub room_for_all : length places ≤ room
+  pub few : length places ≤ 64
 
 -- What is known of a desk with a journal once it is closed: there is one list of entries, of which the writer took the text, whose lines speak for their commands, and of which just each station's own leave its content.
 pub record IsWrittenDown (speaks : List ℕ → List ℕ → Command → Type 0) (name : ℕ → List ℕ) (first : ℕ → Content) (before : Option (List ℕ)) (broken : Bool) (now : Option (List ℕ)) (cells : List Cell) : Type 0 where

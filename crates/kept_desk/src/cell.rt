@@ -2,22 +2,27 @@ ghost use Rattle.std.specs.Prelude.{◌≡◌, [], length, IfOk};
 ghost use Rattle.journal_ties.specs.Entries.{HasNoFeed, of_station};
 ghost use Rattle.ledger_model.specs.Laws.{IsAccepted};
 ghost use Rattle.ledger_model.specs.Step.{answer};
-ghost use Rattle.site_desk.specs.Submit.{CanSettle, Submitted};
-ghost use Rattle.kept_desk.specs.Kept.{IsLeftFrom, commands_of};
+ghost use Rattle.site_desk.specs.Cell.{IsInService};
+ghost use Rattle.site_desk.specs.Settle.{cell_after};
+ghost use Rattle.site_desk.specs.Submit.{CanJudge, Submitted};
+ghost use Rattle.kept_desk.specs.Kept.{KeepsCell};
 
 use crate::opening::{Opening, Speaks};
 use crate::way::Journalled;
 use journal_ties::{Broken, Hand, Ties};
 use ledger_model::{Answer, Command, Refusal};
 use site_book::{Naming, SiteBook, Told};
-use site_desk::{HasCell, Pass, Place, StationCell, TooManyPasses, enlist_cell, settle_at};
+use site_desk::{
+    HasCell, Pass, Place, StationCell, TooManyPasses, can_settle, enlist_cell, settle_at,
+};
 use std::io::Write;
 use std::marker::Model;
-use std::sync::Wait;
+use std::sync::{Mutex, Wait};
 use std::thread::Threads;
 
-/// A station's cell and its hand of the journal. Contracts see the cell: its content is always what the
-/// commands of the hand's entries, each accepted, leave of what the station held when the desk was opened.
+/// A station's cell and its hand of the journal. Contracts see the cell: its content, while it is in
+/// service, is always what the commands of the hand's entries, each accepted, leave of what the station
+/// held when the desk was opened.
 #[derive(Drop)]
 pub struct KeptCell<K: Ties + Opening> {
     cell: StationCell,
@@ -26,7 +31,7 @@ pub struct KeptCell<K: Ties + Opening> {
 
 impl<K: Ties + Opening> Model for KeptCell<K> {
     ghost use Rattle.site_desk.specs.Cell.{Cell, cell_code};
-    ghost use Rattle.kept_desk.specs.Kept.{IsKeptCell};
+    ghost use Rattle.kept_desk.specs.Kept.{KeepsCell};
 
     ghost Value = { Cell };
 
@@ -34,7 +39,7 @@ impl<K: Ties + Opening> Model for KeptCell<K> {
 
     ghost view = { λ k. k.cell };
 
-    ghost invariant = { λ k. IsKeptCell K.first k.cell k.hand };
+    ghost invariant = { λ k. KeepsCell K.first k.cell k.hand };
 }
 
 impl<K: Ties + Opening> HasCell for KeptCell<K> {
@@ -63,8 +68,7 @@ impl<K: Ties + Opening> KeptCell<K> {
     // Both, where the journal's lock is given up.
     pub(crate) fn into_parts(self) -> (StationCell, Hand<K, Command>)
         ensures cell { result.0 ≡ self }
-        ensures station { result.1.station ≡ self.station }
-        ensures left { IsLeftFrom self.limits (K.first self.station) self.content (commands_of result.1.entries) }
+        ensures left { KeepsCell K.first self result.1 }
     {
         let KeptCell { cell, hand } = self;
         (cell, hand)
@@ -75,14 +79,14 @@ impl<K: Ties + Opening> KeptCell<K> {
     pub(crate) fn take<J: Naming, L: Speaks, W: Write + Drop, R: Wait>(
         &mut self,
         rt: &R,
-        book: &mut SiteBook<J>,
+        book: &Mutex<SiteBook<J>>,
         number: usize,
         place: &Place,
         pass: &mut Pass,
         command: Command,
         way: &Journalled<'_, K, L, W>,
     ) -> (Answer, Option<Told<J>>)
-        requires can { CanSettle number place.now self.old book.old pass.old }
+        requires can { CanJudge number place.now self.old pass.old }
         requires line { HasNoFeed way.now.line.now }
         requires speaks { L.speaks (K.name number) way.now.line.now command }
         ensures { Submitted place.now pass.old command result.0 pass.new result.1 }
@@ -100,14 +104,14 @@ impl<K: Ties + Opening> KeptCell<K> {
     fn take_written<J: Naming, L: Speaks, W: Write + Drop, R: Wait>(
         &mut self,
         rt: &R,
-        book: &mut SiteBook<J>,
+        book: &Mutex<SiteBook<J>>,
         number: usize,
         place: &Place,
         pass: &mut Pass,
         command: Command,
         way: &Journalled<'_, K, L, W>,
     ) -> (Answer, Option<Told<J>>)
-        requires can { CanSettle number place.now self.old book.old pass.old }
+        requires can { CanJudge number place.now self.old pass.old }
         requires accepted { IsAccepted (answer self.old.limits self.old.content command) }
         requires line { HasNoFeed way.now.line.now }
         requires speaks { L.speaks (K.name number) way.now.line.now command }
@@ -115,8 +119,32 @@ impl<K: Ties + Opening> KeptCell<K> {
     {
         command.keeps_ranges();
         match way.write(rt, &mut self.hand, &command) {
-            Ok(()) => settle_at(&mut self.cell, book, number, place, pass, command),
+            Ok(()) => settle_written(rt, &mut self.cell, book, number, place, pass, command),
             Err(Broken) => (Answer::Refused(Refusal::ChangesExhausted), None),
         }
+    }
+}
+
+// Settles a command whose line was written, under the lock of the site's book. Where the book is not as it
+// should be, which no run of fewer than 2^62 accepted changes a site meets, the cell leaves service: what
+// it holds is no more what its lines leave.
+fn settle_written<J: Naming, R: Wait>(
+    rt: &R,
+    cell: &mut StationCell,
+    book: &Mutex<SiteBook<J>>,
+    number: usize,
+    place: &Place,
+    pass: &mut Pass,
+    command: Command,
+) -> (Answer, Option<Told<J>>)
+    ensures settled { IsInService cell.new → cell.new ≡ cell_after cell.old pass.old command }
+    ensures submitted { Submitted place.now pass.old command result.0 pass.new result.1 }
+{
+    let mut book = book.lock(rt);
+    if can_settle(cell, &book, number, place, pass) {
+        settle_at(cell, &mut book, number, place, pass, command)
+    } else {
+        cell.retire();
+        (Answer::Refused(Refusal::ChangesExhausted), None)
     }
 }

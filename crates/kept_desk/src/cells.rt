@@ -1,7 +1,7 @@
 //! Cells with their hands, and without them.
 ghost use Rattle.std.specs.Prelude.{◌≡◌, ℕ, ◌+◌, ◌≤◌, [], ◌++◌, length, IfOk, OnOk, Some, All, slice_get, vec_len, vec_capacity};
 ghost use Rattle.journal_ties.specs.Entries.{of_station};
-ghost use Rattle.site_desk.specs.Cell.{Cell};
+ghost use Rattle.site_desk.specs.Cell.{Cell, IsInService};
 ghost use Rattle.kept_desk.specs.Kept.{IsLeftFrom, commands_of};
 ghost use Rattle.kept_desk.specs.Opened.{AreFirst};
 
@@ -41,7 +41,7 @@ pub(crate) fn free_cells<K: Ties + Opening, L: Speaks, W: Write + Drop>(
     requires room { vec_len kept ≤ vec_capacity cells.old }
     ensures cells { cells.new.items ≡ kept.items }
     ensures log { log.new ≡ log.old }
-    ensures left { All (λ c. IsLeftFrom c.limits (K.first c.station) c.content (commands_of (of_station c.station log.old.entries))) kept.items }
+    ensures left { All (λ c. IsInService c → IsLeftFrom c.limits (K.first c.station) c.content (commands_of (of_station c.station log.old.entries))) kept.items }
 {
     for each in kept {
         let cell = free_cell(each, log);
@@ -56,7 +56,7 @@ fn free_cell<K: Ties + Opening, L: Speaks, W: Write + Drop>(
 ) -> StationCell
     ensures cell { result ≡ kept }
     ensures log { log.new ≡ log.old }
-    ensures left { IsLeftFrom kept.limits (K.first kept.station) kept.content (commands_of (of_station kept.station log.old.entries)) }
+    ensures left { IsInService kept → IsLeftFrom kept.limits (K.first kept.station) kept.content (commands_of (of_station kept.station log.old.entries)) }
 {
     let (cell, mut hand) = kept.into_parts();
     log.compare(&mut hand);

@@ -28,7 +28,7 @@ use std::sync::{Mutex, Wait};
 use std::time::Clock;
 
 /// The stations and sites of a plan under locks, as a [`Desk`], with a journal under a lock of its own,
-/// which is taken last and held while no other lock is asked for. Contracts see what they see of a
+/// which is held while no other lock is asked for. Contracts see what they see of a
 /// [`Desk`].
 #[derive(Drop)]
 pub struct KeptDesk<J: Naming, K: Ties + Opening, L: Speaks, W: Write + Drop> {
@@ -112,8 +112,9 @@ impl<J: Naming, K: Ties + Opening, L: Speaks, W: Write + Drop> KeptDesk<J, K, L,
     }
 
     /// Takes a command of a pass and answers it as [`Desk::submit`] does. Where it is accepted, the line was
-    /// written and flushed before: under the station's lock and its site's, and then the journal's.
-    /// `ChangesExhausted` also answers where the line can't be written, then and from then on.
+    /// written and flushed before, under the station's lock and the journal's; it is settled under the
+    /// station's and then its site's. `ChangesExhausted` also answers where the line can't be written, then
+    /// and from then on.
     ///
     /// Conditions: the line has no line feed ([`is_line`](journal_ties::is_line) tells), and it speaks for
     /// the command on the pass's station.

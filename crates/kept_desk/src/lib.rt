@@ -3,13 +3,15 @@
 //! A [`KeptDesk`] is a [`Desk`](site_desk::Desk) that keeps beside each station's cell the station's
 //! [`Hand`](journal_ties::Hand) of one [`Journal`](journal_ties::Journal), both under the station's lock
 //! ([`KeptCell`]), and the journal under a lock of its own. [`KeptDesk::submit`] takes the station's lock,
-//! then its site's, and where the ledger would accept the command, the journal's: it writes and flushes
-//! the line that the caller hands in, gives the journal's lock back, and only then settles. A journal that
-//! can't be written accepts nothing more. All that is read of a running desk is read of
-//! [`KeptDesk::desk`].
+//! and where the ledger would accept the command, the journal's: it writes and flushes the line that the
+//! caller hands in, gives the journal's lock back, and only then takes the site's and settles. So a write
+//! holds up its own station and other writes, and nobody else at the site. A journal that can't be written
+//! accepts nothing more. All that is read of a running desk is read of [`KeptDesk::desk`].
 //!
-//! The crate's one contract: what a station holds is at any time what the commands of its own lines in the
-//! journal, each accepted, leave of what it held when the desk was opened. [`KeptDesk::close`] tells it of
+//! The crate's one contract: what a station holds, whenever its lock is free, is what the commands of its
+//! own lines in the journal, each accepted, leave of what it held when the desk was opened; where a written
+//! line's change can't be settled, which no run meets, the station's cell leaves service, and nothing more
+//! is taken, shown or closed there. [`KeptDesk::close`] tells it of
 //! all stations at once: there is one list of entries, of which the writer took the text, and each
 //! station's ledger holds what just its own entries leave; each entry's line speaks for its command on the
 //! station of its name, in the words of the caller ([`Speaks`]). The contract of `submit` is that of

@@ -8,9 +8,10 @@ use crate::opening::{Opening, Speaks};
 use journal_ties::{Broken, Hand, Ties};
 use ledger_model::{Answer, Command, Refusal};
 use site_book::{Naming, SiteBook, Told};
-use site_desk::{HasCell, Pass, Place, Settles, can_settle};
+use site_desk::{HasCell, Pass, Place, Settles, can_judge};
 use std::io::Write;
-use std::sync::{Mutex, Wait};
+use std::sync::{Mutex, MutexGuard, Wait};
+use std::thread::yield_now;
 
 // The journal, and the line that speaks for the command.
 #[derive(Drop)]
@@ -32,7 +33,7 @@ impl<'a, K: Ties + Opening, L: Speaks, W: Write + Drop> Journalled<'a, K, L, W> 
         ensures known { OnOk result (hand.new ≡ record hand.old { entries = hand.old.entries ++ entry hand.old.station self.now.line.now command.now ∷ [] }) }
         ensures same { OnErr result (hand.new ≡ hand.old) }
     {
-        let mut log = self.log.lock(rt);
+        let mut log = hold(rt, self.log);
         log.add(hand, self.line, command)
     }
 }
@@ -47,16 +48,31 @@ impl<'a, J: Naming, K: Ties + Opening, L: Speaks, W: Write + Drop> Settles<J, Ke
         &self,
         rt: &R,
         held: &mut KeptCell<K>,
-        book: &mut SiteBook<J>,
+        book: &Mutex<SiteBook<J>>,
         number: usize,
         place: &Place,
         pass: &mut Pass,
         command: Command,
     ) -> (Answer, Option<Told<J>>) {
-        if can_settle(held.cell(), book, number, place, pass) {
+        if can_judge(held.cell(), number, place, pass) {
             held.take(rt, book, number, place, pass, command, self)
         } else {
             (Answer::Refused(Refusal::ChangesExhausted), None)
         }
     }
+}
+
+// How often a lock that another thread has is looked at before the thread sleeps.
+const LOOKS: u32 = 60;
+
+// Takes a lock that is held for one write at a time: to let other threads run meanwhile costs less than to sleep
+// and be woken.
+fn hold<'b, T, R: Wait>(rt: &R, lock: &'b Mutex<T>) -> MutexGuard<'b, T> {
+    for _ in 0..LOOKS {
+        if let Some(guard) = lock.try_lock() {
+            return guard;
+        }
+        yield_now();
+    }
+    lock.lock(rt)
 }

@@ -1,4 +1,4 @@
-use Rattle.std.specs.Prelude.{◌≡◌, ℕ, ◌≤◌, List, [], length, sum, Some, slice_get, refl}
+use Rattle.std.specs.Prelude.{◌≡◌, ◌≢◌, ℕ, ◌≤◌, List, [], length, sum, Some, slice_get, refl}
 use Rattle.std.specs.Coded.{Coded, code_by, coded×, coded_list, coded_ℕ}
 use Rattle.ledger_model.specs.Limits.{Bounds}
 use Rattle.ledger_model.specs.Content.{Content, empty_content}
@@ -24,6 +24,14 @@ pub record Held : Type 0 where
   pub station : ℕ
   pub slot : ℕ
   pub changes : ℕ
+
+-- The number of no station: that of a cell out of service.
+abbrev pub no_station : ℕ
+no_station = 65_535
+
+-- The cell is in service: it may be that of a station of a desk.
+abbrev pub IsInService : Cell → Type 0
+IsInService c = c.station ≢ no_station
 
 -- A cell is kept as the tuple of its parts.
 abbrev pub cell_code : Coded Cell

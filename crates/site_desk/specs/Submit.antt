@@ -10,7 +10,7 @@ use Rattle.ledger_model.specs.Posts.{Post}
 use Rattle.ledger_model.specs.Step.{Reached, answer, step}
 use Rattle.site_book.specs.Book.{Book, Known, known}
 use Rattle.site_desk.specs.declared.roster.Place.{Place}
-use Rattle.site_desk.specs.Cell.{Cell, Held, Knows}
+use Rattle.site_desk.specs.Cell.{Cell, Held, IsInService, Knows}
 use Rattle.site_desk.specs.Roster.{IsNamed, StandsAt}
 use Rattle.site_desk.specs.Settle.{Holds, Tied}
 
@@ -37,6 +37,14 @@ pub record IsAnswered (at : Place) (p : Held) (command : Command) (told_answer :
   pub reached : Reached at.limits before.changes before
   pub answered : answer at.limits before command ≡ told_answer
   pub unchanged : IsUnchanged p p' told
+
+-- All that judging a command of a pass asks, at the cell of the station of this number, which stands at this place; and what is known of such a cell.
+pub record CanJudge (number : ℕ) (at : Place) (c : Cell) (p : Held) : Type 0 where
+  pub serves : IsInService c
+  pub stands : StandsAt number at c
+  pub knows : Knows c p
+  pub reached : Reached c.limits c.content.changes c.content
+  pub counted : sum c.counts ≡ c.content.changes
 
 -- All that settling a command of a pass asks, at the cell of the station of this number, which stands at this place; and what is known of such a cell.
 pub record CanSettle (number : ℕ) (at : Place) (c : Cell) (b : Book) (p : Held) : Type 0 where

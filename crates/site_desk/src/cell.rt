@@ -1,6 +1,6 @@
 ghost use Rattle.std.specs.Prelude.{◌≡◌, ◌↔◌, ◌<◌, ◌^◌, ◌++◌, ◌∷◌, [], length, sum, IsTrue, IsErr, IfOk, OnOk, OnErr};
 ghost use Rattle.ledger_model.specs.Step.{Reached, answer};
-ghost use Rattle.site_desk.specs.Cell.{Knows, most_passes, new_cell, new_pass};
+ghost use Rattle.site_desk.specs.Cell.{IsInService, Knows, most_passes, new_cell, new_pass, no_station};
 ghost use Rattle.site_desk.specs.Settle.{cell_after, pass_after};
 
 use crate::fault::TooManyPasses;
@@ -14,6 +14,9 @@ use std::thread::Threads;
 
 /// How many passes a station may give out.
 pub const MAX_PASSES: usize = 65_536;
+
+// The number of no station.
+const NO_STATION: u16 = 65_535;
 
 /// One station: its ledger, where its figures stand, and how many changes each of its passes made.
 /// Its content is always one that as many accepted commands as its passes made leave of the empty one.
@@ -104,12 +107,29 @@ impl StationCell {
 
     /// Tells whether the pass is one of this cell's, and made as many changes as the cell counts for it.
     pub fn knows(&self, pass: &Pass) -> bool
-        ensures { IsTrue result ↔ Knows self.now pass.now }
+        ensures known { IsTrue result ↔ Knows self.now pass.now }
+        ensures reached { Reached self.now.limits self.now.content.changes self.now.content }
+        ensures counted { sum self.now.counts ≡ self.now.content.changes }
     {
         match self.counts.get(pass.slot) {
             Some(count) => pass.station == self.station && *count == pass.changes,
             None => false,
         }
+    }
+
+    /// Takes the cell out of service: it is that of no station from then on, so that no desk takes or shows
+    /// anything at it, or closes with it.
+    pub fn retire(&mut self)
+        ensures { self.new ≡ record self.old { station = no_station } }
+    {
+        self.station = NO_STATION;
+    }
+
+    /// Tells whether it was not taken out of service.
+    pub fn is_in_service(&self) -> bool
+        ensures { IsTrue result ↔ IsInService self.now }
+    {
+        self.station != NO_STATION
     }
 
     // A pass of this station, where it may give out one more.

@@ -200,7 +200,7 @@ impl<J: Naming, C: HasCell> Desk<J, C> {
     }
 
     /// Takes a command of a pass and answers it as [`Desk::submit`] does, by this way to settle it, under
-    /// the station's lock and then its site's.
+    /// the station's lock.
     ///
     /// Condition: what the way asks of the command on the pass's station, where the desk has it.
     pub fn submit_by<G: Gate, S: Settles<J, C>, R: Wait + Clock>(
@@ -222,9 +222,8 @@ impl<J: Naming, C: HasCell> Desk<J, C> {
         let lock: &Mutex<C> = &self.cells[number];
         let mut held = lock.lock(rt);
         gate.held(rt, &place.name);
-        let lock: &Mutex<SiteBook<J>> = &self.books[place.site as usize];
-        let mut book = lock.lock(rt);
-        way.settle(rt, &mut held, &mut book, number, place, pass, command)
+        let book: &Mutex<SiteBook<J>> = &self.books[place.site as usize];
+        way.settle(rt, &mut held, book, number, place, pass, command)
     }
 
     /// The board of the station of this name. It waits for the station's lock. A cell there that is not

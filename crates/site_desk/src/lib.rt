@@ -12,7 +12,8 @@
 //!
 //! A desk may keep more than a cell behind a station's lock, as one with a journal does: anything that [`HasCell`]
 //! ([`Desk::over`], [`Desk::take_apart`]), and a command is then taken by a way of its own that [`Settles`]
-//! ([`Desk::submit_by`]; [`can_settle`] and [`settle_at`] are its parts).
+//! ([`Desk::submit_by`]; [`can_judge`], [`can_settle`] and [`settle_at`] are its parts). A cell whose site's book is not
+//! as it should be leaves service there ([`StationCell::retire`]).
 //!
 //! The crate's one contract: a cell's content is always one that as many accepted commands as its
 //! passes made leave of the empty content, under its limits. `settle` takes the step of the ledger
@@ -60,4 +61,4 @@ pub use plan::{MAX_VIEWERS, Plan, SitePlan, StationPlan};
 pub use roster::Place;
 pub use settles::Settles;
 pub use steps::{settle, tied};
-pub use submit::{can_settle, settle_at};
+pub use submit::{can_judge, can_settle, settle_at};

@@ -6,10 +6,9 @@ use crate::roster::Place;
 use crate::submit::try_settle;
 use ledger_model::{Answer, Command};
 use site_book::{Naming, SiteBook, Told};
-use std::sync::Wait;
+use std::sync::{Mutex, Wait};
 
-/// How a command is taken once a desk holds the station's lock and that of its site's book
-/// ([`Desk::submit_by`](crate::Desk::submit_by)).
+/// How a command is taken once a desk holds the station's lock ([`Desk::submit_by`](crate::Desk::submit_by)).
 pub trait Settles<J: Naming, C> {
     ghost use Rattle.std.specs.Prelude.{ℕ};
     ghost use Rattle.ledger_model.specs.declared.command.Command.{Command};
@@ -17,14 +16,14 @@ pub trait Settles<J: Naming, C> {
     ghost asks: { Self → ℕ → Command → Type 0 };
 
     /// Takes a command of a pass at what is behind the lock of the station of this number, and answers
-    /// it as [`Desk::submit`](crate::Desk::submit) does.
+    /// it as [`Desk::submit`](crate::Desk::submit) does. The lock of the site's book is taken where it has to be.
     ///
     /// Condition: what it asks of a command on this station.
     fn settle<R: Wait>(
         &self,
         rt: &R,
         held: &mut C,
-        book: &mut SiteBook<J>,
+        book: &Mutex<SiteBook<J>>,
         number: usize,
         place: &Place,
         pass: &mut Pass,
@@ -42,14 +41,15 @@ impl<J: Naming> Settles<J, StationCell> for AtCell {
 
     fn settle<R: Wait>(
         &self,
-        _rt: &R,
+        rt: &R,
         held: &mut StationCell,
-        book: &mut SiteBook<J>,
+        book: &Mutex<SiteBook<J>>,
         number: usize,
         place: &Place,
         pass: &mut Pass,
         command: Command,
     ) -> (Answer, Option<Told<J>>) {
-        try_settle(held, book, number, place, pass, command)
+        let mut book = book.lock(rt);
+        try_settle(held, &mut book, number, place, pass, command)
     }
 }

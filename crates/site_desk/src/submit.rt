@@ -3,7 +3,7 @@ ghost use Rattle.ledger_model.specs.Figures.{AreWithin};
 ghost use Rattle.ledger_model.specs.Step.{answer};
 ghost use Rattle.site_desk.specs.Roster.{StandsAt};
 ghost use Rattle.site_desk.specs.Settle.{cell_after};
-ghost use Rattle.site_desk.specs.Submit.{CanSettle, IsBoardWithin, Submitted};
+ghost use Rattle.site_desk.specs.Submit.{CanJudge, CanSettle, IsBoardWithin, Submitted};
 
 use crate::cell::StationCell;
 use crate::pass::Pass;
@@ -30,6 +30,14 @@ fn are_at<J: Naming>(cell: &StationCell, book: &SiteBook<J>, number: usize, plac
     ensures { IsTrue result → (StandsAt number place.now cell.now) × (book.now.site ≡ place.now.site) }
 {
     stands_at(cell, number, place) && book.site() == place.site
+}
+
+/// Tells whether all is so that judging a command of the pass asks, at the cell of the station of this number
+/// and place, whatever its site's book is.
+pub fn can_judge(cell: &StationCell, number: usize, place: &Place, pass: &Pass) -> bool
+    ensures { IsTrue result → CanJudge number place.now cell.now pass.now }
+{
+    cell.is_in_service() && stands_at(cell, number, place) && cell.knows(pass)
 }
 
 /// Tells whether all is so that settling a command of the pass asks, at the cell of the station of this

@@ -7,7 +7,7 @@ use Rattle.std.proofs.lemmas.List.Elements.{All-push}
 use Rattle.journal_ties.specs.Entries.{of_station}
 use Rattle.journal_ties.specs.Journal.{Ledger}
 use Rattle.ledger_model.specs.declared.command.Command.{Command}
-use Rattle.site_desk.specs.Cell.{Cell}
+use Rattle.site_desk.specs.Cell.{Cell, IsInService}
 use Rattle.kept_desk.specs.Kept.{IsLeftFrom, commands_of}
 use Rattle.kept_desk.proofs.cells.free_cells.Goals as goal
 
@@ -20,8 +20,8 @@ loop-each-preserved g c =
       cells = c.push_reserved.ensures.items ∙ (λ i. before.cells i ++ c.free_cell-cell.ensures.cell i ∷ []);
       same = c.free_cell-cell.ensures.log ∙ before.same;
       room = c.push_reserved.ensures.capacity ∙ before.room;
-      left = All-push (λ (e : Cell). IsLeftFrom e.limits (first e.station) e.content (commands_of (of_station e.station c.args.log.now.entries))) c.loop-each.yielded d before.left
-          (subst (λ (j : Ledger Command). IsLeftFrom d.limits (first d.station) d.content (commands_of (of_station d.station j.entries))) before.same c.free_cell-cell.ensures.left);
+      left = All-push (λ (e : Cell). IsInService e → IsLeftFrom e.limits (first e.station) e.content (commands_of (of_station e.station c.args.log.now.entries))) c.loop-each.yielded d before.left
+          (subst (λ (j : Ledger Command). IsInService d → IsLeftFrom d.limits (first d.station) d.content (commands_of (of_station d.station j.entries))) before.same c.free_cell-cell.ensures.left);
     }
 
 pub returns-clause-left : goal.returns-clause-left
@@ -30,4 +30,4 @@ returns-clause-left g c =
     let items = c.args.kept.items in
     let gives = c.into_iter-each-iterator.ensures.into_iter_gives in
     let end = YieldsList-end (YieldsList-from_vec items gives.0 (gives.1 ∙ c.args.kept.ok.0)) c.loop-each.yielded _ c.loop-each.yielded_by c.next.result c.next.new.self c.in-None.is c.next.ensures.steps in
-    subst (All (λ (e : Cell). IsLeftFrom e.limits (first e.station) e.content (commands_of (of_station e.station c.args.log.now.entries)))) (sym (map-id c.loop-each.yielded) ∙ end.0) c.loop-each.invariant.left
+    subst (All (λ (e : Cell). IsInService e → IsLeftFrom e.limits (first e.station) e.content (commands_of (of_station e.station c.args.log.now.entries)))) (sym (map-id c.loop-each.yielded) ∙ end.0) c.loop-each.invariant.left

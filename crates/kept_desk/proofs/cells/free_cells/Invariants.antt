@@ -1,6 +1,7 @@
 use Rattle.std.proofs.Common.{◌≡◌, vec_capacity}
 use Rattle.std.specs.Prelude.{All}
 use Rattle.journal_ties.specs.Entries.{of_station}
+use Rattle.site_desk.specs.Cell.{IsInService}
 use Rattle.kept_desk.specs.Kept.{IsLeftFrom, commands_of}
 use Rattle.kept_desk.proofs.cells.free_cells.Given as goal
 
@@ -10,5 +11,5 @@ invariant-loop-each g l = record {
   cells : l.cells.items ≡ l.yielded;
   same : l.log ≡ l.fn.log;
   room : vec_capacity l.cells ≡ vec_capacity l.fn.cells;
-  left : All (λ c. IsLeftFrom c.limits (g.K.Opening.first c.station) c.content (commands_of (of_station c.station l.fn.log.entries))) l.yielded;
+  left : All (λ c. IsInService c → IsLeftFrom c.limits (g.K.Opening.first c.station) c.content (commands_of (of_station c.station l.fn.log.entries))) l.yielded;
 }

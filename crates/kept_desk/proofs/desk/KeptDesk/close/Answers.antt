@@ -1,10 +1,11 @@
-use Rattle.std.proofs.Common.{◌≡◌, Some, ap, sym, ◌∙◌, subst}
+use Rattle.std.proofs.Common.{◌≡◌, Some, ap, sym, ◌∙◌, subst, arith}
 use Rattle.std.specs.Prelude.{slice_get}
 use Rattle.std.proofs.lemmas.List.{map-id}
+use Rattle.std.proofs.lemmas.Option.{slice_get_within}
 use Rattle.journal_ties.specs.Entries.{of_station}
 use Rattle.journal_ties.specs.Journal.{IsWritten, Ledger}
 use Rattle.ledger_model.specs.declared.command.Command.{Command}
-use Rattle.site_desk.specs.Cell.{Cell}
+use Rattle.site_desk.specs.Cell.{Cell, IsInService}
 use Rattle.site_desk.specs.Parts.{AreTied}
 use Rattle.kept_desk.specs.Kept.{IsLeftFrom, commands_of}
 use Rattle.kept_desk.proofs.Names.{all_at}
@@ -26,7 +27,8 @@ returns-in-Ok-clause-kept g c =
       left = λ k d at.
           let there : slice_get kept k ≡ Some d = ap (λ cs. slice_get cs k) (sym c.free_cells.ensures.cells ∙ sym (ap (λ e. e.cells) c.of.ensures)) ∙ at in
           let station = (c.in-Ok.ensures.whole.whole k d (ap (λ cs. slice_get cs k) (map-id kept) ∙ there)).placed.stands.station in
-          let own = all_at (λ (e : Cell). IsLeftFrom e.limits (first e.station) e.content (commands_of (of_station e.station c.into_inner-log.result.entries))) kept k d c.free_cells.ensures.left there in
+          let serves : IsInService d = λ out. let here = slice_get_within kept k d there in omega (arith, out, station, here, c.in-Ok.ensures.stations, c.self.invariant.few) in
+          let own = all_at (λ (e : Cell). IsInService e → IsLeftFrom e.limits (first e.station) e.content (commands_of (of_station e.station c.into_inner-log.result.entries))) kept k d c.free_cells.ensures.left there serves in
           let moved = subst (λ (j : Ledger Command). IsLeftFrom d.limits (first d.station) d.content (commands_of (of_station d.station j.entries))) (sym c.free_cells.ensures.log) own in
           subst (λ n. IsLeftFrom d.limits (first n) d.content (commands_of (of_station n log))) station moved;
     }

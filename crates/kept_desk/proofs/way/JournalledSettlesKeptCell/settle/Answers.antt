@@ -1,6 +1,6 @@
 use Rattle.std.proofs.Common.{subst}
-use Rattle.site_desk.specs.Submit.{CanSettle}
+use Rattle.site_desk.specs.Submit.{CanJudge}
 use Rattle.kept_desk.proofs.way.JournalledSettlesKeptCell.settle.Goals as goal
 
 pub take-requires-clause-can : goal.take-requires-clause-can
-take-requires-clause-can g c = subst (λ d. CanSettle c.args.number c.args.place.now d c.args.book.now c.args.pass.now) c.cell.ensures (c.can_settle.ensures c.if-can_settle.true)
+take-requires-clause-can g c = subst (λ d. CanJudge c.args.number c.args.place.now d c.args.pass.now) c.cell.ensures (c.can_judge.ensures c.if-can_judge.true)
