@@ -2,5 +2,4 @@ mod arena;
 mod chains;
 mod gaps;
 mod index;
-mod model;
 mod quarters;

@@ -1,4 +1,5 @@
-//! The tests of `station_link` and `site_server`.
+//! The tests of `site_book`, `site_desk`, `station_link` and `site_server`. Whole servers are played by
+//! `examples/serving.py` and `living.py` and, with a journal, by `journalling.py`.
 #![tactic(auto)]
 
 #[cfg(test)]

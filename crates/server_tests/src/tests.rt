@@ -1,2 +1,4 @@
+mod desk;
+mod fixtures;
 mod link;
 mod site;

@@ -1,22 +1,19 @@
-mod at_once;
 mod codes;
 mod cuts;
 mod memory;
 mod sims;
-mod texts;
 
 ghost use Rattle.std.specs.Prelude.{ℕ, ◌<◌, length};
 ghost use Rattle.site_book.specs.Tables.{HasTable, NamedBy};
 
-use at_once::beside_operator;
+use crate::tests::fixtures::{opened, plan_of};
 use codes::all_taken;
-use cuts::{cut_off, sends_again};
-use desk_fixtures::{opened, plan_of};
+use cuts::sends_again;
 use ledger_model::Moment;
 use memory::{Frames, Memory, Peer, TEXT};
 use sims::each_text;
 use site_book::{Naming, Tables};
-use site_desk::{Desk, Gate, Pass, Plan};
+use site_desk::{Desk, NoGate, Pass, Plan};
 use station_link::{MomentSource, SessionEnd, Why, serve_connection};
 use std::alloc::Global;
 use std::cell::RefCell;
@@ -24,25 +21,18 @@ use std::marker::Brand;
 use std::sync::Wait;
 use std::thread::Threads;
 use std::time::Clock;
-use texts::each_kind;
 
-// The line of a request that offers the subprotocol beside another.
-const OFFER: &str = "Sec-WebSocket-Protocol: ocpp1.6, ocpp2.0.1\r\n";
-
-// A client's request at a path, with this line.
-fn head(alloc: Global, path: &str, line: &str) -> Option<String> {
+// The request of a station of this name, which offers the subprotocol beside another.
+fn head(alloc: Global, station: &str) -> Option<String> {
     let text = format!(in alloc;
-        "GET {path} HTTP/1.1\r\nHost: h\r\nConnection: Upgrade\r\nUpgrade: websocket\r\nSec-WebSocket-Version: 13\r\nSec-WebSocket-Key: dGhlIHNhbXBsZSBub25jZQ==\r\n{line}\r\n"
+        "GET /ocpp/{station} HTTP/1.1\r\nHost: h\r\nConnection: Upgrade\r\nUpgrade: websocket\r\nSec-WebSocket-Version: 13\r\nSec-WebSocket-Key: dGhlIHNhbXBsZSBub25jZQ==\r\nSec-WebSocket-Protocol: ocpp1.6, ocpp2.0.1\r\n\r\n"
     );
     text.ok()
 }
 
-// Transaction T1: its first event at ten o'clock, and one fourteen minutes later.
+// The first event of transaction T1, at ten o'clock.
 const FIRST: &str =
     "[2,\"1\",\"TransactionEvent\",{\"eventType\":\"Started\",\"timestamp\":\"2026-03-01T10:00:00Z\",\"triggerReason\":\"MeterValuePeriodic\",\"seqNo\":0,\"transactionInfo\":{\"transactionId\":\"T1\"},\"meterValue\":[{\"timestamp\":\"2026-03-01T10:00:00Z\",\"sampledValue\":[{\"value\":1000}]}]}]";
-
-const SECOND: &str =
-    "[2,\"2\",\"TransactionEvent\",{\"eventType\":\"Updated\",\"timestamp\":\"2026-03-01T10:14:00Z\",\"triggerReason\":\"MeterValuePeriodic\",\"seqNo\":1,\"transactionInfo\":{\"transactionId\":\"T1\"},\"meterValue\":[{\"timestamp\":\"2026-03-01T10:14:00Z\",\"sampledValue\":[{\"value\":1200}]}]}]";
 
 // A clock that always tells ten o'clock.
 #[derive(Drop)]
@@ -57,32 +47,26 @@ impl MomentSource for TenOClock {
 // What is played on the desk of the plan.
 #[derive(Clone, Copy)]
 enum Scene {
-    BesideOperator,
     NoPassLeft,
     LostReply,
-    CutOff,
     EachText,
-    EachKind,
 }
 
 // The passes that a scene leaves, or none where something else was seen.
-fn play<J: Naming + Send + Sync, R: Threads + Wait + Clock + Sync>(
+fn play<J: Naming, R: Threads + Wait + Clock>(
     rt: &R,
     alloc: Global,
     desk: &Desk<J>,
     scene: Scene,
-) -> Option<[Option<Pass>; 3]> {
+) -> Option<[Option<Pass>; 2]> {
     match scene {
-        Scene::BesideOperator => beside_operator(rt, alloc, desk),
         Scene::NoPassLeft => all_taken(rt, alloc, desk),
         Scene::LostReply => sends_again(rt, alloc, desk),
-        Scene::CutOff => cut_off(rt, alloc, desk),
         Scene::EachText => each_text(rt, alloc, desk),
-        Scene::EachKind => each_kind(rt, alloc, desk),
     }
 }
 
-fn at_desk<J: Naming + Send + Sync, R: Threads + Wait + Clock + Sync>(
+fn at_desk<J: Naming, R: Threads + Wait + Clock>(
     rt: &R,
     alloc: Global,
     tables: Tables,
@@ -98,7 +82,7 @@ fn at_desk<J: Naming + Send + Sync, R: Threads + Wait + Clock + Sync>(
 }
 
 // How many changes the stations A and B of one site made, where the desk closes with the passes of the scene.
-fn plays<R: Threads + Wait + Clock + Sync>(
+fn plays<R: Threads + Wait + Clock>(
     rt: &R,
     alloc: Global,
     scene: Scene,
@@ -122,14 +106,9 @@ impl Served {
         Some(self.pass.as_ref()?.changes())
     }
 
-    // Tells whether it ended so, after so many changes.
-    fn has_pass(&self, why: Why, changes: u64) -> bool {
-        self.why == why && self.changes() == Some(changes)
-    }
-
-    // Tells whether it did, and these frames were answered.
+    // Tells whether it ended so, after so many changes, and these frames were answered.
     fn is(&self, why: Why, changes: u64, frames: &[u8]) -> bool {
-        self.has_pass(why, changes) && self.frames() == frames
+        self.why == why && self.changes() == Some(changes) && self.frames() == frames
     }
 
     // The frames behind the answer to the handshake; all that was written where there is no such answer.
@@ -145,20 +124,6 @@ impl Served {
     }
 }
 
-// The session of this request, in which the peer sends these frames and takes all that is written.
-fn serve_frames<J: Naming, R: Threads + Wait + Clock, G: Gate>(
-    rt: &R,
-    alloc: Global,
-    desk: &Desk<J>,
-    gate: &G,
-    request: (&str, &str),
-    frames: &[u8],
-) -> Option<Served> {
-    let head = head(alloc, request.0, request.1)?;
-    let peer = Peer::of(head.as_str().as_bytes(), frames);
-    Some(serve(rt, alloc, desk, gate, peer))
-}
-
 // Text messages of a client, or of a server.
 fn text_frames(alloc: Global, of_client: bool, texts: &[&str]) -> Option<Frames> {
     let mut frames = Frames::of(alloc, of_client);
@@ -168,16 +133,23 @@ fn text_frames(alloc: Global, of_client: bool, texts: &[&str]) -> Option<Frames>
     Some(frames)
 }
 
-fn serve<J: Naming, R: Threads + Wait + Clock, G: Gate>(
+// The session with this peer.
+fn serve<J: Naming, R: Threads + Wait + Clock>(
     rt: &R,
     alloc: Global,
     desk: &Desk<J>,
-    gate: &G,
     peer: Peer<'_>,
 ) -> Served {
     let written = RefCell::new(Vec::new(alloc));
     let stream = Memory::new(peer, &written);
-    let SessionEnd { why, pass } = serve_connection(rt, alloc, stream, desk, gate, &mut TenOClock);
+    let SessionEnd { why, pass } = serve_connection(
+        rt,
+        alloc,
+        stream,
+        desk,
+        &NoGate,
+        &mut TenOClock,
+    );
     Served {
         why,
         pass,
@@ -189,7 +161,7 @@ fn serve<J: Naming, R: Threads + Wait + Clock, G: Gate>(
 fn changes_at_close<J: Naming>(
     alloc: Global,
     desk: Desk<J>,
-    given: [Option<Pass>; 3],
+    given: [Option<Pass>; 2],
 ) -> Option<(u64, u64)> {
     let mut passes = Vec::new(alloc);
     for pass in given {

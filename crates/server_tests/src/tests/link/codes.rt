@@ -1,8 +1,8 @@
-use super::memory::Frames;
-use super::{OFFER, Scene, plays, serve_frames};
+use super::memory::{Frames, Peer};
+use super::{Scene, head, plays, serve};
 use ledger_model::Name;
 use site_book::Naming;
-use site_desk::{Desk, MAX_PASSES, NoGate, Pass};
+use site_desk::{Desk, MAX_PASSES, Pass};
 use station_link::Why;
 use std::alloc::Global;
 use std::sync::Wait;
@@ -16,7 +16,8 @@ fn is_refused<J: Naming, R: Threads + Wait + Clock>(
     desk: &Desk<J>,
     (why, code): (Why, u16),
 ) -> Option<bool> {
-    let served = serve_frames(rt, alloc, desk, &NoGate, ("/ocpp/B", OFFER), &[])?;
+    let head = head(alloc, "B")?;
+    let served = serve(rt, alloc, desk, Peer::of(head.as_str().as_bytes(), &[]));
     let mut answers = Frames::of_server(alloc);
     answers.close(code).ok()?;
     Some(served.why == why && served.frames() == answers.bytes())
@@ -38,9 +39,9 @@ pub(super) fn all_taken<J: Naming, R: Threads + Wait + Clock>(
     rt: &R,
     alloc: Global,
     desk: &Desk<J>,
-) -> Option<[Option<Pass>; 3]> {
+) -> Option<[Option<Pass>; 2]> {
     if takes_all(rt, desk)? && is_refused(rt, alloc, desk, (Why::TooManyPasses, 1011))? {
-        Some([None, None, None])
+        Some([None, None])
     } else {
         None
     }

@@ -81,11 +81,11 @@ pub(super) fn each_text<J: Naming, R: Threads + Wait + Clock>(
     rt: &R,
     alloc: Global,
     desk: &Desk<J>,
-) -> Option<[Option<Pass>; 3]> {
+) -> Option<[Option<Pass>; 2]> {
     let name = Name::new("A")?;
     let pass = pass_of_texts(rt, alloc, desk, &name)?;
     if shown(rt, alloc, desk, &name)? == (3, 1, 200_000) {
-        Some([Some(pass), None, None])
+        Some([Some(pass), None])
     } else {
         None
     }

@@ -1,6 +1,0 @@
-use Rattle.std.proofs.Common.{None}
-use Rattle.desk_tests.proofs.tests.ties.failing.fails_after.Given as goal
-
--- the table that was just made, and a writer whose bytes no contract knows
-abbrev pub ghosts-three_lines : goal.ghosts-three_lines
-ghosts-three_lines a = record { table = a.blank; before = None }

@@ -1,3 +1,0 @@
-mod desk;
-mod shelf;
-mod ties;

@@ -1,2 +1,0 @@
-mod desks;
-mod seats;

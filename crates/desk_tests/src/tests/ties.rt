@@ -1,5 +1,0 @@
-mod failing;
-mod lines;
-mod station;
-mod threads;
-mod writers;
