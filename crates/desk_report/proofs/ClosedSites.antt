@@ -7,7 +7,7 @@ use Rattle.ledger_model.specs.Content.{entries}
 use Rattle.site_desk.specs.declared.plan.SitePlan.{SitePlan}
 use Rattle.site_desk.specs.declared.plan.StationPlan.{StationPlan}
 use Rattle.site_book.specs.Book.{Known}
-use Rattle.site_desk.specs.Cell.{Cell, Held}
+use Rattle.station_cell.specs.Cell.{Cell, Held}
 use Rattle.site_desk.specs.Close.{Ended, IsClosable}
 use Rattle.site_desk.specs.declared.roster.Place.{Place}
 use Rattle.site_desk.specs.Roster.{AreNewPlaces, Roster, StandsAt, new_place}

@@ -12,7 +12,7 @@ use Rattle.board_report.specs.Named.{NamedBoard}
 use Rattle.board_report.specs.Sums.{AreOfPeriod}
 use Rattle.board_report.specs.Plans.{AreBoardsWithin, IsBoardWithin}
 use Rattle.site_desk.specs.declared.plan.StationPlan.{StationPlan}
-use Rattle.site_desk.specs.Cell.{Cell}
+use Rattle.station_cell.specs.Cell.{Cell}
 use Rattle.site_desk.specs.Parts.{limits_at}
 use Rattle.desk_report.specs.Boards.{boards_at, site_named}
 

@@ -6,7 +6,7 @@ use Rattle.ledger_model.specs.Content.{entries}
 use Rattle.board_report.specs.Named.{NamedBoard}
 use Rattle.site_desk.specs.declared.plan.SitePlan.{SitePlan}
 use Rattle.site_desk.specs.declared.plan.StationPlan.{StationPlan}
-use Rattle.site_desk.specs.Cell.{Cell}
+use Rattle.station_cell.specs.Cell.{Cell}
 use Rattle.site_desk.specs.Plan.{period_at}
 
 -- Each station has its cell, opened with its limits and by its site's settlement period.

@@ -6,7 +6,7 @@ use Rattle.board_report.specs.Named.{NamedBoard}
 use Rattle.board_report.specs.Texts.{board_text}
 use Rattle.site_desk.specs.declared.plan.SitePlan.{SitePlan}
 use Rattle.site_desk.specs.declared.plan.StationPlan.{StationPlan}
-use Rattle.site_desk.specs.Cell.{Cell}
+use Rattle.station_cell.specs.Cell.{Cell}
 use Rattle.site_desk.specs.Plan.{period_at}
 use Rattle.site_desk.specs.Close.{AreSummed, Ended}
 use Rattle.desk_report.specs.Boards.{AreOpenedFor, boards_at}

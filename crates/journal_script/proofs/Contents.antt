@@ -20,7 +20,7 @@ use Rattle.script_replay.specs.Script.{new_station}
 use Rattle.script_replay.proofs.Boards.{one_place}
 use Rattle.site_desk.specs.declared.plan.SitePlan.{SitePlan}
 use Rattle.site_desk.specs.declared.plan.StationPlan.{StationPlan}
-use Rattle.site_desk.specs.Cell.{Cell}
+use Rattle.station_cell.specs.Cell.{Cell}
 use Rattle.site_desk.specs.Plan.{has_twice}
 use Rattle.journal_script.specs.Journals.{AreLeft, IsSpoken, commands_of, station_name}
 use Rattle.journal_script.proofs.Steps.{asked_in}

@@ -13,7 +13,7 @@ use Rattle.script_replay.specs.Running.{filled}
 use Rattle.script_replay.specs.Script.{Script, new_station, start}
 use Rattle.site_desk.specs.declared.plan.SitePlan.{SitePlan}
 use Rattle.site_desk.specs.declared.plan.StationPlan.{StationPlan}
-use Rattle.site_desk.specs.Cell.{Cell}
+use Rattle.station_cell.specs.Cell.{Cell}
 use Rattle.journal_script.specs.Journals.{JournalsAreScripts, station_name}
 use Rattle.journal_script.proofs.Contents.{all_left}
 use Rattle.journal_script.proofs.Steps.{Has, asked_in, cut_entries, has_here, has_more, takes_lines}

@@ -12,7 +12,7 @@ use Rattle.script_replay.specs.Script.{Script, line_step, opening, start}
 use Rattle.script_replay.proofs.OpeningLine.{opened_script, same_step}
 use Rattle.site_desk.specs.declared.plan.SitePlan.{SitePlan}
 use Rattle.site_desk.specs.declared.plan.StationPlan.{StationPlan}
-use Rattle.site_desk.specs.Cell.{Cell}
+use Rattle.station_cell.specs.Cell.{Cell}
 use Rattle.journal_script.specs.Journals.{Shows}
 use Rattle.journal_script.specs.Reading.{GoesOn, ReadsLine, Stops}
 use Rattle.journal_script.specs.Restoring.{IsListen, IsRestored}

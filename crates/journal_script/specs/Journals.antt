@@ -15,7 +15,7 @@ use Rattle.script_replay.specs.Running.{filled}
 use Rattle.script_replay.specs.Script.{Script, line_step, start}
 use Rattle.site_desk.specs.declared.plan.SitePlan.{SitePlan}
 use Rattle.site_desk.specs.declared.plan.StationPlan.{StationPlan}
-use Rattle.site_desk.specs.Cell.{Cell}
+use Rattle.station_cell.specs.Cell.{Cell}
 use Rattle.site_desk.specs.Plan.{has_twice}
 use Rattle.journal_script.specs.Speaking.{Speaks}
 

@@ -9,7 +9,7 @@ use Rattle.script_replay.specs.Laws.{script_after}
 use Rattle.script_replay.specs.Script.{Script, line_step}
 use Rattle.site_desk.specs.declared.plan.SitePlan.{SitePlan}
 use Rattle.site_desk.specs.declared.plan.StationPlan.{StationPlan}
-use Rattle.site_desk.specs.Cell.{Cell}
+use Rattle.station_cell.specs.Cell.{Cell}
 use Rattle.journal_script.specs.Journals.{EndsWhole, Shows}
 
 -- One line was read, to its line feed: of `raw` no more is held than one byte above a line's most, and `left` of `room` may still be read. Where `more` is false it is `listen`.

@@ -7,7 +7,7 @@ use Rattle.script_replay.specs.Laws.{script_after}
 use Rattle.script_replay.specs.Script.{start}
 use Rattle.site_desk.specs.declared.plan.SitePlan.{SitePlan}
 use Rattle.site_desk.specs.declared.plan.StationPlan.{StationPlan}
-use Rattle.site_desk.specs.Cell.{Cell}
+use Rattle.station_cell.specs.Cell.{Cell}
 use Rattle.journal_script.specs.Journals.{EndsWhole, Shows}
 
 -- The bytes are the line `listen`, with the line feed that ends it and perhaps a carriage return before.

@@ -8,7 +8,7 @@ use Rattle.script_replay.specs.Laws.{script_after}
 use Rattle.script_replay.specs.Script.{Script, start, step_by}
 use Rattle.site_desk.specs.declared.plan.SitePlan.{SitePlan}
 use Rattle.site_desk.specs.declared.plan.StationPlan.{StationPlan}
-use Rattle.site_desk.specs.Cell.{Cell}
+use Rattle.station_cell.specs.Cell.{Cell}
 use Rattle.journal_script.specs.Journals.{EndsWhole, Shows}
 use Rattle.journal_script.specs.Restoring.{IsRestored}
 use Rattle.journal_script.proofs.Whole.{after_both, lines_apart}

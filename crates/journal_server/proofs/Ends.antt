@@ -18,7 +18,7 @@ use Rattle.ledger_model.specs.Content.{Content}
 use Rattle.ledger_model.specs.Laws.{left_by}
 use Rattle.site_desk.specs.declared.plan.SitePlan.{SitePlan}
 use Rattle.site_desk.specs.declared.plan.StationPlan.{StationPlan}
-use Rattle.site_desk.specs.Cell.{Cell}
+use Rattle.station_cell.specs.Cell.{Cell}
 use Rattle.site_desk.specs.Plan.{plan_fault}
 use Rattle.site_desk.specs.Roster.{AreCellsOf}
 use Rattle.site_desk.proofs.NewParts.{planned_names, planned_sites}

@@ -10,7 +10,7 @@ use Rattle.ledger_model.specs.Key.{KeyName}
 use Rattle.script_lines.specs.LineMeaning.{LineMeaning, commands, line_meaning}
 use Rattle.site_book.specs.Book.{Known}
 use Rattle.site_desk.specs.declared.roster.Place.{Place}
-use Rattle.site_desk.specs.Cell.{Held}
+use Rattle.station_cell.specs.Cell.{Held}
 use Rattle.site_desk.specs.Roster.{IsNamed}
 use Rattle.site_desk.specs.Submit.{IsUnchanged}
 use Rattle.station_link.specs.Answer.{Asks, IsSubmitted}

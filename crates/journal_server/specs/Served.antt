@@ -19,7 +19,7 @@ use Rattle.script_replay.specs.Laws.{script_after}
 use Rattle.script_replay.specs.Script.{Script, line_step, start}
 use Rattle.site_desk.specs.declared.plan.SitePlan.{SitePlan}
 use Rattle.site_desk.specs.declared.plan.StationPlan.{StationPlan}
-use Rattle.site_desk.specs.Cell.{Cell}
+use Rattle.station_cell.specs.Cell.{Cell}
 
 -- The line stands in a script, and asks for the command on the station of this name, which is not empty.
 pub record SpeaksOf (name line : List ℕ) (command : Command) : Type 0 where

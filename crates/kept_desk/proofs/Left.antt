@@ -12,9 +12,9 @@ use Rattle.ledger_model.specs.Laws.{AreAccepted, IsAccepted, left_by}
 use Rattle.ledger_model.specs.Limits.{Bounds}
 use Rattle.ledger_model.specs.Step.{answer, step}
 use Rattle.ledger_model.proofs.Callers.{is_counted}
-use Rattle.site_desk.specs.Cell.{Cell, Held}
-use Rattle.site_desk.specs.Settle.{cell_after}
-use Rattle.site_desk.proofs.Counts.{one_more}
+use Rattle.station_cell.specs.Cell.{Cell, Held}
+use Rattle.station_cell.specs.Settle.{cell_after}
+use Rattle.station_cell.proofs.Counts.{one_more}
 use Rattle.kept_desk.specs.Kept.{IsKeptCell, IsLeftFrom, commands_of}
 
 -- commands that are accepted, behind others

@@ -8,7 +8,7 @@ use Rattle.ledger_model.specs.Content.{Content}
 use Rattle.ledger_model.specs.Laws.{AreAccepted, left_by}
 use Rattle.ledger_model.specs.Limits.{Bounds}
 use Rattle.site_desk.specs.declared.roster.Place.{Place}
-use Rattle.site_desk.specs.Cell.{Cell, IsInService}
+use Rattle.station_cell.specs.Cell.{Cell, IsInService}
 
 -- The commands of entries, in their order.
 abbrev pub commands_of : List (Entry Command) → List Command

@@ -2,8 +2,8 @@ ghost use Rattle.std.specs.Prelude.{◌≡◌, [], length, IfOk};
 ghost use Rattle.journal_ties.specs.Entries.{HasNoFeed, of_station};
 ghost use Rattle.ledger_model.specs.Laws.{IsAccepted};
 ghost use Rattle.ledger_model.specs.Step.{answer};
-ghost use Rattle.site_desk.specs.Cell.{IsInService};
-ghost use Rattle.site_desk.specs.Settle.{cell_after};
+ghost use Rattle.station_cell.specs.Cell.{IsInService};
+ghost use Rattle.station_cell.specs.Settle.{cell_after};
 ghost use Rattle.site_desk.specs.Submit.{CanJudge, Submitted};
 ghost use Rattle.kept_desk.specs.Kept.{KeepsCell};
 
@@ -30,7 +30,7 @@ pub struct KeptCell<K: Ties + Opening> {
 }
 
 impl<K: Ties + Opening> Model for KeptCell<K> {
-    ghost use Rattle.site_desk.specs.Cell.{Cell, cell_code};
+    ghost use Rattle.station_cell.specs.Cell.{Cell, cell_code};
     ghost use Rattle.kept_desk.specs.Kept.{KeepsCell};
 
     ghost Value = { Cell };

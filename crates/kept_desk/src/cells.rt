@@ -1,7 +1,7 @@
 //! Cells with their hands, and without them.
 ghost use Rattle.std.specs.Prelude.{◌≡◌, ℕ, ◌+◌, ◌≤◌, [], ◌++◌, length, IfOk, OnOk, Some, All, slice_get, vec_len, vec_capacity};
 ghost use Rattle.journal_ties.specs.Entries.{of_station};
-ghost use Rattle.site_desk.specs.Cell.{Cell, IsInService};
+ghost use Rattle.station_cell.specs.Cell.{Cell, IsInService};
 ghost use Rattle.kept_desk.specs.Kept.{IsLeftFrom, commands_of};
 ghost use Rattle.kept_desk.specs.Opened.{AreFirst};
 

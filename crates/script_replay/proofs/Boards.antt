@@ -16,7 +16,7 @@ use Rattle.board_report.specs.Named.{NamedBoard}
 use Rattle.site_book.specs.Book.{Book}
 use Rattle.site_desk.specs.declared.plan.SitePlan.{SitePlan}
 use Rattle.site_desk.specs.declared.plan.StationPlan.{StationPlan}
-use Rattle.site_desk.specs.Cell.{Cell, Held}
+use Rattle.station_cell.specs.Cell.{Cell, Held}
 use Rattle.site_desk.specs.Parts.{limits_at, row_at}
 use Rattle.site_desk.specs.Plan.{has_twice}
 use Rattle.site_desk.proofs.Rows.{limits_more_no, limits_more_yes}

@@ -2,7 +2,7 @@
 use Rattle.std.proofs.Common.{◌≡◌, ℕ, zero, suc, ◌+◌, ◌<◌, List, [], ◌∷◌, ◌++◌, Result, Ok, All, length, map, take, drop, set, get_or, refl, subst, ap, sym, ◌∙◌, arith}
 use Rattle.std.specs.Prelude.{IfOk, OnOk}
 use Rattle.std.proofs.lemmas.List.{map-append, take_more}
-use Rattle.site_desk.specs.Cell.{Cell, Held, new_pass}
+use Rattle.station_cell.specs.Cell.{Cell, Held, new_pass}
 
 module _ {X : Type 0} (f : X → X) where
   -- the first i elements are changed

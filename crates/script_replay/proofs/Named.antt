@@ -9,7 +9,7 @@ use Rattle.ledger_model.specs.declared.command.Command.TheVariants.{Deliver}
 use Rattle.ledger_model.specs.World.{Station, world_after}
 use Rattle.site_book.specs.Book.{Book}
 use Rattle.site_desk.specs.declared.plan.StationPlan.{StationPlan}
-use Rattle.site_desk.specs.Cell.{Cell, Held}
+use Rattle.station_cell.specs.Cell.{Cell, Held}
 use Rattle.transaction_event.specs.declared.message.Message.{Message}
 use Rattle.transaction_event.specs.declared.message.Message.TheVariants as read
 use Rattle.transaction_event.specs.Message.{message}

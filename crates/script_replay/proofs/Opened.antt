@@ -8,10 +8,10 @@ use Rattle.ledger_model.specs.Content.{empty_content}
 use Rattle.site_book.specs.Book.{Book}
 use Rattle.site_desk.specs.declared.plan.SitePlan.{SitePlan}
 use Rattle.site_desk.specs.declared.plan.StationPlan.{StationPlan}
-use Rattle.site_desk.specs.Cell.{Cell, Held, Knows, new_cell, new_pass}
+use Rattle.station_cell.specs.Cell.{Cell, Held, Knows, new_cell, new_pass}
 use Rattle.site_desk.specs.Parts.{AreApart, AreNewBooks, AreNewCells, AreTied, limits_at, new_book, row_at}
 use Rattle.site_desk.specs.Plan.{period_at}
-use Rattle.site_desk.specs.Settle.{Holds, Tied}
+use Rattle.station_cell.specs.Settle.{Holds, Tied}
 use Rattle.desk_report.proofs.SiteBoards.{some_same, stands}
 use Rattle.script_replay.specs.Drafts.{IsPlan, planned_world, site_name}
 use Rattle.script_replay.specs.Running.{IsPlaced, IsRunning, IsShown, filled, posts_in}

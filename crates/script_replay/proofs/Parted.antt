@@ -10,7 +10,7 @@ use Rattle.site_book.specs.Book.{Book}
 use Rattle.site_desk.specs.declared.fault.DeskFault.TheVariants.{PlanLimit, StationTwice}
 use Rattle.site_desk.specs.declared.plan.SitePlan.{SitePlan}
 use Rattle.site_desk.specs.declared.plan.StationPlan.{StationPlan}
-use Rattle.site_desk.specs.Cell.{Cell, Held}
+use Rattle.station_cell.specs.Cell.{Cell, Held}
 use Rattle.site_desk.specs.Plan.{has_twice, is_within_limits, most_viewers, plan_fault}
 use Rattle.site_desk.specs.Roster.{AreCellsOf}
 use Rattle.script_replay.specs.Drafts.{IsPlan}

@@ -18,10 +18,10 @@ use Rattle.site_book.specs.Book.{Book}
 use Rattle.site_book.proofs.Named.{get_else, get_here}
 use Rattle.site_desk.specs.declared.plan.SitePlan.{SitePlan}
 use Rattle.site_desk.specs.declared.plan.StationPlan.{StationPlan}
-use Rattle.site_desk.specs.Cell.{Cell, Held, Knows}
+use Rattle.station_cell.specs.Cell.{Cell, Held, Knows}
 use Rattle.site_desk.specs.Parts.{AreTied, limits_at}
 use Rattle.site_desk.specs.Plan.{has_twice}
-use Rattle.site_desk.specs.Settle.{Holds, Tied, cell_after, posts_after}
+use Rattle.station_cell.specs.Settle.{Holds, Tied, cell_after, posts_after}
 use Rattle.site_desk.proofs.Ties.{apart_step, tied_step}
 use Rattle.desk_report.proofs.SiteBoards.{some_same, stands}
 use Rattle.script_replay.specs.Drafts.{Drafted, planned_world, site_name}

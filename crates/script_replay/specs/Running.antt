@@ -7,10 +7,10 @@ use Rattle.ledger_model.specs.World.{Station, World, world_after}
 use Rattle.site_book.specs.Book.{Book}
 use Rattle.site_desk.specs.declared.plan.SitePlan.{SitePlan}
 use Rattle.site_desk.specs.declared.plan.StationPlan.{StationPlan}
-use Rattle.site_desk.specs.Cell.{Cell, Held, Knows}
+use Rattle.station_cell.specs.Cell.{Cell, Held, Knows}
 use Rattle.site_desk.specs.Parts.{AreApart, limits_at, row_at}
 use Rattle.site_desk.specs.Plan.{period_at}
-use Rattle.site_desk.specs.Settle.{Holds, Tied}
+use Rattle.station_cell.specs.Settle.{Holds, Tied}
 use Rattle.script_replay.specs.Drafts.{Drafted, IsPlan, planned_world}
 use Rattle.script_replay.specs.Script.{Script}
 

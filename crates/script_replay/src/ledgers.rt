@@ -4,7 +4,7 @@ ghost use Rattle.std.specs.List.{position};
 ghost use Rattle.std.specs.Str.{bytes_eq};
 ghost use Rattle.board_report.specs.Texts.{board_text};
 ghost use Rattle.site_book.specs.Tables.{HasTable, NamedBy};
-ghost use Rattle.site_desk.specs.Cell.{Cell, new_pass};
+ghost use Rattle.station_cell.specs.Cell.{Cell, new_pass};
 ghost use Rattle.message_ahead.specs.Ahead.{asking};
 ghost use Rattle.site_desk.specs.Plan.{plan_fault};
 ghost use Rattle.site_desk.specs.Roster.{AreCellsOf};

@@ -8,7 +8,7 @@ use Rattle.std.proofs.lemmas.Option.{slice_get_within, get_or_from_slice_get}
 use Rattle.ledger_model.specs.declared.figures.Figures.{Figures}
 use Rattle.ledger_model.specs.Board.{figures, plus_figures, sum_of_figures}
 use Rattle.ledger_model.specs.Content.{Content, entries}
-use Rattle.site_desk.specs.Cell.{Cell}
+use Rattle.station_cell.specs.Cell.{Cell}
 use Rattle.site_desk.specs.Close.{figures_at, figures_with}
 
 module _ {X : Type 0} (P : ℕ → X → Type 0) where

@@ -6,7 +6,7 @@ use Rattle.site_book.specs.Book.{Book}
 use Rattle.site_desk.specs.declared.plan.SitePlan.{SitePlan}
 use Rattle.site_desk.specs.declared.plan.StationPlan.{StationPlan}
 use Rattle.site_desk.specs.declared.roster.Place.{Place}
-use Rattle.site_desk.specs.Cell.{Cell}
+use Rattle.station_cell.specs.Cell.{Cell}
 use Rattle.site_desk.specs.Parts.{AreTied, IsTied}
 use Rattle.site_desk.specs.Plan.{plan_fault}
 use Rattle.site_desk.specs.Roster.{AreNewPlaces, IsDesk, new_place}

@@ -1,8 +1,6 @@
 pub mod Twice
 pub mod Declared
 pub mod Rows
-pub mod Counts
-pub mod Settled
 pub mod NewParts
 pub mod Ties
 pub mod Callers

@@ -13,7 +13,7 @@ use Rattle.site_desk.specs.declared.plan.SitePlan.{SitePlan}
 use Rattle.site_desk.specs.declared.plan.StationPlan.{StationPlan}
 use Rattle.site_desk.specs.declared.fault.DeskFault.{DeskFault}
 use Rattle.site_desk.specs.declared.fault.DeskFault.TheVariants.{PlanLimit, StationTwice}
-use Rattle.site_desk.specs.Cell.{Cell, new_cell}
+use Rattle.station_cell.specs.Cell.{Cell, new_cell}
 use Rattle.site_desk.specs.Plan.{has_twice, is_within_limits, period_at, plan_fault, most_viewers}
 use Rattle.site_desk.specs.Parts.{AreNewBooks, AreNewCells, limits_at, new_book, new_viewers, row_at}
 

@@ -10,7 +10,7 @@ use Rattle.energy_flow.specs.Flow.{Energy}
 use Rattle.ledger_model.specs.Board.{Board, plus_figures, sum_of_figures}
 use Rattle.ledger_model.specs.Figures.{AreWithin}
 use Rattle.site_desk.specs.declared.roster.Place.{Place}
-use Rattle.site_desk.specs.Cell.{Cell}
+use Rattle.station_cell.specs.Cell.{Cell}
 use Rattle.site_desk.specs.Operator.{AreBoardsAt, AreBoardsOf, AreTotalsOfName, AreTotalsWithin, IsBoardAt}
 use Rattle.site_desk.specs.Roster.{IsNamed, StandsAt}
 use Rattle.site_desk.specs.Submit.{IsBoardWithin}

@@ -12,11 +12,11 @@ use Rattle.ledger_model.specs.Step.{Reached, answer, step}
 use Rattle.std.proofs.lemmas.Option.{get_or_from_slice_get}
 use Rattle.site_book.specs.Book.{Book, Known, known}
 use Rattle.site_desk.specs.declared.roster.Place.{Place}
-use Rattle.site_desk.specs.Cell.{Cell, Held, Knows}
+use Rattle.station_cell.specs.Cell.{Cell, Held, Knows}
 use Rattle.site_desk.specs.Roster.{IsNamed, StandsAt}
-use Rattle.site_desk.specs.Settle.{cell_after, pass_after, posts_after, told_after}
+use Rattle.station_cell.specs.Settle.{cell_after, pass_after, posts_after, told_after}
 use Rattle.site_desk.specs.Submit.{IsAnswered, IsBoardOfName, IsBoardWithin, IsTaken, Submitted}
-use Rattle.site_desk.proofs.Counts.{count_part, next_number}
+use Rattle.station_cell.proofs.Counts.{count_part, next_number}
 
 module _ (at : Place) (number : ℕ) (c : Cell) (b : Book) (p : Held) (command : Command) (stands : StandsAt number at c) (site : b.site ≡ at.site)
     (reached : Reached c.limits c.content.changes c.content) (counted : sum c.counts ≡ c.content.changes) (knows : Knows c p) where

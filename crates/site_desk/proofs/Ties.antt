@@ -14,12 +14,12 @@ use Rattle.site_book.specs.Book.{Book}
 use Rattle.site_book.proofs.Named.{get_else, get_here}
 use Rattle.site_desk.specs.declared.plan.SitePlan.{SitePlan}
 use Rattle.site_desk.specs.declared.plan.StationPlan.{StationPlan}
-use Rattle.site_desk.specs.Cell.{Cell, Held, new_cell}
+use Rattle.station_cell.specs.Cell.{Cell, Held, new_cell}
 use Rattle.site_desk.specs.Parts.{AreApart, AreNewBooks, AreNewCells, AreTied, IsTied, limits_at, new_book, row_at}
 use Rattle.site_desk.specs.Plan.{period_at, plan_fault}
-use Rattle.site_desk.specs.Settle.{Tied, cell_after, posts_after}
+use Rattle.station_cell.specs.Settle.{Tied, cell_after, posts_after}
 use Rattle.site_desk.proofs.NewParts.{planned_sites}
-use Rattle.site_desk.proofs.Settled.{tied_after, tied_beside}
+use Rattle.station_cell.proofs.Settled.{tied_after, tied_beside}
 
 -- the row of a later station
 row_later : (x : StationPlan) (xs : List StationPlan) (site k : ℕ) → row_at (x ∷ xs) site (suc k) ≡ cond (eqb x.site site) 1 0 + row_at xs site k

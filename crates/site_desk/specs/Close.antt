@@ -10,7 +10,7 @@ use Rattle.site_book.specs.Book.{Book, Known}
 use Rattle.site_book.specs.Prefix.{IsPrefix}
 use Rattle.site_desk.specs.declared.roster.Place.{Place}
 use Rattle.station_ledger.specs.Ledger.{bounds_code}
-use Rattle.site_desk.specs.Cell.{Cell, Held, cell_code}
+use Rattle.station_cell.specs.Cell.{Cell, Held, cell_code}
 use Rattle.site_desk.specs.Parts.{IsTied}
 use Rattle.site_desk.specs.Roster.{StandsAt}
 

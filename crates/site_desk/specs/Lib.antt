@@ -1,6 +1,4 @@
 pub mod Plan
-pub mod Cell
-pub mod Settle
 pub mod Parts
 pub mod Roster
 pub mod Submit

@@ -3,9 +3,9 @@ use Rattle.ledger_model.specs.Limits.{Bounds}
 use Rattle.site_book.specs.Book.{Book, Known, known}
 use Rattle.site_desk.specs.declared.plan.SitePlan.{SitePlan}
 use Rattle.site_desk.specs.declared.plan.StationPlan.{StationPlan}
-use Rattle.site_desk.specs.Cell.{Cell, new_cell}
+use Rattle.station_cell.specs.Cell.{Cell, new_cell}
 use Rattle.site_desk.specs.Plan.{period_at}
-use Rattle.site_desk.specs.Settle.{Holds, Tied}
+use Rattle.station_cell.specs.Settle.{Holds, Tied}
 
 -- The row of a station of this number at a site: how many stations of the site come before it.
 abbrev pub row_at : List StationPlan → ℕ → ℕ → ℕ

@@ -10,9 +10,9 @@ use Rattle.ledger_model.specs.Posts.{Post}
 use Rattle.ledger_model.specs.Step.{Reached, answer, step}
 use Rattle.site_book.specs.Book.{Book, Known, known}
 use Rattle.site_desk.specs.declared.roster.Place.{Place}
-use Rattle.site_desk.specs.Cell.{Cell, Held, IsInService, Knows}
+use Rattle.station_cell.specs.Cell.{Cell, Held, IsInService, Knows}
 use Rattle.site_desk.specs.Roster.{IsNamed, StandsAt}
-use Rattle.site_desk.specs.Settle.{Holds, Tied}
+use Rattle.station_cell.specs.Settle.{Holds, Tied}
 
 -- The command was accepted as change n at some content that n - 1 accepted commands leave; its station's figures after it were posted last, and the pass made one change more.
 pub record IsTaken (at : Place) (p : Held) (command : Command) (n : ℕ) (p' : Held) (told : Option Known) : Type 0 where

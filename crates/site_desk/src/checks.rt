@@ -5,15 +5,13 @@ ghost use Rattle.site_desk.specs.Close.{AreAllPasses, AreSummed, AreViewed, AreW
 ghost use Rattle.site_desk.specs.Parts.{IsTied};
 ghost use Rattle.site_desk.specs.declared.fault.CloseFault.{CloseFault};
 
-use crate::cell::StationCell;
 use crate::fault::CloseFault;
 use crate::has_cell::HasCell;
-use crate::pass::Pass;
 use crate::roster::Place;
-use crate::steps::{are_same, tied};
 use crate::submit::stands_at;
 use ledger_model::Figures;
 use site_book::{Naming, SiteBook, Viewer};
+use station_cell::{Pass, StationCell, are_same, tied};
 
 // How many of the passes are the station's.
 fn passes_of(passes: &[Pass], number: usize) -> usize

@@ -10,10 +10,6 @@ pub enum DeskFault {
     OutOfMemory,
 }
 
-/// A station gave out as many passes as it may: 65,536.
-#[derive(Clone, Copy, Debug, PartialEq, Eq)]
-pub struct TooManyPasses;
-
 /// Why no pass is given out.
 #[derive(Clone, Copy, Debug, PartialEq, Eq)]
 pub enum EnlistFault {

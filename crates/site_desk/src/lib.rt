@@ -1,10 +1,9 @@
 //! The stations and sites of a running desk: ledgers and books under locks, tied rows, and the end.
 //!
-//! A [`Plan`] has sites and stations. [`Parts::open`] makes a [`StationCell`] of each station, its
-//! ledger with what each of its [`Pass`]es changed, and a book of each site, whose rows show the
-//! stations' figures. [`settle`] takes a command of a pass at a cell: where it is accepted, it posts
-//! the station's new figures in the book, in one step. A [`Desk`] has the same parts, each cell and each
-//! book behind a lock of its own, so that stations take commands at once: [`Desk::submit`] settles
+//! A [`Plan`] has sites and stations. [`Parts::open`] makes a [`StationCell`] of each station (`station_cell`,
+//! which this crate gives on with its [`Pass`], and whose step is [`settle`]), and a book of each site, whose
+//! rows show the stations' figures. A [`Desk`] has the same parts, each cell and each book behind a lock of
+//! its own, so that stations take commands at once: [`Desk::submit`] settles
 //! under the station's lock and then its site's, while viewers glance at the totals and wait for
 //! nobody. [`Desk::close`] compares all that lay behind the locks and gives up the locks: a [`Closed`].
 //! An operator reads a running desk by [`Desk::station_totals`] and [`Desk::site_boards`], whose boards are of one
@@ -15,13 +14,11 @@
 //! ([`Desk::submit_by`]; [`can_judge`], [`can_settle`] and [`settle_at`] are its parts). A cell whose site's book is not
 //! as it should be leaves service there ([`StationCell::retire`]).
 //!
-//! The crate's one contract: a cell's content is always one that as many accepted commands as its
-//! passes made leave of the empty content, under its limits. `settle` takes the step of the ledger
-//! and posts the figures after it, no more and no less, and leaves the row tied to the content. What
-//! `submit` answers is the step's answer at some such content, since nobody knows beforehand what lies
-//! behind a lock. Where `close` succeeds, all counts agree, all rows are tied, all totals are sums over
-//! stations, and what each viewer knew begins its site's posts. That a run settles at all, and on the
-//! latest content, the tests show.
+//! The crate's one contract: what [`Desk::submit`] answers is the step's answer at some content that
+//! accepted commands leave, since nobody knows beforehand what lies behind a lock, and only where all that
+//! `settle` asks was found under both locks. Where `close` succeeds, all counts agree, all rows are tied, all
+//! totals are sums over stations, and what each viewer knew begins its site's posts. That a run settles at
+//! all, and on the latest content, the tests show.
 //!
 //! ```text
 //! let (desk, viewers) = Desk::open(alloc, Tables::make(alloc, sites)?, &plan)?;
@@ -32,7 +29,6 @@
 //! ```
 #![tactic(auto)]
 
-mod cell;
 mod checks;
 mod closed;
 mod desk;
@@ -42,23 +38,19 @@ mod has_cell;
 mod locks;
 mod operator;
 mod parts;
-mod pass;
 mod plan;
 mod roster;
 mod settles;
-mod steps;
 mod submit;
 
-pub use cell::{MAX_PASSES, StationCell, enlist_cell};
 pub use closed::{CloseRefused, Closed};
 pub use desk::Desk;
-pub use fault::{BoardFault, CloseFault, DeskFault, EnlistFault, TooManyPasses};
+pub use fault::{BoardFault, CloseFault, DeskFault, EnlistFault};
 pub use gate::{Gate, NoGate};
 pub use has_cell::HasCell;
 pub use parts::Parts;
-pub use pass::Pass;
 pub use plan::{MAX_VIEWERS, Plan, SitePlan, StationPlan};
 pub use roster::Place;
 pub use settles::Settles;
-pub use steps::{settle, tied};
+pub use station_cell::{MAX_PASSES, Pass, StationCell, TooManyPasses, enlist_cell, settle, tied};
 pub use submit::{can_judge, can_settle, settle_at};

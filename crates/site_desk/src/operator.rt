@@ -4,7 +4,6 @@ ghost use Rattle.site_desk.specs.declared.fault.BoardFault.{BoardFault};
 ghost use Rattle.ledger_model.specs.Board.{Board, sum_of_figures};
 ghost use Rattle.site_desk.specs.Operator.{AreBoardsAt, AreTotalsWithin, IsBoardAt};
 
-use crate::cell::StationCell;
 use crate::checks::plus;
 use crate::fault::BoardFault;
 use crate::has_cell::HasCell;
@@ -13,6 +12,7 @@ use crate::roster::Place;
 use crate::submit::{board_of, stands_at};
 use energy_flow::Flow;
 use ledger_model::{Figures, Name};
+use station_cell::StationCell;
 use station_ledger::StationBoard;
 use std::alloc::{AllocError, Global};
 use std::sync::{Mutex, MutexGuard, Wait};

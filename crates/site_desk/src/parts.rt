@@ -6,12 +6,12 @@ ghost use Rattle.site_desk.specs.Parts.{AreApart, AreNewBooks, AreNewCells, AreT
 ghost use Rattle.site_desk.specs.Plan.{plan_fault};
 ghost use Rattle.site_desk.specs.Roster.{AreCellsOf};
 
-use crate::cell::StationCell;
 use crate::fault::DeskFault;
 use crate::plan::{Plan, SitePlan, StationPlan, period_of};
 use arrayvec::ArrayVec;
 use ledger_model::{Limits, Listed, MAX_STATIONS};
 use site_book::{Naming, SiteBook, Tables, Viewer};
+use station_cell::StationCell;
 use std::alloc::{AllocError, Global};
 
 /// The parts of a desk without its locks: a cell for each station and a book for each site, both in

@@ -1,11 +1,10 @@
 ghost use Rattle.site_desk.specs.Submit.{Submitted};
 
-use crate::cell::StationCell;
-use crate::pass::Pass;
 use crate::roster::Place;
 use crate::submit::try_settle;
 use ledger_model::{Answer, Command};
 use site_book::{Naming, SiteBook, Told};
+use station_cell::{Pass, StationCell};
 use std::sync::{Mutex, Wait};
 
 /// How a command is taken once a desk holds the station's lock ([`Desk::submit_by`](crate::Desk::submit_by)).

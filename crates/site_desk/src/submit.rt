@@ -2,15 +2,13 @@ ghost use Rattle.std.specs.Prelude.{◌≡◌, IsTrue, IfOk};
 ghost use Rattle.ledger_model.specs.Figures.{AreWithin};
 ghost use Rattle.ledger_model.specs.Step.{answer};
 ghost use Rattle.site_desk.specs.Roster.{StandsAt};
-ghost use Rattle.site_desk.specs.Settle.{cell_after};
+ghost use Rattle.station_cell.specs.Settle.{cell_after};
 ghost use Rattle.site_desk.specs.Submit.{CanJudge, CanSettle, IsBoardWithin, Submitted};
 
-use crate::cell::StationCell;
-use crate::pass::Pass;
 use crate::roster::Place;
-use crate::steps::{settle, tied};
 use ledger_model::{Answer, Command, Refusal};
 use site_book::{Naming, SiteBook, Told};
+use station_cell::{Pass, StationCell, settle, tied};
 use station_ledger::StationBoard;
 use std::alloc::{AllocError, Global};
 

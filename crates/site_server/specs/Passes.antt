@@ -1,6 +1,6 @@
 -- The passes that sessions give back.
 use Rattle.std.specs.Prelude.{ℕ, ◌<◌, ◌≤◌, List, [], ◌∷◌, ◌++◌, Option, None, Some}
-use Rattle.site_desk.specs.Cell.{Held}
+use Rattle.station_cell.specs.Cell.{Held}
 use Rattle.station_link.specs.Session.{most_messages}
 
 -- A pass of a desk with so many stations, which made no more changes than a session takes messages.

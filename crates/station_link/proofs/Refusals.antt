@@ -3,7 +3,7 @@ use Rattle.std.proofs.Common.{◌≡◌, List, ℕ, Bool, true, false, None, Som
 use Rattle.std.specs.List.{list_any}
 use Rattle.std.specs.Str.{bytes_eq}
 use Rattle.site_desk.specs.declared.roster.Place.{Place}
-use Rattle.site_desk.specs.Cell.{Held}
+use Rattle.station_cell.specs.Cell.{Held}
 use Rattle.site_desk.specs.Roster.{IsNamed}
 use Rattle.station_link.specs.declared.ending.Why.TheVariants.{UnknownStation, TooManyPasses}
 use Rattle.station_link.specs.declared.request.Seen.TheVariants.{Request}

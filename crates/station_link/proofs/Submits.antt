@@ -14,7 +14,7 @@ use Rattle.ocppj_frame.specs.Frame.{Frame, Called, Ready, Silence, frame}
 use Rattle.ocppj_frame.specs.Ranges.{longest_message}
 use Rattle.site_book.specs.Book.{Known}
 use Rattle.site_desk.specs.declared.roster.Place.{Place}
-use Rattle.site_desk.specs.Cell.{Held}
+use Rattle.station_cell.specs.Cell.{Held}
 use Rattle.site_desk.specs.Submit.{IsAnswered, IsUnchanged, Submitted}
 use Rattle.transaction_event.specs.Laws.{EachDeliveryIsAnswered}
 use Rattle.transaction_event.specs.Message.{Event, meaning_of, message}

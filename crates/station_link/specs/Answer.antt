@@ -10,7 +10,7 @@ use Rattle.ledger_model.specs.Key.{KeyName}
 use Rattle.ocppj_frame.specs.Frame.{frame}
 use Rattle.site_book.specs.Book.{Known}
 use Rattle.site_desk.specs.declared.roster.Place.{Place}
-use Rattle.site_desk.specs.Cell.{Held}
+use Rattle.station_cell.specs.Cell.{Held}
 use Rattle.site_desk.specs.Submit.{IsUnchanged, Submitted}
 use Rattle.transaction_event.specs.Message.{Meaning, Event, Ready, Silence, message}
 use Rattle.transaction_event.specs.MessageMeaning.{IsMemoryReply}

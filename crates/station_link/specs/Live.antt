@@ -1,6 +1,6 @@
 -- Sessions of a server that lives.
 use Rattle.std.specs.Prelude.{◌≡◌, ℕ, ◌+◌, ◌≤◌, ⊤}
-use Rattle.site_desk.specs.Cell.{Held}
+use Rattle.station_cell.specs.Cell.{Held}
 use Rattle.station_link.specs.declared.ending.Why.{Why}
 use Rattle.station_link.specs.declared.live.Cause.{Cause}
 use Rattle.station_link.specs.declared.live.Cause.TheVariants.{Ended, Dismissed}

@@ -6,7 +6,7 @@ use Rattle.std.specs.List.{list_any}
 use Rattle.std.specs.Str.{bytes_eq}
 use Rattle.ledger_model.specs.Name.{is_name}
 use Rattle.site_desk.specs.declared.roster.Place.{Place}
-use Rattle.site_desk.specs.Cell.{Held}
+use Rattle.station_cell.specs.Cell.{Held}
 use Rattle.site_desk.specs.Roster.{IsNamed}
 use Rattle.station_link.specs.declared.ending.Why.{Why}
 use Rattle.station_link.specs.declared.ending.Why.TheVariants.{HandshakeFailed, UnknownStation, NotOcpp, OutOfMemory, TooManyPasses}

@@ -7,7 +7,7 @@ use Rattle.std.proofs.lemmas.List.Elements.{All-push}
 use Rattle.journal_ties.specs.Entries.{of_station}
 use Rattle.journal_ties.specs.Journal.{Ledger}
 use Rattle.ledger_model.specs.declared.command.Command.{Command}
-use Rattle.site_desk.specs.Cell.{Cell, IsInService}
+use Rattle.station_cell.specs.Cell.{Cell, IsInService}
 use Rattle.kept_desk.specs.Kept.{IsLeftFrom, commands_of}
 use Rattle.kept_desk.proofs.cells.free_cells.Goals as goal
 

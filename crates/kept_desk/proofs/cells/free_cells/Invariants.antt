@@ -1,7 +1,7 @@
 use Rattle.std.proofs.Common.{◌≡◌, vec_capacity}
 use Rattle.std.specs.Prelude.{All}
 use Rattle.journal_ties.specs.Entries.{of_station}
-use Rattle.site_desk.specs.Cell.{IsInService}
+use Rattle.station_cell.specs.Cell.{IsInService}
 use Rattle.kept_desk.specs.Kept.{IsLeftFrom, commands_of}
 use Rattle.kept_desk.proofs.cells.free_cells.Given as goal
 

@@ -1,5 +1,5 @@
 use Rattle.std.proofs.Common.{◌≡◌, ◌<◌, length, get_or, subst}
-use Rattle.site_desk.specs.Cell.{Cell, new_pass}
+use Rattle.station_cell.specs.Cell.{Cell, new_pass}
 use Rattle.script_replay.proofs.Enlisted.{enlisted_step, told_ok, told_value}
 use Rattle.script_replay.proofs.ledgers.enlist_all.Goals as goal
 

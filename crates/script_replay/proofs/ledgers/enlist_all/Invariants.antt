@@ -1,5 +1,5 @@
 use Rattle.std.proofs.Common.{◌≡◌, ◌∷◌, [], length, map, take}
-use Rattle.site_desk.specs.Cell.{Cell, new_pass}
+use Rattle.station_cell.specs.Cell.{Cell, new_pass}
 use Rattle.script_replay.proofs.Enlisted.{turned}
 use Rattle.script_replay.proofs.ledgers.enlist_all.Given as goal
 

@@ -1,6 +1,6 @@
 use Rattle.std.proofs.Common.{◌≡◌, length, map, sym, ◌∙◌, arith}
 use Rattle.std.proofs.lemmas.List.{length-map}
-use Rattle.site_desk.specs.Cell.{Cell}
+use Rattle.station_cell.specs.Cell.{Cell}
 use Rattle.site_desk.specs.Close.{passes_of}
 use Rattle.site_desk.proofs.Comparisons.{each_more, each_all, cell_at}
 use Rattle.site_desk.proofs.checks.are_all_passes.Goals as goal

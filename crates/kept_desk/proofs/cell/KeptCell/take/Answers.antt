@@ -2,7 +2,7 @@ use Rattle.std.proofs.Common.{[], refl, ap, ◌∙◌}
 use Rattle.ledger_model.specs.declared.answer.Answer.TheVariants.{Repeat, Refused}
 use Rattle.ledger_model.specs.Step.{answer}
 use Rattle.site_book.specs.Book.{Book}
-use Rattle.site_desk.specs.Settle.{cell_after}
+use Rattle.station_cell.specs.Settle.{cell_after}
 use Rattle.site_desk.proofs.Submits.{submitted}
 use Rattle.kept_desk.proofs.cell.KeptCell.take.Goals as goal
 

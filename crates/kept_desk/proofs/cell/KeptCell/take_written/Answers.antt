@@ -1,7 +1,7 @@
 use Rattle.std.proofs.Common.{ap, sym, ◌∙◌, subst}
 use Rattle.ledger_model.specs.Laws.{IsAccepted}
 use Rattle.ledger_model.specs.Step.{answer}
-use Rattle.site_desk.specs.Cell.{IsInService}
+use Rattle.station_cell.specs.Cell.{IsInService}
 use Rattle.kept_desk.proofs.Left.{kept_more}
 use Rattle.kept_desk.proofs.cell.KeptCell.take_written.Goals as goal
 

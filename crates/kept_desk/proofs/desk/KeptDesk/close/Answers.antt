@@ -5,7 +5,7 @@ use Rattle.std.proofs.lemmas.Option.{slice_get_within}
 use Rattle.journal_ties.specs.Entries.{of_station}
 use Rattle.journal_ties.specs.Journal.{IsWritten, Ledger}
 use Rattle.ledger_model.specs.declared.command.Command.{Command}
-use Rattle.site_desk.specs.Cell.{Cell, IsInService}
+use Rattle.station_cell.specs.Cell.{Cell, IsInService}
 use Rattle.site_desk.specs.Parts.{AreTied}
 use Rattle.kept_desk.specs.Kept.{IsLeftFrom, commands_of}
 use Rattle.kept_desk.proofs.Names.{all_at}

@@ -1,7 +1,7 @@
 use Rattle.std.proofs.Common.{refl, sym, ap, ◌∙◌, ◌++◌, length, arith}
 use Rattle.std.proofs.lemmas.Option.{slice_get_read}
 use Rattle.ledger_model.specs.Content.{entries}
-use Rattle.site_desk.specs.Cell.{Cell}
+use Rattle.station_cell.specs.Cell.{Cell}
 use Rattle.ledger_model.specs.Board.{figures}
 use Rattle.board_report.specs.Texts.{total_text}
 use Rattle.desk_report.proofs.SiteBoards.{some_same}

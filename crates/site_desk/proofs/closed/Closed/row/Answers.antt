@@ -4,7 +4,7 @@ use Rattle.ledger_model.specs.Board.{figures}
 use Rattle.ledger_model.specs.Content.{entries}
 use Rattle.ledger_model.specs.Posts.{row_after}
 use Rattle.site_book.specs.Book.{Book}
-use Rattle.site_desk.specs.Cell.{Cell}
+use Rattle.station_cell.specs.Cell.{Cell}
 use Rattle.site_desk.specs.Close.{Ended}
 use Rattle.site_desk.proofs.Ends.{tied_at, book_at}
 use Rattle.site_desk.proofs.closed.Closed.row.Goals as goal

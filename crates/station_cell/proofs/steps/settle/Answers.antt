@@ -2,8 +2,8 @@ use Rattle.std.proofs.Common.{ap, refl, ◌∙◌}
 use Rattle.ledger_model.specs.declared.answer.Answer.TheVariants.{Repeat, Refused}
 use Rattle.ledger_model.specs.Board.{figures}
 use Rattle.ledger_model.specs.Content.{entries}
-use Rattle.site_desk.proofs.Settled.{book_posted, known_after, tied_after}
-use Rattle.site_desk.proofs.steps.settle.Goals as goal
+use Rattle.station_cell.proofs.Settled.{book_posted, known_after, tied_after}
+use Rattle.station_cell.proofs.steps.settle.Goals as goal
 
 pub returns-in-Accepted-clause-book : goal.returns-in-Accepted-clause-book
 returns-in-Accepted-clause-book g c =

@@ -10,7 +10,7 @@ use Rattle.ledger_model.specs.Content.{Content}
 use Rattle.ledger_model.specs.Laws.{IsAccepted}
 use Rattle.ledger_model.specs.Step.{answer, step, content_after, Reached}
 use Rattle.ledger_model.proofs.Callers.{is_counted}
-use Rattle.site_desk.specs.Cell.{Cell, Held, Knows, IsCell, most_passes}
+use Rattle.station_cell.specs.Cell.{Cell, Held, Knows, IsCell, most_passes}
 
 module _ (counts : List ℕ) (slot changes : ℕ) (at : slice_get counts slot ≡ Some changes) where
   -- the count that is read

@@ -1,7 +1,7 @@
 ghost use Rattle.std.specs.Prelude.{◌≡◌, ◌↔◌, ◌<◌, ◌^◌, length, IsTrue};
 ghost use Rattle.ledger_model.specs.Step.{answer};
-ghost use Rattle.site_desk.specs.Cell.{Knows};
-ghost use Rattle.site_desk.specs.Settle.{Holds, Tied, cell_after, pass_after, posts_after, told_after};
+ghost use Rattle.station_cell.specs.Cell.{Knows};
+ghost use Rattle.station_cell.specs.Settle.{Holds, Tied, cell_after, pass_after, posts_after, told_after};
 
 use crate::cell::StationCell;
 use crate::pass::Pass;
@@ -54,8 +54,8 @@ pub fn tied<J: Naming>(cell: &StationCell, book: &SiteBook<J>) -> bool
     are_same(&book.row(cell.row()), &cell.ledger().figures())
 }
 
-// Tells whether both are the same figures.
-pub(crate) fn are_same(figures: &Figures, others: &Figures) -> bool
+/// Tells whether both are the same figures.
+pub fn are_same(figures: &Figures, others: &Figures) -> bool
     ensures { IsTrue result ↔ (figures.now ≡ others.now) }
 {
     figures == others

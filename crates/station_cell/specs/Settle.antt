@@ -7,7 +7,7 @@ use Rattle.ledger_model.specs.Content.{entries}
 use Rattle.ledger_model.specs.Posts.{Post, row_after}
 use Rattle.ledger_model.specs.Step.{answer, step}
 use Rattle.site_book.specs.Book.{Book, Known, known}
-use Rattle.site_desk.specs.Cell.{Cell, Held}
+use Rattle.station_cell.specs.Cell.{Cell, Held}
 
 -- The book has the cell's row, which was opened with the cell's limits.
 abbrev pub Holds : Cell → Book → Type 0

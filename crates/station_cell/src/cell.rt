@@ -1,7 +1,7 @@
 ghost use Rattle.std.specs.Prelude.{◌≡◌, ◌↔◌, ◌<◌, ◌^◌, ◌++◌, ◌∷◌, [], length, sum, IsTrue, IsErr, IfOk, OnOk, OnErr};
 ghost use Rattle.ledger_model.specs.Step.{Reached, answer};
-ghost use Rattle.site_desk.specs.Cell.{IsInService, Knows, most_passes, new_cell, new_pass, no_station};
-ghost use Rattle.site_desk.specs.Settle.{cell_after, pass_after};
+ghost use Rattle.station_cell.specs.Cell.{IsInService, Knows, most_passes, new_cell, new_pass, no_station};
+ghost use Rattle.station_cell.specs.Settle.{cell_after, pass_after};
 
 use crate::fault::TooManyPasses;
 use crate::pass::Pass;
@@ -31,7 +31,7 @@ pub struct StationCell {
 
 impl Model for StationCell {
     ghost use Rattle.std.specs.Prelude.{vec_capacity};
-    ghost use Rattle.site_desk.specs.Cell.{Cell, cell_code, IsCell};
+    ghost use Rattle.station_cell.specs.Cell.{Cell, cell_code, IsCell};
 
     ghost Value = { Cell };
 
@@ -43,8 +43,9 @@ impl Model for StationCell {
 }
 
 impl StationCell {
-    // The cell of a station without events, with room for all its passes.
-    pub(crate) fn open(
+    /// The cell of a station without events: the station's number, its site's, its row in that site's book,
+    /// its limits and its site's settlement period, with room for all its passes. It alone takes memory.
+    pub fn open(
         alloc: Global,
         station: u16,
         site: u16,

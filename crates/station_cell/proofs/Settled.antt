@@ -12,8 +12,8 @@ use Rattle.ledger_model.proofs.PostLemmas.{row-push_same, row-push_other}
 use Rattle.station_ledger.specs.Ledger.{Ledger}
 use Rattle.site_book.specs.Book.{Book}
 use Rattle.site_book.proofs.Named.{get_here}
-use Rattle.site_desk.specs.Cell.{Cell, Held, Knows}
-use Rattle.site_desk.specs.Settle.{Tied, cell_after, counts_after, pass_after, posts_after}
+use Rattle.station_cell.specs.Cell.{Cell, Held, Knows}
+use Rattle.station_cell.specs.Settle.{Tied, cell_after, counts_after, pass_after, posts_after}
 
 -- a cell after an accepted command, by its parts
 pub cell_changed : (c : Cell) (p : Held) (command : Command) (l : Ledger) (n v : ℕ) → l ≡ record { limits = c.limits; period = c.period; content = (step c.limits c.content command).0 } → answer c.limits c.content command ≡ Accepted n → v ≡ p.changes
