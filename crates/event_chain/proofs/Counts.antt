@@ -4,8 +4,8 @@ use Rattle.std.specs.List.{count_by}
 use Rattle.ledger_model.specs.Content.{live_of}
 use Rattle.ledger_model.specs.Complete.{kinds_of}
 use Rattle.event_store.specs.Slots.{Held}
-use Rattle.transaction_table.specs.declared.row.TableRow.{TableRow}
-use Rattle.transaction_table.specs.Table.{Row, row_of}
+use Rattle.event_chain.specs.declared.row.TableRow.{TableRow}
+use Rattle.event_chain.specs.Table.{Row, row_of}
 use Rattle.event_chain.specs.Flat.{Place, flat}
 use Rattle.event_chain.specs.Kept.{live_one, end_one, is_end, AreFigured}
 use Rattle.event_chain.specs.Edits.{counts_under}

@@ -9,7 +9,7 @@ use Rattle.std.specs.declared.cmp.Ordering.{Ordering}
 use Rattle.std.specs.declared.cmp.Ordering.TheVariants.{Less, Equal, Greater}
 use Rattle.ledger_model.specs.Key.{KeyName, key_cmp}
 use Rattle.ledger_model.proofs.Callers.{key_total, exact_keys}
-use Rattle.transaction_table.specs.Table.{id_cmp}
+use Rattle.event_chain.specs.Table.{id_cmp}
 
 -- A test by an order whose ties are equal decides equality.
 tied : {K : Type 0} (R : K → K → Ordering) (o : IsTotalOrder R) (same : IsAntisymmetric R) (x y : K) → Decides (eq_by_cmp R x y) (x ≡ y)

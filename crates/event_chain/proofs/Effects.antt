@@ -12,7 +12,7 @@ use Rattle.ledger_model.specs.Content.{Entry, Stored}
 use Rattle.ledger_model.specs.Entries.{IsRising, entries_without}
 use Rattle.ledger_model.proofs.Callers.{key_total, exact_keys}
 use Rattle.event_store.specs.Slots.{Held}
-use Rattle.transaction_table.specs.Table.{Row, AreRising}
+use Rattle.event_chain.specs.Table.{Row, AreRising}
 use Rattle.event_chain.specs.Flat.{Place, place_of, flat, event_at, look}
 use Rattle.event_chain.specs.Kept.{AreRanks}
 use Rattle.event_chain.proofs.Decided.{key_test, denied}

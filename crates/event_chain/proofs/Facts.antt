@@ -17,8 +17,8 @@ use Rattle.ledger_model.specs.Content.{Entry, Stored, has_transaction, transacti
 use Rattle.ledger_model.specs.Step.{readings_stored}
 use Rattle.ledger_model.specs.Entries.{IsRising}
 use Rattle.event_store.specs.Slots.{Held, Slots}
-use Rattle.transaction_table.specs.declared.row.TableRow.{TableRow}
-use Rattle.transaction_table.specs.Table.{Table, Row, row_of}
+use Rattle.event_chain.specs.declared.row.TableRow.{TableRow}
+use Rattle.event_chain.specs.Table.{Table, Row, row_of}
 use Rattle.event_chain.specs.declared.answers.Room.TheVariants.{Fits, NoTransaction, NoEvent, NoReading}
 use Rattle.event_chain.specs.declared.answers.Found.TheVariants.{Live, Voided}
 use Rattle.event_chain.specs.Room.{room_of, found_of}

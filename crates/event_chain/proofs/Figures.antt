@@ -9,8 +9,8 @@ use Rattle.ledger_model.specs.Key.{KeyName, key_cmp}
 use Rattle.ledger_model.specs.Content.{Entry, Stored}
 use Rattle.ledger_model.specs.Entries.{IsRising, entries_without}
 use Rattle.event_store.specs.Slots.{Held}
-use Rattle.transaction_table.specs.declared.row.TableRow.{TableRow}
-use Rattle.transaction_table.specs.Table.{Row, id_cmp, row_of}
+use Rattle.event_chain.specs.declared.row.TableRow.{TableRow}
+use Rattle.event_chain.specs.Table.{Row, id_cmp, row_of}
 use Rattle.event_chain.specs.Flat.{Place, entry_of, segment, entries_of, flat}
 use Rattle.event_chain.specs.Kept.{live_one, end_one, is_end, IsFigured, AreFigured, IsNamed}
 use Rattle.event_chain.proofs.Decided.{id_test, not_so, denied}

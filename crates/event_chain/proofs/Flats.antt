@@ -16,7 +16,7 @@ use Rattle.key_index.specs.Key.{rank}
 use Rattle.ledger_model.specs.Key.{KeyName, key_cmp}
 use Rattle.ledger_model.specs.Content.{Entry, Stored}
 use Rattle.event_store.specs.Slots.{Held}
-use Rattle.transaction_table.specs.Table.{Row, AreRising, id_cmp, row_of}
+use Rattle.event_chain.specs.Table.{Row, AreRising, id_cmp, row_of}
 use Rattle.event_chain.specs.Flat.{Place, place_of, stored_at, entry_of, segment, entries_of, flat, event_at, number_at, look_in, look}
 use Rattle.event_chain.specs.Kept.{AreRanks}
 use Rattle.event_chain.proofs.Decided.{key_test, id_test, rank_test, not_so, denied, same_test}

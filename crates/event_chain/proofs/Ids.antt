@@ -13,8 +13,8 @@ use Rattle.ledger_model.specs.Content.{Entry, distinct, transactions_of, has_tra
 use Rattle.ledger_model.proofs.TransactionLemmas.{transactions-any}
 use Rattle.ledger_model.proofs.Callers.{first, second, less}
 use Rattle.event_store.specs.Slots.{Held}
-use Rattle.transaction_table.specs.declared.row.TableRow.{TableRow}
-use Rattle.transaction_table.specs.Table.{Row, AreRising, id_cmp, row_of}
+use Rattle.event_chain.specs.declared.row.TableRow.{TableRow}
+use Rattle.event_chain.specs.Table.{Row, AreRising, id_cmp, row_of}
 use Rattle.event_chain.specs.Flat.{Place, place_of, entry_of, segment, entries_of, flat}
 use Rattle.event_chain.specs.Kept.{HasPlace}
 use Rattle.event_chain.proofs.Decided.{id_test, not_so}

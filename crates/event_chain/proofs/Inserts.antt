@@ -11,8 +11,8 @@ use Rattle.ledger_model.specs.Event.{EventContent}
 use Rattle.ledger_model.specs.Key.{KeyName, key_cmp}
 use Rattle.ledger_model.specs.Limits.{Bounds}
 use Rattle.event_store.specs.Slots.{Slots}
-use Rattle.transaction_table.specs.declared.row.TableRow.{TableRow}
-use Rattle.transaction_table.specs.Table.{Table, Row, AreRising, AreApart, with_row}
+use Rattle.event_chain.specs.declared.row.TableRow.{TableRow}
+use Rattle.event_chain.specs.Table.{Table, Row, AreRising, AreApart, with_row}
 use Rattle.event_chain.specs.declared.answers.Room.TheVariants.{Fits}
 use Rattle.event_chain.specs.Room.{room_of}
 use Rattle.event_chain.specs.Flat.{place_of, flat}

@@ -1,3 +1,9 @@
+mod LinksApart
+mod LinksChains
+mod LinksEnds
+mod LinksLists
+mod LinksWritten
+mod TableKept
 mod Decided
 mod Flats
 mod Sums

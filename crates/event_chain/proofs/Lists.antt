@@ -10,10 +10,10 @@ use Rattle.std.specs.FinMap.{put}
 use Rattle.std.specs.FinMap.Entries.{is_sorted-put}
 use Rattle.event_chain.specs.Ranked.{last_of, AreRising}
 use Rattle.event_chain.specs.Placed.{Index, index}
-use Rattle.slot_links.specs.Links.{Links, links, linked_in, linked_out, prev_of, next_of, IsSlot}
-use Rattle.slot_links.specs.Chain.{head_or, last_or, IsChain, IsAbsent, AreElsewhere, AreSlots, IsLinked}
-use Rattle.slot_links.proofs.Chains.{chain_parts, slots_parts, length-linked_in, length-linked_out}
-use Rattle.slot_links.proofs.Lists.{linked_with_slot, linked_without_slot, linked_beside_in, linked_beside_out}
+use Rattle.event_chain.specs.Links.{Links, links, linked_in, linked_out, prev_of, next_of, IsSlot}
+use Rattle.event_chain.specs.LinkChain.{head_or, last_or, IsChain, IsAbsent, AreElsewhere, AreSlots, IsLinked}
+use Rattle.event_chain.proofs.LinksChains.{chain_parts, slots_parts, length-linked_in, length-linked_out}
+use Rattle.event_chain.proofs.LinksLists.{linked_with_slot, linked_without_slot, linked_beside_in, linked_beside_out}
 use Rattle.event_chain.specs.Flat.{Place, place_of}
 use Rattle.event_chain.specs.Kept.{AreRanks}
 use Rattle.event_chain.specs.Edits.{out, places_before, places_behind}

@@ -18,8 +18,8 @@ use Rattle.ledger_model.specs.Entries.{IsRising}
 use Rattle.ledger_model.proofs.Callers.{first, second, find_below}
 use Rattle.ledger_model.proofs.Rising.{both}
 use Rattle.event_store.specs.Slots.{Held}
-use Rattle.transaction_table.specs.declared.row.TableRow.{TableRow}
-use Rattle.transaction_table.specs.Table.{Row, AreRising, row_of}
+use Rattle.event_chain.specs.declared.row.TableRow.{TableRow}
+use Rattle.event_chain.specs.Table.{Row, AreRising, row_of}
 use Rattle.event_chain.specs.Flat.{Place, place_of, stored_at, entry_of, segment, flat, event_at, number_at, look_in, look}
 use Rattle.event_chain.specs.Kept.{AreRanks, HasPlace, IsBare, IsSub, chosen, is_live, is_naming, is_end, live_one, end_one}
 use Rattle.event_chain.specs.Edits.{first_under, last_under, kind_in, evse_at}

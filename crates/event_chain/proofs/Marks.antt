@@ -14,8 +14,8 @@ use Rattle.ledger_model.specs.Limits.{Bounds}
 use Rattle.ledger_model.specs.Content.{Entry, Stored}
 use Rattle.ledger_model.specs.Step.{marked, marked_at}
 use Rattle.event_store.specs.Slots.{Held, Slots, voided_as, voided_at}
-use Rattle.transaction_table.specs.declared.row.TableRow.{TableRow}
-use Rattle.transaction_table.specs.Table.{Table, Row, AreRising, AreApart, row_of, with_row}
+use Rattle.event_chain.specs.declared.row.TableRow.{TableRow}
+use Rattle.event_chain.specs.Table.{Table, Row, AreRising, AreApart, row_of, with_row}
 use Rattle.event_chain.specs.Flat.{Place, place_of, stored_in, event_at, flat}
 use Rattle.event_chain.specs.Edits.{put_if, out, place_in, place_at}
 use Rattle.event_chain.specs.Kept.{IsSub, chosen, is_live, is_carrier, is_naming, is_end, live_one, end_one, AreIndexed, IsChains, IsNamed, events_of}

@@ -6,8 +6,8 @@ use Rattle.event_chain.specs.Ranked.{last_of}
 use Rattle.ledger_model.specs.Content.{Stored}
 use Rattle.ledger_model.proofs.Callers.{first, second}
 use Rattle.event_store.specs.Slots.{Held}
-use Rattle.transaction_table.specs.declared.row.TableRow.{TableRow}
-use Rattle.transaction_table.specs.Table.{Row}
+use Rattle.event_chain.specs.declared.row.TableRow.{TableRow}
+use Rattle.event_chain.specs.Table.{Row}
 use Rattle.event_chain.specs.Flat.{Place, place_of, stored_at}
 use Rattle.event_chain.specs.Kept.{AreRanks, IsSub, IsKeyed, chosen}
 use Rattle.event_chain.specs.Edits.{IsStored, first_under, last_under}

@@ -11,8 +11,8 @@ use Rattle.key_index.specs.Key.{rank}
 use Rattle.ledger_model.specs.Key.{KeyName}
 use Rattle.ledger_model.specs.Content.{Stored}
 use Rattle.event_store.specs.Slots.{Held}
-use Rattle.transaction_table.specs.declared.row.TableRow.{TableRow}
-use Rattle.transaction_table.specs.Table.{Row, AreRising, AreApart, IsFresh, id_cmp, row_of}
+use Rattle.event_chain.specs.declared.row.TableRow.{TableRow}
+use Rattle.event_chain.specs.Table.{Row, AreRising, AreApart, IsFresh, id_cmp, row_of}
 use Rattle.event_chain.specs.Flat.{Place, place_of, stored_in, stored_at, event_at, number_at, look_in}
 use Rattle.event_chain.specs.Kept.{AreRanks, IsHome, HasPlace, IsKeyed, IsNamed, IsBare, IsLeft}
 use Rattle.event_chain.specs.Edits.{out}

@@ -4,8 +4,8 @@ use Rattle.std.specs.Ordering.{is_eq, eq_by_cmp}
 use Rattle.std.specs.Cmp.{eq_by_cmp_equiv, alike_right}
 use Rattle.std.specs.Cmp.Lexicographic.{nat_list_cmp_total}
 use Rattle.std.specs.FinMap.Entries.{find-put, find-where_key}
-use Rattle.transaction_table.specs.declared.row.TableRow.{TableRow}
-use Rattle.transaction_table.specs.Table.{Row, id_cmp, row_of, with_row, without_row}
+use Rattle.event_chain.specs.declared.row.TableRow.{TableRow}
+use Rattle.event_chain.specs.Table.{Row, id_cmp, row_of, with_row, without_row}
 use Rattle.event_chain.specs.Flat.{Place}
 use Rattle.event_chain.specs.Kept.{IsBare, IsNamed, IsEntered, IsLeft}
 use Rattle.event_chain.proofs.Decided.{id_test, not_so}

@@ -12,8 +12,8 @@ use Rattle.ledger_model.specs.Content.{Entry, Stored}
 use Rattle.ledger_model.specs.Deltas.{first_reading, last_reading, own_readings, before_key, behind_key}
 use Rattle.ledger_model.proofs.Callers.{own_before_key, own_behind_key}
 use Rattle.event_store.specs.Slots.{Held}
-use Rattle.transaction_table.specs.declared.row.TableRow.{TableRow}
-use Rattle.transaction_table.specs.Table.{Row, row_of}
+use Rattle.event_chain.specs.declared.row.TableRow.{TableRow}
+use Rattle.event_chain.specs.Table.{Row, row_of}
 use Rattle.event_chain.specs.Flat.{Place, stored_at, entry_of, segment, flat}
 use Rattle.event_chain.specs.Kept.{IsSub, IsKeyed, is_live, is_carrier}
 use Rattle.event_chain.specs.Edits.{places_before, places_behind, IsStored, first_at, last_at}

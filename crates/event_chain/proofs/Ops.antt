@@ -19,8 +19,8 @@ use Rattle.ledger_model.specs.Content.{Entry, Stored}
 use Rattle.ledger_model.specs.Entries.{IsRising, entries_without}
 use Rattle.ledger_model.proofs.Callers.{key_total}
 use Rattle.event_store.specs.Slots.{Held, Slots}
-use Rattle.transaction_table.specs.declared.row.TableRow.{TableRow}
-use Rattle.transaction_table.specs.Table.{Table, Row, AreRising, AreApart, id_cmp, row_of}
+use Rattle.event_chain.specs.declared.row.TableRow.{TableRow}
+use Rattle.event_chain.specs.Table.{Table, Row, AreRising, AreApart, id_cmp, row_of}
 use Rattle.event_chain.specs.Flat.{Place, place_of, stored_in, stored_at, event_at, flat}
 use Rattle.event_chain.specs.Edits.{put_if, out}
 use Rattle.event_chain.specs.Kept.{AreRanks, IsSub, is_live, is_carrier, is_naming, is_end, live_one, end_one, IsKeyed, AreIndexed, AreFigured, IsCounted, AreRoomy, IsChains, IsNamed, IsLeft, chosen}

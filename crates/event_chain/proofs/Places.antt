@@ -12,8 +12,8 @@ use Rattle.key_index.specs.Key.{rank}
 use Rattle.ledger_model.proofs.Rising.{both}
 use Rattle.event_chain.specs.Flat.{Place, place_of, segment}
 use Rattle.ledger_model.specs.Key.{KeyName}
-use Rattle.transaction_table.specs.declared.row.TableRow.{TableRow}
-use Rattle.transaction_table.specs.Table.{Row, row_of}
+use Rattle.event_chain.specs.declared.row.TableRow.{TableRow}
+use Rattle.event_chain.specs.Table.{Row, row_of}
 use Rattle.event_chain.specs.Kept.{AreRanks}
 use Rattle.event_chain.specs.Edits.{place_in, place_at, at_home}
 use Rattle.event_chain.proofs.Decided.{rank_test, not_so, denied}

@@ -4,7 +4,7 @@ use Rattle.std.proofs.lemmas.Bool.Decides.{Decides-eqb}
 use Rattle.slot_arena.specs.Arena.{value_at}
 use Rattle.ledger_model.specs.Content.{Stored}
 use Rattle.event_store.specs.Slots.{Held}
-use Rattle.transaction_table.specs.Table.{Row}
+use Rattle.event_chain.specs.Table.{Row}
 use Rattle.event_chain.specs.Flat.{Place, place_of, stored_in}
 use Rattle.event_chain.specs.Kept.{IsSub, IsKeyed, is_live}
 use Rattle.event_chain.specs.Walk.{is_under, are_under}

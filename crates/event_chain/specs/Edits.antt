@@ -12,8 +12,8 @@ use Rattle.ledger_model.specs.declared.reading.Direction.TheVariants.{Import, Ex
 use Rattle.event_chain.specs.declared.carries.Carries.{Carries}
 use Rattle.ledger_model.specs.Event.{MeterReading, toward}
 use Rattle.ledger_model.specs.Deltas.{first_reading, last_reading}
-use Rattle.transaction_table.specs.declared.row.TableRow.{TableRow}
-use Rattle.transaction_table.specs.Table.{Row, row_of}
+use Rattle.event_chain.specs.declared.row.TableRow.{TableRow}
+use Rattle.event_chain.specs.Table.{Row, row_of}
 use Rattle.event_chain.specs.Flat.{Place, number_at, stored_at, segment}
 use Rattle.event_store.specs.Slots.{Held}
 

@@ -9,8 +9,8 @@ use Rattle.ledger_model.specs.declared.kind.Kind.TheVariants.{Updated}
 use Rattle.ledger_model.specs.Key.{KeyName}
 use Rattle.ledger_model.specs.Content.{Entry, Stored}
 use Rattle.event_store.specs.Slots.{Held}
-use Rattle.transaction_table.specs.declared.row.TableRow.{TableRow}
-use Rattle.transaction_table.specs.Table.{Row, row_of}
+use Rattle.event_chain.specs.declared.row.TableRow.{TableRow}
+use Rattle.event_chain.specs.Table.{Row, row_of}
 
 -- A rank in an index with the slot number of its event.
 abbrev pub Place : Type 0

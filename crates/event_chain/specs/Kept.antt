@@ -16,8 +16,8 @@ use Rattle.ledger_model.specs.Content.{Entry, Stored}
 use Rattle.ledger_model.specs.Step.{readings_stored}
 use Rattle.event_store.specs.Slots.{Held, Slots}
 use Rattle.event_chain.specs.Placed.{Index}
-use Rattle.transaction_table.specs.declared.row.TableRow.{TableRow}
-use Rattle.transaction_table.specs.Table.{Table, Row, AreRising, AreApart, IsFresh, row_of, with_row}
+use Rattle.event_chain.specs.declared.row.TableRow.{TableRow}
+use Rattle.event_chain.specs.Table.{Table, Row, AreRising, AreApart, IsFresh, row_of, with_row}
 use Rattle.event_chain.specs.Flat.{Place, place_of, stored_at, flat}
 
 -- The event is live.

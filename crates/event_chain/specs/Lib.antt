@@ -1,3 +1,7 @@
+pub mod LinkChain
+pub mod Links
+pub mod Table
+pub mod TableKept
 pub mod Flat
 pub mod Chains
 pub mod Kept

@@ -1,8 +1,8 @@
 -- The live events in linked lists over their slots, one for each transaction.
 use Rattle.std.specs.Prelude.{◌≡◌, ℕ, List, Option, Some, length, map, slice_get, option_map}
 use Rattle.event_chain.specs.Placed.{Index}
-use Rattle.slot_links.specs.Links.{Links}
-use Rattle.slot_links.specs.Chain.{IsLinked}
+use Rattle.event_chain.specs.Links.{Links}
+use Rattle.event_chain.specs.LinkChain.{IsLinked}
 use Rattle.event_chain.specs.Flat.{Place, place_of, segment}
 use Rattle.event_chain.specs.Ranked.{last_of}
 use Rattle.event_chain.specs.Edits.{places_before, places_behind}

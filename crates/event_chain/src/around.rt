@@ -2,7 +2,7 @@
 ghost use Rattle.std.specs.Prelude.{◌≡◌, None, option_map};
 ghost use Rattle.ledger_model.specs.Deltas.{before_key, behind_key, first_reading, last_reading, own_readings};
 ghost use Rattle.ledger_model.specs.declared.reading.Direction.{Direction};
-ghost use Rattle.transaction_table.specs.Table.{row_of};
+ghost use Rattle.event_chain.specs.Table.{row_of};
 ghost use Rattle.event_chain.specs.Edits.{carried};
 ghost use Rattle.event_chain.specs.Flat.{flat};
 ghost use Rattle.event_chain.specs.Kept.{IsKeyed, IsSub, is_carrier};
@@ -11,11 +11,12 @@ ghost use Rattle.event_chain.specs.Sides.{by_direction, side_if};
 
 use crate::carries::Carries;
 use crate::place_index::PlaceIndex;
+use crate::row::TableRow;
 use crate::spots::{carriers_around, first_at, last_at};
+use crate::table::TransactionTable;
 use event_store::EventStore;
 use key_index::{IndexKey, Place};
 use ledger_model::{Direction, Key, Reading};
-use transaction_table::{TableRow, TransactionTable};
 
 /// The live readings of a direction just before and just behind an event's place in its transaction;
 /// none where the event has no reading of the direction.

@@ -9,7 +9,7 @@ ghost use Rattle.ledger_model.specs.Deltas.{own_readings, before_key, behind_key
 ghost use Rattle.ledger_model.specs.Gaps.{numbers_of};
 ghost use Rattle.event_chain.specs.declared.answers.Room.TheVariants.{Fits};
 ghost use Rattle.event_chain.specs.declared.answers.Found.TheVariants.{Live, Voided};
-ghost use Rattle.transaction_table.specs.Table.{row_of};
+ghost use Rattle.event_chain.specs.Table.{row_of};
 ghost use Rattle.event_chain.specs.Chains.{stored};
 ghost use Rattle.event_chain.specs.Room.{room_of, found_of, readings_under};
 ghost use Rattle.event_chain.specs.Kept.{end_count, is_end};
@@ -22,10 +22,12 @@ use crate::answers::{Found, Room, TxStanding};
 use crate::around::{Around, Sides, around_of, sides_of};
 use crate::carries::Carries;
 use crate::place_index::PlaceIndex;
+use crate::row::TableRow;
 use crate::spots::{
     enter, evse_at, first_live, first_naming, kind_at, last_live, leave, locate, look_up,
     number_of, renew, slot_sought,
 };
+use crate::table::TransactionTable;
 use crate::tx_ids::TxIds;
 use crate::tx_walk::TxWalk;
 use event_store::{EventRef, EventStore, Readings};
@@ -33,7 +35,6 @@ use key_index::{IndexKey, Place};
 use ledger_model::{Direction, Event, EvseId, Key, Kind, Limits, Reading, TxId};
 use std::alloc::{AllocError, Global};
 use std::marker::Model;
-use transaction_table::{TableRow, TransactionTable};
 
 /// The events of a station by their keys, each live or voided, within its limits.
 #[derive(Drop)]

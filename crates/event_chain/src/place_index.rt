@@ -3,7 +3,7 @@ ghost use Rattle.std.specs.Prelude.{◌≡◌, ℕ, ◌<◌, [], length, None, S
 ghost use Rattle.std.specs.Ordering.{nat_cmp};
 ghost use Rattle.std.specs.FinMap.{put};
 ghost use Rattle.event_chain.specs.Ranked.{first_of, from, last_of, slot_at, AreRising};
-ghost use Rattle.slot_links.specs.Links.{linked_in};
+ghost use Rattle.event_chain.specs.Links.{linked_in};
 ghost use Rattle.key_index.specs.declared.filed.Mark.TheVariants.{Live};
 ghost use Rattle.ledger_model.specs.declared.reading.Direction.{Direction};
 ghost use Rattle.event_chain.specs.Placed.{carriers_of, index, lane_of, mark_of as placed_mark};
@@ -13,10 +13,10 @@ ghost use Rattle.event_chain.specs.Lists.{slot_in, HasRank, AreOwn, AreListed, s
 
 use crate::carries::Carries;
 use crate::lane::{Lane, slot_under};
+use crate::links::SlotLinks;
 use crate::spots::{place_before, place_behind};
 use key_index::{Filed, IndexKey, KeyIndex, Mark, Marks, Place};
 use ledger_model::Direction;
-use slot_links::SlotLinks;
 use std::alloc::{AllocError, Global};
 use std::marker::Model;
 

@@ -5,7 +5,7 @@ ghost use Rattle.event_chain.specs.Placed.{carriers_of};
 ghost use Rattle.event_chain.specs.Ranked.{from, first_of, last_of};
 ghost use Rattle.key_index.specs.Key.{rank};
 ghost use Rattle.ledger_model.specs.Ranges.{sequence_end};
-ghost use Rattle.transaction_table.specs.Table.{row_of, with_row, IsRowAt};
+ghost use Rattle.event_chain.specs.Table.{row_of, with_row, IsRowAt};
 ghost use Rattle.event_chain.specs.Flat.{place_of, segment};
 ghost use Rattle.event_chain.specs.Kept.{HasPlace, IsBare, IsEntered, IsLeft};
 ghost use Rattle.event_chain.specs.Edits.{place_at, first_under, last_under, at_home, places_before, places_behind, first_at, last_at, kind_in, evse_at, IsStored};
@@ -13,10 +13,11 @@ ghost use Rattle.event_chain.specs.Walk.{number_in};
 
 use crate::lane::Lane;
 use crate::place_index::PlaceIndex;
+use crate::row::TableRow;
+use crate::table::TransactionTable;
 use event_store::EventStore;
 use key_index::{IndexKey, Place};
 use ledger_model::{Direction, EvseId, Key, Kind, Reading, TxId};
-use transaction_table::{TableRow, TransactionTable};
 
 // The greatest sequence number.
 const GREATEST_NUMBER: u32 = 2_147_483_647;

@@ -1,9 +1,9 @@
 ghost use Rattle.std.specs.Prelude.{◌≡◌, map};
 ghost use Rattle.std.specs.Iterator.{YieldsFirst, item_count};
 
+use crate::table::TransactionTable;
 use ledger_model::TxId;
 use std::marker::Model;
-use transaction_table::TransactionTable;
 
 /// The ids of transactions that are still to come, in order.
 #[derive(Drop)]

@@ -1,5 +1,5 @@
 use Rattle.std.proofs.Common.{◌≡◌, Some, option_map, sym, ap, ◌∙◌, subst}
-use Rattle.slot_links.specs.Links.{linked_in}
+use Rattle.event_chain.specs.Links.{linked_in}
 use Rattle.key_index.specs.declared.filed.Mark.TheVariants.{Live}
 use Rattle.event_chain.specs.Flat.{place_of}
 use Rattle.event_chain.specs.Lists.{slot_in, slot_before, slot_after, AreListed}

@@ -1,6 +1,6 @@
 use Rattle.std.proofs.Common.{◌≡◌, ◌<◌, ◌^◌, true, false, is_some, ap, sym, ◌∙◌, arith}
 use Rattle.key_index.specs.Key.{rank}
-use Rattle.transaction_table.specs.Table.{row_of}
+use Rattle.event_chain.specs.Table.{row_of}
 use Rattle.event_chain.specs.Flat.{place_of}
 use Rattle.event_chain.specs.Edits.{place_at}
 use Rattle.event_chain.specs.Placed.{Index}

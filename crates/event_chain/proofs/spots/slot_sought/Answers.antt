@@ -1,6 +1,6 @@
 use Rattle.std.proofs.Common.{◌<◌, ◌^◌, ap, sym, ◌∙◌, arith}
 use Rattle.key_index.specs.Key.{rank}
-use Rattle.transaction_table.specs.Table.{row_of}
+use Rattle.event_chain.specs.Table.{row_of}
 use Rattle.event_chain.specs.Flat.{place_of}
 use Rattle.event_chain.proofs.Places.{place_at_row}
 use Rattle.event_chain.proofs.spots.slot_sought.Goals as goal

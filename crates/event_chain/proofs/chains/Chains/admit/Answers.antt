@@ -6,8 +6,8 @@ use Rattle.std.specs.FinMap as finite
 use Rattle.ledger_model.specs.Deltas.{before_key, behind_key, first_reading, last_reading, own_readings}
 use Rattle.ledger_model.specs.Event.{toward}
 use Rattle.key_index.specs.Key.{rank}
-use Rattle.transaction_table.specs.declared.row.TableRow.{TableRow}
-use Rattle.transaction_table.specs.Table.{Table, row_of, with_row, IsRowAt}
+use Rattle.event_chain.specs.declared.row.TableRow.{TableRow}
+use Rattle.event_chain.specs.Table.{Table, row_of, with_row, IsRowAt}
 use Rattle.event_chain.specs.Chains.{Chained, stored}
 use Rattle.event_chain.specs.Room.{room_of}
 use Rattle.event_chain.specs.Kept.{IsEntered, IsKeyed, end_count}

@@ -1,7 +1,7 @@
 use Rattle.std.proofs.Common.{sym, ap, ◌∙◌}
 use Rattle.event_chain.specs.Placed.{carriers_of}
 use Rattle.ledger_model.specs.Deltas.{first_reading, last_reading, own_readings, before_key, behind_key}
-use Rattle.transaction_table.specs.Table.{row_of}
+use Rattle.event_chain.specs.Table.{row_of}
 use Rattle.event_chain.specs.Chains.{Chained, stored}
 use Rattle.event_chain.proofs.Facts.{entries_all}
 use Rattle.event_chain.proofs.chains.Chains.neighbours.Goals as goal

@@ -6,8 +6,8 @@ use Rattle.ledger_model.specs.Deltas.{first_reading}
 use Rattle.ledger_model.specs.Event.{toward}
 use Rattle.ledger_model.specs.Content.{Stored}
 use Rattle.ledger_model.specs.Step.{marked}
-use Rattle.transaction_table.specs.declared.row.TableRow.{TableRow}
-use Rattle.transaction_table.specs.Table.{with_row}
+use Rattle.event_chain.specs.declared.row.TableRow.{TableRow}
+use Rattle.event_chain.specs.Table.{with_row}
 use Rattle.event_chain.specs.Chains.{Chained}
 use Rattle.event_chain.specs.Room.{found_of}
 use Rattle.event_chain.specs.Placed.{Index, carriers_of}

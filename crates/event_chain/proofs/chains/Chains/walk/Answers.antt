@@ -1,7 +1,7 @@
 use Rattle.std.proofs.Common.{option_map, sym, ap, ◌∙◌}
 use Rattle.event_chain.specs.Placed.{carriers_of}
 use Rattle.ledger_model.specs.Gaps.{numbers_of}
-use Rattle.transaction_table.specs.declared.row.TableRow.{TableRow}
+use Rattle.event_chain.specs.declared.row.TableRow.{TableRow}
 use Rattle.event_chain.specs.Chains.{Chained, stored}
 use Rattle.event_chain.specs.Walk.{numbers_at}
 use Rattle.event_chain.proofs.Facts.{entries_all}

@@ -1,6 +1,6 @@
 use Rattle.std.proofs.Common.{◌≡◌, false, Some, None, is_some, refl, sym, ap, ◌∙◌}
 use Rattle.ledger_model.specs.declared.reading.Direction.TheVariants.{Import, Export}
-use Rattle.slot_links.specs.Links.{linked_out}
+use Rattle.event_chain.specs.Links.{linked_out}
 use Rattle.key_index.specs.declared.filed.Mark.TheVariants.{Live, Imports, Exports, Names}
 use Rattle.key_index.specs.declared.filed.Marks.{Marks}
 use Rattle.event_chain.specs.Flat.{place_of}

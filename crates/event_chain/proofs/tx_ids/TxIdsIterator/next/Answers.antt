@@ -1,5 +1,5 @@
 use Rattle.std.proofs.Common.{◌≡◌, ℕ, suc, ◌+◌, List, Some, map, sym, ap, ◌∙◌, arith}
-use Rattle.transaction_table.specs.Table.{Row}
+use Rattle.event_chain.specs.Table.{Row}
 use Rattle.event_chain.proofs.Drops.{drop_some, drop_none}
 use Rattle.event_chain.proofs.tx_ids.TxIdsIterator.next.Goals as goal
 

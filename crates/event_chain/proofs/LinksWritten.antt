@@ -1,0 +1,43 @@
+-- What a written link changes, and what it leaves.
+use Rattle.std.proofs.Common.{◌≡◌, ◌≢◌, ℕ, ◌<◌, List, [], ◌∷◌, Option, Some, None, length, get_or, refl, sym, get_or-set_other, get_or-set_same, length-set}
+use Rattle.event_chain.specs.Links.{written}
+use Rattle.event_chain.specs.LinkChain.{last_or, head_or, IsAbsent, IsBeside, AreElsewhere}
+
+-- The slot is another one than this, where this is one.
+abbrev pub IsOther : ℕ → Option ℕ → Type 0
+IsOther s None = Unit {0}
+IsOther s (Some t) = s ≢ t
+
+-- A link written elsewhere leaves that of a slot.
+pub written_other : (row : List (Option ℕ)) (to : Option ℕ) (link : Option ℕ) (s : ℕ) → IsOther s to → get_or (written row to link) s None ≡ get_or row s None
+written_other row None link s other = refl
+written_other row (Some t) link s other = get_or-set_other row t s link None other
+
+-- A link written at a slot is read there.
+pub written_same : (row : List (Option ℕ)) (s : ℕ) (link : Option ℕ) → s < length row → get_or (written row (Some s) link) s None ≡ link
+written_same row s link lt = get_or-set_same row s link None lt
+
+-- There are as many links as before.
+pub length-written : (row : List (Option ℕ)) (to : Option ℕ) (link : Option ℕ) → length (written row to link) ≡ length row
+length-written row None link = refl
+length-written row (Some t) link = length-set row t link
+
+-- A slot is another one than the last of a list that it is absent from.
+pub last_other : (s : ℕ) (before : Option ℕ) (ts : List ℕ) → IsOther s before → IsAbsent s ts → IsOther s (last_or before ts)
+last_other s before [] other absent = other
+last_other s before (t ∷ ts) other absent = last_other s (Some t) ts absent.0 absent.1
+
+-- The last slot of a list that stands elsewhere is absent.
+pub last_beside : (before : Option ℕ) (ss ts : List ℕ) → IsBeside before ts → AreElsewhere ss ts → IsBeside (last_or before ss) ts
+last_beside before [] ts beside elsewhere = beside
+last_beside before (s ∷ ss) ts beside elsewhere = last_beside (Some s) ss ts elsewhere.0 elsewhere.1
+
+-- The first slot of a list that stands elsewhere is absent.
+pub head_beside : (ss ts : List ℕ) → AreElsewhere ss ts → IsBeside (head_or None ss) ts
+head_beside [] ts elsewhere = tt
+head_beside (s ∷ ss) ts elsewhere = elsewhere.0
+
+-- What is absent from a list is another slot than each of it.
+pub beside_parts : (to : Option ℕ) (t : ℕ) (ts : List ℕ) → IsBeside to (t ∷ ts) → IsOther t to × IsBeside to ts
+beside_parts None t ts beside = (tt, tt)
+beside_parts (Some s) t ts beside = ((λ e. beside.0 (sym e)), beside.1)

@@ -1,0 +1,144 @@
+-- What a table keeps, under its edits.
+use Rattle.std.proofs.Common.{◌≡◌, ℕ, ◌+◌, ◌<◌, ◌≤◌, true, false, cond, List, [], ◌∷◌, ◌++◌, Option, Some, None, is_some, length, refl, sym, ap, ◌∙◌, subst, arith, inl, inr, length-append, option_map}
+use Rattle.std.specs.Ordering.{eq_by_cmp}
+use Rattle.transaction_map.proofs.Rising.{same_id}
+use Rattle.transaction_map.proofs.Found.{put_cases, out_cases, rising_put, rising_out, length_put, length_out}
+use Rattle.event_chain.specs.declared.row.TableRow.{TableRow}
+use Rattle.event_chain.specs.Table.{Row, IsFresh, id_cmp, row_of, with_row, without_row}
+use Rattle.event_chain.specs.TableKept.{IsNone, AreSpare, IsTable}
+
+-- The last of the slots to spare.
+pub record IsLast (capacity slot : ℕ) (rows : List Row) (ss : List ℕ) : Type 0 where
+  pub fresh : IsFresh slot rows
+  pub below : slot < capacity
+  pub none : IsNone slot ss
+  pub rest : AreSpare capacity rows ss
+
+-- A number is no element of the parts of a list that it is none of.
+none_parts : (n s : ℕ) (ss : List ℕ) → IsNone n (ss ++ s ∷ []) → IsNone n ss × (n ≡ s → ⊥)
+none_parts n s [] h = (tt, h.0)
+none_parts n s (m ∷ ss) h = let rest = none_parts n s ss h.1 in ((h.0, rest.0), rest.1)
+
+-- The slots to spare, with the last apart.
+pub last_spare : (capacity slot : ℕ) (rows : List Row) (ss : List ℕ) → AreSpare capacity rows (ss ++ slot ∷ []) → IsLast capacity slot rows ss
+last_spare capacity slot rows [] h = record { fresh = h.0; below = h.1.0; none = tt; rest = tt }
+last_spare capacity slot rows (s ∷ ss) h =
+    let rest = last_spare capacity slot rows ss h.1.1.1 in let none = none_parts s slot ss h.1.1.0 in
+    record { fresh = rest.fresh; below = rest.below; none = ((λ e. none.1 (sym e)), rest.none); rest = (h.0, (h.1.0, (none.0, rest.rest))) }
+
+-- A slot of none of them goes to the end.
+none_more : (n s : ℕ) (ss : List ℕ) → IsNone n ss → (n ≡ s → ⊥) → IsNone n (ss ++ s ∷ [])
+none_more n s [] h apart = (apart, tt)
+none_more n s (m ∷ ss) h apart = (h.0, none_more n s ss h.1 apart)
+
+-- One more slot to spare.
+pub more_spare : (capacity slot : ℕ) (rows : List Row) (ss : List ℕ) → IsLast capacity slot rows ss → AreSpare capacity rows (ss ++ slot ∷ [])
+more_spare capacity slot rows [] last = (last.fresh, (last.below, (tt, tt)))
+more_spare capacity slot rows (s ∷ ss) last = (
+  last.rest.0,
+  (
+    last.rest.1.0,
+    (
+      none_more s slot ss last.rest.1.1.0 (λ e. last.none.0 (sym e)),
+      more_spare capacity slot rows ss (record { fresh = last.fresh; below = last.below; none = last.none.1; rest = last.rest.1.1.1 }),
+    ),
+  ),
+)
+
+-- Slots to spare, among other rows where each is as fresh.
+pub spare_on : (capacity : ℕ) (rows new : List Row) (n : ℕ) (ss : List ℕ) → IsNone n ss → ((s : ℕ) → (n ≡ s → ⊥) → IsFresh s rows → IsFresh s new) → AreSpare capacity rows ss → AreSpare capacity new ss
+spare_on capacity rows new n [] none turn h = tt
+spare_on capacity rows new n (s ∷ ss) none turn h = (turn s none.0 h.0, (h.1.0, (h.1.1.0, spare_on capacity rows new n ss none.1 turn h.1.1.1)))
+
+-- A slot that is no transaction's is none of those to spare where it is one's.
+pub none_fresh : (capacity : ℕ) (tx : List ℕ) (row : TableRow) (rows : List Row) (ss : List ℕ) → row_of tx rows ≡ Some row → AreSpare capacity rows ss → IsNone row.slot ss
+none_fresh capacity tx row rows [] there h = tt
+none_fresh capacity tx row rows (s ∷ ss) there h = (h.0 tx row there, none_fresh capacity tx row rows ss there h.1.1.1)
+
+-- A transaction put in with a slot that was to spare.
+pub IsTable-add : (rows : List Row) (spare ss : List ℕ) (capacity slot : ℕ) (tx : List ℕ) (r : TableRow) → spare ≡ ss ++ slot ∷ [] → IsTable rows spare capacity → row_of tx rows ≡ None → r.slot ≡ slot → IsTable (with_row tx r rows) ss capacity
+IsTable-add rows spare ss capacity slot tx r is table absent same =
+    let last = last_spare capacity slot rows ss (subst (AreSpare capacity rows) is table.spare_are) in
+    let fresh : (q : List ℕ) (x : TableRow) → row_of q rows ≡ Some x → x.slot ≡ r.slot → ⊥ = λ q x there e. last.fresh q x there (e ∙ same) in
+    record {
+      rising = rising_put tx r rows table.rising;
+      apart = λ q o x y at ay e. elim (put_cases q tx r x rows at) [
+        | inl a ↦ elim (put_cases o tx r y rows ay) [
+          | inl b ↦ a.0 ∙ sym b.0
+          | inr b ↦ absurd (fresh o y b (sym e ∙ ap (λ (z : TableRow). z.slot) a.1))
+        ]
+        | inr a ↦ elim (put_cases o tx r y rows ay) [
+          | inl b ↦ absurd (fresh q x a (e ∙ ap (λ (z : TableRow). z.slot) b.1))
+          | inr b ↦ table.apart q o x y a b e
+        ]
+      ];
+      below = λ q x at. elim (put_cases q tx r x rows at) [
+        | inl a ↦ let e : x.slot ≡ slot = ap (λ (z : TableRow). z.slot) a.1 ∙ same in let lt = last.below in omega arith
+        | inr a ↦ table.below q x a
+      ];
+      spare_are = spare_on capacity rows (with_row tx r rows) slot ss last.none (λ s other was q x at e. elim (put_cases q tx r x rows at) [
+        | inl a ↦ other (sym same ∙ sym (ap (λ (z : TableRow). z.slot) a.1) ∙ e)
+        | inr a ↦ was q x a e
+      ]) last.rest;
+      total = let n = length_put tx r rows table.rising ∙ ap (λ (o : Option TableRow). cond (is_some o) (length rows) (length rows + 1)) absent in omega (arith, n, table.total, ap length is, length-append ss (slot ∷ []));
+    }
+
+-- What is kept of a transaction changed, but for its slot.
+pub IsTable-set : (rows : List Row) (ss : List ℕ) (capacity : ℕ) (tx : List ℕ) (old r : TableRow) → IsTable rows ss capacity → row_of tx rows ≡ Some old → r.slot ≡ old.slot → IsTable (with_row tx r rows) ss capacity
+IsTable-set rows ss capacity tx old r table there same =
+    let back : (q : List ℕ) (x : TableRow) → row_of q (with_row tx r rows) ≡ Some x → (y : TableRow) × ((row_of q rows ≡ Some y) × (x.slot ≡ y.slot)) = λ q x at. elim (put_cases q tx r x rows at) [
+      | inl a ↦ (old, (ap (λ k. row_of k rows) a.0 ∙ there, ap (λ (z : TableRow). z.slot) a.1 ∙ same))
+      | inr a ↦ (x, (a, refl))
+    ] in
+    record {
+      rising = rising_put tx r rows table.rising;
+      apart = λ q o x y at ay e. let a = back q x at in let b = back o y ay in table.apart q o a.0 b.0 a.1.0 b.1.0 (sym a.1.1 ∙ e ∙ b.1.1);
+      below = λ q x at. let a = back q x at in subst (λ n. n < capacity) (sym a.1.1) (table.below q a.0 a.1.0);
+      spare_are = spare_on capacity rows (with_row tx r rows) old.slot ss (none_fresh capacity tx old rows ss there table.spare_are) (λ s other was q x at e. let a = back q x at in was q a.0 a.1.0 (sym a.1.1 ∙ e)) table.spare_are;
+      total = let n = length_put tx r rows table.rising ∙ ap (λ (o : Option TableRow). cond (is_some o) (length rows) (length rows + 1)) there in omega (arith, n, table.total);
+    }
+
+-- A transaction taken out, and its slot given back.
+pub IsTable-remove : (rows : List Row) (ss : List ℕ) (capacity : ℕ) (tx : List ℕ) (r : TableRow) → IsTable rows ss capacity → row_of tx rows ≡ Some r → IsTable (without_row tx rows) (ss ++ r.slot ∷ []) capacity
+IsTable-remove rows ss capacity tx r table there =
+    let new : List Row = without_row tx rows in
+    let gone : IsFresh r.slot new = λ q x at e. let o = out_cases q tx x rows at in let is = table.apart q tx x r o.1 there e in let f : false ≡ true = sym o.0 ∙ ap (λ k. eq_by_cmp id_cmp k tx) is ∙ same_id tx in cc in
+    record {
+      rising = rising_out tx rows table.rising;
+      apart = λ q o x y at ay e. table.apart q o x y (out_cases q tx x rows at).1 (out_cases o tx y rows ay).1 e;
+      below = λ q x at. table.below q x (out_cases q tx x rows at).1;
+      spare_are = more_spare capacity r.slot new ss (record {
+        fresh = gone;
+        below = table.below tx r there;
+        none = none_fresh capacity tx r rows ss there table.spare_are;
+        rest = spare_on capacity rows new r.slot ss (none_fresh capacity tx r rows ss there table.spare_are) (λ s other was q x at e. was q x (out_cases q tx x rows at).1 e) table.spare_are;
+      });
+      total = let n = length_out tx rows table.rising in let one = ap (λ (o : Option TableRow). cond {A = ℕ} (is_some o) 1 0) there in omega (arith, n, one, table.total, length-append ss (r.slot ∷ []));
+    }
+
+-- Each of them is the number or above it.
+abbrev pub AreFrom : ℕ → List ℕ → Type 0
+AreFrom n [] = Unit {0}
+AreFrom n (s ∷ ss) = (n ≤ s) × AreFrom n ss
+
+-- A number is none of those above it.
+none_from : (n : ℕ) (ss : List ℕ) → AreFrom (n + 1) ss → IsNone n ss
+none_from n [] h = tt
+none_from n (s ∷ ss) h = let le = h.0 in ((λ (e : n ≡ s). let f : n ≡ s = e in absurd (omega arith)), none_from n ss h.1)
+
+-- One more behind those above it.
+from_more : (n : ℕ) (ss : List ℕ) → AreFrom (n + 1) ss → AreFrom n (ss ++ n ∷ [])
+from_more n [] h = (omega arith, tt)
+from_more n (s ∷ ss) h = let le = h.0 in (omega arith, from_more n ss h.1)
+
+-- The next slot of an empty table, below those that it has.
+pub open_spare : (capacity n : ℕ) (ss new : List ℕ) → new ≡ ss ++ n ∷ [] → n < capacity → AreFrom (n + 1) ss → AreSpare capacity [] ss → AreFrom n new × AreSpare capacity [] new
+open_spare capacity n ss new is lt above h = (
+  subst (AreFrom n) (sym is) (from_more n ss above),
+  subst (AreSpare capacity []) (sym is) (more_spare capacity n [] ss (record { fresh = λ tx row there _. cc; below = lt; none = none_from n ss above; rest = h })),
+)
+
+-- The row whose slot is known.
+pub slot_there : (o : Option TableRow) (n : ℕ) → option_map (λ (r : TableRow). r.slot) o ≡ Some n → (row : TableRow) × ((o ≡ Some row) × (n ≡ row.slot))
+slot_there None n h = cc
+slot_there (Some row) n h = (row, (refl, cc))

@@ -1,0 +1,157 @@
+ghost use Rattle.std.specs.Prelude.{◌≡◌, ◌≢◌, ◌<◌, ◌≤◌, [], length, map, Some, None, IfOk, IfSome, option_map, slice_get};
+ghost use Rattle.event_chain.specs.Table.{AreRising, AreApart, AreBelow, IsFresh, IsRowAt, row_of, with_row, without_row};
+
+use crate::row::TableRow;
+use ledger_model::TxId;
+use std::alloc::{AllocError, Global};
+use std::marker::Model;
+use transaction_map::TransactionMap;
+
+/// The transactions of a station by rising id. Contracts see the rows, and how many there may be.
+#[derive(Drop)]
+pub struct TransactionTable {
+    rows: TransactionMap<TableRow>,
+    spare: Vec<u32>,
+}
+
+impl Model for TransactionTable {
+    ghost use Rattle.std.specs.Prelude.{◌≤◌, vec_capacity};
+    ghost use Rattle.event_chain.specs.Table.{Table};
+    ghost use Rattle.event_chain.specs.TableKept.{IsTable};
+
+    ghost Value = { Table };
+
+    ghost view = { λ t. t.rows };
+
+    ghost invariant = { λ t. IsTable t.rows.rows t.spare.items t.rows.capacity × (t.rows.capacity ≤ vec_capacity t.spare) };
+}
+
+impl TransactionTable {
+    /// A table without transactions, with room for so many.
+    pub fn open(alloc: Global, capacity: u32) -> Result<Self, AllocError>
+        ensures rows { IfOk result (λ t. t.rows ≡ []) }
+        ensures capacity { IfOk result (λ t. t.capacity ≡ capacity) }
+    {
+        let rows = TransactionMap::open(alloc, capacity)?;
+        let mut spare = Vec::with_capacity(alloc, capacity as usize)?;
+        // The lowest slot is handed out first, so that keys of a new transaction stand behind the others.
+        for handed in 0..capacity {
+            spare.push_reserved(capacity - 1 - handed);
+        }
+        Ok(TransactionTable { rows, spare })
+    }
+
+    /// How many transactions it holds.
+    pub fn len(&self) -> u32
+        ensures len { result ≡ length self.now.rows }
+        ensures within { length self.now.rows ≤ self.now.capacity }
+        ensures rising { AreRising self.now.rows }
+        ensures apart { AreApart self.now.rows }
+        ensures below { AreBelow self.now.capacity self.now.rows }
+    {
+        self.rows.len()
+    }
+
+    /// The transactions rise, each with a slot of its own below the capacity. It does nothing: a caller
+    /// names the fact by it.
+    pub fn rows_rise(&self)
+        ensures rising { AreRising self.now.rows }
+        ensures apart { AreApart self.now.rows }
+        ensures below { AreBelow self.now.capacity self.now.rows }
+        ensures within { length self.now.rows ≤ self.now.capacity }
+        ensures few { self.now.capacity ≤ 4294967295 }
+    {
+        let _ = (self.len(), self.capacity());
+    }
+
+    /// How many transactions it may hold.
+    pub fn capacity(&self) -> u32
+        ensures { result ≡ self.now.capacity }
+    {
+        self.rows.capacity()
+    }
+
+    /// What is kept of a transaction, and the place of its row; none where it is absent. It is searched
+    /// once for the calls that come next, and nothing that they answer changes.
+    pub fn seek(&mut self, tx: &TxId) -> Option<(usize, TableRow)>
+        ensures value { option_map (λ f. f.1) result ≡ row_of tx.now self.old.rows }
+        ensures at { IfSome result (λ f. IsRowAt tx.now self.old.rows f.0) }
+        ensures same { self.new ≡ self.old }
+    {
+        self.rows.seek(tx)
+    }
+
+    /// Where the transaction that was sought last stood or belonged, as a hint for another map of about
+    /// the same transactions.
+    pub fn near(&self) -> usize {
+        self.rows.near()
+    }
+
+    /// What is kept of a transaction; none where it is absent.
+    pub fn get(&self, tx: &TxId) -> Option<TableRow>
+        ensures { result ≡ row_of tx.now self.now.rows }
+    {
+        self.rows.get(tx)
+    }
+
+    /// The id at a place, the first at 0; none past the last.
+    pub fn id_at(&self, place: usize) -> Option<&TxId>
+        ensures { option_map (λ id. id.now) result ≡ slice_get (map (λ r. r.0) self.now.rows) place }
+    {
+        self.rows.id_at(place)
+    }
+
+    /// Puts in a transaction without live events, and answers its row. It is absent, and there is room.
+    pub fn add(&mut self, tx: &TxId) -> TableRow
+        requires absent { row_of tx.now self.old.rows ≡ None }
+        requires room { length self.old.rows < self.old.capacity }
+        ensures rows { self.new.rows ≡ with_row tx.now result self.old.rows }
+        ensures capacity { self.new.capacity ≡ self.old.capacity }
+        ensures fresh { IsFresh result.slot self.old.rows }
+        ensures within { result.slot < self.old.capacity }
+        ensures none_live { result.live ≡ 0 }
+        ensures no_ends { result.ends ≡ 0 }
+    {
+        let slot = match self.spare.pop() {
+            Some(slot) => slot,
+            None => unreachable!(),
+        };
+        let fresh = TableRow {
+            slot,
+            live: 0,
+            ends: 0,
+        };
+        self.rows.put(tx, fresh);
+        fresh
+    }
+
+    /// Changes what is counted of a transaction, which is there.
+    pub fn set(&mut self, tx: &TxId, row: TableRow)
+        requires { option_map (λ r. r.slot) (row_of tx.now self.old.rows) ≡ Some row.slot }
+        ensures rows { self.new.rows ≡ with_row tx.now row self.old.rows }
+        ensures capacity { self.new.capacity ≡ self.old.capacity }
+    {
+        self.rows.put(tx, row);
+    }
+
+    /// Changes what is counted of a transaction whose row is at this place.
+    pub fn set_at(&mut self, place: usize, tx: &TxId, row: TableRow)
+        requires place { IsRowAt tx.now self.old.rows place }
+        requires slot { option_map (λ r. r.slot) (row_of tx.now self.old.rows) ≡ Some row.slot }
+        ensures rows { self.new.rows ≡ with_row tx.now row self.old.rows }
+        ensures capacity { self.new.capacity ≡ self.old.capacity }
+    {
+        self.rows.set_at(place, tx, row);
+    }
+
+    /// Takes out a transaction, which is there; its slot may be handed out again.
+    pub fn remove(&mut self, tx: &TxId)
+        requires { row_of tx.now self.old.rows ≢ None }
+        ensures rows { self.new.rows ≡ without_row tx.now self.old.rows }
+        ensures capacity { self.new.capacity ≡ self.old.capacity }
+    {
+        if let Some(row) = self.rows.remove(tx) {
+            self.spare.push_reserved(row.slot);
+        }
+    }
+}
