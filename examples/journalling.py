@@ -273,7 +273,7 @@ def two_threads_and_a_void(program: str) -> None:
 
 
 def stalled_journal(program: str) -> None:
-    """Nobody reads the journal: changes are held back, and viewers, other sites and questions are not."""
+    """Nobody reads the journal: changes are held back, and viewers and questions about other stations are not."""
     read, write = os.pipe()
     fcntl.fcntl(write, fcntl.F_SETPIPE_SZ, PIPE)
     try:
@@ -323,7 +323,7 @@ def stalled_journal(program: str) -> None:
         if not found.endswith((south[1] + south[2]).encode()):
             raise Differs(f"a browser is answered {found!r} while the journal stalls")
         asks("total C", NONE + "\n")
-        asks("total C", NONE + "\n")
+        asks("total B", NONE + "\n")
         for _ in range(2):
             next_of("live")
         if (took := time.monotonic() - began) > 8:
