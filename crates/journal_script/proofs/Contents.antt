@@ -7,8 +7,8 @@ use Rattle.std.proofs.lemmas.List.{get_or-map, length-map}
 use Rattle.std.proofs.lemmas.List.Elements.{All-head, All-tail}
 use Rattle.std.proofs.lemmas.Option.{get_or_from_slice_get, slice_get_within}
 use Rattle.std.proofs.lemmas.Slice.Eq.{bytes_eq-Decides}
-use Rattle.journal_ties.specs.declared.entry.Entry.{Entry}
-use Rattle.journal_ties.specs.Entries.{of_station}
+use Rattle.kept_desk.specs.declared.entry.Entry.{Entry}
+use Rattle.kept_desk.specs.Entries.{of_station}
 use Rattle.ledger_model.specs.declared.command.Command.{Command}
 use Rattle.ledger_model.specs.Laws.{left_by}
 use Rattle.ledger_model.specs.World.{Happens, run}

@@ -4,8 +4,8 @@ use Rattle.std.specs.Io.BufRead.{strip_last}
 use Rattle.std.proofs.lemmas.Bool.Decides.{nat_tests}
 use Rattle.std.proofs.lemmas.List.Elements.{All-head, All-tail}
 use Rattle.std.proofs.lemmas.Slice.Eq.{bytes_eq-Decides}
-use Rattle.journal_ties.specs.declared.entry.Entry.{Entry}
-use Rattle.journal_ties.specs.Entries.{text_of}
+use Rattle.kept_desk.specs.declared.entry.Entry.{Entry}
+use Rattle.kept_desk.specs.Entries.{text_of}
 use Rattle.ledger_model.specs.declared.command.Command.{Command}
 use Rattle.ledger_model.specs.World.{Station, World, Happens, run, station_after, world_after}
 use Rattle.transaction_event.specs.Message.{Meaning, Event, message}

@@ -2,8 +2,8 @@
 use Rattle.std.specs.Prelude.{◌≡◌, ℕ, ◌<◌, false, List, [], ◌∷◌, ◌++◌, ◌⊎◌, All, get_or, length, map, Some, slice_get}
 use Rattle.board_report.specs.Texts.{board_text}
 use Rattle.desk_report.specs.Closed.{closed_site}
-use Rattle.journal_ties.specs.declared.entry.Entry.{Entry}
-use Rattle.journal_ties.specs.Entries.{of_station, text_of}
+use Rattle.kept_desk.specs.declared.entry.Entry.{Entry}
+use Rattle.kept_desk.specs.Entries.{of_station, text_of}
 use Rattle.ledger_model.specs.declared.command.Command.{Command}
 use Rattle.ledger_model.specs.Laws.{left_by}
 use Rattle.script_lines.specs.LineMeaning.{asks_board, line_meaning}

@@ -7,7 +7,7 @@ ghost use Rattle.script_lines.specs.Lines.{HasNoFeed, line_bytes};
 ghost use Rattle.script_lines.specs.Ranges.{longest_line};
 ghost use Rattle.journal_script.specs.Speaking.{AsksFor, Says, Speaks};
 
-use journal_ties::is_line;
+use kept_desk::is_line;
 use ledger_model::{Event, Key, Moment, Name};
 use script_lines::{MAX_LINE_BYTES, ScriptLine, read_line, without_return};
 use std::alloc::{AllocError, Global};

@@ -3,8 +3,8 @@ use Rattle.std.proofs.Common.{◌≡◌, ℕ, zero, suc, ◌<◌, ◌≤◌, Boo
 use Rattle.std.proofs.lemmas.List.Elements.{All-cons, All-head, All-nil, All-tail}
 use Rattle.board_report.specs.Texts.{board_text}
 use Rattle.desk_report.specs.Closed.{boards_text, closed_site}
-use Rattle.journal_ties.specs.declared.entry.Entry.{Entry}
-use Rattle.journal_ties.specs.Entries.{of_station, text_of}
+use Rattle.kept_desk.specs.declared.entry.Entry.{Entry}
+use Rattle.kept_desk.specs.Entries.{of_station, text_of}
 use Rattle.journal_script.specs.Journals.{AreLeft, HasOnce, IsSpoken, station_name}
 use Rattle.journal_script.specs.Speaking.{Speaks}
 use Rattle.journal_script.specs.Restoring.{IsRestored}

@@ -2,9 +2,9 @@
 use Rattle.std.specs.Prelude.{◌≡◌, ℕ, zero, suc, ◌<◌, Bool, List, [], ◌++◌, length, Option, Some, All, map, slice_get}
 use Rattle.std.specs.Io.KnownBytes.{Appends, Consumes}
 use Rattle.desk_report.specs.Closed.{boards_text}
-use Rattle.journal_ties.specs.declared.entry.Entry.{Entry}
-use Rattle.journal_ties.specs.Entries.{text_of}
-use Rattle.journal_ties.specs.Journal.{IsWritten}
+use Rattle.kept_desk.specs.declared.entry.Entry.{Entry}
+use Rattle.kept_desk.specs.Entries.{text_of}
+use Rattle.kept_desk.specs.Journal.{IsWritten}
 use Rattle.journal_script.specs.Journals.{AreLeft, IsSpoken, Shows}
 use Rattle.journal_script.specs.Restoring.{IsListen}
 use Rattle.journal_script.specs.Speaking.{Speaks}

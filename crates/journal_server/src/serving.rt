@@ -12,8 +12,7 @@ ghost use Rattle.station_link.specs.Answer.{Asks, IsSubmitted};
 
 use crate::speech::ScriptSpeech;
 use journal_script::{is_script_line, laws, message_line};
-use journal_ties::Ties;
-use kept_desk::{KeptCell, KeptDesk, Opening};
+use kept_desk::{KeptCell, KeptDesk, Opening, Ties};
 use ledger_model::{Answer, Command, Event, Key, Name, Refusal};
 use live_server::Serves;
 use pass_shelf::{PassFault, ShelfDesk};

@@ -2,9 +2,9 @@
 use Rattle.std.proofs.Common.{◌≡◌, ℕ, ◌+◌, List, [], ◌∷◌, ◌++◌, refl, ap, sym, ◌∙◌, subst, arith, length-append}
 use Rattle.std.proofs.lemmas.List.{map-append}
 use Rattle.std.proofs.lemmas.List.Elements.{All-nil, All-push}
-use Rattle.journal_ties.specs.declared.entry.Entry.{Entry}
-use Rattle.journal_ties.specs.Entries.{entry}
-use Rattle.journal_ties.specs.Journal.{Share}
+use Rattle.kept_desk.specs.declared.entry.Entry.{Entry}
+use Rattle.kept_desk.specs.Entries.{entry}
+use Rattle.kept_desk.specs.Journal.{Share}
 use Rattle.ledger_model.specs.declared.command.Command.{Command}
 use Rattle.ledger_model.specs.Admissible.{IsAdmissible}
 use Rattle.ledger_model.specs.Content.{Content}

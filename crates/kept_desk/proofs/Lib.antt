@@ -1,2 +1,5 @@
+mod Moves
+mod Written
+mod Lines
 pub mod Left
 pub mod Names

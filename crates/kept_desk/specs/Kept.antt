@@ -1,7 +1,7 @@
 use Rattle.std.specs.Prelude.{◌≡◌, ℕ, ◌+◌, ◌≤◌, Bool, List, Option, All, map, length, Some, slice_get}
-use Rattle.journal_ties.specs.declared.entry.Entry.{Entry}
-use Rattle.journal_ties.specs.Entries.{of_station}
-use Rattle.journal_ties.specs.Journal.{IsWritten, Share}
+use Rattle.kept_desk.specs.declared.entry.Entry.{Entry}
+use Rattle.kept_desk.specs.Entries.{of_station}
+use Rattle.kept_desk.specs.Journal.{IsWritten, Share}
 use Rattle.ledger_model.specs.declared.command.Command.{Command}
 use Rattle.ledger_model.specs.Admissible.{IsAdmissible}
 use Rattle.ledger_model.specs.Content.{Content}

@@ -1,2 +1,7 @@
+pub mod Entries
+pub mod Writing
+pub mod Journal
+pub mod Rule
+pub mod Held
 pub mod Opened
 pub mod Kept

@@ -1,5 +1,5 @@
 ghost use Rattle.std.specs.Prelude.{◌≡◌, [], length, IfOk};
-ghost use Rattle.journal_ties.specs.Entries.{HasNoFeed, of_station};
+ghost use Rattle.kept_desk.specs.Entries.{HasNoFeed, of_station};
 ghost use Rattle.ledger_model.specs.Laws.{IsAccepted};
 ghost use Rattle.ledger_model.specs.Step.{answer};
 ghost use Rattle.station_cell.specs.Cell.{IsInService};
@@ -7,9 +7,11 @@ ghost use Rattle.station_cell.specs.Settle.{cell_after};
 ghost use Rattle.site_desk.specs.Submit.{CanJudge, Submitted};
 ghost use Rattle.kept_desk.specs.Kept.{KeepsCell};
 
+use crate::broken::Broken;
+use crate::hand::Hand;
 use crate::opening::{Opening, Speaks};
+use crate::ties::Ties;
 use crate::way::Journalled;
-use journal_ties::{Broken, Hand, Ties};
 use ledger_model::{Answer, Command, Refusal};
 use site_book::{Naming, SiteBook, Told};
 use site_desk::{

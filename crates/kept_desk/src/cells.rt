@@ -1,6 +1,6 @@
 //! Cells with their hands, and without them.
 ghost use Rattle.std.specs.Prelude.{◌≡◌, ℕ, ◌+◌, ◌≤◌, [], ◌++◌, length, IfOk, OnOk, Some, All, slice_get, vec_len, vec_capacity};
-ghost use Rattle.journal_ties.specs.Entries.{of_station};
+ghost use Rattle.kept_desk.specs.Entries.{of_station};
 ghost use Rattle.station_cell.specs.Cell.{Cell, IsInService};
 ghost use Rattle.kept_desk.specs.Kept.{IsLeftFrom, commands_of};
 ghost use Rattle.kept_desk.specs.Opened.{AreFirst};
@@ -8,7 +8,7 @@ ghost use Rattle.kept_desk.specs.Opened.{AreFirst};
 use crate::cell::KeptCell;
 use crate::log::Log;
 use crate::opening::{Opening, Speaks};
-use journal_ties::Ties;
+use crate::ties::Ties;
 use site_desk::StationCell;
 use std::alloc::{AllocError, Global};
 use std::io::Write;

@@ -1,6 +1,6 @@
 use crate::desk::KeptDesk;
 use crate::opening::{Opening, Speaks};
-use journal_ties::Ties;
+use crate::ties::Ties;
 use ledger_model::Listed;
 use site_book::{Naming, Viewer};
 use site_desk::{CloseFault, Closed, Pass};

@@ -1,5 +1,5 @@
 ghost use Rattle.std.specs.Prelude.{◌≡◌, ◌≢◌, ℕ, All, length, IfOk, IfErr, None, Some, slice_get};
-ghost use Rattle.journal_ties.specs.Entries.{HasNoFeed};
+ghost use Rattle.kept_desk.specs.Entries.{HasNoFeed};
 ghost use Rattle.ledger_model.specs.declared.answer.Answer.{Answer};
 ghost use Rattle.ledger_model.specs.declared.answer.Refusal.{Refusal};
 ghost use Rattle.site_desk.specs.declared.fault.CloseFault.{CloseFault};
@@ -11,13 +11,14 @@ ghost use Rattle.site_desk.specs.Submit.{IsUnchanged, Submitted};
 ghost use Rattle.kept_desk.specs.Kept.{IsWrittenDown};
 ghost use Rattle.kept_desk.specs.Opened.{AreFirst, AreNames};
 
+use crate::blank::Blank;
 use crate::cell::KeptCell;
 use crate::cells::{free_cells, keep_cells};
 use crate::closed::{KeptClosed, KeptRefused};
 use crate::log::Log;
 use crate::opening::{Opening, Speaks};
+use crate::ties::Ties;
 use crate::way::Journalled;
-use journal_ties::{Blank, Ties};
 use ledger_model::{Answer, Command};
 use site_book::{Naming, Told, Viewer};
 use site_desk::{CloseRefused, Closed, Desk, Gate, Parts, Pass, Plan, StationCell};
@@ -116,7 +117,7 @@ impl<J: Naming, K: Ties + Opening, L: Speaks, W: Write + Drop> KeptDesk<J, K, L,
     /// station's and then its site's. `ChangesExhausted` also answers where the line can't be written, then
     /// and from then on.
     ///
-    /// Conditions: the line has no line feed ([`is_line`](journal_ties::is_line) tells), and it speaks for
+    /// Conditions: the line has no line feed ([`is_line`](crate::is_line) tells), and it speaks for
     /// the command on the pass's station.
     pub fn submit<G: Gate, R: Wait + Clock>(
         &self,

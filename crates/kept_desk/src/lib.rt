@@ -1,7 +1,7 @@
 //! A desk with a journal: each change of a station is a line that was written before.
 //!
 //! A [`KeptDesk`] is a [`Desk`](site_desk::Desk) that keeps beside each station's cell the station's
-//! [`Hand`](journal_ties::Hand) of one [`Journal`](journal_ties::Journal), both under the station's lock
+//! [`Hand`](crate::Hand) of one [`Journal`](crate::Journal), both under the station's lock
 //! ([`KeptCell`]), and the journal under a lock of its own. [`KeptDesk::submit`] takes the station's lock,
 //! and where the ledger would accept the command, the journal's: it writes and flushes the line that the
 //! caller hands in, gives the journal's lock back, and only then takes the site's and settles. So a write
@@ -17,9 +17,20 @@
 //! station of its name, in the words of the caller ([`Speaks`]). The contract of `submit` is that of
 //! [`Desk::submit`](site_desk::Desk::submit), word for word.
 //!
-//! The type parameters: J names the tables of the sites, K the journal and what the stations held and
-//! were called when the desk was opened ([`Ties`](journal_ties::Ties), [`Opening`]), L says which lines
-//! speak for which commands, W is the writer.
+//! Below the desk stands the journal itself, which knows nothing of ledgers. A [`Journal`] writes lines for
+//! stations: [`Journal::add`] writes and flushes one line, and then notes it as an [`Entry`], with the command
+//! that it is, in the journal and in the [`Hand`] of the line's station. Notes take no memory and have no
+//! bytes: a hand is its station's number. What was written is the text of one list of entries, and each
+//! station's hand has just the entries of its own station in that list, in their order. So what a station
+//! holds beside its hand, and was proved to come of the hand's entries, comes of its own entries in what was
+//! written ([`Journal::compare`], [`Journal::into_writer`]). A write or a flush that fails breaks the journal
+//! for good: nothing is noted, and behind the text lies a front of one line at most. Each station has one
+//! hand at most, since hands are made in rising order of stations.
+//!
+//! The type parameters: J names the tables of the sites, K the journal ([`Ties`], B of a journal by itself), so
+//! that a hand reaches no other, and what the stations held and were called when the desk was opened
+//! ([`Opening`]); L says which lines speak for which commands, C is what a line means, of which no value is
+//! kept, and W is the writer.
 //!
 //! ```text
 //! let (desk, viewers) = KeptDesk::open(alloc, &plan, parts, blank, writer)?;
@@ -29,15 +40,31 @@
 //! ```
 #![tactic(auto)]
 
+mod blank;
+mod broken;
 mod cell;
 mod cells;
 mod closed;
 mod desk;
+mod entry;
+mod hand;
+mod journal;
 mod log;
 mod opening;
+mod steps;
+mod table;
+mod ties;
 mod way;
+mod write;
 
+pub use blank::Blank;
+pub use broken::Broken;
 pub use cell::KeptCell;
 pub use closed::{KeptClosed, KeptRefused};
 pub use desk::KeptDesk;
+pub use entry::Entry;
+pub use hand::Hand;
+pub use journal::Journal;
 pub use opening::{Opening, Speaks};
+pub use ties::Ties;
+pub use write::is_line;

@@ -1,11 +1,15 @@
 //! The journal of a desk, whose lines speak for their commands.
 ghost use Rattle.std.specs.Prelude.{◌≡◌, ◌+◌, ◌≤◌, false, true, [], ◌∷◌, ◌++◌, OnOk, OnErr};
-ghost use Rattle.journal_ties.specs.Entries.{HasNoFeed, entry, of_station};
-ghost use Rattle.journal_ties.specs.Journal.{IsWritten};
+ghost use Rattle.kept_desk.specs.Entries.{HasNoFeed, entry, of_station};
+ghost use Rattle.kept_desk.specs.Journal.{IsWritten};
 ghost use Rattle.kept_desk.specs.Kept.{AreSpoken};
 
+use crate::blank::Blank;
+use crate::broken::Broken;
+use crate::hand::Hand;
+use crate::journal::Journal;
 use crate::opening::{Opening, Speaks};
-use journal_ties::{Blank, Broken, Hand, Journal, Ties};
+use crate::ties::Ties;
 use ledger_model::Command;
 use std::io::Write;
 use std::marker::{Model, PhantomData};
@@ -18,7 +22,7 @@ pub(crate) struct Log<K: Ties + Opening, L: Speaks, W: Write + Drop> {
 }
 
 impl<K: Ties + Opening, L: Speaks, W: Write + Drop> Model for Log<K, L, W> {
-    ghost use Rattle.journal_ties.specs.Journal.{Ledger};
+    ghost use Rattle.kept_desk.specs.Journal.{Ledger};
     ghost use Rattle.ledger_model.specs.declared.command.Command.{Command};
     ghost use Rattle.kept_desk.specs.Kept.{AreSpoken};
 

@@ -1,11 +1,13 @@
 //! How a desk with a journal takes a command.
 ghost use Rattle.std.specs.Prelude.{◌≡◌, ◌++◌, ◌∷◌, [], OnOk, OnErr};
-ghost use Rattle.journal_ties.specs.Entries.{HasNoFeed, entry};
+ghost use Rattle.kept_desk.specs.Entries.{HasNoFeed, entry};
 
+use crate::broken::Broken;
 use crate::cell::KeptCell;
+use crate::hand::Hand;
 use crate::log::Log;
 use crate::opening::{Opening, Speaks};
-use journal_ties::{Broken, Hand, Ties};
+use crate::ties::Ties;
 use ledger_model::{Answer, Command, Refusal};
 use site_book::{Naming, SiteBook, Told};
 use site_desk::{HasCell, Pass, Place, Settles, can_judge};
@@ -40,7 +42,7 @@ impl<'a, K: Ties + Opening, L: Speaks, W: Write + Drop> Journalled<'a, K, L, W> 
 
 impl<'a, J: Naming, K: Ties + Opening, L: Speaks, W: Write + Drop> Settles<J, KeptCell<K>>
     for Journalled<'a, K, L, W> {
-    ghost use Rattle.journal_ties.specs.Entries.{HasNoFeed};
+    ghost use Rattle.kept_desk.specs.Entries.{HasNoFeed};
 
     ghost asks = { λ w number command. HasNoFeed w.line.now × L.speaks (K.name number) w.line.now command };
 

@@ -1,8 +1,8 @@
 //! The program's commands and options.
 ghost use Rattle.std.specs.Prelude.{IfOk};
-ghost use Rattle.board_words.specs.Arguments.{IsAskable};
+ghost use Rattle.ocpp_board.specs.Arguments.{IsAskable};
 
-use board_words::{Asked, MAX_SIMULATED_STATIONS, serve_asked, sim_asked};
+use crate::asked::{Asked, MAX_SIMULATED_STATIONS, serve_asked, sim_asked};
 use clap::{Arg, ArgAction, Command, Error, value_parser};
 use site_server::{MAX_CONNECTIONS, MAX_SIMULATED_EVENTS};
 use std::alloc::{AllocError, Global};

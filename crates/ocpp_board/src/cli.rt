@@ -1,8 +1,9 @@
 ghost use Rattle.std.specs.Prelude.{◌≡◌, ◌≤◌};
-ghost use Rattle.board_words.specs.Arguments.{IsAskable};
+ghost use Rattle.ocpp_board.specs.Arguments.{IsAskable};
 
 use crate::arguments::read_arguments;
-use board_words::{Asked, WordFault};
+use crate::asked::Asked;
+use crate::station_words::WordFault;
 use clap::Error;
 use clap::error::ErrorKind;
 use journal_server::{JournalFault, Served, serve_journalled, serve_restored};

@@ -3,7 +3,7 @@ ghost use Rattle.std.specs.Prelude.{◌≡◌, ◌≤◌, ◌<◌, ℕ, List, If
 ghost use Rattle.std.specs.Io.KnownBytes.{Appends};
 ghost use Rattle.site_book.specs.Tables.{HasTable, NamedBy};
 ghost use Rattle.desk_report.specs.Closed.{AreBoards};
-ghost use Rattle.simulated_station.specs.Sim.{IsSimulated};
+ghost use Rattle.station_link.specs.Sim.{IsSimulated};
 ghost use Rattle.site_server.specs.Simulated.{simulated_name, simulated_sites, simulated_stations};
 
 use crate::close::close_desk;

@@ -4,8 +4,8 @@ use Rattle.std.proofs.lemmas.Iterator.Adapters.{YieldsList-from_vec}
 use Rattle.std.proofs.lemmas.Iterator.Consumers.{YieldsList-end}
 use Rattle.std.proofs.lemmas.List.{map-id}
 use Rattle.std.proofs.lemmas.List.Elements.{All-push}
-use Rattle.journal_ties.specs.Entries.{of_station}
-use Rattle.journal_ties.specs.Journal.{Ledger}
+use Rattle.kept_desk.specs.Entries.{of_station}
+use Rattle.kept_desk.specs.Journal.{Ledger}
 use Rattle.ledger_model.specs.declared.command.Command.{Command}
 use Rattle.station_cell.specs.Cell.{Cell, IsInService}
 use Rattle.kept_desk.specs.Kept.{IsLeftFrom, commands_of}

@@ -2,8 +2,8 @@ use Rattle.std.proofs.Common.{◌≡◌, Some, ap, sym, ◌∙◌, subst, arith}
 use Rattle.std.specs.Prelude.{slice_get}
 use Rattle.std.proofs.lemmas.List.{map-id}
 use Rattle.std.proofs.lemmas.Option.{slice_get_within}
-use Rattle.journal_ties.specs.Entries.{of_station}
-use Rattle.journal_ties.specs.Journal.{IsWritten, Ledger}
+use Rattle.kept_desk.specs.Entries.{of_station}
+use Rattle.kept_desk.specs.Journal.{IsWritten, Ledger}
 use Rattle.ledger_model.specs.declared.command.Command.{Command}
 use Rattle.station_cell.specs.Cell.{Cell, IsInService}
 use Rattle.site_desk.specs.Parts.{AreTied}

@@ -1,3 +1,0 @@
-mod Moves
-mod Written
-mod Lines

@@ -1,6 +1,0 @@
-use Rattle.std.proofs.Common.{[], ◌∷◌}
-use Rattle.journal_ties.specs.Entries.{entry}
-use Rattle.journal_ties.proofs.journal.Journal.add.Given as goal
-
-abbrev pub ghosts-note : goal.ghosts-note
-ghosts-note g a = record { entries = entry a.station a.line.now a.command.now ∷ [] }

@@ -1,4 +1,0 @@
-use Rattle.journal_ties.proofs.journal.Journal.hand.Given as goal
-
-abbrev pub ghosts-enlist : goal.ghosts-enlist
-ghosts-enlist g a = record { station = a.station }

@@ -1,6 +1,0 @@
-use Rattle.std.proofs.Common.{ap, rules}
-use Rattle.journal_ties.proofs.Moves.{compares}
-use Rattle.journal_ties.proofs.steps.compare.Goals as goal
-
-pub load-requires : goal.load-requires
-load-requires g c = (search rules, search rules, compares _ _ _ (ap (λ m. m.0.is_journal) c.requires.joined) (ap (λ m. m.0.is_hand) c.requires.joined))

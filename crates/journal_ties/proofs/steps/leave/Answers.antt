@@ -1,6 +1,0 @@
-use Rattle.std.proofs.Common.{ap, rules}
-use Rattle.journal_ties.proofs.Moves.{leaves}
-use Rattle.journal_ties.proofs.steps.leave.Goals as goal
-
-pub split_seat-requires : goal.split_seat-requires
-split_seat-requires g c = (search rules, search rules, leaves _ _ (ap (λ m. m.0.is_hand) c.requires.holds))

@@ -1,6 +1,0 @@
-use Rattle.std.proofs.Common.{ap, rules}
-use Rattle.journal_ties.proofs.Moves.{takes_in}
-use Rattle.journal_ties.proofs.steps.take_in.Goals as goal
-
-pub join_seat-requires : goal.join_seat-requires
-join_seat-requires g c = (search rules, search rules, search rules, search rules, takes_in _ _ _ _ (ap (λ m. m.0.is_journal) c.requires.keeps) (ap (λ m. m.0.is_hand) c.requires.holds))

@@ -1,5 +1,0 @@
-pub mod Entries
-pub mod Writing
-pub mod Journal
-pub mod Rule
-pub mod Held

@@ -1,0 +1,50 @@
+-- The loop that writes some bytes: what the writer has taken of them.
+use Rattle.std.proofs.Common.{◌≡◌, ℕ, ◌+◌, ◌-◌, List, ◌++◌, Option, Result, Ok, Err, append_assoc, append-nil, take, drop, length, sym, ap, ◌∙◌, [], subst, arith, take_all, length-drop, take-append-drop}
+use Rattle.std.proofs.Math.Seq.{take-add}
+use Rattle.std.specs.Io.KnownBytes.{Keeps, Appends}
+use Rattle.kept_desk.specs.Writing.{WritesFront}
+use Rattle.std.proofs.KnownBytes.{Appends-trans, Appends-kept}
+
+-- `&bytes[done..]`
+rest_of : (bytes : List ℕ) (done : ℕ) → take (length bytes - done) (drop done bytes) ≡ drop done bytes
+rest_of bytes done = take_all (length bytes - done) (drop done bytes) (omega (arith, length-drop done bytes))
+
+module _ (bytes : List ℕ) (done : ℕ) (w0 w1 w2 : Option (List ℕ)) (so_far : Appends w0 w1 (take done bytes)) where
+  -- a write took n bytes more
+  pub took : (n : ℕ) → Appends w1 w2 (take n (take (length bytes - done) (drop done bytes))) → Appends w0 w2 (take (done + n) bytes)
+  took n more =
+      let front = ap (take n) (rest_of bytes done) in
+      subst (Appends w0 w2) (sym (take-add done n bytes)) (Appends-trans w0 w1 w2 _ _ so_far (subst (Appends w1 w2) front more))
+
+  -- a write failed
+  pub stopped : Keeps w1 w2 → (written : List ℕ) × Appends w0 w2 written × ((rest : List ℕ) × (bytes ≡ written ++ rest))
+  stopped kept = (take done bytes, Appends-kept w0 w1 w2 _ so_far kept, (drop done bytes, sym (take-append-drop done bytes)))
+
+  -- a write took none
+  pub took_none : (n : ℕ) → n ≡ 0 → Appends w1 w2 (take n (take (length bytes - done) (drop done bytes)))
+      → (written : List ℕ) × Appends w0 w2 written × ((rest : List ℕ) × (bytes ≡ written ++ rest))
+  took_none n none more = (
+    take (done + n) bytes,
+    took n more,
+    (drop (done + n) bytes, sym (take-append-drop (done + n) bytes)),
+  )
+
+-- some bytes were written, and then these or their front
+behind : {T E : Type 0} (line end two : List ℕ) (r : Result T E) → WritesFront r end two → WritesFront r (line ++ end) (line ++ two)
+behind line end two (Ok x) is = ap (λ l. line ++ l) is
+behind line end two (Err x) front = (front.0, ap (λ l. line ++ l) front.1 ∙ sym (append_assoc line two front.0))
+
+pub ended : {T E : Type 0} (line end : List ℕ) (w0 w1 w2 : Option (List ℕ)) (r : Result T E)
+    → (one : List ℕ) × Appends w0 w1 one × (one ≡ line)
+    → (two : List ℕ) × Appends w1 w2 two × WritesFront r end two
+    → (all : List ℕ) × Appends w0 w2 all × WritesFront r (line ++ end) all
+ended line end w0 w1 w2 r first second = (
+  line ++ second.0,
+  Appends-trans w0 w1 w2 line second.0 (subst (Appends w0 w1) first.2 first.1) second.1,
+  behind line end second.0 r second.2,
+)
+
+-- a flush that failed after the bytes were written
+pub unflushed : (bytes : List ℕ) (w0 w1 w2 : Option (List ℕ)) → (written : List ℕ) × Appends w0 w1 written × (written ≡ bytes) → Keeps w1 w2
+    → (written : List ℕ) × Appends w0 w2 written × ((rest : List ℕ) × (bytes ≡ written ++ rest))
+unflushed bytes w0 w1 w2 first kept = (first.0, Appends-kept w0 w1 w2 _ first.1 kept, ([], sym first.2 ∙ sym (append-nil first.0)))

@@ -1,0 +1,30 @@
+use Rattle.std.proofs.Common.{◌≡◌, false, [], ◌∷◌, ◌++◌, ap, sym, ◌∙◌, subst}
+use Rattle.kept_desk.specs.Entries.{entry}
+use Rattle.kept_desk.specs.Journal.{IsWritten}
+use Rattle.kept_desk.specs.Rule.{keeping}
+use Rattle.kept_desk.proofs.Lines.{cut, added}
+use Rattle.kept_desk.proofs.journal.Journal.add.Goals as goal
+
+pub invariant_of-self : goal.invariant_of-self
+invariant_of-self g c =
+    let i = c.self.invariant in
+    record {
+      is_named = i.is_named;
+      sits = i.sits;
+      me_is = i.me_is;
+      written = cut _ _ _ _ c.self.inside.seat.me.0.log c.args.line.now c.requires.line c.if-self.false i.written c.in_err-write_line.ensures;
+    }
+
+pub invariant_of-self-2 : goal.invariant_of-self-2
+invariant_of-self-2 g c =
+    let i = c.self.invariant in
+    let log = c.self.inside.seat.me.0.log in
+    let now = log ++ entry c.hand.inside.station c.args.line.now c.args.command.now ∷ [] in
+    let grown : c.note.new.seat.me.0.log ≡ now = ap (λ m. m.0.log) c.note.ensures.keeps in
+    let made : c.self.inside.seat.me.0.made ≡ c.self.inside.hands = ap (λ m. m.0.made) i.me_is in
+    record {
+      is_named = i.is_named;
+      sits = c.note.ensures.sits.0;
+      me_is = c.note.ensures.keeps ∙ (λ n. (keeping (sym grown n) (made n), []));
+      written = subst (IsWritten false _ _) (sym grown) (added _ _ _ _ log c.hand.inside.station c.args.line.now c.args.command.now c.requires.line c.if-self.false i.written c.in_ok-write_line.ensures);
+    }

@@ -1,0 +1,4 @@
+use Rattle.kept_desk.proofs.journal.Journal.hand.Given as goal
+
+abbrev pub ghosts-enlist : goal.ghosts-enlist
+ghosts-enlist g a = record { station = a.station }

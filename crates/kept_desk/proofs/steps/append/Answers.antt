@@ -1,0 +1,12 @@
+use Rattle.std.proofs.Common.{ap, sym, rules}
+use Rattle.kept_desk.specs.Entries.{entry}
+use Rattle.kept_desk.proofs.Moves.{adds}
+use Rattle.kept_desk.proofs.steps.append.Goals as goal
+
+pub load-requires : goal.load-requires
+load-requires g c = (
+  search rules,
+  search rules,
+  adds _ _ _ _ (entry c.args.station c.args.line.now c.args.command.now) c.requires.entries (ap (λ m. m.0.is_journal) c.requires.joined) (ap (λ m. m.0.is_hand) c.requires.joined)
+      (sym (ap (λ m. m.0.station) c.requires.joined)),
+)

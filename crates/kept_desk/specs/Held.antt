@@ -1,0 +1,36 @@
+use Rattle.std.specs.Prelude.{◌≡◌, ℕ, Bool, List, [], Option}
+use Rattle.atomic_table.specs.Table.{Me}
+use Rattle.atomic_table.specs.Seated.{TableId}
+use Rattle.kept_desk.specs.declared.table.View.{View}
+use Rattle.kept_desk.specs.Journal.{IsWritten}
+use Rattle.kept_desk.specs.Rule.{keeping, holding}
+
+-- What a seat knows, and the slots that it holds: a journal's table has none.
+abbrev pub Seated : Type 0 → Type 0
+Seated C = Me (Unit {0}) (View C)
+
+-- A seat at this table of one word.
+pub record Sits (table seat : TableId) : Type 0 where
+  pub same : seat ≡ table
+  pub one : table.words ≡ 1
+
+-- A table before its journal is opened: its first seat knows that there are no entries and no hands.
+pub record IsUnused {C : Type 0} (table seat : TableId) (me : Seated C) : Type 0 where
+  pub sits : Sits table seat
+  pub me_is : me ≡ (keeping [] 0, [])
+
+-- What a journal keeps beside its table: the number of hands, whether a write failed, and what its writer holds.
+pub record IsJournal {C : Type 0} (named : TableId) (before : Option (List ℕ)) (hands : ℕ) (broken : Bool) (now : Option (List ℕ)) (table seat : TableId) (me : Seated C) : Type 0 where
+  pub is_named : table ≡ named
+  pub sits : Sits table seat
+  pub me_is : me ≡ (keeping me.0.log hands, [])
+  pub written : IsWritten broken before now me.0.log
+
+-- What a hand is: a seat of this station at the table.
+pub record IsHand {C : Type 0} (named : TableId) (station : ℕ) (seat : TableId) (me : Seated C) : Type 0 where
+  pub is_named : seat ≡ named
+  pub me_is : me ≡ (holding station me.0.mine, [])
+
+-- The name of no table.
+abbrev pub no_table : TableId
+no_table = record { words = 0; slots = 0; views_name = 0; atom = 0; block = 0; offset = 0; slot_names = [] }

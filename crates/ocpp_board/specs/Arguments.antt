@@ -1,0 +1,107 @@
+-- What the program can be asked to do, and what its words ask for.
+use Rattle.std.specs.Prelude.{◌≡◌, ℕ, ◌<◌, ◌≤◌, ◌^◌, ⊤, Bool, true, false, List, [], Option, None, Some, codes, nat_lt, if◌then◌else◌, option_map, unwrap_or}
+use Rattle.core.specs.Str.Parse.{IsNumeral, digits_value, without_leading_plus}
+use Rattle.clap.specs.Matches.{matched_of, one_text, raw_values}
+use Rattle.clap.specs.declared.parser.matches.Found.{Found}
+use Rattle.std.specs.declared.result.Result.{Result}
+use Rattle.site_desk.specs.declared.plan.Plan.{Plan}
+use Rattle.ocpp_board.specs.declared.asked.Asked.{Asked}
+use Rattle.ocpp_board.specs.declared.asked.Asked.TheVariants.{Replay, Serve, ServeLive, ServeJournalled, ServeRestored, Simulate}
+use Rattle.live_server.specs.declared.service.Live.{Live}
+use Rattle.ledger_model.specs.Quarter.{IsPeriod, default_period}
+use Rattle.ocpp_board.specs.StationWords.{AnswersWords}
+use Rattle.ocpp_board.specs.declared.station_words.WordFault.{WordFault}
+use Rattle.site_server.specs.declared.service.Service.{Service}
+use Rattle.station_link.specs.Sim.{IsSimulated}
+
+-- A server is asked for 1 to 64 connections, a simulation for 1 to 64 stations and 2 to 64 events.
+abbrev pub IsAskable : Asked → Type 0
+IsAskable Replay = ⊤
+IsAskable (Serve plan service) = (1 ≤ service.connections) × (service.connections ≤ 64)
+IsAskable (ServeLive plan live) = ⊤
+IsAskable (ServeJournalled plan live) = ⊤
+IsAskable (ServeRestored live journalled) = ⊤
+IsAskable (Simulate stations events) = IsSimulated stations events
+
+-- An option gives this number: what its text says, where that is a decimal below this power of 2, and the other where it has no text.
+pub record Gives (found : Found) (option : List ℕ) (bits other number : ℕ) : Type 0 where
+  pub read : (text : List ℕ) → one_text found option ≡ Some text → IsNumeral 10 (without_leading_plus text) → digits_value 10 (without_leading_plus text) < 2 ^ bits
+      → number ≡ digits_value 10 (without_leading_plus text)
+  pub none : one_text found option ≡ None → number ≡ other
+
+-- An option gives this number where the number is in this range.
+pub record GivesWithin (found : Found) (option : List ℕ) (bits other least most number : ℕ) : Type 0 where
+  pub given : ℕ
+  pub gives : Gives found option bits other given
+  pub within : least ≤ given → given ≤ most → number ≡ given
+
+-- A flag is set where it is used, and else not.
+pub record IsFlag (found : Found) (option : List ℕ) (flag : Bool) : Type 0 where
+  pub none : one_text found option ≡ None → flag ≡ false
+  pub set : one_text found option ≡ Some (codes "true") → flag ≡ true
+  pub unset : one_text found option ≡ Some (codes "false") → flag ≡ false
+
+-- An option gives a number where it has a text: what that says, where it is a decimal below this power of 2.
+pub record GivesSome (found : Found) (option : List ℕ) (bits : ℕ) (number : Option ℕ) : Type 0 where
+  pub read : (text : List ℕ) → one_text found option ≡ Some text → IsNumeral 10 (without_leading_plus text) → digits_value 10 (without_leading_plus text) < 2 ^ bits
+      → number ≡ Some (digits_value 10 (without_leading_plus text))
+  pub none : one_text found option ≡ None → number ≡ None
+
+-- What the options of `serve --live` ask for.
+pub record AsksLive (found : Found) (live : Live) : Type 0 where
+  pub port : Gives found (codes "port") 16 0 live.port
+  pub watch : Gives found (codes "watch") 16 0 live.glances
+  pub log : IsFlag found (codes "log") live.is_logged
+  pub boards : GivesSome found (codes "board-port") 16 live.board_port
+
+-- A server that lives is asked for.
+abbrev pub is_live : Asked → Bool
+is_live Replay = false
+is_live (Serve plan service) = false
+is_live (ServeLive plan live) = true
+is_live (ServeJournalled plan live) = true
+is_live (ServeRestored live journalled) = true
+is_live (Simulate stations events) = false
+
+-- What the options of `serve` ask for where it does not live.
+pub record AsksService (found : Found) (service : Service) : Type 0 where
+  pub port : Gives found (codes "port") 16 0 service.port
+  pub connections : GivesWithin found (codes "connections") 8 1 1 64 service.connections
+  pub watch : Gives found (codes "watch") 16 0 service.glances
+
+-- The settlement period of all sites of a server: that of its option, where it is one.
+pub record AsksPeriod (found : Found) (period : ℕ) : Type 0 where
+  pub given : ℕ
+  pub gives : Gives found (codes "period") 16 default_period given
+  pub within : IsPeriod given → period ≡ given
+
+-- The words that name stations.
+abbrev pub words_of : Found → List (List ℕ)
+words_of found = unwrap_or (option_map raw_values (matched_of found (codes "stations"))) []
+
+-- The plan of a server is that of its words, in which each site has the settlement period that is asked for, and a viewer where its totals are watched.
+abbrev pub AsksPlan : Found → ℕ → Result Plan WordFault → Type 0
+AsksPlan found glances plan = (period : ℕ) × (AsksPeriod found period × AnswersWords plan (if nat_lt 0 glances then 1 else 0) period (words_of found))
+
+-- Whether a server that lives has a journal, and whether it is restored.
+pub record AsksKept (found : Found) (journal restore : Bool) : Type 0 where
+  pub journals : IsFlag found (codes "journal") journal
+  pub restores : IsFlag found (codes "restore") restore
+
+-- A server is asked for with what its options say, and the plan of its words, or of a script.
+abbrev pub AsksServe : Found → Asked → Type 0
+AsksServe found Replay = ⊥
+AsksServe found (Serve plan service) = AsksService found service × AsksPlan found service.glances plan
+AsksServe found (ServeLive plan live) = AsksLive found live × AsksPlan found live.glances plan × AsksKept found false false
+AsksServe found (ServeJournalled plan live) = AsksLive found live × AsksPlan found live.glances plan × AsksKept found true false
+AsksServe found (ServeRestored live journalled) = AsksLive found live × AsksKept found journalled true
+AsksServe found (Simulate stations events) = ⊥
+
+-- A simulation is asked for.
+abbrev pub AsksSimulate : Found → Asked → Type 0
+AsksSimulate found Replay = ⊥
+AsksSimulate found (Serve plan service) = ⊥
+AsksSimulate found (ServeLive plan live) = ⊥
+AsksSimulate found (ServeJournalled plan live) = ⊥
+AsksSimulate found (ServeRestored live journalled) = ⊥
+AsksSimulate found (Simulate stations events) = GivesWithin found (codes "stations") 16 2 1 64 stations × GivesWithin found (codes "events") 32 3 2 64 events

@@ -1,0 +1,127 @@
+//! What the options of a command ask for.
+ghost use Rattle.std.specs.Prelude.{◌≡◌, ◌≤◌, codes, true};
+ghost use Rattle.clap.specs.Matches.{found_of};
+ghost use Rattle.ocpp_board.specs.Arguments.{AsksLive, AsksPeriod, AsksPlan, AsksServe, AsksService, AsksSimulate, IsAskable, IsFlag, is_live};
+
+use crate::station_words::{WordFault, plan_of};
+use clap::ArgMatches;
+use ledger_model::{MAX_STATIONS, Period};
+use live_server::Live;
+use site_desk::Plan;
+use site_server::{MAX_CONNECTIONS, MAX_SIMULATED_EVENTS, Service};
+
+/// How many stations a simulation may have: as many as a plan.
+pub const MAX_SIMULATED_STATIONS: u16 = MAX_STATIONS as u16;
+
+/// What the program is asked to do.
+pub enum Asked<'a> {
+    /// To answer a script.
+    Replay,
+    /// To serve the stations of a plan, over 1 to 64 connections; or what is wrong with their words.
+    Serve(Result<Plan, WordFault<'a>>, Service),
+    /// To serve the stations of a plan for as long as an operator's lines come; or what is wrong with their words.
+    ServeLive(Result<Plan, WordFault<'a>>, Live),
+    /// The same, with a journal on standard output.
+    ServeJournalled(Result<Plan, WordFault<'a>>, Live),
+    /// To serve the stations of a script that standard input begins with, and whether with a journal.
+    ServeRestored(Live, bool),
+    /// To play so many simulated stations, 1 to 64, each with so many events, 2 to 64.
+    Simulate(u16, u32),
+}
+
+/// What `serve` is asked for.
+pub fn serve_asked<'a>(matches: &ArgMatches<'a>) -> Asked<'a>
+    ensures range { IsAskable result }
+    ensures asked { AsksServe (found_of matches.now) result }
+    ensures lives { IsFlag (found_of matches.now) (codes "live") (is_live result) }
+{
+    if matches.get_flag("live") {
+        live_asked(matches)
+    } else {
+        let service = service_of(matches);
+        Asked::Serve(plan_asked(matches, service.glances), service)
+    }
+}
+
+// What `serve --live` is asked for.
+fn live_asked<'a>(matches: &ArgMatches<'a>) -> Asked<'a>
+    ensures range { IsAskable result }
+    ensures asked { AsksServe (found_of matches.now) result }
+    ensures lives { is_live result ≡ true }
+{
+    let live = live_of(matches);
+    let is_journalled = matches.get_flag("journal");
+    if matches.get_flag("restore") {
+        Asked::ServeRestored(live, is_journalled)
+    } else if is_journalled {
+        Asked::ServeJournalled(plan_asked(matches, live.glances), live)
+    } else {
+        Asked::ServeLive(plan_asked(matches, live.glances), live)
+    }
+}
+
+// The plan of the words of `serve`, with a viewer for each site where its totals are glanced at so often.
+fn plan_asked<'a>(matches: &ArgMatches<'a>, glances: u16) -> Result<Plan, WordFault<'a>>
+    ensures { AsksPlan (found_of matches.now) glances result }
+{
+    let words = matches.get_strs("stations").unwrap_or(&[]);
+    let viewers = if glances > 0 { 1 } else { 0 };
+    plan_of(words, viewers, period_of(matches))
+}
+
+/// What the options of `serve --live` ask for.
+pub fn live_of(matches: &ArgMatches<'_>) -> Live
+    ensures { AsksLive (found_of matches.now) result }
+{
+    let port = matches.get_one::<u16>("port");
+    let watch = matches.get_one::<u16>("watch");
+    let glances = watch.unwrap_or(0);
+    Live {
+        port: port.unwrap_or(0),
+        glances,
+        is_logged: matches.get_flag("log"),
+        board_port: matches.get_one::<u16>("board-port"),
+    }
+}
+
+/// What the options of `serve` ask for. The number of connections is in range already, which the checker sees by
+/// the clamp.
+pub fn service_of(matches: &ArgMatches<'_>) -> Service
+    ensures range { (1 ≤ result.connections) × (result.connections ≤ 64) }
+    ensures asked { AsksService (found_of matches.now) result }
+{
+    let port = matches.get_one::<u16>("port");
+    let connections = matches.get_one::<u8>("connections");
+    let watch = matches.get_one::<u16>("watch");
+    Service {
+        port: port.unwrap_or(0),
+        connections: connections.unwrap_or(1).clamp(1, MAX_CONNECTIONS),
+        glances: watch.unwrap_or(0),
+    }
+}
+
+/// The settlement period of all sites. It is one of the four already, which the checker sees by the match.
+pub fn period_of(matches: &ArgMatches<'_>) -> Period
+    ensures { AsksPeriod (found_of matches.now) result }
+{
+    match matches.get_one::<u16>("period") {
+        Some(seconds) => match Period::new(seconds) {
+            Some(period) => period,
+            None => Period::default(),
+        },
+        None => Period::default(),
+    }
+}
+
+/// What `sim` is asked for. Its numbers are in range already, which the checker sees by the clamps.
+pub fn sim_asked<'a>(matches: &ArgMatches<'a>) -> Asked<'a>
+    ensures range { IsAskable result }
+    ensures asked { AsksSimulate (found_of matches.now) result }
+{
+    let stations = matches.get_one::<u16>("stations").unwrap_or(2);
+    let events = matches.get_one::<u32>("events").unwrap_or(3);
+    Asked::Simulate(
+        stations.clamp(1, MAX_SIMULATED_STATIONS),
+        events.clamp(2, MAX_SIMULATED_EVENTS),
+    )
+}
