@@ -1,4 +1,2 @@
-mod desk;
-mod fixtures;
 mod link;
 mod site;

@@ -5,7 +5,7 @@ ghost use Rattle.site_book.specs.Tables.{HasTable, NamedBy};
 use super::no_thread::{dropped, no_glance};
 use super::refused::no_connection;
 use super::sessions_in_turn::served_both;
-use crate::tests::fixtures::plan_of;
+use desk_fixtures::plan_of;
 use site_book::{Naming, Tables, Viewer};
 use site_desk::{Desk, Pass, Plan};
 use site_server::open_desk;

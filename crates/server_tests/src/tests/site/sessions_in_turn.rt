@@ -1,7 +1,7 @@
 // A server that serves its connections one after the other, or under one lock, never answers B here.
 use super::client::{A, B, sends_one};
 use super::scenes::{Scene, plays};
-use crate::tests::fixtures::HoldsA;
+use desk_fixtures::HoldsA;
 use site_book::Naming;
 use site_desk::{Desk, Pass};
 use site_server::serve_many;

@@ -6,7 +6,7 @@ use Rattle.ledger_model.specs.Ranges.{most_plan_readings}
 use Rattle.board_report.specs.Plans.{AreBoardsWithin}
 use Rattle.board_report.specs.Sums.{station_quarters, QuartersFit}
 use Rattle.board_report.proofs.PlanLemmas.{plans_fit}
-use Rattle.server_tests.proofs.tests.desk.three.boards_of.Goals as goal
+use Rattle.desk_tests.proofs.tests.desk.three.boards_of.Goals as goal
 
 -- two stations store no more readings than a plan may
 pub returns-clause-fit : goal.returns-clause-fit

@@ -6,7 +6,7 @@ use super::gates::{held_station, two_passes};
 use super::has;
 use super::plans::{changes, closes_with_all, each_pass, has_changes, posts, second_board};
 use super::three::{has_three, three_sides};
-use crate::tests::fixtures::{opened, plan_of};
+use desk_fixtures::{opened, plan_of};
 use site_book::{Naming, Tables, Viewer};
 use site_desk::{Closed, Desk, Pass, Plan};
 use std::alloc::Global;
