@@ -21,7 +21,7 @@ INNER = {
     "station_ledger": set(),
     "board_report": {"Lines"},
     "site_book": set(),
-    "journal_ties": {"Writing"},
+    "kept_desk": {"Writing"},
     "journal_script": {"Reading"},
     "slot_arena": set(),
 }
