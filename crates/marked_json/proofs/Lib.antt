@@ -2,4 +2,5 @@ pub mod Places
 pub mod Marks
 pub mod Cuts
 pub mod Grammar
+mod Lanes
 pub mod StringLaws

@@ -1,6 +1,8 @@
 //! The marking of a text, which is what `serde_json` reads in its place.
-ghost use Rattle.std.specs.Prelude.{◌≡◌, ◌≢◌, not, ◌<◌, ◌+◌, ℕ, length, slice_index, string_bytes, ◌≤◌, true, false, Ok, Err, IfOk, IfErr};
+ghost use Rattle.std.specs.Prelude.{◌≡◌, ◌≢◌, not, ◌<◌, ◌+◌, ℕ, length, map, slice_index, string_bytes, ◌≤◌, true, false, Ok, Err, IfOk, IfErr};
 ghost use Rattle.std.specs.List.{prefix_len, find};
+ghost use Rattle.std.specs.Simd.Lanes.{mask_l};
+ghost use Rattle.memchr.specs.Find.{IsFirstByte, is_byte2};
 ghost use Rattle.marked_json.specs.Marking as spec;
 ghost use Rattle.marked_json.specs.Steps as steps;
 ghost use Rattle.marked_json.specs.declared.fault.JsonFault.TheVariants.{OutOfMemory};
@@ -9,6 +11,7 @@ use crate::fault::JsonFault;
 use crate::number::is_number;
 use memchr::memchr2;
 use std::alloc::Global;
+use std::simd::prelude::*;
 
 /// The marked text of `text`, in one buffer that is reserved once.
 pub(crate) fn marked_text(alloc: Global, text: &str) -> Result<String, JsonFault>
@@ -169,7 +172,7 @@ fn string_len(bytes: &[u8]) -> usize
     ensures within { result ≤ length bytes.now }
 {
     let mut at = 0;
-    while let Some(ahead) = memchr2(b'"', b'\\', &bytes[at..]) {
+    while let Some(ahead) = first_stop(&bytes[at..]) {
         let found = at + ahead;
         if bytes[found] == b'"' {
             return found + 1;
@@ -177,4 +180,24 @@ fn string_len(bytes: &[u8]) -> usize
         at = (found + 2).min(bytes.len());
     }
     bytes.len()
+}
+
+// The first quote or backslash. Most strings end within one load, for which a search of any length is slow to begin.
+fn first_stop(bytes: &[u8]) -> Option<usize>
+    ensures { IsFirstByte (is_byte2 34 92) bytes.now result }
+{
+    if bytes.len() >= 32 {
+        let found = stops(u8x32::from_slice(bytes));
+        if found != 0 {
+            return Some(found.trailing_zeros() as usize);
+        }
+    }
+    memchr2(b'"', b'\\', bytes)
+}
+
+#[inline(always)]
+fn stops(v: u8x32) -> u64
+    ensures { result ≡ mask_l (map (is_byte2 34 92) v) }
+{
+    (v.simd_eq(u8x32::splat(b'"')) | v.simd_eq(u8x32::splat(b'\\'))).to_bitmask()
 }

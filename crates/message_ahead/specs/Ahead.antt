@@ -1,14 +1,8 @@
 -- What is known of an event that was read before its line was reached.
 use Rattle.std.specs.Prelude.{ℕ, ◌-◌, ◌≤◌, List, length, take, drop}
-use Rattle.transaction_event.specs.declared.message.Message.{Message}
-use Rattle.transaction_event.specs.declared.message.Message.TheVariants as message
-use Rattle.transaction_event.specs.MessageMeaning.{HasShortId, IsMeaningOf}
-use Rattle.message_ahead.specs.declared.delivery.Delivery.{Delivery}
+use Rattle.transaction_event.specs.MessageMeaning.{HasShortId, IsMeaningOf, asking}
+use Rattle.transaction_event.specs.declared.delivery.Delivery.{Delivery}
 use Rattle.message_ahead.specs.declared.chunk.FoundEvent.{FoundEvent}
-
--- The message that asks for a delivery.
-abbrev pub asking : Delivery → Message
-asking d = message.Event d.id d.key d.event d.token
 
 -- The text asks for this delivery, at any moment.
 abbrev pub Asks : List ℕ → Delivery → Type 0

@@ -2,12 +2,12 @@
 ghost use Rattle.std.specs.Prelude.{◌≡◌, ◌≤◌, ◌<◌, ◌-◌, ◌+◌, ℕ, [], All, length, IfOk, IfSome, IsTrue, take, drop};
 ghost use Rattle.message_ahead.specs.Ahead.{Asks, IsFound};
 
-use crate::delivery::Delivery;
+use arrayvec::ArrayString;
 use ledger_model::Moment;
 use memchr::memrchr;
 use script_lines::without_return;
 use std::alloc::{AllocError, Global};
-use transaction_event::{Message, message_of};
+use transaction_event::{Asked, Delivery, read_message};
 
 // About how many bytes a line with an event has.
 const USUAL_LINE: usize = 256;
@@ -176,20 +176,11 @@ fn event_of_line<T: MessageLines>(
 fn delivery_of(alloc: Global, text: &str) -> Result<Option<Delivery>, AllocError>
     ensures { IfOk result (λ event. IfSome event (λ d. Asks text.now d)) }
 {
+    let mut reply = ArrayString::new();
     // An event means the same at any moment.
-    match message_of(alloc, text, Moment::first()) {
-        Message::Event {
-            id,
-            key,
-            event,
-            token,
-        } => Ok(Some(Delivery {
-            id,
-            key,
-            event,
-            token,
-        })),
-        Message::Reply { memory: true, .. } => Err(AllocError),
-        Message::Reply { memory: false, .. } | Message::Silent => Ok(None),
+    match read_message(alloc, text, Moment::first(), &mut reply) {
+        Asked::Event(delivery) => Ok(Some(delivery)),
+        Asked::Reply { memory: true } => Err(AllocError),
+        Asked::Reply { memory: false } | Asked::Silent => Ok(None),
     }
 }

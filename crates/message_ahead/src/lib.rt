@@ -12,11 +12,9 @@
 #![tactic(auto)]
 
 mod chunk;
-mod delivery;
 mod lookahead;
 
 #[doc(hidden)]
 pub use chunk::FoundEvent;
 pub use chunk::{Chunk, MessageLines};
-pub use delivery::Delivery;
 pub use lookahead::Lookahead;

@@ -3,13 +3,13 @@ ghost use Rattle.std.specs.Prelude.{◌≤◌, length, IfSome};
 ghost use Rattle.message_ahead.specs.Ahead.{Asks};
 
 use crate::chunk::{Chunk, MessageLines};
-use crate::delivery::Delivery;
 use memchr::{memchr, memrchr};
 use std::alloc::{AllocError, Global};
 use std::sync::Arc;
 use std::sync::atomic::{AtomicBool, Ordering};
 use std::thread;
 use std::thread::{JoinHandle, Threads};
+use transaction_event::Delivery;
 
 // How many bytes of lines one thread reads.
 const CHUNK: usize = 65_536;

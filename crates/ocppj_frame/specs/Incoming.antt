@@ -1,10 +1,19 @@
 -- What an answer of the reader says of the text.
 use Rattle.std.specs.Prelude.{◌≡◌, ◌↔◌, IsTrue, true, false, ⊤}
+use Rattle.arrayvec.specs.ArrayString.{ArrayString}
 use Rattle.ocppj_frame.specs.declared.incoming.Incoming.{Incoming}
 use Rattle.ocppj_frame.specs.declared.incoming.Incoming.TheVariants as incoming
+use Rattle.ocppj_frame.specs.declared.incoming.Framed.{Framed}
+use Rattle.ocppj_frame.specs.declared.incoming.Framed.TheVariants as framed
 use Rattle.ocppj_frame.specs.Reply.{memory_bytes}
 use Rattle.ocppj_frame.specs.Frame.{Frame, Called, Silence, Ready}
 use Rattle.ocppj_frame.specs.Call.{id_of, action_of, payload_of}
+
+-- The answer with the text that was lent, if it is a ready reply.
+abbrev pub with_reply : Framed → ArrayString → Incoming
+with_reply (framed.Call call) reply = incoming.Call call
+with_reply framed.Silent reply = incoming.Silent
+with_reply (framed.Reply memory) reply = incoming.Reply reply memory
 
 -- The answer is what the text asks for, or it tells OutOfMemory.
 abbrev pub Reads : Frame → Incoming → Type 0

@@ -1,7 +1,7 @@
 ghost use Rattle.std.specs.Prelude.{◌≡◌, ◌≤◌, length};
 ghost use Rattle.marked_json.specs.Reading.{tree};
 ghost use Rattle.ocppj_frame.specs.Frame.{frame, frame_of, refused, elements_of};
-ghost use Rattle.ocppj_frame.specs.Incoming.{Reads, IsMemoryTold, IsOutOfMemory, IsCall};
+ghost use Rattle.ocppj_frame.specs.Incoming.{Reads, IsMemoryTold, IsOutOfMemory, IsCall, with_reply};
 ghost use Rattle.ocppj_frame.specs.Reply.{memory_bytes};
 ghost use Rattle.ocppj_frame.specs.Ranges.{longest_message};
 
@@ -34,6 +34,21 @@ pub enum Incoming {
     },
 }
 
+/// What a text asks for, where the text of a ready reply was put into one that was lent: an answer of less room than
+/// an [`Incoming`].
+#[derive(Drop)]
+pub enum Framed {
+    /// A call, which is to be answered.
+    Call(Call),
+    /// An answer, which gets none.
+    Silent,
+    /// A ready reply, whose text is the lent one.
+    Reply {
+        /// Whether it tells OutOfMemory.
+        memory: bool,
+    },
+}
+
 /// Reads a text as an OCPP-J frame (OCPP 2.0.1 Part 4). The first check that fails answers: a text above
 /// 262,144 bytes, no JSON, no call, an answer (silence), another type, another action, a payload that is
 /// no object. Running out of memory while reading is a ready reply too, the one with `memory` set.
@@ -43,52 +58,66 @@ pub fn read_frame(alloc: Global, text: &str) -> Incoming
     ensures while_reading { IsOutOfMemory result → length text.now ≤ longest_message }
     ensures short { IsCall result → length text.now ≤ longest_message }
 {
-    if text.len() > MAX_MESSAGE {
-        return refusal(None, FrameFault::TextTooLong);
+    let mut reply = ArrayString::new();
+    match read_frame_into(alloc, text, &mut reply) {
+        Framed::Call(call) => Incoming::Call(call),
+        Framed::Silent => Incoming::Silent,
+        Framed::Reply { memory } => Incoming::Reply {
+            text: reply,
+            memory,
+        },
     }
-    // The faults return at once: what a `match` gives as a whole is a copy of the largest reply.
+}
+
+/// Reads a text as [`read_frame`] does, and puts the text of a ready reply into `reply`, in the place of what it had;
+/// what it holds after another answer has no meaning.
+pub fn read_frame_into(alloc: Global, text: &str, reply: &mut ArrayString<512>) -> Framed
+    ensures meaning { Reads (frame text.now) (with_reply result reply.new) }
+    ensures memory { IsMemoryTold (with_reply result reply.new) }
+    ensures while_reading { IsOutOfMemory (with_reply result reply.new) → length text.now ≤ longest_message }
+    ensures short { IsCall (with_reply result reply.new) → length text.now ≤ longest_message }
+{
+    if text.len() > MAX_MESSAGE {
+        return refusal(None, FrameFault::TextTooLong, reply);
+    }
     let marked = match read_marked(alloc, text) {
         Ok(marked) => marked,
         Err(JsonFault::OutOfMemory) => {
-            return Incoming::Reply {
-                text: memory_text(),
-                memory: true,
-            };
+            *reply = memory_text();
+            return Framed::Reply { memory: true };
         }
-        Err(_) => return refusal(None, FrameFault::NotJson),
+        Err(_) => return refusal(None, FrameFault::NotJson, reply),
     };
-    read_tree(marked)
+    read_tree(marked, reply)
 }
 
 // What a text asks for that was read.
-fn read_tree(marked: Marked) -> Incoming
-    ensures meaning { Reads (frame_of (elements_of (tree marked))) result }
-    ensures memory { IsMemoryTold result }
-    ensures read { ¬ IsOutOfMemory result }
+fn read_tree(marked: Marked, reply: &mut ArrayString<512>) -> Framed
+    ensures meaning { Reads (frame_of (elements_of (tree marked))) (with_reply result reply.new) }
+    ensures memory { IsMemoryTold (with_reply result reply.new) }
+    ensures read { ¬ IsOutOfMemory (with_reply result reply.new) }
 {
     let (id, action) = match verdict_on(marked.root()) {
         Verdict::Call { id, action } => (MessageId::new(id.as_str()), action),
-        Verdict::Silent => return Incoming::Silent,
-        Verdict::Refused { id, fault } => return refusal(id, fault),
+        Verdict::Silent => return Framed::Silent,
+        Verdict::Refused { id, fault } => return refusal(id, fault, reply),
     };
-    Incoming::Call(Call {
+    Framed::Call(Call {
         id,
         action,
         frame: marked,
     })
 }
 
-// The reply that tells of a fault.
-fn refusal(id: Option<FrameId<'_>>, fault: FrameFault) -> Incoming
-    ensures meaning { Reads (refused id.entry fault) result }
-    ensures memory { IsMemoryTold result }
-    ensures ready { ¬ IsOutOfMemory result }
+// Puts the reply that tells of a fault into the text.
+fn refusal(id: Option<FrameId<'_>>, fault: FrameFault, reply: &mut ArrayString<512>) -> Framed
+    ensures meaning { Reads (refused id.entry fault) (with_reply result reply.new) }
+    ensures memory { IsMemoryTold (with_reply result reply.new) }
+    ensures ready { ¬ IsOutOfMemory (with_reply result reply.new) }
 {
     let id = id.unwrap_or(FrameId::unknown());
-    Incoming::Reply {
-        text: error_text(id.as_str(), fault.code(), fault.name()),
-        memory: false,
-    }
+    *reply = error_text(id.as_str(), fault.code(), fault.name());
+    Framed::Reply { memory: false }
 }
 
 // The reply that tells OutOfMemory.

@@ -2,7 +2,8 @@
 //!
 //! A CALL is `[2,<id>,<action>,<payload>]`. [`read_frame`] takes a text and gives the [`Call`], silence for an
 //! answer (CALLRESULT `[3,..]` or CALLERROR `[4,..]`), or the ready reply that tells of the first check that
-//! failed. [`result_text`] and [`error_text`] write the replies to a call, without blanks.
+//! failed; [`read_frame_into`] does the same with a reply that was lent. [`result_text`] and [`error_text`] write the
+//! replies to a call, without blanks.
 //!
 //! The crate's one contract: what a text asks for is the function `frame` of `specs/Frame.antt`, which names the
 //! checks in their order on the tree that the text is read into; `read_frame` gives that and nothing else, but
@@ -33,6 +34,6 @@ pub use action::Action;
 pub use body::Body;
 pub use call::Call;
 pub use error_code::ErrorCode;
-pub use incoming::{Incoming, MAX_MESSAGE, read_frame};
+pub use incoming::{Framed, Incoming, MAX_MESSAGE, read_frame, read_frame_into};
 pub use message_id::{MAX_MESSAGE_ID, is_message_id};
-pub use reply::{error_text, result_text};
+pub use reply::{error_text, put_result, result_text};

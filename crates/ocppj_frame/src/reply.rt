@@ -15,12 +15,21 @@ pub fn result_text(id: &str, body: Body) -> ArrayString<512>
     ensures { result.bytes ≡ result_bytes id.now body }
 {
     let mut text = ArrayString::new();
-    text.push_str("[3,");
-    push_json_string(&mut text, id);
-    text.push_str(",");
-    push_body(&mut text, body);
-    text.push_str("]");
+    put_result(&mut text, id, body);
     text
+}
+
+/// Puts a CALLRESULT, as [`result_text`] gives it, into a text, in the place of what it had.
+pub fn put_result(text: &mut ArrayString<512>, id: &str, body: Body)
+    requires { character_count id.now ≤ longest_message_id }
+    ensures { text.new.bytes ≡ result_bytes id.now body }
+{
+    text.clear();
+    text.push_str("[3,");
+    push_json_string(text, id);
+    text.push_str(",");
+    push_body(text, body);
+    text.push_str("]");
 }
 
 /// A CALLERROR without blanks and details (OCPP 2.0.1 Part 4). The id has at most 36 characters, which

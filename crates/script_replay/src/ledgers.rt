@@ -5,7 +5,6 @@ ghost use Rattle.std.specs.Str.{bytes_eq};
 ghost use Rattle.board_report.specs.Texts.{board_text};
 ghost use Rattle.site_book.specs.Tables.{HasTable, NamedBy};
 ghost use Rattle.station_cell.specs.Cell.{Cell, new_pass};
-ghost use Rattle.message_ahead.specs.Ahead.{asking};
 ghost use Rattle.site_desk.specs.Plan.{plan_fault};
 ghost use Rattle.site_desk.specs.Roster.{AreCellsOf};
 ghost use Rattle.script_replay.specs.Drafts.{planned};
@@ -13,15 +12,16 @@ ghost use Rattle.script_lines.specs.Lines.{line_bytes};
 ghost use Rattle.script_replay.specs.Received.{ReceivesText, TakesMessage};
 ghost use Rattle.script_replay.specs.Running.{running, posts_in, IsRunning, Settles};
 ghost use Rattle.script_replay.specs.Script.{board_answer, commanded_to, energy_answer, export_answer, line_step, period_named, script_text, sent_to, shown_site, station_named, stations_of, total_answer};
-ghost use Rattle.transaction_event.specs.MessageMeaning.{HasShortId};
+ghost use Rattle.transaction_event.specs.MessageMeaning.{HasShortId, asking, with_reply};
 
 use crate::draft::Draft;
 use crate::machine::Machine;
 use crate::messages::ScriptMessages;
+use arrayvec::ArrayString;
 use board_report::{energy_text, export_text, total_text};
 use desk_report::site_text;
 use ledger_model::{Answer, Command, Name};
-use message_ahead::{Delivery, Lookahead};
+use message_ahead::Lookahead;
 use script_lines::{LineFault, LineReader, ScriptLine, put_answer, put_fault, put_line, read_line};
 use site_book::{Naming, SiteBook, Tables};
 use site_desk::{Parts, Pass, StationCell, enlist_cell, settle};
@@ -29,7 +29,7 @@ use std::alloc::{AllocError, Global};
 use std::io;
 use std::io::BufRead;
 use std::thread::Threads;
-use transaction_event::{Message, event_reply, message_of};
+use transaction_event::{Asked, Delivery, put_event_reply, read_message};
 
 /// The commands of a script: its plan, its opened ledgers and books, and its moment.
 #[derive(Drop)]
@@ -42,6 +42,8 @@ pub struct Ledgers<J: Naming> {
     pub books: Vec<SiteBook<J>>,
     // What threads have read of the lines to come.
     ahead: Lookahead,
+    // The reply to the message at hand.
+    text: ArrayString<512>,
     passes: Vec<Pass>,
     alloc: Global,
     ghost running: { IsRunning draft.sites draft.stations cells.items books.items passes.items },
@@ -71,6 +73,7 @@ impl<J: Naming> Ledgers<J> {
                     cells,
                     books: books.into_vec(),
                     ahead: Lookahead::new(alloc),
+                    text: ArrayString::new(),
                     passes,
                     alloc,
                 })
@@ -92,6 +95,7 @@ impl<J: Naming> Ledgers<J> {
             cells,
             books: _,
             ahead: _,
+            text: _,
             passes,
             alloc: _,
         } = self;
@@ -178,8 +182,8 @@ impl<J: Naming> Ledgers<J> {
         match self.ahead.take(text) {
             Some(delivery) => self.deliver(number, delivery, reply),
             None => {
-                let message = message_of(self.alloc, text, self.draft.moment());
-                self.take_message(number, message, reply)
+                let asked = read_message(self.alloc, text, self.draft.moment(), &mut self.text);
+                self.take_asked(number, asked, reply)
             }
         }
     }
@@ -205,43 +209,30 @@ impl<J: Naming> Ledgers<J> {
         }
     }
 
-    // Delivers the event of a message to the station of this number, if it is one, and puts the answer into the
-    // reply. A message for which no memory was found delivers nothing.
-    fn take_message(
+    // Delivers the event that a message asks to deliver to the station of this number, if it does, and puts the answer
+    // into the reply. A message for which no memory was found delivers nothing.
+    fn take_asked(
         &mut self,
         number: usize,
-        message: Message,
+        asked: Asked,
         reply: &mut Vec<u8>,
     ) -> Result<(), AllocError>
         requires empty { reply.old.items ≡ [] }
         requires there { number < length self.old.draft.stations }
-        requires short { HasShortId message }
+        requires short { HasShortId (with_reply asked self.old.text) }
         requires few { posts_in self.old.books.items < 2 ^ 62 }
-        ensures takes { OnOk result (IfSome (slice_get (running self.old.draft self.old.cells.items).world number) (λ s. TakesMessage (running self.old.draft self.old.cells.items) (running self.new.draft self.new.cells.items) s message reply.new.items)) }
+        ensures takes { OnOk result (IfSome (slice_get (running self.old.draft self.old.cells.items).world number) (λ s. TakesMessage (running self.old.draft self.old.cells.items) (running self.new.draft self.new.cells.items) s (with_reply asked self.old.text) reply.new.items)) }
         ensures posts { OnOk result (posts_in self.new.books.items ≤ posts_in self.old.books.items + 1) }
     {
-        match message {
-            Message::Event {
-                id,
-                key,
-                event,
-                token,
-            } => {
-                let delivery = Delivery {
-                    id,
-                    key,
-                    event,
-                    token,
-                };
-                self.deliver(number, delivery, reply)
-            }
-            Message::Reply { text, memory } => {
+        match asked {
+            Asked::Event(delivery) => self.deliver(number, delivery, reply),
+            Asked::Reply { memory } => {
                 if memory {
                     return Err(AllocError);
                 }
-                put_line(reply, text.as_str())
+                put_line(reply, self.text.as_str())
             }
-            Message::Silent => put_line(reply, "silent"),
+            Asked::Silent => put_line(reply, "silent"),
         }
     }
 
@@ -266,7 +257,8 @@ impl<J: Naming> Ledgers<J> {
             token,
         } = delivery;
         let answer = self.settle(number, Command::Deliver(key, event));
-        put_line(reply, event_reply(id.as_str(), token, &answer).as_str())
+        put_event_reply(&mut self.text, id.as_str(), token, &answer);
+        put_line(reply, self.text.as_str())
     }
 
     // Settles a command on the station of this number.

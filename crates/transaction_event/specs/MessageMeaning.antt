@@ -1,14 +1,28 @@
 -- What an answer of the reader says of the text.
 use Rattle.std.specs.Prelude.{◌≡◌, ◌≤◌, ◌⊎◌, ◌↔◌, ℕ, Bool, List, IsTrue, true, false, ⊤, codes}
+use Rattle.arrayvec.specs.ArrayString.{ArrayString}
 use Rattle.ocppj_frame.specs.declared.action.Action.TheVariants.{TransactionEvent}
 use Rattle.ocppj_frame.specs.Reply.{character_count}
 use Rattle.ocppj_frame.specs.Frame.{Frame, frame, Called}
 use Rattle.transaction_event.specs.declared.message.Message.{Message}
 use Rattle.transaction_event.specs.declared.message.Message.TheVariants as message
+use Rattle.transaction_event.specs.declared.message.Asked.{Asked}
+use Rattle.transaction_event.specs.declared.message.Asked.TheVariants as asked
+use Rattle.transaction_event.specs.declared.delivery.Delivery.{Delivery}
 use Rattle.transaction_event.specs.Message as meaning
 use Rattle.transaction_event.specs.Growth.{PayloadGrows}
 use Rattle.transaction_event.specs.Reply.{memory_reply}
 use Rattle.ocppj_frame.specs.Ranges.{longest_message_id}
+
+-- The message that asks for a delivery.
+abbrev pub asking : Delivery → Message
+asking d = message.Event d.id d.key d.event d.token
+
+-- The answer with the text that was lent, if it is a ready reply.
+abbrev pub with_reply : Asked → ArrayString → Message
+with_reply (asked.Event delivery) reply = asking delivery
+with_reply (asked.Reply memory) reply = message.Reply reply memory
+with_reply asked.Silent reply = message.Silent
 
 -- A reply that tells OutOfMemory: with the id of a call whose payload passes its checks up to a counted reading that found none, or `-1` where the text found none.
 abbrev pub IsMemoryReply : Frame → List ℕ → Type 0

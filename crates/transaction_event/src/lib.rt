@@ -3,7 +3,8 @@
 //! [`message_of`] takes a text that a station sent, and the moment, and gives what it asks for: an event
 //! to deliver with its [`Key`](ledger_model::Key) (a TransactionEventRequest, OCPP 2.0.1 Part 2, block E),
 //! a reply that is ready (BootNotification, Heartbeat, StatusNotification, MeterValues, and every fault),
-//! or silence for an answer. [`event_reply`] writes the reply to an event by the ledger's answer.
+//! or silence for an answer; [`read_message`] does the same with a reply that was lent. [`event_reply`] writes the reply
+//! to an event by the ledger's answer.
 //! [`event_of`] reads a payload alone, and borrows from its tree; only the list of readings takes memory.
 //!
 //! The crate's one contract: what a text means at a moment is the function `message` of
@@ -20,6 +21,7 @@
 //! ```
 #![tactic(auto)]
 
+mod delivery;
 mod fault;
 mod integer;
 mod laws;
@@ -33,8 +35,9 @@ mod sampled;
 mod scale;
 mod timestamp;
 
+pub use delivery::Delivery;
 pub use fault::PayloadFault;
 pub use laws::{deliveries_are_admissible, deliveries_are_answered};
-pub use message::{Message, message_of};
-pub use reply::event_reply;
+pub use message::{Asked, Message, message_of, read_message};
+pub use reply::{event_reply, put_event_reply};
 pub use request::event_of;

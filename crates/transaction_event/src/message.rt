@@ -1,16 +1,17 @@
 //! A station's text, as what it asks of the ledger.
 ghost use Rattle.std.specs.Prelude.{◌≡◌, ◌≢◌, ◌≤◌, ℕ, false, length};
-ghost use Rattle.transaction_event.specs.MessageMeaning.{IsMeaningOf, IsMeaningOfFrame, IsMemoryTold, IsMemoryToldOfFrame, HasShortId, IsOutOfMemory};
+ghost use Rattle.transaction_event.specs.MessageMeaning.{IsMeaningOf, IsMeaningOfFrame, IsMemoryTold, IsMemoryToldOfFrame, HasShortId, IsOutOfMemory, with_reply};
 ghost use Rattle.ocppj_frame.specs.Ranges.{longest_message};
 ghost use Rattle.ocppj_frame.specs.Frame.{Called};
 ghost use Rattle.ocppj_frame.specs.Call.{id_of, action_of, payload_of};
 ghost use Rattle.ocppj_frame.specs.declared.action.Action.TheVariants.{TransactionEvent};
 
+use crate::delivery::Delivery;
 use crate::reply::fault_reply;
 use crate::request::event_of;
 use arrayvec::ArrayString;
 use ledger_model::{Event, Key, Moment};
-use ocppj_frame::{Action, Body, Call, Incoming, read_frame, result_text};
+use ocppj_frame::{Action, Body, Call, Framed, read_frame_into, result_text};
 use reading_decimal::moment_text;
 use std::alloc::Global;
 
@@ -39,13 +40,19 @@ pub enum Message {
     Silent,
 }
 
-fn ready(text: ArrayString<512>) -> Message
-    ensures { result ≡ Message.Reply text false }
-{
-    Message::Reply {
-        text,
-        memory: false,
-    }
+/// What a station's text asks for, where the text of a ready reply was put into one that was lent: an answer of less
+/// room than a [`Message`].
+#[derive(Drop)]
+pub enum Asked {
+    /// An event to deliver.
+    Event(Delivery),
+    /// A ready reply, whose text is the lent one.
+    Reply {
+        /// Whether it tells OutOfMemory.
+        memory: bool,
+    },
+    /// An answer of the station, which gets none.
+    Silent,
 }
 
 fn kept_id(call: &Call) -> ArrayString<144>
@@ -57,40 +64,39 @@ fn kept_id(call: &Call) -> ArrayString<144>
 }
 
 // What the call of a TransactionEventRequest means.
-fn event_message(alloc: Global, call: &Call) -> Message
-    ensures meaning { (now : ℕ) → IsMeaningOfFrame now (Called (id_of call.now) TransactionEvent (payload_of call.now)) result }
-    ensures memory { IsMemoryToldOfFrame (Called (id_of call.now) TransactionEvent (payload_of call.now)) result }
-    ensures short { HasShortId result }
+fn event_asked(alloc: Global, call: &Call, reply: &mut ArrayString<512>) -> Asked
+    ensures meaning { (now : ℕ) → IsMeaningOfFrame now (Called (id_of call.now) TransactionEvent (payload_of call.now)) (with_reply result reply.new) }
+    ensures memory { IsMemoryToldOfFrame (Called (id_of call.now) TransactionEvent (payload_of call.now)) (with_reply result reply.new) }
+    ensures short { HasShortId (with_reply result reply.new) }
 {
     let (key, event, token) = match event_of(alloc, call.payload()) {
         Ok(asked) => asked,
         Err(fault) => {
-            return Message::Reply {
-                text: fault_reply(call.id(), fault),
+            *reply = fault_reply(call.id(), fault);
+            return Asked::Reply {
                 memory: fault.is_out_of_memory(),
             };
         }
     };
-    Message::Event {
+    Asked::Event(Delivery {
         id: kept_id(call),
         key,
         event,
         token,
-    }
+    })
 }
 
-// What a call of another action means.
-fn other_message(call: &Call, now: Moment) -> Message
+// The reply to a call of another action.
+fn other_reply(call: &Call, now: Moment) -> ArrayString<512>
     requires { action_of call.now ≢ TransactionEvent }
-    ensures meaning { IsMeaningOfFrame now (Called (id_of call.now) (action_of call.now) (payload_of call.now)) result }
-    ensures memory { IsMemoryToldOfFrame (Called (id_of call.now) (action_of call.now) (payload_of call.now)) result }
-    ensures short { HasShortId result }
+    ensures meaning { IsMeaningOfFrame now (Called (id_of call.now) (action_of call.now) (payload_of call.now)) (Message.Reply result false) }
+    ensures memory { IsMemoryToldOfFrame (Called (id_of call.now) (action_of call.now) (payload_of call.now)) (Message.Reply result false) }
 {
     let id = call.id();
     match call.action() {
-        Action::BootNotification => ready(result_text(id, Body::Boot(moment_text(now)))),
-        Action::Heartbeat => ready(result_text(id, Body::Now(moment_text(now)))),
-        Action::StatusNotification | Action::MeterValues => ready(result_text(id, Body::Empty)),
+        Action::BootNotification => result_text(id, Body::Boot(moment_text(now))),
+        Action::Heartbeat => result_text(id, Body::Now(moment_text(now))),
+        Action::StatusNotification | Action::MeterValues => result_text(id, Body::Empty),
         Action::TransactionEvent => unreachable!(),
     }
 }
@@ -103,13 +109,45 @@ pub fn message_of(alloc: Global, text: &str, now: Moment) -> Message
     ensures while_reading { IsOutOfMemory result → length text.now ≤ longest_message }
     ensures short { HasShortId result }
 {
-    let call = match read_frame(alloc, text) {
-        Incoming::Call(call) => call,
-        Incoming::Silent => return Message::Silent,
-        Incoming::Reply { text, memory } => return Message::Reply { text, memory },
+    let mut reply = ArrayString::new();
+    match read_message(alloc, text, now, &mut reply) {
+        Asked::Event(
+            Delivery {
+                id,
+                key,
+                event,
+                token,
+            },
+        ) => Message::Event {
+            id,
+            key,
+            event,
+            token,
+        },
+        Asked::Reply { memory } => Message::Reply {
+            text: reply,
+            memory,
+        },
+        Asked::Silent => Message::Silent,
+    }
+}
+
+/// Reads a text as [`message_of`] does, and puts the text of a ready reply into `reply`, in the place of what it had;
+/// what it holds after another answer has no meaning.
+pub fn read_message(alloc: Global, text: &str, now: Moment, reply: &mut ArrayString<512>) -> Asked
+    ensures meaning { IsMeaningOf text.now now (with_reply result reply.new) }
+    ensures memory { IsMemoryTold text.now (with_reply result reply.new) }
+    ensures while_reading { IsOutOfMemory (with_reply result reply.new) → length text.now ≤ longest_message }
+    ensures short { HasShortId (with_reply result reply.new) }
+{
+    let call = match read_frame_into(alloc, text, reply) {
+        Framed::Call(call) => call,
+        Framed::Silent => return Asked::Silent,
+        Framed::Reply { memory } => return Asked::Reply { memory },
     };
     if let Action::TransactionEvent = call.action() {
-        return event_message(alloc, &call);
+        return event_asked(alloc, &call, reply);
     }
-    other_message(&call, now)
+    *reply = other_reply(&call, now);
+    Asked::Reply { memory: false }
 }

@@ -9,7 +9,7 @@ ghost use Rattle.ocppj_frame.specs.Ranges.{longest_message_id};
 use crate::PayloadFault;
 use arrayvec::ArrayString;
 use ledger_model::{Answer, Refusal};
-use ocppj_frame::{Body, ErrorCode, error_text, result_text};
+use ocppj_frame::{Body, ErrorCode, error_text, put_result};
 
 fn fault_code(fault: PayloadFault) -> ErrorCode
     ensures { result ≡ spec.fault_code fault }
@@ -66,11 +66,24 @@ pub fn event_reply(id: &str, token: bool, answer: &Answer) -> ArrayString<512>
     requires delivery { spec.answers_delivery answer.now ≡ true }
     ensures { result.bytes ≡ spec.event_reply_bytes id.now token answer.now }
 {
+    let mut reply = ArrayString::new();
+    put_event_reply(&mut reply, id, token, answer);
+    reply
+}
+
+/// Puts the reply to an event, as [`event_reply`] gives it, into a text, in the place of what it had.
+pub fn put_event_reply(reply: &mut ArrayString<512>, id: &str, token: bool, answer: &Answer)
+    requires id { character_count id.now ≤ longest_message_id }
+    requires delivery { spec.answers_delivery answer.now ≡ true }
+    ensures { reply.new.bytes ≡ spec.event_reply_bytes id.now token answer.now }
+{
     if let Answer::Refused(refusal) = answer {
-        return error_text(id, refusal_code(*refusal), name_of(*refusal));
+        *reply = error_text(id, refusal_code(*refusal), name_of(*refusal));
+        return;
     }
     if token {
-        return result_text(id, Body::TokenAccepted);
+        put_result(reply, id, Body::TokenAccepted);
+        return;
     }
-    result_text(id, Body::Empty)
+    put_result(reply, id, Body::Empty);
 }

@@ -1,5 +1,4 @@
 use Rattle.std.proofs.Common.{◌≡◌, ◌∙◌, ◌++◌, List, ℕ, ap, sym, append_assoc}
-use Rattle.std.specs.Prelude.{codes}
 use Rattle.ocppj_frame.specs.Reply.{body_bytes}
 use Rattle.ocppj_frame.proofs.body.push_body.Goals as goal
 

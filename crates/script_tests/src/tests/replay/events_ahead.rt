@@ -1,12 +1,12 @@
 // What no clause says: which events are found ahead of their lines, and that threads find them.
 use ledger_model::Moment;
-use message_ahead::{Chunk, Delivery, Lookahead, MessageLines};
+use message_ahead::{Chunk, Lookahead, MessageLines};
 use std::alloc::Global;
 use std::test::Fail;
 use std::thread;
 use std::thread::Threads;
 use std::time::{Clock, Duration};
-use transaction_event::{Message, message_of};
+use transaction_event::{Delivery, Message, message_of};
 
 // Lines whose message stands behind `m `.
 #[derive(Drop)]

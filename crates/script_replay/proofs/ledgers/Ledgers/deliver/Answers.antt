@@ -6,8 +6,8 @@ use Rattle.script_replay.specs.Running.{Settles, running}
 use Rattle.script_replay.proofs.Named.{is_at, some_of}
 use Rattle.script_replay.proofs.ledgers.Ledgers.deliver.Goals as goal
 
-pub event_reply-requires-clause-delivery : goal.event_reply-requires-clause-delivery
-event_reply-requires-clause-delivery g c =
+pub put_event_reply-requires-clause-delivery : goal.put_event_reply-requires-clause-delivery
+put_event_reply-requires-clause-delivery g c =
     let s = c.args.self.now in
     let at = is_at s.draft s.cells.items s.books.items s.passes.items s.running c.args.number c.requires.there in
     let did = some_of _ at.station (λ t. Settles (running s.draft s.cells.items) _ t (Deliver c.args.delivery.key c.args.delivery.event) c.settle-answer.result) at.there c.settle-answer.ensures.settled in

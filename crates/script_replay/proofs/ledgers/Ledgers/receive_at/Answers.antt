@@ -1,7 +1,6 @@
 use Rattle.std.proofs.Common.{subst}
 use Rattle.std.specs.Prelude.{slice_get}
-use Rattle.transaction_event.specs.MessageMeaning.{IsMeaningOf}
-use Rattle.message_ahead.specs.Ahead.{asking}
+use Rattle.transaction_event.specs.MessageMeaning.{IsMeaningOf, asking, with_reply}
 use Rattle.script_replay.specs.Received.{ReceivesText, TakesMessage}
 use Rattle.script_replay.specs.Running.{running}
 use Rattle.script_replay.proofs.Answered.{ok_told}
@@ -23,10 +22,10 @@ pub returns-in-None-clause-receives : goal.returns-in-None-clause-receives
 returns-in-None-clause-receives g c =
     let s = c.args.self.now in
     let old = running s.draft s.cells.items in
-    let new = running c.take_message.new.self.draft c.take_message.new.self.cells.items in
-    let m = c.message_of-message.result in
-    let reply = c.take_message.new.reply.items in
-    let means = subst (λ n. IsMeaningOf c.args.text.now n m) c.moment.ensures c.message_of-message.ensures.meaning in
-    ok_told c.take_message.result _ _
+    let new = running c.take_asked.new.self.draft c.take_asked.new.self.cells.items in
+    let m = with_reply c.read_message-asked.result c.read_message-asked.new.reply in
+    let reply = c.take_asked.new.reply.items in
+    let means = subst (λ n. IsMeaningOf c.args.text.now n m) c.moment.ensures c.read_message-asked.ensures.meaning in
+    ok_told c.take_asked.result _ _
     (λ h. some_told (slice_get old.world c.args.number) (λ t. TakesMessage old new t m reply) (λ t. ReceivesText old new t c.args.text.now reply) (λ t took. (m, means, took)) h)
-    c.take_message.ensures.takes
+    c.take_asked.ensures.takes

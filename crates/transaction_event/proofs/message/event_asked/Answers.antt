@@ -5,7 +5,7 @@ use Rattle.transaction_event.specs.Growth.{PayloadGrows}
 use Rattle.transaction_event.specs.Reply.{fault_reply}
 use Rattle.transaction_event.specs.Request.{event_reading}
 use Rattle.transaction_event.proofs.Replies.{fault_tells, fault_answers}
-use Rattle.transaction_event.proofs.message.event_message.Goals as goal
+use Rattle.transaction_event.proofs.message.event_asked.Goals as goal
 
 pub returns-in-Err-clause-meaning : goal.returns-in-Err-clause-meaning
 returns-in-Err-clause-meaning c =

@@ -3,7 +3,7 @@
 use arrayvec::ArrayString;
 use ledger_model::{Event, Key};
 
-/// An event that a text asks to deliver; its reply is [`event_reply`](transaction_event::event_reply) of the answer.
+/// An event that a text asks to deliver; its reply is [`event_reply`](crate::event_reply) of the answer.
 #[derive(Drop)]
 pub struct Delivery {
     /// The id of the call, of at most 36 characters.
