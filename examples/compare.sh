@@ -1,11 +1,13 @@
 #!/usr/bin/env bash
 # Compares what the program and the Python programs make of the rows, the words and the days of traffic in this folder
 # with the stored texts. The last line counts what differs; the status is 1 where something does.
-#     examples/compare.sh             builds the program without its proofs, which takes some minutes, and leaves out the
-#                                     words and the programs that run it, which need a built one
+#     examples/compare.sh             builds the program that replays without its proofs, which takes a minute, and leaves
+#                                     out the words and the programs that run it, which need a built one
 #     examples/compare.sh PROGRAM     takes a built one, such as crates/ocpp_board/out/ocpp_board
+#     examples/compare.sh PROGRAM REPLAY     and beside it one that only replays, such as crates/ocpp_replay/out/ocpp_replay
 set -u
 program=${1:+$(realpath "$1")}
+replay=${2:+$(realpath "$2")}
 cd "$(dirname "$0")" || exit
 made=$(mktemp -d) || exit
 trap 'rm -r "$made"' EXIT
@@ -60,6 +62,15 @@ holds() {
         grep -qF -- "$text" "$made/$name" || differs "$1, where $name has no '$text',"
     done < "$1"
     echo "$1: $(wc -l < "$1") texts looked for"
+}
+
+# replays COMMAND..: of each script, its stored text.
+replays() {
+    for text in "$made"/cases/*.stdout; do
+        "$@" < "${text%.stdout}" > "$made/written" 2>&1 || echo "status $?" >> "$made/written"
+        diff --label stored --label written -u "$text" "$made/written" || differs "$(basename "$text" .stdout), by $*,"
+    done
+    echo "scripts: $(ls "$made"/cases/*.stdout | wc -l) compared, by $(basename "$1")"
 }
 
 # What explain.py, live_board.py and traffic.py give, which run the program or write for it.
@@ -139,11 +150,7 @@ for script in *.script; do
     cp "${script%.script}.expected" "$made/cases/${script%.script}.stdout"
 done
 if [ -n "$program" ]; then
-    for text in "$made"/cases/*.stdout; do
-        "$program" replay < "${text%.stdout}" > "$made/written" 2>&1 || echo "status $?" >> "$made/written"
-        diff --label stored --label written -u "$text" "$made/written" || differs "$(basename "$text" .stdout)"
-    done
-    echo "scripts: $(ls "$made"/cases/*.stdout | wc -l) compared"
+    replays "$program" replay
     ./words.py "$program" words.txt || differs words.txt
     ./sessions.py "$program" || differs sessions.py
     ./serving.py "$program" || differs serving.py
@@ -151,10 +158,19 @@ if [ -n "$program" ]; then
     ./journalling.py "$program" || differs journalling.py
     with_program
 else
-    (cd ../crates/ocpp_board && rt try --steps 1 --seconds 300 --cases "$made/cases" -- replay) 2>&1 |
+    (cd ../crates/ocpp_replay && rt try --steps 1 --seconds 300 --cases "$made/cases") 2>&1 |
         grep -v ' output=expected '
     [ "${PIPESTATUS[0]}" = 0 ] || differs "scripts"
     echo "words.txt, sessions.py, serving.py, living.py, journalling.py, explain.py and live_board.py: not run, which needs a built program"
+fi
+
+# The program that only replays: it has no words.
+if [ -n "$replay" ]; then
+    replays "$replay"
+    tells 2 "ocpp_replay has no words" "$replay" replay < /dev/null
+    tells 1 "fault ReadFault" "$replay" < .
+    tells 1 "fault WriteFault" bash -c '"$1" < day.script > /dev/full' _ "$replay"
+    gives 0 - "$replay" < /dev/null
 fi
 
 # The boards become tables and pages, in UTC and in a zone whose days have 23 and 25 hours.

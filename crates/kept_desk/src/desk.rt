@@ -115,7 +115,9 @@ impl<J: Naming, K: Ties + Opening, L: Speaks, W: Write + Drop> KeptDesk<J, K, L,
     /// Takes a command of a pass and answers it as [`Desk::submit`] does. Where it is accepted, the line was
     /// written and flushed before, under the station's lock and the journal's; it is settled under the
     /// station's and then its site's. `ChangesExhausted` also answers where the line can't be written, then
-    /// and from then on.
+    /// and from then on; and where the site's book is not as it should be behind a line that was written,
+    /// which no run of fewer than 2^62 accepted changes a site meets: the station's cell then leaves service,
+    /// and the desk doesn't close over it.
     ///
     /// Conditions: the line has no line feed ([`is_line`](crate::is_line) tells), and it speaks for
     /// the command on the pass's station.

@@ -1,5 +1,5 @@
 //! The workers of a live server: who has to go, and whether the server closes.
-use pass_shelf::Seats;
+use crate::seats::Seats;
 use std::alloc::{AllocError, Global};
 use std::sync::atomic::{AtomicBool, Ordering};
 use std::sync::{Mutex, Wait};

@@ -5,6 +5,10 @@
 //! `Log` where sessions are told, and a `Visit` what one connection knows of its time. Meanwhile the calling thread
 //! answers an operator's lines (`operate`), a thread glances at the totals, and another one answers browsers with boards
 //! ([`response`]). At the end it joins them all, closes the desk with all its checks, and writes the board of each site.
+//! A [`ShelfDesk`] is the running desk with a shelf, where a session lays its pass at its end, and from where a later one
+//! of the same station takes it back, so that a station is given no more passes than stood at once. An operator's command
+//! borrows one in the same way ([`ShelfDesk::command`]). `Seats` tell which worker serves a session of which station, and
+//! whom to send away: the oldest of three sessions of a station, or the oldest handshake.
 //! [`serve_plan_at`] serves so at anything that [`Serves`], a desk or one that keeps more, with lines from anything that
 //! gives [`Orders`], and gives passes and viewers back.
 //!
@@ -28,10 +32,13 @@ mod orders;
 mod reply;
 mod request;
 mod running;
+mod seats;
 mod serves;
 mod service;
 mod session;
 mod shared;
+mod shelf;
+mod shelf_desk;
 mod visit;
 mod watch;
 
@@ -39,3 +46,4 @@ pub use orders::{Came, Orders, ReadOrders, ending_of, fault_of};
 pub use reply::{Status, response};
 pub use serves::Serves;
 pub use service::{Live, Ran, serve_live, serve_plan_at};
+pub use shelf_desk::{PassFault, ShelfDesk};

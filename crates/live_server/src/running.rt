@@ -5,9 +5,9 @@ ghost use Rattle.site_desk.specs.Roster.{AreNewPlaces, IsNamed};
 ghost use Rattle.station_link.specs.Session.{MayLackPass};
 
 use crate::serves::Serves;
+use crate::shelf_desk::{PassFault, ShelfDesk};
 use desk_report::running_board;
 use ledger_model::Name;
-use pass_shelf::{PassFault, ShelfDesk};
 use site_book::Naming;
 use site_desk::{BoardFault, HasCell, Pass, Plan};
 use station_link::Why;

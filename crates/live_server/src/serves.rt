@@ -1,9 +1,9 @@
 //! What a live server serves.
 ghost use Rattle.std.specs.Prelude.{◌≡◌, IfOk};
-ghost use Rattle.pass_shelf.specs.Operated.{IsCommanded};
+ghost use Rattle.live_server.specs.Operated.{IsCommanded};
 
+use crate::shelf_desk::{PassFault, ShelfDesk};
 use ledger_model::{Answer, Command, Name};
-use pass_shelf::{PassFault, ShelfDesk};
 use site_book::Naming;
 use site_desk::{Desk, HasCell, StationCell};
 use station_link::Delivers;
@@ -14,7 +14,7 @@ use std::time::Clock;
 /// A desk that a live server serves: how it takes what stations send and what an operator commands.
 pub trait Serves<J: Naming, C: HasCell>: Delivers<J> {
     ghost use Rattle.std.specs.Prelude.{◌≡◌, IfOk};
-    ghost use Rattle.pass_shelf.specs.Operated.{IsCommanded};
+    ghost use Rattle.live_server.specs.Operated.{IsCommanded};
     ghost use Rattle.script_lines.specs.LineMeaning.{commands, line_meaning};
     ghost use Rattle.script_lines.specs.Lines.{line_bytes};
     ghost use Rattle.site_desk.specs.Roster.{Roster};
@@ -26,7 +26,7 @@ pub trait Serves<J: Naming, C: HasCell>: Delivers<J> {
         ensures { result.now ≡ roster self.now };
 
     /// Takes an operator's command on the station of this name, with a pass of the shelf that it lays back, and gives the
-    /// answer, as [`ShelfDesk::command`](pass_shelf::ShelfDesk::command) does.
+    /// answer, as [`ShelfDesk::command`](ShelfDesk::command) does.
     ///
     /// Conditions: the shelf is that of its desk, and the line is the operator's, which says the command.
     fn command<R: Threads + Wait + Clock>(

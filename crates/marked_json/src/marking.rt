@@ -195,6 +195,7 @@ fn first_stop(bytes: &[u8]) -> Option<usize>
     memchr2(b'"', b'\\', bytes)
 }
 
+// Which of 32 bytes are quotes or backslashes: a bit for each byte, that of the first one lowest.
 #[inline(always)]
 fn stops(v: u8x32) -> u64
     ensures { result ≡ mask_l (map (is_byte2 34 92) v) }

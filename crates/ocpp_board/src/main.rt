@@ -14,9 +14,8 @@ mod cli;
 mod station_words;
 
 use crate::cli::{STOPPED, run_command_line, tell_bytes, tell_fault};
-use script_replay::ReplayFault;
-use std::alloc::Global;
-use std::io::{BufRead, BufReader, BufWriter, Read, Write};
+use script_replay::{ReplayFault, buffered};
+use std::io::{BufRead, BufWriter, Write};
 use std::net::{Net, TcpListener, TcpStream};
 use std::process::ExitCode;
 use std::random::RandomSource;
@@ -24,44 +23,15 @@ use std::rt::Env;
 use std::sync::Wait;
 use std::thread::Threads;
 use std::time::Clock;
-use std::{env, io, thread};
-
-// How many bytes of the input are read at once where threads read ahead what is read: many lines.
-const INPUT_AHEAD: usize = 2_097_152;
-
-// How many where there is one processor, and nothing is read ahead: what its own cache has room for.
-const INPUT_ALONE: usize = 262_144;
-
-// How many bytes of the output are written at once.
-const OUTPUT_BUFFER: usize = 65_536;
+use std::{env, io};
 
 fn main(rt: HostRuntime) -> ExitCode {
     let mut errors = rt.stderr();
-    let status = match buffered(rt.alloc(), input_buffer(&rt), rt.stdin(), rt.stdout()) {
+    let status = match buffered(&rt, rt.stdin(), rt.stdout()) {
         Ok((reader, writer)) => run(&rt, reader, writer, &mut errors, rt.stderr()),
         Err(_) => tell_fault(&mut errors, ReplayFault::OutOfMemory, STOPPED),
     };
     ExitCode::from(status)
-}
-
-// How many bytes of the input are read at once.
-fn input_buffer<X: Threads>(rt: &X) -> usize {
-    match thread::available_parallelism(rt) {
-        Ok(processors) if processors.get() > 1 => INPUT_AHEAD,
-        _ => INPUT_ALONE,
-    }
-}
-
-// The input and the output, with a buffer for each.
-fn buffered<R: Read + Drop, W: Write + Drop>(
-    alloc: Global,
-    input_buffer: usize,
-    input: R,
-    output: W,
-) -> io::Result<(BufReader<R>, BufWriter<W>)> {
-    let reader = BufReader::with_capacity(alloc, input_buffer, input)?;
-    let writer = BufWriter::with_capacity(alloc, OUTPUT_BUFFER, output)?;
-    Ok((reader, writer))
 }
 
 // Runs the program's words, and gives its exit status.

@@ -15,6 +15,7 @@
 //! ```
 #![tactic(auto)]
 
+mod buffers;
 mod declaring;
 mod draft;
 pub mod laws;
@@ -24,6 +25,7 @@ mod messages;
 mod replay;
 mod stream;
 
+pub use buffers::buffered;
 pub use draft::Draft;
 pub use ledgers::Ledgers;
 pub use machine::{Declarations, LineOutcome, Machine};

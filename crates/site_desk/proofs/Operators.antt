@@ -1,19 +1,17 @@
 -- What an operator reads of a running desk: the boards of a site, one station after the other, and their sums.
-use Rattle.std.proofs.Common.{◌≡◌, ◌≢◌, ℕ, ◌+◌, ◌<◌, ◌≤◌, Bool, true, false, cond, eqb, eqb-true, List, [], ◌∷◌, ◌++◌, length, map, take, drop, get_or, Option, Some, None, refl, ap, sym, ◌∙◌, subst, arith}
-use Rattle.std.specs.Prelude.{filter, IfSome}
+use Rattle.std.proofs.Common.{◌≡◌, ◌≢◌, ℕ, ◌+◌, ◌<◌, Bool, true, false, cond, eqb, eqb-true, List, [], ◌∷◌, ◌++◌, length, take, get_or, refl, ap, sym, ◌∙◌, subst}
+use Rattle.std.specs.Prelude.{filter}
 use Rattle.std.proofs.lemmas.Bool.{eqb-false}
 use Rattle.std.proofs.lemmas.List.{take_more, append-nil}
 use Rattle.std.proofs.lemmas.List.Elements.{filter-append}
 use Rattle.std.proofs.lemmas.Option.{get_or_from_slice_get}
 use Rattle.ledger_model.specs.declared.figures.Figures.{Figures}
 use Rattle.energy_flow.specs.Flow.{Energy}
-use Rattle.ledger_model.specs.Board.{Board, plus_figures, sum_of_figures}
-use Rattle.ledger_model.specs.Figures.{AreWithin}
+use Rattle.ledger_model.specs.Board.{Board}
 use Rattle.site_desk.specs.declared.roster.Place.{Place}
 use Rattle.station_cell.specs.Cell.{Cell}
 use Rattle.site_desk.specs.Operator.{AreBoardsAt, AreBoardsOf, AreTotalsOfName, AreTotalsWithin, IsBoardAt}
 use Rattle.site_desk.specs.Roster.{IsNamed, StandsAt}
-use Rattle.site_desk.specs.Submit.{IsBoardWithin}
 
 -- one board more, of one place more
 boards_push : (places : List Place) (p : Place) (boards : List (List ℕ × Board)) (b : List ℕ × Board) → AreBoardsOf places boards → IsBoardAt p b → AreBoardsOf (places ++ p ∷ []) (boards ++ b ∷ [])

@@ -1,4 +1,4 @@
-use Rattle.std.proofs.Common.{◌≡◌, length, ap, subst, arith}
+use Rattle.std.proofs.Common.{◌≡◌, length, subst, arith}
 use Rattle.std.specs.Prelude.{vec_len}
 use Rattle.site_desk.specs.Roster.{AreNewPlaces}
 use Rattle.site_desk.proofs.Ends.{new_desk}

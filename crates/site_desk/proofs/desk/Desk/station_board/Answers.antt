@@ -1,7 +1,7 @@
-use Rattle.std.proofs.Common.{ap, sym, ◌∙◌, bytes_eq, get_or, subst}
+use Rattle.std.proofs.Common.{ap, ◌∙◌, bytes_eq, get_or, subst}
 use Rattle.std.specs.List.{list_any}
 use Rattle.site_desk.specs.declared.roster.Place.{Place}
-use Rattle.site_desk.specs.Roster.{IsNamed, StandsAt}
+use Rattle.site_desk.specs.Roster.{IsNamed}
 use Rattle.site_desk.proofs.Ends.{known_not}
 use Rattle.site_desk.proofs.Submits.{board_named}
 use Rattle.site_desk.proofs.desk.Desk.station_board.Goals as goal

@@ -1,6 +1,6 @@
 use Rattle.std.proofs.Common.{◌≡◌}
 use Rattle.site_desk.specs.Roster.{IsNamed}
-use Rattle.pass_shelf.proofs.desk.ShelfDesk+J.command.Goals as goal
+use Rattle.live_server.proofs.shelf_desk.ShelfDesk+J.command.Goals as goal
 
 pub returns-clause-commanded : goal.returns-clause-commanded
 returns-clause-commanded g c =

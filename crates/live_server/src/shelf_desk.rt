@@ -3,8 +3,8 @@ ghost use Rattle.std.specs.Prelude.{◌≡◌, Err, IfOk, IfSome, false};
 ghost use Rattle.std.specs.List.{list_any};
 ghost use Rattle.std.specs.Str.{bytes_eq};
 ghost use Rattle.site_desk.specs.Roster.{IsNamed};
-ghost use Rattle.pass_shelf.specs.declared.desk.PassFault.{PassFault};
-ghost use Rattle.pass_shelf.specs.Operated.{IsCommanded};
+ghost use Rattle.live_server.specs.declared.shelf_desk.PassFault.{PassFault};
+ghost use Rattle.live_server.specs.Operated.{IsCommanded};
 
 use crate::shelf::Shelf;
 use ledger_model::{Answer, Command, Name};
