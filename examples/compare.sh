@@ -168,6 +168,9 @@ fi
 if [ -n "$replay" ]; then
     replays "$replay"
     tells 2 "ocpp_replay has no words" "$replay" replay < /dev/null
+    tells 2 "ocpp_replay has no words" "$replay" $'\xff' < /dev/null
+    tells 1 "fault OutOfMemory" bash -c '{ for n in {1..64}; do echo station north A$n; done; echo energy A1; } |
+        { ulimit -v 65536; "$1"; }' _ "$replay"
     tells 1 "fault ReadFault" "$replay" < .
     tells 1 "fault WriteFault" bash -c '"$1" < day.script > /dev/full' _ "$replay"
     gives 0 - "$replay" < /dev/null

@@ -5,11 +5,11 @@
 #![tactic(auto)]
 
 use script_replay::{ReplayFault, buffered, replay_buffered};
-use std::env;
 use std::io::{BufRead, BufWriter, Write};
 use std::process::ExitCode;
 use std::rt::Env;
 use std::thread::Threads;
+use std::{env, io};
 
 // The exit status where a replay stopped before its end.
 const STOPPED: u8 = 1;
@@ -18,21 +18,24 @@ const STOPPED: u8 = 1;
 const MISTAKEN: u8 = 2;
 
 fn main(rt: HostRuntime) -> ExitCode {
-    if has_words(&rt) {
-        return refuse_words(&mut rt.stderr());
-    }
-    let ended = match buffered(&rt, rt.stdin(), rt.stdout()) {
-        Ok((reader, writer)) => replay(&rt, reader, writer),
+    let ended = match has_words(&rt) {
+        Ok(true) => return refuse_words(&mut rt.stderr()),
+        Ok(false) => match buffered(&rt, rt.stdin(), rt.stdout()) {
+            Ok((reader, writer)) => replay(&rt, reader, writer),
+            Err(_) => Err(ReplayFault::OutOfMemory),
+        },
         Err(_) => Err(ReplayFault::OutOfMemory),
     };
     exit_of(&mut rt.stderr(), ended)
 }
 
-// Whether there are words behind the program's name, or such as can't be read.
-fn has_words<X: AllocGlobal + Env>(rt: &X) -> bool {
+// Whether there are words behind the program's name; the only error is want of memory.
+fn has_words<X: AllocGlobal + Env>(rt: &X) -> io::Result<bool> {
     match env::args(rt) {
-        Ok(words) => words.len() > 1,
-        Err(_) => true,
+        Ok(words) => Ok(words.len() > 1),
+        // One that is no UTF-8.
+        Err(error) if error.kind() == io::ErrorKind::InvalidData => Ok(true),
+        Err(error) => Err(error),
     }
 }
 
