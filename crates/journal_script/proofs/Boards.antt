@@ -9,12 +9,12 @@ use Rattle.desk_report.specs.Boards.{boards_at}
 use Rattle.desk_report.specs.Closed.{closed_site}
 use Rattle.script_lines.specs.declared.script_line.LineFault.TheVariants.{UnknownSite}
 use Rattle.script_lines.specs.Texts.{fault_line}
-use Rattle.script_replay.specs.Drafts.{planned_world, site_name}
-use Rattle.script_replay.specs.Running.{filled}
-use Rattle.script_replay.specs.Script.{is_among, period_named, period_of, shown_site, site_number, stations_of, step_by}
-use Rattle.script_replay.proofs.Boards.{board_is, none_at, one_place, site_shown}
-use Rattle.script_replay.proofs.Places.{none_placed, some_placed}
-use Rattle.script_replay.proofs.SettledBy.{period_found}
+use Rattle.script_ledgers.specs.Drafts.{planned_world, site_name}
+use Rattle.script_ledgers.specs.Running.{filled}
+use Rattle.script_ledgers.specs.Script.{is_among, period_named, period_of, shown_site, site_number, stations_of, step_by}
+use Rattle.script_ledgers.proofs.Boards.{board_is, none_at, one_place, site_shown}
+use Rattle.script_ledgers.proofs.Places.{none_placed, some_placed}
+use Rattle.script_ledgers.proofs.SettledBy.{period_found}
 use Rattle.site_desk.specs.declared.plan.SitePlan.{SitePlan}
 use Rattle.site_desk.specs.Plan.{has_twice, period_at}
 use Rattle.journal_script.specs.Journals.{BoardsAreThoseOfCells}

@@ -14,10 +14,10 @@ use Rattle.ledger_model.specs.Laws.{left_by}
 use Rattle.ledger_model.specs.World.{Happens, run}
 use Rattle.ledger_model.specs.WorldLaws.{commands_on, station_left}
 use Rattle.ledger_model.proofs.Runs.{each_by_its_own}
-use Rattle.script_replay.specs.Drafts.{planned_world, site_name}
-use Rattle.script_replay.specs.Running.{filled}
-use Rattle.script_replay.specs.Script.{new_station}
-use Rattle.script_replay.proofs.Boards.{one_place}
+use Rattle.script_ledgers.specs.Drafts.{planned_world, site_name}
+use Rattle.script_ledgers.specs.Running.{filled}
+use Rattle.script_ledgers.specs.Script.{new_station}
+use Rattle.script_ledgers.proofs.Boards.{one_place}
 use Rattle.site_desk.specs.declared.plan.SitePlan.{SitePlan}
 use Rattle.site_desk.specs.declared.plan.StationPlan.{StationPlan}
 use Rattle.station_cell.specs.Cell.{Cell}

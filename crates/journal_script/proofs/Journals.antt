@@ -7,10 +7,9 @@ use Rattle.ledger_model.specs.declared.command.Command.{Command}
 use Rattle.ledger_model.specs.World.{run}
 use Rattle.script_lines.specs.Lines.{lines_of}
 use Rattle.script_lines.specs.Ranges.{longest_line}
-use Rattle.script_replay.specs.Drafts.{planned_world, site_name}
-use Rattle.script_replay.specs.Laws.{script_after}
-use Rattle.script_replay.specs.Running.{filled}
-use Rattle.script_replay.specs.Script.{Script, new_station, start}
+use Rattle.script_ledgers.specs.Drafts.{planned_world, site_name}
+use Rattle.script_ledgers.specs.Running.{filled}
+use Rattle.script_ledgers.specs.Script.{Script, new_station, start, script_after}
 use Rattle.site_desk.specs.declared.plan.SitePlan.{SitePlan}
 use Rattle.site_desk.specs.declared.plan.StationPlan.{StationPlan}
 use Rattle.station_cell.specs.Cell.{Cell}

@@ -9,8 +9,7 @@ use Rattle.script_lines.specs.declared.line_reader.LineEnd.TheVariants.{Feed}
 use Rattle.script_lines.specs.Lines.{Line, ended, lines_of, unended}
 use Rattle.script_lines.specs.Reading.{line_of}
 use Rattle.script_lines.proofs.Cuts.{all_kept, cut-ended, kept_line_of}
-use Rattle.script_replay.specs.Laws.{script_after}
-use Rattle.script_replay.specs.Script.{Script, line_step}
+use Rattle.script_ledgers.specs.Script.{Script, line_step, script_after}
 use Rattle.journal_script.specs.Journals.{EndsWhole}
 use Rattle.journal_script.specs.Reading.{ReadsLine, Runs, Stops}
 use Rattle.journal_script.proofs.Whole.{after_both, lines_apart}

@@ -13,8 +13,7 @@ use Rattle.script_lines.specs.LineMeaning.{LineMeaning, nothing, fails, sets_lim
 use Rattle.script_lines.specs.Lines.{ended, lines_of, unended}
 use Rattle.script_lines.specs.Ranges.{longest_line}
 use Rattle.script_lines.proofs.Cuts.{cut-ended}
-use Rattle.script_replay.specs.Laws.{script_after}
-use Rattle.script_replay.specs.Script.{Script, by_meaning, commanded_to, line_step, sent_to, station_named, step_by}
+use Rattle.script_ledgers.specs.Script.{Script, by_meaning, commanded_to, line_step, sent_to, station_named, step_by, script_after}
 use Rattle.site_desk.specs.declared.plan.StationPlan.{StationPlan}
 use Rattle.journal_script.specs.Speaking.{AsksFor, Says, Speaks}
 use Rattle.journal_script.specs.Journals.{IsSpoken, station_name}

@@ -6,10 +6,10 @@ use Rattle.script_lines.specs.LineMeaning.{line_meaning}
 use Rattle.script_lines.specs.Lines.{Line}
 use Rattle.script_lines.specs.Ranges.{longest_line}
 use Rattle.script_lines.specs.Reading.{line_of}
-use Rattle.script_replay.specs.Drafts.{Drafted}
-use Rattle.script_replay.specs.Running.{running}
-use Rattle.script_replay.specs.Script.{Script, line_step, opening, start}
-use Rattle.script_replay.proofs.OpeningLine.{opened_script, same_step}
+use Rattle.script_ledgers.specs.Drafts.{Drafted}
+use Rattle.script_ledgers.specs.Running.{running}
+use Rattle.script_ledgers.specs.Script.{Script, line_step, opening, start}
+use Rattle.script_ledgers.proofs.OpeningLine.{opened_script, same_step}
 use Rattle.site_desk.specs.declared.plan.SitePlan.{SitePlan}
 use Rattle.site_desk.specs.declared.plan.StationPlan.{StationPlan}
 use Rattle.station_cell.specs.Cell.{Cell}

@@ -1,8 +1,7 @@
 -- Two scripts one behind the other.
 use Rattle.std.proofs.Common.{◌≡◌, ℕ, Bool, true, false, cond, eqb, List, [], ◌∷◌, ◌++◌, inl, inr, refl, sym, ap, ◌∙◌}
 use Rattle.script_lines.specs.Lines.{Line, cut, ended, lines_of, unended}
-use Rattle.script_replay.specs.Laws.{script_after}
-use Rattle.script_replay.specs.Script.{Script, line_step}
+use Rattle.script_ledgers.specs.Script.{Script, line_step, script_after}
 use Rattle.journal_script.specs.Journals.{EndsWhole}
 
 pub after_both : (s : Script) (one other : List Line) → script_after s (one ++ other) ≡ script_after (script_after s one) other

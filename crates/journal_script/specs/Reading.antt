@@ -5,8 +5,7 @@ use Rattle.std.specs.Io.KnownBytes.{Consumes}
 use Rattle.script_lines.specs.declared.line_reader.LineEnd.TheVariants.{Feed}
 use Rattle.script_lines.specs.Lines.{HasNoFeed, lines_of}
 use Rattle.script_lines.specs.Reading.{line_of}
-use Rattle.script_replay.specs.Laws.{script_after}
-use Rattle.script_replay.specs.Script.{Script, line_step}
+use Rattle.script_ledgers.specs.Script.{Script, line_step, script_after}
 use Rattle.site_desk.specs.declared.plan.SitePlan.{SitePlan}
 use Rattle.site_desk.specs.declared.plan.StationPlan.{StationPlan}
 use Rattle.station_cell.specs.Cell.{Cell}

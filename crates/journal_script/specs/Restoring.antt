@@ -3,8 +3,7 @@ use Rattle.std.specs.Prelude.{◌≡◌, ℕ, List, [], ◌∷◌, ◌++◌, cod
 use Rattle.std.specs.Io.BufRead.{strip_last}
 use Rattle.script_lines.specs.Lines.{HasNoFeed, lines_of}
 use Rattle.script_lines.specs.Ranges.{longest_line}
-use Rattle.script_replay.specs.Laws.{script_after}
-use Rattle.script_replay.specs.Script.{start}
+use Rattle.script_ledgers.specs.Script.{start, script_after}
 use Rattle.site_desk.specs.declared.plan.SitePlan.{SitePlan}
 use Rattle.site_desk.specs.declared.plan.StationPlan.{StationPlan}
 use Rattle.station_cell.specs.Cell.{Cell}

@@ -4,8 +4,7 @@ use Rattle.std.specs.Prelude.{codes}
 use Rattle.script_lines.specs.LineMeaning.{line_meaning, nothing}
 use Rattle.script_lines.specs.Lines.{lines_of}
 use Rattle.script_lines.specs.Ranges.{longest_line}
-use Rattle.script_replay.specs.Laws.{script_after}
-use Rattle.script_replay.specs.Script.{Script, start, step_by}
+use Rattle.script_ledgers.specs.Script.{Script, start, step_by, script_after}
 use Rattle.site_desk.specs.declared.plan.SitePlan.{SitePlan}
 use Rattle.site_desk.specs.declared.plan.StationPlan.{StationPlan}
 use Rattle.station_cell.specs.Cell.{Cell}

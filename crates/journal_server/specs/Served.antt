@@ -14,9 +14,8 @@ use Rattle.ledger_model.specs.Content.{Content, empty_content}
 use Rattle.script_lines.specs.LineMeaning.{asks_board, line_meaning}
 use Rattle.script_lines.specs.Lines.{Line, lines_of}
 use Rattle.script_lines.specs.Ranges.{longest_line}
-use Rattle.script_replay.specs.Drafts.{site_name}
-use Rattle.script_replay.specs.Laws.{script_after}
-use Rattle.script_replay.specs.Script.{Script, line_step, start}
+use Rattle.script_ledgers.specs.Drafts.{site_name}
+use Rattle.script_ledgers.specs.Script.{Script, line_step, start, script_after}
 use Rattle.site_desk.specs.declared.plan.SitePlan.{SitePlan}
 use Rattle.site_desk.specs.declared.plan.StationPlan.{StationPlan}
 use Rattle.station_cell.specs.Cell.{Cell}

@@ -10,7 +10,7 @@ use Rattle.script_lines.specs.declared.script_line.LineFault.{LineFault}
 use Rattle.script_lines.specs.declared.script_line.LineFault.TheVariants.{DeclaredLate, PlanLimit}
 use Rattle.script_replay.specs.Laws.{FaultsChangeNothing}
 use Rattle.script_lines.specs.Texts.{answer_text, ended_line, fault_line}
-use Rattle.script_replay.specs.Script.{Script, are_limits, by_meaning, commanded_to, declared_to, is_past_plan, is_period, joined_by, limited_to, period_to, sent_to, settled_by, site_number, station_named, step_by}
+use Rattle.script_ledgers.specs.Script.{Script, are_limits, by_meaning, commanded_to, declared_to, is_past_plan, is_period, joined_by, limited_to, period_to, sent_to, settled_by, site_number, station_named, step_by}
 use Rattle.script_lines.specs.LineMeaning.{LineMeaning, nothing, fails, sets_limits, declares, sets_period, tells, sends, commands, asks_energy, asks_export, asks_total, asks_board, line_meaning}
 
 -- nothing has changed but whether the ledgers are opened

@@ -16,10 +16,10 @@ use Rattle.ledger_model.proofs.ReachedContents.{is_counted}
 use Rattle.transaction_event.specs.Message.{Meaning, Event, Ready, Silence, message}
 use Rattle.transaction_event.specs.Request.{Request}
 use Rattle.transaction_event.proofs.AdmissibleRequests.{each_delivery_is_admissible}
-use Rattle.script_replay.specs.Laws.{script_after, StationsAreReached, EnergyIsFromScratch, ExportIsFromScratch, TotalsAreFromScratch, BoardsAreFromScratch}
+use Rattle.script_replay.specs.Laws.{StationsAreReached, EnergyIsFromScratch, ExportIsFromScratch, TotalsAreFromScratch, BoardsAreFromScratch}
 use Rattle.script_lines.specs.Lines.{Line}
 use Rattle.script_lines.specs.Texts.{fault_line}
-use Rattle.script_replay.specs.Script.{Script, are_limits, by_meaning, commanded_to, declared_to, energy_answer, export_answer, is_among, is_past_plan, is_period, joined_by, limited_to, line_step, new_station, period_named, period_to, sent_to, settled_by, shown_site, site_number, start, station_named, stations_of, step_by, total_answer}
+use Rattle.script_ledgers.specs.Script.{Script, are_limits, by_meaning, commanded_to, declared_to, energy_answer, export_answer, is_among, is_past_plan, is_period, joined_by, limited_to, line_step, new_station, period_named, period_to, sent_to, settled_by, shown_site, site_number, start, station_named, stations_of, step_by, total_answer, script_after}
 use Rattle.board_report.specs.Texts.{board_text}
 use Rattle.script_lines.specs.LineMeaning.{LineMeaning, nothing, fails, sets_limits, declares, sets_period, tells, sends, commands, asks_energy, asks_export, asks_total, asks_board, line_meaning}
 use Rattle.script_lines.specs.declared.script_line.LineFault.TheVariants.{DeclaredLate, PlanLimit, UnknownSite}

@@ -11,11 +11,11 @@ use Rattle.ledger_model.specs.WorldLaws.{AreReordered, IsDelivery}
 use Rattle.ledger_model.proofs.Runs.{reordered_runs, run_append}
 use Rattle.transaction_event.specs.Message.{Meaning, Event, Ready, Silence, message}
 use Rattle.script_lines.specs.declared.script_line.LineFault.TheVariants.{DeclaredLate, PlanLimit}
-use Rattle.script_replay.specs.Laws.{script_after, asked_by, asked_of, commanded_by, emptied, happened, sent_by, IsNoOperation, OrderChangesNoBoard, UnacceptedChangesNothing, WorldsAreRuns}
+use Rattle.script_replay.specs.Laws.{asked_by, asked_of, commanded_by, emptied, happened, sent_by, IsNoOperation, OrderChangesNoBoard, UnacceptedChangesNothing, WorldsAreRuns}
 use Rattle.script_lines.specs.Lines.{Line}
 use Rattle.script_lines.specs.LineMeaning.{LineMeaning, nothing, fails, sets_limits, declares, sets_period, tells, sends, commands, asks_energy, asks_export, asks_total, asks_board, line_meaning}
 use Rattle.script_lines.specs.Texts.{fault_line}
-use Rattle.script_replay.specs.Script.{Script, start, are_limits, board_answer, by_meaning, commanded_to, declared_to, is_past_plan, is_period, joined_by, limited_to, line_step, period_to, sent_to, settled_by, site_number, station_named, step_by}
+use Rattle.script_ledgers.specs.Script.{Script, start, are_limits, board_answer, by_meaning, commanded_to, declared_to, is_past_plan, is_period, joined_by, limited_to, line_step, period_to, sent_to, settled_by, site_number, station_named, step_by, script_after}
 use Rattle.script_replay.proofs.ReachedStations.{kept_from_start, same_world}
 
 -- ---- stations without events

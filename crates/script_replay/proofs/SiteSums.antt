@@ -12,7 +12,7 @@ use Rattle.ledger_model.specs.World.{Station, World}
 use Rattle.ledger_model.proofs.EnergyLemmas.{site_quarter}
 use Rattle.ledger_model.proofs.FigureLemmas.{site-AreSums}
 use Rattle.script_replay.specs.Laws.{SitesAreSums, sums_in}
-use Rattle.script_replay.specs.Script.{shown_station}
+use Rattle.script_ledgers.specs.Script.{shown_station}
 
 -- the figures of the stations' boards
 shown_figures : (period : ℕ) (w : World) → map (λ (s : List ℕ × Board). s.1.figures) (map (shown_station period) w) ≡ map (λ s. figures (entries s.content)) w

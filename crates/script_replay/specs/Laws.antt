@@ -16,13 +16,8 @@ use Rattle.transaction_event.specs.Message.{Meaning, Event, Ready, Silence, mess
 use Rattle.script_lines.specs.declared.script_line.LineFault.{LineFault}
 use Rattle.script_lines.specs.Lines.{Line, lines_of}
 use Rattle.script_lines.specs.Texts.{ended_line, fault_line}
-use Rattle.script_replay.specs.Script.{Script, start, line_step, script_text, station_named, stations_of, is_among, energy_line, export_line, period_named, shown_site}
+use Rattle.script_ledgers.specs.Script.{Script, start, line_step, script_text, script_after, station_named, stations_of, is_among, energy_line, export_line, period_named, shown_site}
 use Rattle.script_lines.specs.LineMeaning.{LineMeaning, nothing, fails, sets_limits, declares, sets_period, tells, sends, commands, asks_energy, asks_export, asks_total, asks_board, line_meaning}
-
--- where a script stands after these lines
-abbrev pub script_after : Script → List Line → Script
-script_after s [] = s
-script_after s (line ∷ lines) = script_after (line_step s line).0 lines
 
 -- the text of no bytes is empty
 abbrev pub AnEmptyScriptWritesNothing : Type 0

@@ -1,20 +1,15 @@
 ghost use Rattle.std.specs.Prelude.{◌≡◌, ℕ, List, [], OnOk, OnSome};
 ghost use Rattle.std.specs.Io.Buffered.{writer_buffer, writer_contents};
 ghost use Rattle.std.specs.Io.KnownBytes.{Consumes, Appends, IsAtEnd};
-ghost use Rattle.script_replay.specs.Outcome.{Replays};
+ghost use Rattle.script_ledgers.specs.Outcome.{Replays};
 ghost use Rattle.script_lines.specs.Ranges.{longest_line};
-ghost use Rattle.script_replay.specs.Ranges.{longest_script};
-ghost use Rattle.script_replay.specs.Script.{start, script_text};
+ghost use Rattle.script_ledgers.specs.Ranges.{longest_script};
+ghost use Rattle.script_ledgers.specs.Script.{start, script_text};
 
-use crate::declaring::Declaring;
-use crate::draft::Draft;
-use crate::replay::replay_lines;
-use script_lines::{MAX_LINE_BYTES, ReplayFault};
+use script_ledgers::replay_unflushed;
+use script_lines::ReplayFault;
 use std::io::{BufRead, BufWriter, Write};
 use std::thread::Threads;
-
-/// How many bytes a script may have: 1 GiB.
-pub const MAX_SCRIPT_BYTES: usize = 1_073_741_824;
 
 /// Replays a script: reads its lines and writes the text of each.
 ///
@@ -57,29 +52,4 @@ pub fn replay_buffered<X: AllocGlobal + Threads, R: BufRead, W: Write + Drop>(
         Ok(()) => replayed,
         Err(_) => replayed.and(Err(ReplayFault::WriteFault)),
     }
-}
-
-// Replays a script, and leaves the last flush to the caller.
-fn replay_unflushed<X: AllocGlobal + Threads, R: BufRead, W: Write>(
-    rt: &X,
-    reader: &mut R,
-    writer: &mut W,
-) -> Result<(), ReplayFault>
-    ensures run { (read written : List ℕ) × Consumes (R.remaining reader.old) (R.remaining reader.new) read
-        × Appends (W.contents writer.old) (W.contents writer.new) written
-        × Replays (OnSome (R.remaining reader.old) (IsAtEnd (R.remaining reader.new))) (script_text start) longest_line longest_script result read written }
-    ensures end { OnOk result (OnSome (R.remaining reader.old) (IsAtEnd (R.remaining reader.new))) }
-{
-    let declaring = Declaring {
-        rt,
-        draft: Draft::new(),
-    };
-    replay_lines(
-        rt.alloc(),
-        declaring,
-        reader,
-        writer,
-        MAX_LINE_BYTES,
-        MAX_SCRIPT_BYTES,
-    )
 }

@@ -1,8 +1,8 @@
 use Rattle.std.proofs.Common.{◌≡◌, ◌∙◌, ap, subst}
 use Rattle.script_lines.specs.declared.line_reader.LineEnd.TheVariants.{Feed}
 use Rattle.script_lines.specs.Reading.{line_of}
-use Rattle.script_replay.specs.Drafts.{planned}
-use Rattle.script_replay.specs.Script.{line_step}
+use Rattle.script_ledgers.specs.Drafts.{planned}
+use Rattle.script_ledgers.specs.Script.{line_step}
 use Rattle.journal_script.specs.Reading.{ReadsLine}
 use Rattle.journal_script.proofs.LinesRead.{goes_on, stepped}
 use Rattle.journal_script.proofs.restoring.declare.Goals as goal

@@ -1,5 +1,5 @@
 use Rattle.std.proofs.Common.{◌≡◌}
-use Rattle.script_replay.specs.Drafts.{planned}
+use Rattle.script_ledgers.specs.Drafts.{planned}
 use Rattle.journal_script.proofs.LinesRead.{Goes}
 use Rattle.journal_script.proofs.restoring.declare.Given as goal
 

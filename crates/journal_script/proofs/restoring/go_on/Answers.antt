@@ -1,7 +1,7 @@
 use Rattle.std.proofs.Common.{◌∙◌, false, ap, subst, sym}
-use Rattle.script_replay.specs.Drafts.{planned}
-use Rattle.script_replay.specs.Running.{running}
-use Rattle.script_replay.specs.Script.{line_step}
+use Rattle.script_ledgers.specs.Drafts.{planned}
+use Rattle.script_ledgers.specs.Running.{running}
+use Rattle.script_ledgers.specs.Script.{line_step}
 use Rattle.script_lines.specs.Reading.{line_of}
 use Rattle.script_lines.specs.declared.line_reader.LineEnd.TheVariants.{Feed}
 use Rattle.journal_script.specs.Reading.{Stops}

@@ -1,6 +1,6 @@
 use Rattle.std.proofs.Common.{◌∙◌}
-use Rattle.script_replay.specs.Drafts.{planned}
-use Rattle.script_replay.proofs.Answered.{value_told}
+use Rattle.script_ledgers.specs.Drafts.{planned}
+use Rattle.script_ledgers.proofs.Answered.{value_told}
 use Rattle.site_book.proofs.Named.{named-made}
 use Rattle.journal_script.specs.Reading.{GoesOn}
 use Rattle.journal_script.proofs.UpToListen.{Restores, restored_from}

@@ -1,7 +1,7 @@
 use Rattle.std.proofs.Common.{◌≡◌, ◌∙◌, ap, subst, arith}
 use Rattle.script_lines.specs.declared.line_reader.LineEnd.TheVariants.{Feed}
 use Rattle.script_lines.specs.Reading.{line_of}
-use Rattle.script_replay.specs.Running.{running}
+use Rattle.script_ledgers.specs.Running.{running}
 use Rattle.journal_script.specs.Reading.{ReadsLine}
 use Rattle.journal_script.proofs.LinesRead.{goes_on, goes_same, goes_to, one_less, taken}
 use Rattle.journal_script.proofs.restoring.run.Goals as goal

@@ -1,5 +1,5 @@
 use Rattle.std.proofs.Common.{◌≡◌, ◌+◌, ◌≤◌}
-use Rattle.script_replay.specs.Running.{posts_in, running}
+use Rattle.script_ledgers.specs.Running.{posts_in, running}
 use Rattle.journal_script.proofs.LinesRead.{Goes}
 use Rattle.journal_script.proofs.restoring.run.Given as goal
 

@@ -1,0 +1,14 @@
+pub mod WrittenReplies
+pub mod AnsweredLines
+pub mod SecondPhase
+pub mod Places
+pub mod Drafting
+pub mod SettledBy
+pub mod Answered
+pub mod Settling
+pub mod Enlisted
+pub mod Opened
+pub mod Parted
+pub mod Named
+pub mod Boards
+pub mod OpeningLine

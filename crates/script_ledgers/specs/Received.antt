@@ -1,0 +1,24 @@
+-- What a running script makes of a message that was read.
+use Rattle.std.specs.Prelude.{◌≡◌, ℕ, true, false, List, codes}
+use Rattle.ledger_model.specs.declared.command.Command.TheVariants.{Deliver}
+use Rattle.ledger_model.specs.Step.{answer}
+use Rattle.ledger_model.specs.World.{Station, world_after}
+use Rattle.transaction_event.specs.declared.message.Message.{Message}
+use Rattle.transaction_event.specs.declared.message.Message.TheVariants as message
+use Rattle.transaction_event.specs.MessageMeaning.{IsMeaningOf}
+use Rattle.transaction_event.specs.Reply.{event_reply_bytes}
+use Rattle.script_lines.specs.Texts.{ended_line}
+use Rattle.script_ledgers.specs.Script.{Script}
+
+-- an event takes the station's step and gets the answer's reply; all else leaves the script, and a reply that tells OutOfMemory is none
+abbrev pub TakesMessage : Script → Script → Station → Message → List ℕ → Type 0
+TakesMessage old new s (message.Event id key event token) reply =
+    (new ≡ record old { world = world_after old.world (s.name, Deliver key event) })
+    × (reply ≡ ended_line (event_reply_bytes id.bytes token (answer s.limits s.content (Deliver key event))))
+TakesMessage old new s (message.Reply text true) reply = ⊥
+TakesMessage old new s (message.Reply text false) reply = (new ≡ old) × (reply ≡ ended_line text.bytes)
+TakesMessage old new s message.Silent reply = (new ≡ old) × (reply ≡ ended_line (codes "silent"))
+
+-- a text means something at the script's moment, and that is taken
+abbrev pub ReceivesText : Script → Script → Station → List ℕ → List ℕ → Type 0
+ReceivesText old new s text reply = (m : Message) × IsMeaningOf text old.moment m × TakesMessage old new s m reply

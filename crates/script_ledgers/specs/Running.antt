@@ -1,0 +1,59 @@
+-- How the opened ledgers of a script are kept, and how they are seen as its state.
+use Rattle.std.specs.Prelude.{◌≡◌, ℕ, true, List, [], ◌∷◌, length, map, sum_by, Some, slice_get}
+use Rattle.ledger_model.specs.declared.answer.Answer.{Answer}
+use Rattle.ledger_model.specs.declared.command.Command.{Command}
+use Rattle.ledger_model.specs.Step.{answer}
+use Rattle.ledger_model.specs.World.{Station, World, world_after}
+use Rattle.site_book.specs.Book.{Book}
+use Rattle.site_desk.specs.declared.plan.SitePlan.{SitePlan}
+use Rattle.site_desk.specs.declared.plan.StationPlan.{StationPlan}
+use Rattle.station_cell.specs.Cell.{Cell, Held, Knows}
+use Rattle.site_desk.specs.Parts.{AreApart, limits_at, row_at}
+use Rattle.site_desk.specs.Plan.{period_at}
+use Rattle.station_cell.specs.Settle.{Holds, Tied}
+use Rattle.script_ledgers.specs.Drafts.{Drafted, IsPlan, planned_world}
+use Rattle.script_ledgers.specs.Script.{Script}
+
+-- Stations with the contents of their cells.
+abbrev pub filled : World → List Cell → World
+filled [] cells = []
+filled (s ∷ ss) [] = []
+filled (s ∷ ss) (c ∷ cells) = record s { content = c.content } ∷ filled ss cells
+
+-- A script whose ledgers are opened.
+abbrev pub running : Drafted → List Cell → Script
+running d cells = record { limits = d.limits; sites = map (λ s. s.name) d.sites; periods = map (λ s. s.period) d.sites; world = filled (planned_world d.sites d.stations) cells; opened = true; moment = d.moment }
+
+-- How many posts were made in all.
+abbrev pub posts_in : List Book → ℕ
+posts_in books = sum_by (λ b. length b.posts) books
+
+-- A cell is that of the station of this number, by its site's settlement period.
+pub record IsPlaced (sites : List SitePlan) (stations : List StationPlan) (number : ℕ) (s : StationPlan) (c : Cell) : Type 0 where
+  pub station : c.station ≡ number
+  pub site : c.site ≡ s.site
+  pub row : c.row ≡ row_at stations s.site number
+  pub limits : c.limits ≡ s.limits
+  pub period : c.period ≡ period_at sites s.site
+
+-- A cell's row stands in its site's book, and shows the figures of its content.
+pub record IsShown (c : Cell) (b : Book) : Type 0 where
+  pub held : Holds c b
+  pub tied : Tied c b
+
+-- What the opened ledgers keep: a cell and a pass for each station and a book for each site, in the plan's order; each cell knows its pass, and its row in its site's book, which no other cell has, shows the figures of its content.
+pub record IsRunning (sites : List SitePlan) (stations : List StationPlan) (cells : List Cell) (books : List Book) (passes : List Held) : Type 0 where
+  pub plan : IsPlan sites stations
+  pub all_cells : length cells ≡ length stations
+  pub all_books : length books ≡ length sites
+  pub all_passes : length passes ≡ length stations
+  pub placed : (k : ℕ) (s : StationPlan) (c : Cell) → slice_get stations k ≡ Some s → slice_get cells k ≡ Some c → IsPlaced sites stations k s c
+  pub books_are : (site : ℕ) (b : Book) → slice_get books site ≡ Some b → b.limits ≡ limits_at stations site
+  pub known : (k : ℕ) (c : Cell) (p : Held) → slice_get cells k ≡ Some c → slice_get passes k ≡ Some p → Knows c p
+  pub shown : (k : ℕ) (c : Cell) (b : Book) → slice_get cells k ≡ Some c → slice_get books c.site ≡ Some b → IsShown c b
+  pub apart : AreApart cells
+
+-- A command on a station of a running script took its step, and this is the answer.
+pub record Settles (old new : Script) (s : Station) (command : Command) (a : Answer) : Type 0 where
+  pub answer_is : a ≡ answer s.limits s.content command
+  pub script_is : new ≡ record old { world = world_after old.world (s.name, command) }

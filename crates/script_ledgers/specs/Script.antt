@@ -1,0 +1,219 @@
+-- The text of a script: a fold over its lines (this product's profile).
+use Rattle.std.specs.Prelude.{ℕ, Bool, true, false, ◌&&◌, ◌||◌, ◌+◌, ◌==◌, nat_le, nat_lt, List, [], ◌∷◌, ◌++◌, codes, filter, get_or, slice_set, length, map, sum_by, if◌then◌else◌, Option, None, Some}
+use Rattle.std.specs.List.{list_any, position}
+use Rattle.std.specs.Str.{bytes_eq}
+use Rattle.energy_flow.specs.Flow.{Energy}
+use Rattle.ledger_model.specs.declared.command.Command.{Command}
+use Rattle.ledger_model.specs.declared.command.Command.TheVariants.{Deliver}
+use Rattle.ledger_model.specs.Board.{Board, board, figures, site_board}
+use Rattle.ledger_model.specs.Content.{empty_content, entries}
+use Rattle.ledger_model.specs.Energy.{energy}
+use Rattle.ledger_model.specs.declared.reading.Direction.TheVariants.{Import, Export}
+use Rattle.ledger_model.specs.Limits.{Bounds, default_limits}
+use Rattle.ledger_model.specs.Moment.{first_moment}
+use Rattle.ledger_model.specs.Quarter.{default_period}
+use Rattle.ledger_model.specs.Ranges.{most_transactions, most_events, most_readings, most_changes, most_sites, most_stations, most_plan_readings}
+use Rattle.ledger_model.specs.Step.{answer}
+use Rattle.ledger_model.specs.World.{Station, World, world_after}
+use Rattle.board_report.specs.Named.{NamedBoard}
+use Rattle.board_report.specs.Texts.{board_text, energy_text, export_text, total_text}
+use Rattle.transaction_event.specs.Message.{Meaning, Event, Ready, Silence, message}
+use Rattle.transaction_event.specs.Reply.{event_reply_bytes}
+use Rattle.script_lines.specs.declared.script_line.LineFault.TheVariants.{DeclaredLate, PlanLimit, StationTwice, UnknownStation, UnknownSite}
+use Rattle.script_lines.specs.Lines.{Line, text_by}
+use Rattle.script_lines.specs.LineMeaning.{LineMeaning, nothing, fails, sets_limits, declares, sets_period, tells, sends, commands, asks_energy, asks_export, asks_total, asks_board, line_meaning}
+use Rattle.script_lines.specs.Texts.{ended_line, fault_line, answer_text}
+
+-- where a script stands: the limits of the stations that are declared next; the sites of the plan so far in the order of their first mention, and the settlement period of each in seconds; the world, whose stations are those of the plan and have empty contents until the ledgers are opened; whether they are; and the moment
+pub record Script : Type 0 where
+  pub limits : Bounds
+  pub sites : List (List ℕ)
+  pub periods : List ℕ
+  pub world : World
+  pub opened : Bool
+  pub moment : ℕ
+
+-- default limits, no station, ledgers not opened, 2000-01-01T00:00:00Z
+abbrev pub start : Script
+start = record { limits = default_limits; sites = []; periods = []; world = []; opened = false; moment = first_moment }
+
+-- a station as it is declared
+abbrev pub new_station : Bounds → List ℕ → List ℕ → Station
+new_station bounds site name = record { site = site; name = name; limits = bounds; content = empty_content }
+
+-- the station of this name
+abbrev pub station_named : List ℕ → World → Option Station
+station_named name [] = None
+station_named name (s ∷ ss) = if bytes_eq name s.name then Some s else station_named name ss
+
+-- whether the name stands among these
+abbrev pub is_among : List ℕ → List (List ℕ) → Bool
+is_among name names = list_any (λ n. bytes_eq name n) names
+
+-- the stations of a site, in the order of their declaration
+abbrev pub stations_of : List ℕ → World → World
+stations_of site w = filter (λ s. bytes_eq site s.site) w
+
+-- `energy up=<n> down=<n>`, in milliwatt-hours
+abbrev pub energy_line : Energy → List ℕ
+energy_line flow = ended_line (energy_text flow)
+
+-- `export up=<n> down=<n>`, in milliwatt-hours
+abbrev pub export_line : Energy → List ℕ
+export_line flow = ended_line (export_text flow)
+
+-- each limit lies in its range
+abbrev pub are_limits : ℕ → ℕ → ℕ → ℕ → Bool
+are_limits transactions events readings changes =
+    (nat_le 1 transactions && nat_le transactions most_transactions)
+    && ((nat_le 1 events && nat_le events most_events)
+    && ((nat_le 1 readings && nat_le readings most_readings)
+    && (nat_le 1 changes && nat_le changes most_changes)))
+
+-- limits before the ledgers are opened: they hold for the stations that follow
+abbrev pub limited_to : Script → ℕ → ℕ → ℕ → ℕ → Script × List ℕ
+limited_to s transactions events readings changes =
+    if are_limits transactions events readings changes
+    then (record s { limits = record { transactions = transactions; events = events; readings = readings; changes = changes } }, [])
+    else (s, fault_line PlanLimit)
+
+-- the sites once this one is mentioned: one begins at its first mention
+abbrev pub sites_with : List ℕ → List (List ℕ) → List (List ℕ)
+sites_with site sites = if is_among site sites then sites else sites ++ site ∷ []
+
+-- the settlement periods of these sites, one for each, once this one is mentioned: one that begins has the default period
+abbrev pub periods_with : List ℕ → List (List ℕ) → List ℕ → List ℕ
+periods_with site sites periods = if is_among site sites then periods else periods ++ default_period ∷ []
+
+-- one of the four settlement periods
+abbrev pub is_period : ℕ → Bool
+is_period seconds = (seconds == 300) || ((seconds == 900) || ((seconds == 1_800) || (seconds == 3_600)))
+
+-- the number of the site of this name
+abbrev pub site_number : List ℕ → List (List ℕ) → Option ℕ
+site_number site sites = position (bytes_eq site) sites
+
+-- the settlement period of the site of this number
+abbrev pub period_of : Option ℕ → List ℕ → ℕ
+period_of None periods = default_period
+period_of (Some number) periods = get_or periods number default_period
+
+-- another settlement period for the site of this number, where there is one
+abbrev pub settled_by : Option ℕ → Script → ℕ → Script × List ℕ
+settled_by None s seconds = (s, fault_line UnknownSite)
+settled_by (Some number) s seconds = (record s { periods = slice_set s.periods number seconds }, [])
+
+-- a settlement period before the ledgers are opened: it holds for all stations of the site, declared or not
+abbrev pub period_to : Script → List ℕ → ℕ → Script × List ℕ
+period_to s site seconds = if is_period seconds then settled_by (site_number site s.sites) s seconds else (s, fault_line PlanLimit)
+
+-- one station more, of this site, would be more than a plan may have: of stations, of readings, or of sites
+abbrev pub is_past_plan : Script → List ℕ → Bool
+is_past_plan s site =
+    nat_le most_stations (length s.world)
+    || (nat_lt most_plan_readings (sum_by (λ station. station.limits.readings) s.world + s.limits.readings)
+    || nat_lt most_sites (length (sites_with site s.sites)))
+
+-- one station more, where no other has its name
+abbrev pub joined_by : Option Station → Script → List ℕ → List ℕ → Script × List ℕ
+joined_by None s site name = (record s { sites = sites_with site s.sites; periods = periods_with site s.sites s.periods; world = s.world ++ new_station s.limits site name ∷ [] }, [])
+joined_by (Some _) s site name = (s, fault_line StationTwice)
+
+-- a declaration before the ledgers are opened
+abbrev pub declared_to : Script → List ℕ → List ℕ → Script × List ℕ
+declared_to s site name = if is_past_plan s site then (s, fault_line PlanLimit) else joined_by (station_named name s.world) s site name
+
+-- an operator's command on a station
+abbrev pub commanded_to : Option Station → Script → Command → Script × List ℕ
+commanded_to None s command = (record s { opened = true }, fault_line UnknownStation)
+commanded_to (Some station) s command =
+    (record s { opened = true; world = world_after s.world (station.name, command) }, ended_line (answer_text (answer station.limits station.content command)))
+
+-- the energy that a station imported, computed from all its events
+abbrev pub energy_answer : Option Station → List ℕ
+energy_answer None = fault_line UnknownStation
+energy_answer (Some station) = energy_line (energy Import (entries station.content))
+
+-- the energy that a station exported, computed from all its events
+abbrev pub export_answer : Option Station → List ℕ
+export_answer None = fault_line UnknownStation
+export_answer (Some station) = export_line (energy Export (entries station.content))
+
+-- the figures of a station, computed from all its events
+abbrev pub total_answer : Option Station → List ℕ
+total_answer None = fault_line UnknownStation
+total_answer (Some station) = ended_line (total_text (figures (entries station.content)))
+
+-- the board of a station under its name by a settlement period, computed from all its events
+abbrev pub shown_station : ℕ → Station → List ℕ × Board
+shown_station period station = (station.name, board period (entries station.content))
+
+-- the board of a site by its settlement period over these stations: the sums of their figures and of their quarters, and their boards
+abbrev pub shown_site : List ℕ → ℕ → World → NamedBoard
+shown_site site period stations =
+    let b = site_board period (map (shown_station period) stations) in
+    record { name = site; period = b.period; figures = b.figures; quarters = b.quarters; stations = b.stations }
+
+-- the settlement period of the site of this name
+abbrev pub period_named : Script → List ℕ → ℕ
+period_named s site = period_of (site_number site s.sites) s.periods
+
+-- the board of a site by its settlement period, computed from all events of its stations
+abbrev pub board_answer : Script → List ℕ → List ℕ
+board_answer s site = if is_among site s.sites then board_text (shown_site site (period_named s site) (stations_of site s.world)) else fault_line UnknownSite
+
+-- a message of a station: an event is delivered, and all else is answered as it stands
+abbrev pub by_meaning : Meaning → Station → Script → Script × List ℕ
+by_meaning (Event id request) station s =
+    let command = Deliver request.key request.event in
+    (record s { opened = true; world = world_after s.world (station.name, command) }, ended_line (event_reply_bytes id request.token (answer station.limits station.content command)))
+by_meaning (Ready reply) station s = (record s { opened = true }, ended_line reply)
+by_meaning Silence station s = (record s { opened = true }, ended_line (codes "silent"))
+
+-- the text means what it means at the script's moment
+abbrev pub sent_to : Option Station → Script → List ℕ → Script × List ℕ
+sent_to None s text = (record s { opened = true }, fault_line UnknownStation)
+sent_to (Some station) s text = by_meaning (message text s.moment) station s
+
+-- what a line does: the state that it leaves, and its text
+abbrev pub step_by : Script → LineMeaning → Script × List ℕ
+step_by s nothing = (s, [])
+step_by s (fails fault) = (s, fault_line fault)
+step_by s (sets_limits transactions events readings changes) = if s.opened then (s, fault_line DeclaredLate) else limited_to s transactions events readings changes
+step_by s (declares site name) = if s.opened then (s, fault_line DeclaredLate) else declared_to s site name
+step_by s (sets_period site seconds) = if s.opened then (s, fault_line DeclaredLate) else period_to s site seconds
+step_by s (tells nanos) = (record s { moment = nanos }, [])
+step_by s (sends name text) = sent_to (station_named name s.world) s text
+step_by s (commands name command) = commanded_to (station_named name s.world) s command
+step_by s (asks_energy name) = (record s { opened = true }, energy_answer (station_named name s.world))
+step_by s (asks_export name) = (record s { opened = true }, export_answer (station_named name s.world))
+step_by s (asks_total name) = (record s { opened = true }, total_answer (station_named name s.world))
+step_by s (asks_board site) = (record s { opened = true }, board_answer s site)
+
+-- the same for a line's bytes
+abbrev pub line_step : Script → Line → Script × List ℕ
+line_step s line = step_by s (line_meaning line)
+
+-- the text of lines from here on
+abbrev pub script_text : Script → List Line → List ℕ
+script_text = text_by line_step
+
+-- where a script stands after these lines
+abbrev pub script_after : Script → List Line → Script
+script_after s [] = s
+script_after s (line ∷ lines) = script_after (line_step s line).0 lines
+
+-- whether a line opens the ledgers
+abbrev pub opening : LineMeaning → Bool
+opening nothing = false
+opening (fails _) = false
+opening (sets_limits _ _ _ _) = false
+opening (declares _ _) = false
+opening (sets_period _ _) = false
+opening (tells _) = false
+opening (sends _ _) = true
+opening (commands _ _) = true
+opening (asks_energy _) = true
+opening (asks_export _) = true
+opening (asks_total _) = true
+opening (asks_board _) = true

@@ -1,0 +1,206 @@
+ghost use Rattle.std.specs.Prelude.{◌≡◌, ◌<◌, false, None, [], length, IfOk, IfSome, OnOk};
+ghost use Rattle.site_desk.specs.Plan.{sites_by};
+ghost use Rattle.std.specs.Option.{is_some};
+ghost use Rattle.std.specs.List.{position};
+ghost use Rattle.std.specs.Str.{bytes_eq};
+ghost use Rattle.script_lines.specs.Lines.{line_bytes};
+ghost use Rattle.script_ledgers.specs.Drafts.{planned, DraftAnswers, IsPlan};
+ghost use Rattle.script_ledgers.specs.Script.{start, declared_to, is_past_plan, is_period, joined_by, limited_to, period_to};
+
+use crate::machine::LineOutcome;
+use ledger_model::{Limits, Moment, Name, Period};
+use script_lines::{LineFault, ScriptLine, put_fault, read_line};
+use site_desk::Plan;
+use std::alloc::AllocError;
+use std::marker::Model;
+
+/// The declarations of a script so far: its plan, the limits of the stations that follow, and its moment.
+#[derive(Drop)]
+pub struct Draft {
+    plan: Plan,
+    limits: Limits,
+    moment: Moment,
+}
+
+impl Model for Draft {
+    ghost use Rattle.script_ledgers.specs.Drafts.{Drafted, IsPlan};
+
+    ghost Value = { Drafted };
+
+    ghost view = { λ d. record { limits = d.limits; sites = d.plan.sites.items; stations = d.plan.stations.items; moment = d.moment } };
+
+    ghost invariant = { λ d. IsPlan d.plan.sites.items d.plan.stations.items };
+}
+
+impl Draft {
+    /// No station, and default limits.
+    pub fn new() -> Self
+        ensures { planned result ≡ start }
+    {
+        Draft {
+            plan: Plan::new(),
+            limits: Limits::default(),
+            moment: Moment::first(),
+        }
+    }
+
+    /// The plan.
+    pub fn plan(&self) -> &Plan
+        ensures is { IsPlan self.now.sites self.now.stations }
+        ensures sites { result.now.sites.items ≡ self.now.sites }
+        ensures stations { result.now.stations.items ≡ self.now.stations }
+    {
+        &self.plan
+    }
+
+    /// The moment that the script told last, 2000-01-01T00:00:00Z before.
+    pub fn moment(&self) -> Moment
+        ensures { result ≡ self.now.moment }
+    {
+        self.moment
+    }
+
+    /// The moment from here on.
+    pub fn tell(&mut self, moment: Moment)
+        ensures { self.new ≡ record self.old { moment = moment } }
+    {
+        self.moment = moment;
+    }
+
+    /// The number of the station of this name.
+    pub fn station(&self, name: &Name) -> Option<usize>
+        ensures { result ≡ position (λ s. bytes_eq name.now s.name) self.now.stations }
+    {
+        self.plan.station(name)
+    }
+
+    /// The number of the site of this name.
+    pub fn site(&self, name: &Name) -> Option<usize>
+        ensures { result ≡ position (λ s. bytes_eq name.now s.name) self.now.sites }
+    {
+        self.plan.site(name)
+    }
+
+    /// Answers one line, or tells that it opens the ledgers.
+    pub fn answer(
+        &mut self,
+        line: Option<&[u8]>,
+        reply: &mut Vec<u8>,
+    ) -> Result<LineOutcome, AllocError>
+        requires { reply.old.items ≡ [] }
+        ensures { IfOk result (λ turn. DraftAnswers (planned self.old) (planned self.new) (line_bytes line.entry) turn reply.new.items) }
+    {
+        match read_line(line) {
+            ScriptLine::Nothing => {}
+            ScriptLine::Fails(fault) => put_fault(reply, fault)?,
+            ScriptLine::Limits(transactions, events, readings, changes) => {
+                self.limit(transactions, events, readings, changes, reply)?;
+            }
+            ScriptLine::Declares(site, name) => self.declare(site, name, reply)?,
+            ScriptLine::SetsPeriod(site, seconds) => self.settle_by(&site, seconds, reply)?,
+            ScriptLine::Tells(moment) => self.tell(moment),
+            ScriptLine::Sends(_, _)
+            | ScriptLine::Commands(_, _)
+            | ScriptLine::AsksEnergy(_)
+            | ScriptLine::AsksExport(_)
+            | ScriptLine::AsksTotal(_)
+            | ScriptLine::AsksBoard(_) => return Ok(LineOutcome::Opens),
+        }
+        Ok(LineOutcome::Answered)
+    }
+}
+
+impl Draft {
+    // The limits of the stations that follow, or the fault of limits out of range.
+    fn limit(
+        &mut self,
+        transactions: u64,
+        events: u64,
+        readings: u64,
+        changes: u64,
+        reply: &mut Vec<u8>,
+    ) -> Result<(), AllocError>
+        requires { reply.old.items ≡ [] }
+        ensures { OnOk result (limited_to (planned self.old) transactions events readings changes ≡ (planned self.new, reply.new.items)) }
+    {
+        match Limits::new(transactions, events, readings, changes) {
+            Some(limits) => {
+                self.limits = limits;
+                Ok(())
+            }
+            None => put_fault(reply, LineFault::PlanLimit),
+        }
+    }
+
+    // Gives a site another settlement period, or puts the fault that it is none, or that there is no
+    // such site, into the reply.
+    fn settle_by(
+        &mut self,
+        site: &Name,
+        seconds: u64,
+        reply: &mut Vec<u8>,
+    ) -> Result<(), AllocError>
+        requires { reply.old.items ≡ [] }
+        ensures { OnOk result (period_to (planned self.old) site.now seconds ≡ (planned self.new, reply.new.items)) }
+    {
+        let Some(period) = period_of(seconds) else {
+            return put_fault(reply, LineFault::PlanLimit);
+        };
+        let Some(number) = self.site(site) else {
+            return put_fault(reply, LineFault::UnknownSite);
+        };
+        self.set_period(number, period);
+        Ok(())
+    }
+
+    // Gives the site of this number another settlement period.
+    fn set_period(&mut self, site: usize, period: Period)
+        requires { site < length self.old.sites }
+        ensures { self.new ≡ record self.old { sites = sites_by site period self.old.sites } }
+    {
+        self.plan.set_period(site, period);
+    }
+
+    // Adds a station, or puts the fault that keeps it out into the reply.
+    fn declare(&mut self, site: Name, name: Name, reply: &mut Vec<u8>) -> Result<(), AllocError>
+        requires { reply.old.items ≡ [] }
+        ensures { OnOk result (declared_to (planned self.old) site name ≡ (planned self.new, reply.new.items)) }
+    {
+        if self.is_past_plan(&site) {
+            return put_fault(reply, LineFault::PlanLimit);
+        }
+        if self.station(&name).is_some() {
+            return put_fault(reply, LineFault::StationTwice);
+        }
+        self.join(site, name);
+        Ok(())
+    }
+
+    // Tells whether one station more, of this site, would be more than a plan may have.
+    fn is_past_plan(&self, site: &Name) -> bool
+        ensures { result ≡ is_past_plan (planned self.now) site.now }
+    {
+        self.plan.is_past(site, &self.limits)
+    }
+
+    // Adds a station of a new name, for which there is room.
+    fn join(&mut self, site: Name, name: Name)
+        requires room { is_past_plan (planned self.old) site ≡ false }
+        requires new { position (λ s. bytes_eq name s.name) self.old.stations ≡ None }
+        ensures { planned self.new ≡ (joined_by None (planned self.old) site name).0 }
+    {
+        self.plan
+            .declare(site, 0, Period::default(), name, self.limits);
+    }
+}
+
+// The settlement period of so many seconds, if it is one.
+fn period_of(seconds: u64) -> Option<Period>
+    ensures is { is_some result ≡ is_period seconds }
+    ensures value { IfSome result (λ p. p ≡ seconds) }
+{
+    match u16::try_from(seconds) {
+        Ok(seconds) => Period::new(seconds),
+        Err(_) => None,
+    }
+}
