@@ -147,7 +147,7 @@ register_in_range : (t : Bool) (n mwh : ℕ) → (t ≡ true → n ≤ greatest_
 register_in_range true n mwh fits e = let same : n ≡ mwh = same_ok {E = DecimalFault} n mwh e in let below = fits refl in omega (arith, same, below)
 register_in_range false n mwh fits e = absurd (cc e)
 
-mwh_in_range : (token : List ℕ) (multiplier : ℤ) (unit : EnergyUnit) (mwh : ℕ) → mwh_reading token multiplier unit ≡ Ok mwh → mwh ≤ greatest_reading
+pub mwh_in_range : (token : List ℕ) (multiplier : ℤ) (unit : EnergyUnit) (mwh : ℕ) → mwh_reading token multiplier unit ≡ Ok mwh → mwh ≤ greatest_reading
 mwh_in_range token multiplier unit value e =
     let n = mwh (parts token) multiplier unit in
     let kept : Result ℕ DecimalFault = ok_or (within_register n) TooLarge in
