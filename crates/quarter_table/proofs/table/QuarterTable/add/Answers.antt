@@ -40,3 +40,15 @@ returns-in-Ok-clause-rows c =
     let rs = c.self.inside.rows.items in
     added_there c.args.quarter (flows_toward c.args.direction c.args.flow) rs c.in-Ok.at c.index-row.result.now c.plus-flow.result c.plus-export.result c.in-Ok.ensures.stands c.index-row.ensures (c.plus-flow.ensures ∙ ap (λ (e : Energy). plus c.index-row.result.now.flow e) c.parted-imported.ensures.import) (c.plus-export.ensures ∙ ap (λ (e : Energy). plus c.index-row.result.now.export e) c.parted-imported.ensures.export)
     ∙ ap (λ t. set_row (with_pair (flows_toward c.args.direction c.args.flow) (row_at c.args.quarter t.rows)) t.rows) c.self.view_is
+
+pub returns-in-Ok-clause-capacity : goal.returns-in-Ok-clause-capacity
+returns-in-Ok-clause-capacity c = ap (λ t. t.capacity) c.self.view_is
+
+pub returns-in-Ok-insert-clause-rows : goal.returns-in-Ok-insert-clause-rows
+returns-in-Ok-insert-clause-rows c =
+    let rs = c.self.inside.rows.items in
+    c.in-Ok-insert.ensures.items ∙ added_new c.args.quarter (flows_toward c.args.direction c.args.flow) rs c.in-Err.at _ _ c.in-Err.ensures.belongs c.parted-imported.ensures.import c.parted-imported.ensures.export
+    ∙ ap (λ t. set_row (with_pair (flows_toward c.args.direction c.args.flow) (row_at c.args.quarter t.rows)) t.rows) c.self.view_is
+
+pub returns-in-Ok-insert-clause-capacity : goal.returns-in-Ok-insert-clause-capacity
+returns-in-Ok-insert-clause-capacity c = ap (λ t. t.capacity) c.self.view_is
