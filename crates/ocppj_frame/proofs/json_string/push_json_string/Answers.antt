@@ -3,7 +3,7 @@ use Rattle.std.specs.List.{flat_map}
 use Rattle.std.specs.Str.{chars}
 use Rattle.std.proofs.lemmas.Iterator.{YieldsList-from_chars}
 use Rattle.std.proofs.lemmas.Iterator.Consumers.{YieldsList-turn, YieldsList-end}
-use Rattle.std.proofs.lemmas.List.{map-id}
+use Rattle.std.proofs.lemmas.List.{flat_map_more, map-id}
 use Rattle.std.proofs.lemmas.Str.{length-encode}
 use Rattle.ocppj_frame.specs.Reply.{escaped}
 use Rattle.ocppj_frame.proofs.Escapes.{length-flat_map_escaped-le}
@@ -13,6 +13,12 @@ pub push_escaped-requires : goal.push_escaped-requires
 push_escaped-requires c =
     let turn = YieldsList-turn (YieldsList-from_chars c.args.text.now c.utf8.text cc) c.loop-character.yielded _ c.loop-character.yielded_by _ _ c.in-Some.character c.in-Some.is c.next.ensures.steps in
     omega (arith, c.requires.room, turn.0, ap length c.loop-character.invariant, length-append c.args.out.now.bytes (34 ∷ flat_map escaped c.loop-character.yielded), length-flat_map_escaped-le c.loop-character.yielded)
+
+pub loop-character-preserved : goal.loop-character-preserved
+loop-character-preserved c =
+    let old = c.args.out.now.bytes in let cs = c.loop-character.yielded in
+    c.push_escaped.ensures ∙ ap (λ front. front ++ escaped c.in-Some.character) c.loop-character.invariant
+    ∙ append_assoc old (34 ∷ flat_map escaped cs) (escaped c.in-Some.character) ∙ ap (λ l. old ++ l) (flat_map_more escaped (34 ∷ []) cs c.in-Some.character)
 
 pub push-requires-2 : goal.push-requires-2
 push-requires-2 c =
