@@ -1,5 +1,6 @@
 use Rattle.std.proofs.Common.{rules, ap, ◌∙◌, Ok}
 use Rattle.std.specs.Io.KnownBytes.{Keeps}
+use Rattle.std.proofs.KnownBytes.{Keeps-trans}
 use Rattle.script_lines.proofs.PartOfLine.{goes_on, feeds, overflows, fails}
 use Rattle.script_lines.proofs.line_reader.LineReader.next_line.Goals.{else-self-via-then-self+else-is_err, else-self-via-else-self}
 use Rattle.script_lines.proofs.line_reader.LineReader.next_line.Goals as goal
@@ -35,3 +36,27 @@ returns-in-WholeLine-clause-takes g c =
     let held = c.read_piece.new.held.items in
     let t = c.read_piece.ensures.takes in
     feeds _ _ _ _ _ held _ _ _ _ _ _ c.pieces.invariant.0 c.pieces.invariant.1 flushed c.read_piece.result t.0 c.in-WholeLine.count c.in-WholeLine.is_drained t.1 (c.in_ok-read_piece.was ∙ ap Ok c.in-WholeLine.is) t.2
+
+pub returns-in-Beyond-clause-writer : goal.returns-in-Beyond-clause-writer
+returns-in-Beyond-clause-writer g c =
+    let flushed : Keeps (g.W.Write.contents c.pieces.writer) (g.W.Write.contents c.else-self.writer) =
+    elim c.else-self.branch [ else-self-via-then-self+else-is_err w ↦ search rules | else-self-via-else-self w ↦ search rules ] in
+    Keeps-trans _ _ _ c.pieces.invariant.0.kept flushed
+
+pub returns-in-End-clause-writer : goal.returns-in-End-clause-writer
+returns-in-End-clause-writer g c =
+    let flushed : Keeps (g.W.Write.contents c.pieces.writer) (g.W.Write.contents c.else-self.writer) =
+    elim c.else-self.branch [ else-self-via-then-self+else-is_err w ↦ search rules | else-self-via-else-self w ↦ search rules ] in
+    Keeps-trans _ _ _ c.pieces.invariant.0.kept flushed
+
+pub returns-in-WholeLine-clause-writer : goal.returns-in-WholeLine-clause-writer
+returns-in-WholeLine-clause-writer g c =
+    let flushed : Keeps (g.W.Write.contents c.pieces.writer) (g.W.Write.contents c.else-self.writer) =
+    elim c.else-self.branch [ else-self-via-then-self+else-is_err w ↦ search rules | else-self-via-else-self w ↦ search rules ] in
+    Keeps-trans _ _ _ c.pieces.invariant.0.kept flushed
+
+pub returns-in_err-read_piece-clause-writer : goal.returns-in_err-read_piece-clause-writer
+returns-in_err-read_piece-clause-writer g c =
+    let flushed : Keeps (g.W.Write.contents c.pieces.writer) (g.W.Write.contents c.else-self.writer) =
+    elim c.else-self.branch [ else-self-via-then-self+else-is_err w ↦ search rules | else-self-via-else-self w ↦ search rules ] in
+    Keeps-trans _ _ _ c.pieces.invariant.0.kept flushed
