@@ -4,7 +4,7 @@ use Rattle.site_desk.specs.declared.plan.SitePlan.{SitePlan}
 use Rattle.site_desk.specs.Plan.{site_number, sites_with}
 use Rattle.ledger_model.specs.Quarter.{default_period}
 use Rattle.script_ledgers.specs.Drafts.{Drafted, IsPlan, planned}
-use Rattle.script_replay.specs.contracts.draft.Draft.{the_view}
+use Rattle.script_ledgers.specs.contracts.draft.Draft.{the_view}
 use Rattle.script_ledgers.proofs.Drafting.{joins, past_drafted, past_plan}
 use Rattle.script_ledgers.proofs.draft.Draft.join.Goals as goal
 
