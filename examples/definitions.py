@@ -17,7 +17,7 @@ BEGIN, END = "<!-- definitions: made by examples/definitions.py -->", "<!-- end 
 # Files of specs/ whose words stand in no clause of a public call and in no other definition of such a clause.
 INNER = {
     "script_lines": {"Reading", "ScriptLines"},
-    "script_replay": {"Answering", "Writing", "Received"},
+    "script_ledgers": {"Answering", "Writing", "Received"},
     "station_ledger": set(),
     "board_report": {"Lines"},
     "site_book": set(),
