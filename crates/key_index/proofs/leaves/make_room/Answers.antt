@@ -1,16 +1,33 @@
-use Rattle.std.proofs.Common.{◌≡◌, ℕ, ◌+◌, ◌<◌, ◌≤◌, List, suc, [], length, take, drop, get_or, set, subst, sym, ap, refl, ◌∙◌, arith}
+use Rattle.std.proofs.Common.{◌≡◌, ℕ, ◌+◌, ◌<◌, ◌≤◌, List, suc, [], ◌∷◌, ◌++◌, length, take, drop, get_or, set, subst, sym, ap, refl, ◌∙◌, arith, length-set}
 use Rattle.std.proofs.lemmas.Bool.Decides.{nat_tests}
+use Rattle.std.proofs.lemmas.List.Edits.{length-insert}
 use Rattle.std.specs.List.{insert}
+use Rattle.std.specs.Vec.{vec_len}
 use Rattle.key_index.specs.Entries.{Entry}
 use Rattle.key_index.specs.Leaves.{first_key, IsReady}
 use Rattle.key_index.proofs.Belonging.{read_leaf, first_is}
-use Rattle.key_index.proofs.Edits.{filled_round, upper_read, other_half, ready_lower, ready_upper}
+use Rattle.key_index.proofs.Edits.{filled_round, upper_read, other_half, ready_lower, ready_upper, ready_first}
 use Rattle.key_index.proofs.leaves.make_room.Goals as goal
 
 -- A split told with the next number is one told with the successor.
 split_told : (old new : List (List Entry)) (at i : ℕ) → i ≡ suc at → new ≡ insert (set old at (take 64 (get_or old at []))) i (drop 64 (get_or old at []))
     → new ≡ insert (set old at (take 64 (get_or old at []))) (suc at) (drop 64 (get_or old at []))
 split_told old new at i up is = is ∙ ap (λ n. insert (set old at (take 64 (get_or old at []))) n (drop 64 (get_or old at []))) up
+
+-- A split makes one leaf more.
+one_more : (old new : List (List Entry)) (at : ℕ) (lower upper : List Entry) → at < length old → new ≡ insert (set old at lower) (at + 1) upper → length new ≡ length old + 1
+one_more old new at lower upper within is =
+    ap length is ∙ length-insert (set old at lower) (at + 1) upper (omega (arith, length-set old at lower)) ∙ ap (λ n. n + 1) (length-set old at lower)
+
+-- An empty leaf put where there was none is ready.
+ready_alone : (old new : List (List Entry)) (leaf : List Entry) (key : ℕ) → length old ≡ 0 → leaf ≡ [] → new ≡ old ++ leaf ∷ [] → IsReady old new key 0
+ready_alone [] new leaf key none empty is = ready_first new key (is ∙ ap (λ l. l ∷ []) empty)
+ready_alone (l ∷ old) new leaf key none empty is = absurd (omega arith)
+
+pub returns-then-is_empty-clause-ready : goal.returns-then-is_empty-clause-ready
+returns-then-is_empty-clause-ready c =
+    let ls = c.args.leaves.now in let none : vec_len ls ≡ 0 = grind (arith, nat_tests, c.is_empty.ensures, c.if-is_empty.true) in
+    ready_alone ls.items c.push_reserved.new.self.items c.taken.result c.args.key (omega (arith, none, ls.ok.0)) c.taken.ensures.empty c.push_reserved.ensures.items
 
 pub returns-then-len-lt-LEAF_SIZE-clause-ready : goal.returns-then-len-lt-LEAF_SIZE-clause-ready
 returns-then-len-lt-LEAF_SIZE-clause-ready c =
@@ -23,6 +40,18 @@ returns-then-len-lt-LEAF_SIZE-clause-ready c =
       front = round.0;
       back = round.1;
     }
+
+pub split-requires : goal.split-requires
+split-requires c =
+    let ls = c.args.leaves.now in let at = c.leaf_of-at.result in let within = c.leaf_of-at.ensures.within in
+    let here = read_leaf ls.items at c.index.result.now within c.index.ensures in
+    let full : length (get_or ls.items at []) ≡ 128 = subst (λ l. length l ≡ 128) here (omega (arith, c.len.ensures.len, c.len.ensures.within, c.if-len-lt-LEAF_SIZE.false)) in
+    (within, full, c.taken-2.ensures.empty, omega (arith, c.requires.room.0, c.requires.some, c.args.spare.now.ok.0))
+
+pub index-requires-2 : goal.index-requires-2
+index-requires-2 c =
+    let long = one_more _ _ c.leaf_of-at.result _ _ c.leaf_of-at.ensures.within c.split.ensures.items in
+    omega (arith, long, c.leaf_of-at.ensures.within, c.split.new.leaves.ok.0)
 
 pub entry-requires : goal.entry-requires
 entry-requires c =
@@ -43,6 +72,11 @@ returns-then-is_before-clause-ready c =
     let first = first_is leaf e c.entry.ensures in let great : key < e.0 = grind (arith, nat_tests, c.is_before.ensures, c.if-is_before.true) in
     ready_lower ls new key at belongs c.requires.kept.filled c.requires.kept.rising full is (subst (λ l. key < first_key l) read (omega (arith, first, great)))
 
+pub returns-then-is_before-clause-total : goal.returns-then-is_before-clause-total
+returns-then-is_before-clause-total c =
+    let long = one_more _ _ c.leaf_of-at.result _ _ c.leaf_of-at.ensures.within c.split.ensures.items in
+    omega (arith, long, c.taken-2.ensures.others.1)
+
 pub returns-clause-ready : goal.returns-clause-ready
 returns-clause-ready c =
     let ls = c.args.leaves.now.items in let new = c.split.new.leaves.items in let at = c.leaf_of-at.result in let belongs = c.leaf_of-at.ensures in
@@ -53,3 +87,8 @@ returns-clause-ready c =
     let first = first_is leaf e c.entry.ensures in let small : e.0 ≤ key = grind (arith, nat_tests, c.is_before.ensures, c.if-is_before.false) in
     let up : suc at ≡ at + 1 = omega arith in
     subst (λ n. IsReady ls new key n) up (ready_upper ls new key at belongs c.requires.kept.filled c.requires.kept.rising full is (subst (λ l. first_key l ≤ key) read (omega (arith, first, small))))
+
+pub returns-clause-total : goal.returns-clause-total
+returns-clause-total c =
+    let long = one_more _ _ c.leaf_of-at.result _ _ c.leaf_of-at.ensures.within c.split.ensures.items in
+    omega (arith, long, c.taken-2.ensures.others.1)
