@@ -1,12 +1,38 @@
-use Rattle.std.proofs.Common.{◌≡◌, ℕ, suc, ◌+◌, List, Some, map, sym, ap, ◌∙◌, arith}
+use Rattle.std.proofs.Common.{◌≡◌, ℕ, suc, ◌+◌, ◌<◌, List, ◌∷◌, Some, length, map, slice_get, drop, sym, ap, ◌∙◌, arith}
+use Rattle.std.proofs.lemmas.List.{length-map}
+use Rattle.std.proofs.lemmas.Option.{slice_get_within}
 use Rattle.event_chain.specs.Table.{Row}
 use Rattle.event_chain.proofs.Drops.{drop_some, drop_none}
+use Rattle.event_chain.proofs.tx_ids.TxIdsIterator.next.Goals.{After-copied}
 use Rattle.event_chain.proofs.tx_ids.TxIdsIterator.next.Goals as goal
 
-pub returns-in-Some-clause-steps : goal.returns-in-Some-clause-steps
-returns-in-Some-clause-steps c =
+-- The ids of the table's rows.
+abbrev ids : List Row → List (List ℕ)
+ids rows = map (λ (r : Row). r.0) rows
+
+-- The id that was read stands at the place.
+read_id : (c : After-copied) → slice_get (ids c.self.inside.table.now.rows) c.self.inside.next ≡ Some c.copied.result
+read_id c = sym c.in-Some.ensures ∙ ap (λ (t : List ℕ). Some t) (sym c.copied.ensures)
+
+-- It is the first of those that were to come.
+first_is : (c : After-copied) → c.args.self.now ≡ c.copied.result ∷ drop (c.self.inside.next + 1) (ids c.self.inside.table.now.rows)
+first_is c =
     let up : c.self.inside.next + 1 ≡ suc c.self.inside.next = omega arith in
-    sym c.self.view_is ∙ drop_some (map (λ (r : Row). r.0) c.self.inside.table.now.rows) c.self.inside.next (c.self.inside.next + 1) c.copied.result up (sym c.in-Some.ensures ∙ ap (λ (t : List ℕ). Some t) (sym c.copied.ensures))
+    sym c.self.view_is ∙ drop_some (ids c.self.inside.table.now.rows) c.self.inside.next (c.self.inside.next + 1) c.copied.result up (read_id c)
+
+pub invariant_of-self : goal.invariant_of-self
+invariant_of-self c =
+    let rows = c.self.inside.table.now.rows in
+    omega (arith, slice_get_within (ids rows) c.self.inside.next c.copied.result (read_id c), length-map rows (λ (r : Row). r.0))
+
+pub returns-in-Some-clause-steps : goal.returns-in-Some-clause-steps
+returns-in-Some-clause-steps c = first_is c
+
+pub returns-in-Some-clause-goes : goal.returns-in-Some-clause-goes
+returns-in-Some-clause-goes c =
+    let rest = drop (c.self.inside.next + 1) (ids c.self.inside.table.now.rows) in
+    let fewer : length rest < length c.args.self.now = omega (arith, ap length (first_is c)) in
+    record { on = λ _. (tt, tt, fewer); keeps = tt; rests = λ _. tt }
 
 pub returns-in-None-clause-steps : goal.returns-in-None-clause-steps
-returns-in-None-clause-steps c = let none = sym c.self.view_is ∙ drop_none (map (λ (r : Row). r.0) c.self.inside.table.now.rows) c.self.inside.next (sym c.in-None.ensures) in (none, none)
+returns-in-None-clause-steps c = let none = sym c.self.view_is ∙ drop_none (ids c.self.inside.table.now.rows) c.self.inside.next (sym c.in-None.ensures) in (none, none)
