@@ -1,13 +1,19 @@
-use Rattle.std.proofs.Common.{rules, ◌≡◌, ◌∷◌, ◌-◌, take, drop, length, sym, ap, ◌∙◌, subst, arith}
+use Rattle.std.proofs.Common.{rules, ◌≡◌, ◌-◌, ◌<◌, List, Option, [], ◌∷◌, take, drop, length, refl, sym, ap, ◌∙◌, subst, arith}
 use Rattle.std.proofs.lemmas.List.{take_rest}
 use Rattle.energy_flow.specs.Flow.{Energy, plus}
-use Rattle.ledger_model.specs.Deltas.{pairs_between}
+use Rattle.ledger_model.specs.declared.reading.Direction.{Direction}
+use Rattle.ledger_model.specs.Deltas.{across, pairs_between}
 use Rattle.ledger_model.specs.Energy.{energy_over}
-use Rattle.ledger_model.specs.Event.{toward}
+use Rattle.ledger_model.specs.Event.{MeterReading, toward}
 use Rattle.quarter_table.specs.Pairs.{rows_with}
 use Rattle.station_ledger.specs.Quarters.{quartered, HasRoom}
 use Rattle.station_ledger.proofs.Walks.{parted, split_length, split_energy, split_with, room_rest, toward_first, toward_rest}
 use Rattle.station_ledger.proofs.pairs.add_listed.Goals as goal
+
+-- Where no reading is left, only the pair across is.
+over : (d : Direction) (last behind : Option MeterReading) (left : List MeterReading) → length left < 1 → pairs_between last (toward d left) behind ≡ across last behind
+over d last behind [] few = refl
+over d last behind (r ∷ left) few = absurd (omega arith)
 
 pub loop-left-preserved-then-eq : goal.loop-left-preserved-then-eq
 loop-left-preserved-then-eq c =
@@ -49,3 +55,33 @@ loop-left-preserved c =
       work = omega (arith, i.work, n);
       grows = i.grows;
     }
+
+pub add_across-flow-requires-2 : goal.add_across-flow-requires-2
+add_across-flow-requires-2 c =
+    let is = over c.args.direction c.loop-left.last c.args.behind c.loop-left.left.now c.in_default.len_below in
+    subst (λ ps. HasRoom (length ps) c.loop-left.quarters) is c.loop-left.invariant.room
+
+pub returns-clause-flow : goal.returns-clause-flow
+returns-clause-flow c =
+    let is = over c.args.direction c.loop-left.last c.args.behind c.loop-left.left.now c.in_default.len_below in
+    c.plus.ensures ∙ ap (plus c.loop-left.total) (c.add_across-flow-2.ensures.flow ∙ ap energy_over (sym is)) ∙ c.loop-left.invariant.flow
+
+pub returns-clause-up : goal.returns-clause-up
+returns-clause-up c =
+    let is = over c.args.direction c.loop-left.last c.args.behind c.loop-left.left.now c.in_default.len_below in
+    omega (arith, c.loop-left.invariant.up, c.add_across-flow-2.ensures.up, ap length is, ap (λ (f : Energy). f.up) c.plus.ensures)
+
+pub returns-clause-down : goal.returns-clause-down
+returns-clause-down c =
+    let is = over c.args.direction c.loop-left.last c.args.behind c.loop-left.left.now c.in_default.len_below in
+    omega (arith, c.loop-left.invariant.down, c.add_across-flow-2.ensures.down, ap length is, ap (λ (f : Energy). f.down) c.plus.ensures)
+
+pub returns-clause-rows : goal.returns-clause-rows
+returns-clause-rows c =
+    let is = over c.args.direction c.loop-left.last c.args.behind c.loop-left.left.now c.in_default.len_below in
+    c.add_across-flow-2.ensures.rows ∙ ap (λ ps. rows_with (quartered c.args.period c.args.direction ps) c.loop-left.quarters.rows) (sym is) ∙ c.loop-left.invariant.rows
+
+pub returns-clause-work : goal.returns-clause-work
+returns-clause-work c =
+    let is = over c.args.direction c.loop-left.last c.args.behind c.loop-left.left.now c.in_default.len_below in
+    omega (arith, c.loop-left.invariant.work, c.add_across-flow-2.ensures.work, ap length is)
