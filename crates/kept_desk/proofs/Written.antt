@@ -2,6 +2,7 @@
 use Rattle.std.proofs.Common.{◌≡◌, ℕ, ◌+◌, ◌-◌, List, ◌++◌, Option, Result, Ok, Err, append_assoc, append-nil, take, drop, length, sym, ap, ◌∙◌, [], subst, arith, take_all, length-drop, take-append-drop}
 use Rattle.std.proofs.Math.Seq.{take-add}
 use Rattle.std.specs.Io.KnownBytes.{Keeps, Appends}
+use Rattle.std.specs.Result.{IsErr}
 use Rattle.kept_desk.specs.Writing.{WritesFront}
 use Rattle.std.proofs.KnownBytes.{Appends-trans, Appends-kept}
 
@@ -43,6 +44,13 @@ ended line end w0 w1 w2 r first second = (
   Appends-trans w0 w1 w2 line second.0 (subst (Appends w0 w1) first.2 first.1) second.1,
   behind line end second.0 r second.2,
 )
+
+-- an error came before all of the first bytes were written
+pub cut_short : {T E : Type 0} (line end : List ℕ) (w0 w1 : Option (List ℕ)) (r : Result T E) → IsErr r
+    → (one : List ℕ) × Appends w0 w1 one × ((rest : List ℕ) × (line ≡ one ++ rest))
+    → (all : List ℕ) × Appends w0 w1 all × WritesFront r (line ++ end) all
+cut_short line end w0 w1 (Ok x) failed first = cc
+cut_short line end w0 w1 (Err x) failed first = (first.0, first.1, (first.2.0 ++ end, ap (λ l. l ++ end) first.2.1 ∙ append_assoc first.0 first.2.0 end))
 
 -- a flush that failed after the bytes were written
 pub unflushed : (bytes : List ℕ) (w0 w1 w2 : Option (List ℕ)) → (written : List ℕ) × Appends w0 w1 written × (written ≡ bytes) → Keeps w1 w2
