@@ -1,7 +1,7 @@
 -- Cells that give their first passes, one after the other.
-use Rattle.std.proofs.Common.{◌≡◌, ℕ, zero, suc, ◌+◌, ◌<◌, List, [], ◌∷◌, ◌++◌, Result, Ok, All, length, map, take, drop, set, get_or, refl, subst, ap, sym, ◌∙◌, arith}
+use Rattle.std.proofs.Common.{◌≡◌, ℕ, zero, suc, ◌+◌, ◌<◌, ◌≤◌, List, [], ◌∷◌, ◌++◌, Result, Ok, All, length, map, take, drop, set, get_or, refl, subst, ap, sym, ◌∙◌, append-nil, arith}
 use Rattle.std.specs.Prelude.{IfOk, OnOk}
-use Rattle.std.proofs.lemmas.List.{map-append, take_more}
+use Rattle.std.proofs.lemmas.List.{map-append, take_all, drop_all, take_more}
 use Rattle.station_cell.specs.Cell.{Cell, Held, new_pass}
 
 module _ {X : Type 0} (f : X → X) where
@@ -21,6 +21,9 @@ module _ {X : Type 0} (f : X → X) where
 
   pub turned_more : (xs : List X) (i : ℕ) (d : X) → i < length xs → set (turned i xs) i (f (get_or xs i d)) ≡ turned (i + 1) xs
   turned_more xs i d less = let same : suc i ≡ i + 1 = omega arith in turned_next xs i d less ∙ ap (λ n. turned n xs) same
+
+  pub turned_all : (xs : List X) (i : ℕ) → length xs ≤ i → turned i xs ≡ map f xs
+  turned_all xs i past = ap (λ l. map f l ++ drop i xs) (take_all i xs past) ∙ ap (λ l. map f xs ++ l) (drop_all i xs past) ∙ append-nil (map f xs)
 
 -- a cell that gave its first pass
 abbrev pub first_given : Cell → Cell

@@ -1,4 +1,5 @@
-use Rattle.std.proofs.Common.{◌≡◌, set, None, Some, ap, sym, ◌∙◌, subst}
+use Rattle.std.proofs.Common.{rules, arith, ◌≡◌, set, None, Some, ap, sym, ◌∙◌, subst}
+use Rattle.std.proofs.lemmas.Grind.{elements}
 use Rattle.site_book.specs.Tables.{NamedBy}
 use Rattle.site_book.proofs.Named.{set_back}
 use Rattle.site_book.proofs.book.SiteBook.open.Goals as goal
@@ -21,3 +22,13 @@ returns-in-Err-clause-named g c =
     ∙ ap (λ u. set (set old at None) at (Some u)) c.viewers.ensures.same
     ∙ set_back old at (Some c.take-unused.result) None c.take-unused.ensures.table in
     subst (NamedBy g.J.Naming.table) (sym same) c.requires.named
+
+pub invariant_of-book : goal.invariant_of-book
+invariant_of-book g c = record {
+      named = search rules;
+      sits = search rules;
+      me_is = search rules;
+      count = search rules;
+      totals_are = search rules;
+      rows_are = grind (arith, elements);
+    }
