@@ -1,6 +1,6 @@
 -- The boards of a desk that runs keep within the limits of its plan, and are by its sites' settlement periods.
 use Rattle.std.proofs.Common.{◌≡◌, ℕ, zero, suc, Bool, true, false, cond, eqb, eqb-true, List, [], ◌∷◌, Some, length, map, refl, subst, ap, sym, ◌∙◌, arith}
-use Rattle.std.specs.Prelude.{All, filter, slice_get}
+use Rattle.std.specs.Prelude.{filter, slice_get}
 use Rattle.std.proofs.lemmas.List.Elements.{All-nil, All-cons}
 use Rattle.ledger_model.specs.Board.{Board}
 use Rattle.ledger_model.specs.Content.{entries}
@@ -10,7 +10,7 @@ use Rattle.board_report.specs.Sums.{AreOfPeriod}
 use Rattle.site_desk.specs.declared.plan.SitePlan.{SitePlan}
 use Rattle.site_desk.specs.declared.plan.StationPlan.{StationPlan}
 use Rattle.site_desk.specs.declared.roster.Place.{Place}
-use Rattle.site_desk.specs.Operator.{AreBoardsOf, IsBoardAt}
+use Rattle.site_desk.specs.Operator.{AreBoardsOf}
 use Rattle.site_desk.specs.Parts.{limits_at}
 use Rattle.site_desk.specs.Plan.{period_at}
 use Rattle.site_desk.specs.Roster.{AreNewPlaces, new_place}

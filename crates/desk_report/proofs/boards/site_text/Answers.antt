@@ -1,4 +1,4 @@
-use Rattle.std.proofs.Common.{◌∙◌, sym, subst, arith}
+use Rattle.std.proofs.Common.{sym, subst, arith}
 use Rattle.board_report.specs.Sums.{AreOfPeriod}
 use Rattle.board_report.proofs.PlanLemmas.{plans_fit}
 use Rattle.site_desk.specs.Parts.{limits_at}
