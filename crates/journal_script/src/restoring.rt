@@ -15,8 +15,8 @@ ghost use Rattle.journal_script.specs.Restoring.{IsListen, IsRestored};
 
 use crate::fault::RestoreFault;
 use crate::left_out::LeftOut;
-use script_lines::{LineEnd, LineReader, MAX_LINE_BYTES};
 use script_ledgers::{Draft, Ledgers, LineOutcome, MAX_SCRIPT_BYTES, Machine};
+use script_lines::{LineEnd, LineReader, MAX_LINE_BYTES};
 use site_book::{Naming, Tables};
 use site_desk::{Pass, StationCell};
 use std::io;

@@ -25,10 +25,10 @@ returns-in-Err-clause-named g c =
 
 pub invariant_of-book : goal.invariant_of-book
 invariant_of-book g c = record {
-      named = search rules;
-      sits = search rules;
-      me_is = search rules;
-      count = search rules;
-      totals_are = search rules;
-      rows_are = grind (arith, elements);
-    }
+  named = search rules;
+  sits = search rules;
+  me_is = search rules;
+  count = search rules;
+  totals_are = search rules;
+  rows_are = grind (arith, elements);
+}

@@ -17,9 +17,10 @@ none_free row slots first spare shows t =
 -- The id of a free slot stands for no value.
 free_shows_none : {X : Type 0} (row : List (Option (Slot X))) (slots : List (Option X)) (first id next : ℕ) → values_in row ≡ slots → id ≡ first → get_or row first None ≡ Some (Free next) → (id < length slots) × (value_at slots id ≡ None)
 free_shows_none row slots first id next shows same links =
-    let as_long = ap length shows in
-    (omega (arith, holding_within row first (Free next) links, shown_length row),
-     ap (λ l. value_at l id) (sym shows) ∙ shown_at row id ∙ ap (λ i. value_in (get_or row i None)) same ∙ ap value_in links)
+    let as_long = ap length shows in (
+      omega (arith, holding_within row first (Free next) links, shown_length row),
+      ap (λ l. value_at l id) (sym shows) ∙ shown_at row id ∙ ap (λ i. value_in (get_or row i None)) same ∙ ap value_in links,
+    )
 
 pub returns-then-self-eq0-clause-full : goal.returns-then-self-eq0-clause-full
 returns-then-self-eq0-clause-full g c =
