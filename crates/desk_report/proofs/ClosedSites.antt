@@ -9,7 +9,7 @@ use Rattle.site_desk.specs.declared.plan.StationPlan.{StationPlan}
 use Rattle.site_book.specs.Book.{Known}
 use Rattle.station_cell.specs.Cell.{Cell, Held}
 use Rattle.site_desk.specs.Close.{Ended, IsClosable}
-use Rattle.site_desk.specs.declared.roster.Place.{Place}
+use Rattle.site_desk.specs.declared.roster.StationPlace.{StationPlace}
 use Rattle.site_desk.specs.Roster.{AreNewPlaces, Roster, StandsAt, new_place}
 use Rattle.ledger_model.specs.Step.{Reached}
 use Rattle.desk_report.specs.Boards.{boards_at, site_named}
@@ -65,7 +65,7 @@ closed_of sites xs desk closed passes viewers planned new count books whole =
     }
 
 -- its boards are those of contents that its passes' commands lead to
-pub boards_are : (sites : List SitePlan) (xs : List StationPlan) (places : List Place) (given : ℕ) (closed : Ended) (passes : List Held) (viewers : List Known) → IsClosedOf sites xs closed
+pub boards_are : (sites : List SitePlan) (xs : List StationPlan) (places : List StationPlace) (given : ℕ) (closed : Ended) (passes : List Held) (viewers : List Known) → IsClosedOf sites xs closed
     → IsClosable places given closed.cells closed.books passes viewers → AreBoards sites xs (boards_text sites xs closed.cells (length sites))
 boards_are sites xs places given closed passes viewers of_plan whole = record {
   cells = closed.cells;

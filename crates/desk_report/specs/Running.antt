@@ -4,7 +4,7 @@ use Rattle.ledger_model.specs.Board.{Board, site_board}
 use Rattle.board_report.specs.Named.{NamedBoard}
 use Rattle.board_report.specs.Texts.{board_text}
 use Rattle.site_desk.specs.declared.plan.SitePlan.{SitePlan}
-use Rattle.site_desk.specs.declared.roster.Place.{Place}
+use Rattle.site_desk.specs.declared.roster.StationPlace.{StationPlace}
 use Rattle.site_desk.specs.Operator.{AreBoardsAt}
 use Rattle.site_desk.specs.Plan.{period_at}
 
@@ -15,7 +15,7 @@ running_site sites site boards =
     record { name = get_or (map (λ s. s.name) sites) site []; period = b.period; figures = b.figures; quarters = b.quarters; stations = b.stations }
 
 -- The text is that of the board over boards of the site's stations, each once and in the plan's order, of which each is made by a content that accepted commands leave.
-pub record IsRunningBoard (sites : List SitePlan) (places : List Place) (site : ℕ) (text : List ℕ) : Type 0 where
+pub record IsRunningBoard (sites : List SitePlan) (places : List StationPlace) (site : ℕ) (text : List ℕ) : Type 0 where
   pub boards : List (List ℕ × Board)
   pub of_site : AreBoardsAt places site boards
   pub is : text ≡ board_text (running_site sites site boards)

@@ -5,14 +5,14 @@ use Rattle.ledger_model.specs.Content.{live_of}
 use Rattle.ledger_model.specs.Complete.{kinds_of}
 use Rattle.event_store.specs.Slots.{Held}
 use Rattle.event_chain.specs.declared.row.TableRow.{TableRow}
-use Rattle.event_chain.specs.Table.{Row, row_of}
-use Rattle.event_chain.specs.Flat.{Place, flat}
+use Rattle.event_chain.specs.Table.{TxRow, row_of}
+use Rattle.event_chain.specs.Flat.{EventPlace, flat}
 use Rattle.event_chain.specs.Kept.{live_one, end_one, is_end, AreFigured}
 use Rattle.event_chain.specs.Edits.{counts_under}
 use Rattle.event_chain.proofs.Figures.{none_flat, live_zero, end_zero}
 use Rattle.event_chain.proofs.Lives.{live_length, ends_length}
 
-module _ (rows : List Row) (es : List Place) (slots : List (Option Held)) (figured : AreFigured rows (flat rows es slots)) (tx : List ℕ) where
+module _ (rows : List TxRow) (es : List EventPlace) (slots : List (Option Held)) (figured : AreFigured rows (flat rows es slots)) (tx : List ℕ) where
   -- The live events are as many as the table counts.
   pub live_counted : (o : Option TableRow) → o ≡ row_of tx rows → (counts_under o).0 ≡ length (live_of tx (flat rows es slots))
   live_counted None is = sym (none_flat (live_one tx) tx (live_zero tx) rows es slots (sym is)) ∙ sym (live_length tx (flat rows es slots))

@@ -4,39 +4,39 @@ use Rattle.std.proofs.lemmas.Bool.Decides.{Decides-ltb, Decides-eqb}
 use Rattle.std.specs.List.{filter}
 use Rattle.event_chain.specs.Ranked.{below, from, first_of, last_of, AreAbove, AreRising}
 use Rattle.key_index.specs.Key.{rank}
-use Rattle.event_chain.specs.Flat.{Place, segment}
+use Rattle.event_chain.specs.Flat.{EventPlace, segment}
 use Rattle.event_chain.specs.Edits.{at_home, places_before, places_behind}
 use Rattle.event_chain.proofs.Decided.{denied, not_so, same_test}
 use Rattle.event_chain.proofs.Places.{AllUnder, not_less, seg_above, last_under_seg, below_under, below_rising}
 
 -- Of greater ranks none is in front.
-none_under : (t r n : ℕ) (es : List Place) → AreAbove n es → r ≤ n → filter (λ e. nat_lt e.0 r) (segment t es) ≡ []
+none_under : (t r n : ℕ) (es : List EventPlace) → AreAbove n es → r ≤ n → filter (λ e. nat_lt e.0 r) (segment t es) ≡ []
 none_under t r n [] h le = refl
 none_under t r n (e ∷ es) h le =
     let up = h.0 in let rest = none_under t r n es h.1 le in
     elim (e.0 / 2 ^ 31 == t) as (λ b. filter (λ x. nat_lt x.0 r) (cond b (e ∷ segment t es) (segment t es)) ≡ []) [
       | false ↦ rest
-      | true ↦ ap (λ b. cond b (e ∷ filter (λ (x : Place). nat_lt x.0 r) (segment t es)) (filter (λ x. nat_lt x.0 r) (segment t es))) (not_so _ (Decides-ltb e.0 r) (λ lt. absurd (omega arith))) ∙ rest
+      | true ↦ ap (λ b. cond b (e ∷ filter (λ (x : EventPlace). nat_lt x.0 r) (segment t es)) (filter (λ x. nat_lt x.0 r) (segment t es))) (not_so _ (Decides-ltb e.0 r) (λ lt. absurd (omega arith))) ∙ rest
     ]
 
 -- All greater ranks are behind.
-all_over : (t r n : ℕ) (es : List Place) → AreAbove n es → r ≤ n → filter (λ e. nat_lt r e.0) (segment t es) ≡ segment t es
+all_over : (t r n : ℕ) (es : List EventPlace) → AreAbove n es → r ≤ n → filter (λ e. nat_lt r e.0) (segment t es) ≡ segment t es
 all_over t r n [] h le = refl
 all_over t r n (e ∷ es) h le =
     let up = h.0 in let rest = all_over t r n es h.1 le in
     elim (e.0 / 2 ^ 31 == t) as (λ b. filter (λ x. nat_lt r x.0) (cond b (e ∷ segment t es) (segment t es)) ≡ cond b (e ∷ segment t es) (segment t es)) [
       | false ↦ rest
-      | true ↦ ap (λ b. cond b (e ∷ filter (λ (x : Place). nat_lt r x.0) (segment t es)) (filter (λ x. nat_lt r x.0) (segment t es))) ((Decides-ltb r e.0).1 (omega arith)) ∙ ap (λ (xs : List Place). e ∷ xs) rest
+      | true ↦ ap (λ b. cond b (e ∷ filter (λ (x : EventPlace). nat_lt r x.0) (segment t es)) (filter (λ x. nat_lt r x.0) (segment t es))) ((Decides-ltb r e.0).1 (omega arith)) ∙ ap (λ (xs : List EventPlace). e ∷ xs) rest
     ]
 
 -- Those of a transaction in front of a rank.
-pub seg_below : (t r : ℕ) (es : List Place) → AreRising es → filter (λ e. nat_lt e.0 r) (segment t es) ≡ segment t (below r es)
+pub seg_below : (t r : ℕ) (es : List EventPlace) → AreRising es → filter (λ e. nat_lt e.0 r) (segment t es) ≡ segment t (below r es)
 seg_below t r [] h = refl
 seg_below t r (e ∷ es) h =
-    let rest = seg_below t r es h.1 in let kept = filter (λ (x : Place). nat_lt x.0 r) (segment t es) in
+    let rest = seg_below t r es h.1 in let kept = filter (λ (x : EventPlace). nat_lt x.0 r) (segment t es) in
     elim (nat_lt e.0 r) as (λ b. nat_lt e.0 r ≡ b → filter (λ x. nat_lt x.0 r) (cond (e.0 / 2 ^ 31 == t) (e ∷ segment t es) (segment t es)) ≡ segment t (cond b (e ∷ below r es) [])) [
       | true ↦ λ y. elim (e.0 / 2 ^ 31 == t) as (λ b. filter (λ x. nat_lt x.0 r) (cond b (e ∷ segment t es) (segment t es)) ≡ cond b (e ∷ segment t (below r es)) (segment t (below r es))) [
-        | true ↦ ap (λ b. cond b (e ∷ kept) kept) y ∙ ap (λ (xs : List Place). e ∷ xs) rest
+        | true ↦ ap (λ b. cond b (e ∷ kept) kept) y ∙ ap (λ (xs : List EventPlace). e ∷ xs) rest
         | false ↦ rest
       ]
       | false ↦ λ never. let none = none_under t r e.0 es h.0 (not_less e.0 r never) in
@@ -47,10 +47,10 @@ seg_below t r (e ∷ es) h =
     ] refl
 
 -- Those behind it.
-pub seg_from : (t r n : ℕ) (es : List Place) → n ≡ r + 1 → AreRising es → filter (λ e. nat_lt r e.0) (segment t es) ≡ segment t (from n es)
+pub seg_from : (t r n : ℕ) (es : List EventPlace) → n ≡ r + 1 → AreRising es → filter (λ e. nat_lt r e.0) (segment t es) ≡ segment t (from n es)
 seg_from t r n [] up h = refl
 seg_from t r n (e ∷ es) up h =
-    let rest = seg_from t r n es up h.1 in let kept = filter (λ (x : Place). nat_lt r x.0) (segment t es) in
+    let rest = seg_from t r n es up h.1 in let kept = filter (λ (x : EventPlace). nat_lt r x.0) (segment t es) in
     elim (nat_lt e.0 n) as (λ b. nat_lt e.0 n ≡ b → filter (λ x. nat_lt r x.0) (cond (e.0 / 2 ^ 31 == t) (e ∷ segment t es) (segment t es)) ≡ segment t (cond b (from n es) (e ∷ es))) [
       | true ↦ λ y. let lt : e.0 < n = (Decides-ltb e.0 n).0 y in
           elim (e.0 / 2 ^ 31 == t) as (λ b. filter (λ x. nat_lt r x.0) (cond b (e ∷ segment t es) (segment t es)) ≡ segment t (from n es)) [
@@ -59,24 +59,24 @@ seg_from t r n (e ∷ es) up h =
           ]
       | false ↦ λ never. let ge : n ≤ e.0 = not_less e.0 n never in let all = all_over t r e.0 es h.0 (omega arith) in
           elim (e.0 / 2 ^ 31 == t) as (λ b. filter (λ x. nat_lt r x.0) (cond b (e ∷ segment t es) (segment t es)) ≡ cond b (e ∷ segment t es) (segment t es)) [
-            | true ↦ ap (λ b. cond b (e ∷ kept) kept) ((Decides-ltb r e.0).1 (omega arith)) ∙ ap (λ (xs : List Place). e ∷ xs) all
+            | true ↦ ap (λ b. cond b (e ∷ kept) kept) ((Decides-ltb r e.0).1 (omega arith)) ∙ ap (λ (xs : List EventPlace). e ∷ xs) all
             | false ↦ all
           ]
     ] refl
 
 -- Ranks under a number are under a greater one.
-under_more : (m n : ℕ) (es : List Place) → m ≤ n → AllUnder m es → AllUnder n es
+under_more : (m n : ℕ) (es : List EventPlace) → m ≤ n → AllUnder m es → AllUnder n es
 under_more m n [] le h = tt
 under_more m n (e ∷ es) le h = let lt = h.0 in (omega arith, under_more m n es le h.1)
 
 -- The last place in front of a rank, where it is of the rank's transaction.
-pub before_seg : (t r : ℕ) (es : List Place) → AreRising es → t ≡ r / 2 ^ 31 → at_home t (last_of (below r es)) ≡ last_of (places_before r es)
+pub before_seg : (t r : ℕ) (es : List EventPlace) → AreRising es → t ≡ r / 2 ^ 31 → at_home t (last_of (below r es)) ≡ last_of (places_before r es)
 before_seg t r es h home =
     last_under_seg t (below r es) (below_rising r es h) (under_more r (rank (t + 1) 0) (below r es) (omega (arith, home)) (below_under r es))
-    ∙ ap last_of (sym (seg_below t r es h)) ∙ ap (λ k. last_of (filter (λ (e : Place). nat_lt e.0 r) (segment k es))) home
+    ∙ ap last_of (sym (seg_below t r es h)) ∙ ap (λ k. last_of (filter (λ (e : EventPlace). nat_lt e.0 r) (segment k es))) home
 
 -- The first of a segment from a rank of its transaction on.
-first_on : (t n : ℕ) (es : List Place) → AreRising es → rank t 0 ≤ n → at_home t (first_of (from n es)) ≡ slice_get (segment t (from n es)) 0
+first_on : (t n : ℕ) (es : List EventPlace) → AreRising es → rank t 0 ≤ n → at_home t (first_of (from n es)) ≡ slice_get (segment t (from n es)) 0
 first_on t n [] h le = refl
 first_on t n (e ∷ es) h le =
     elim (nat_lt e.0 n) as (λ b. nat_lt e.0 n ≡ b → at_home t (first_of (cond b (from n es) (e ∷ es))) ≡ slice_get (segment t (cond b (from n es) (e ∷ es))) 0) [
@@ -89,43 +89,43 @@ first_on t n (e ∷ es) h le =
     ] refl
 
 -- The first place behind a rank, where it is of the rank's transaction.
-pub behind_seg : (t r n : ℕ) (es : List Place) → AreRising es → t ≡ r / 2 ^ 31 → n ≡ r + 1 → at_home t (first_of (from n es)) ≡ slice_get (places_behind r es) 0
+pub behind_seg : (t r n : ℕ) (es : List EventPlace) → AreRising es → t ≡ r / 2 ^ 31 → n ≡ r + 1 → at_home t (first_of (from n es)) ≡ slice_get (places_behind r es) 0
 behind_seg t r n es h home up =
-    first_on t n es h (omega (arith, home, up)) ∙ ap (λ xs. slice_get xs 0) (sym (seg_from t r n es up h)) ∙ ap (λ k. slice_get (filter (λ (e : Place). nat_lt r e.0) (segment k es)) 0) home
+    first_on t n es h (omega (arith, home, up)) ∙ ap (λ xs. slice_get xs 0) (sym (seg_from t r n es up h)) ∙ ap (λ k. slice_get (filter (λ (e : EventPlace). nat_lt r e.0) (segment k es)) 0) home
 
 -- Where the first place from a rank on has another rank, it is the first one behind the rank.
-pub from_past : (r n : ℕ) (es : List Place) → n ≡ r + 1 → ((e : Place) → first_of (from r es) ≡ Some e → e.0 ≡ r → ⊥) → from r es ≡ from n es
+pub from_past : (r n : ℕ) (es : List EventPlace) → n ≡ r + 1 → ((e : EventPlace) → first_of (from r es) ≡ Some e → e.0 ≡ r → ⊥) → from r es ≡ from n es
 from_past r n [] up apart = refl
 from_past r n (e ∷ es) up apart =
-    elim (nat_lt e.0 r) as (λ b. nat_lt e.0 r ≡ b → ((x : Place) → first_of (cond b (from r es) (e ∷ es)) ≡ Some x → x.0 ≡ r → ⊥) → cond b (from r es) (e ∷ es) ≡ cond (nat_lt e.0 n) (from n es) (e ∷ es)) [
+    elim (nat_lt e.0 r) as (λ b. nat_lt e.0 r ≡ b → ((x : EventPlace) → first_of (cond b (from r es) (e ∷ es)) ≡ Some x → x.0 ≡ r → ⊥) → cond b (from r es) (e ∷ es) ≡ cond (nat_lt e.0 n) (from n es) (e ∷ es)) [
       | true ↦ λ y none. let lt : e.0 < r = (Decides-ltb e.0 r).0 y in from_past r n es up none ∙ sym (ap (λ b. cond b (from n es) (e ∷ es)) ((Decides-ltb e.0 n).1 (omega (arith, up))))
       | false ↦ λ never none. let ge : r ≤ e.0 = not_less e.0 r never in let other : e.0 ≡ r → ⊥ = none e refl in let over : n ≤ e.0 = omega (arith, up, other) in
           sym (ap (λ b. cond b (from n es) (e ∷ es)) (not_so _ (Decides-ltb e.0 n) (λ lt. absurd (omega arith))))
     ] refl apart
 
 -- None of a transaction is behind its last rank.
-none_over : (t r : ℕ) (es : List Place) → r + 1 ≡ rank (t + 1) 0 → filter (λ e. nat_lt r e.0) (segment t es) ≡ []
+none_over : (t r : ℕ) (es : List EventPlace) → r + 1 ≡ rank (t + 1) 0 → filter (λ e. nat_lt r e.0) (segment t es) ≡ []
 none_over t r [] is = refl
 none_over t r (e ∷ es) is =
-    let rest = none_over t r es is in let kept = filter (λ (x : Place). nat_lt r x.0) (segment t es) in
+    let rest = none_over t r es is in let kept = filter (λ (x : EventPlace). nat_lt r x.0) (segment t es) in
     elim (e.0 / 2 ^ 31 == t) as (λ b. (e.0 / 2 ^ 31 == t) ≡ b → filter (λ x. nat_lt r x.0) (cond b (e ∷ segment t es) (segment t es)) ≡ []) [
       | false ↦ λ _. rest
       | true ↦ λ y. let home : e.0 / 2 ^ 31 ≡ t = (Decides-eqb (e.0 / 2 ^ 31) t).0 y in ap (λ b. cond b (e ∷ kept) kept) (not_so _ (Decides-ltb r e.0) (λ lt. absurd (omega arith))) ∙ rest
     ] refl
 
 -- No place is behind the greatest number.
-pub behind_last : (t number r : ℕ) (es : List Place) → t ≡ r / 2 ^ 31 → number ≡ r % 2 ^ 31 → number ≡ 2147483647 → slice_get (places_behind r es) 0 ≡ None
+pub behind_last : (t number r : ℕ) (es : List EventPlace) → t ≡ r / 2 ^ 31 → number ≡ r % 2 ^ 31 → number ≡ 2147483647 → slice_get (places_behind r es) 0 ≡ None
 behind_last t number r es home is last = ap (λ xs. slice_get xs 0) (none_over (r / 2 ^ 31) r es (omega (arith, is, last)))
 
 -- What places of a transaction are turned into, cut by a test that is one of their ranks.
-pub map_cut : {X : Type 0} (h : Place → X) (f : X → Bool) (g : ℕ → Bool) (t : ℕ) (es : List Place) → ((e : Place) → e.0 / 2 ^ 31 ≡ t → f (h e) ≡ g e.0) → filter f (map h (segment t es)) ≡ map h (filter (λ e. g e.0) (segment t es))
+pub map_cut : {X : Type 0} (h : EventPlace → X) (f : X → Bool) (g : ℕ → Bool) (t : ℕ) (es : List EventPlace) → ((e : EventPlace) → e.0 / 2 ^ 31 ≡ t → f (h e) ≡ g e.0) → filter f (map h (segment t es)) ≡ map h (filter (λ e. g e.0) (segment t es))
 map_cut h f g t [] same = refl
 map_cut {X = X} h f g t (e ∷ es) same =
     let rest = map_cut h f g t es same in let left = filter f (map h (segment t es)) in
     elim (e.0 / 2 ^ 31 == t) as (λ b. (e.0 / 2 ^ 31 == t) ≡ b → filter f (map h (cond b (e ∷ segment t es) (segment t es))) ≡ map h (filter (λ x. g x.0) (cond b (e ∷ segment t es) (segment t es)))) [
       | false ↦ λ _. rest
       | true ↦ λ y. ap (λ b. cond b (h e ∷ left) left) (same e ((Decides-eqb (e.0 / 2 ^ 31) t).0 y))
-          ∙ elim (g e.0) as (λ b. cond b (h e ∷ left) left ≡ map h (cond b (e ∷ filter (λ (x : Place). g x.0) (segment t es)) (filter (λ x. g x.0) (segment t es)))) [ true ↦ ap (λ (xs : List X). h e ∷ xs) rest | false ↦ rest ]
+          ∙ elim (g e.0) as (λ b. cond b (h e ∷ left) left ≡ map h (cond b (e ∷ filter (λ (x : EventPlace). g x.0) (segment t es)) (filter (λ x. g x.0) (segment t es)))) [ true ↦ ap (λ (xs : List X). h e ∷ xs) rest | false ↦ rest ]
     ] refl
 
 -- A smaller number is that of a smaller rank.

@@ -12,8 +12,8 @@ use Rattle.ledger_model.specs.Content.{Entry, Stored}
 use Rattle.ledger_model.specs.Entries.{IsRising, entries_without}
 use Rattle.ledger_model.proofs.Callers.{key_total, exact_keys}
 use Rattle.event_store.specs.Slots.{Held}
-use Rattle.event_chain.specs.Table.{Row, AreRising}
-use Rattle.event_chain.specs.Flat.{Place, place_of, flat, event_at, look}
+use Rattle.event_chain.specs.Table.{TxRow, AreRising}
+use Rattle.event_chain.specs.Flat.{EventPlace, place_of, flat, event_at, look}
 use Rattle.event_chain.specs.Kept.{AreRanks}
 use Rattle.event_chain.proofs.Decided.{key_test, denied}
 use Rattle.event_chain.proofs.Flats.{find_flat, flat_rising, same_flat}
@@ -29,7 +29,7 @@ find_without q key es =
     find-where_key key_cmp (λ x. not (eq_by_cmp key_cmp key x)) q (λ x t. ap (λ r. not (is_eq r)) (sym (alike_right key_total q x key t))) es
     ∙ turned (eq_by_cmp key_cmp key q) (find key_cmp q es) None ∙ ap (λ b. cond b None (find key_cmp q es)) ((eq_by_cmp_equiv key_total).symm key q)
 
-module _ (rows new : List Row) (es more : List Place) (slots held : List (Option Held)) (key : KeyName) (slot r0 s0 : ℕ) (move : IsMove rows new es more slots held key slot r0 s0)
+module _ (rows new : List TxRow) (es more : List EventPlace) (slots held : List (Option Held)) (key : KeyName) (slot r0 s0 : ℕ) (move : IsMove rows new es more slots held key slot r0 s0)
     (rising : AreRising rows) (ranks : AreRanks es) (rising_new : AreRising new) (ranks_more : AreRanks more) where
   -- What stood under the key.
   pub found_before : find key_cmp key (flat rows es slots) ≡ event_at slots (place_of r0 es)

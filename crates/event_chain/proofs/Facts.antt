@@ -18,11 +18,11 @@ use Rattle.ledger_model.specs.Step.{readings_stored}
 use Rattle.ledger_model.specs.Entries.{IsRising}
 use Rattle.event_store.specs.Slots.{Held, Slots}
 use Rattle.event_chain.specs.declared.row.TableRow.{TableRow}
-use Rattle.event_chain.specs.Table.{Table, Row, row_of}
+use Rattle.event_chain.specs.Table.{Table, TxRow, row_of}
 use Rattle.event_chain.specs.declared.answers.Room.TheVariants.{Fits, NoTransaction, NoEvent, NoReading}
 use Rattle.event_chain.specs.declared.answers.Found.TheVariants.{Live, Voided}
 use Rattle.event_chain.specs.Room.{room_of, found_of}
-use Rattle.event_chain.specs.Flat.{Place, place_of, event_at, flat, look_in, look}
+use Rattle.event_chain.specs.Flat.{EventPlace, place_of, event_at, flat, look_in, look}
 use Rattle.event_chain.specs.Edits.{place_in, place_at}
 use Rattle.event_chain.specs.Kept.{IsSub, chosen, live_one, end_one, is_end, IsChains, IsNamed, IsEntered, events_of}
 use Rattle.event_chain.proofs.Decided.{not_so}
@@ -34,7 +34,7 @@ use Rattle.event_chain.proofs.Figures.{known_figures}
 use Rattle.event_chain.proofs.Ids.{ids_flat, has_flat}
 
 -- Chains of equal parts.
-pub seal : (limits : Bounds) (t : Table) (s : Slots) (st l : Index) (c : Direction → Index) (n : Index) (rows : List Row) (transactions : ℕ) (slots : List (Option Held)) (readings room : ℕ) (es le : List Place) (ce : Direction → List Place) (ne : List Place) (events : ℕ)
+pub seal : (limits : Bounds) (t : Table) (s : Slots) (st l : Index) (c : Direction → Index) (n : Index) (rows : List TxRow) (transactions : ℕ) (slots : List (Option Held)) (readings room : ℕ) (es le : List EventPlace) (ce : Direction → List EventPlace) (ne : List EventPlace) (events : ℕ)
     → t.rows ≡ rows → t.capacity ≡ transactions → s.slots ≡ slots → s.readings ≡ readings → s.capacity ≡ room → st.entries ≡ es → l.entries ≡ le → ((d : Direction) → (c d).entries ≡ ce d) → n.entries ≡ ne → st.capacity ≡ events → l.capacity ≡ events → ((d : Direction) → (c d).capacity ≡ events) → n.capacity ≡ events
     → IsChains limits (record { rows = rows; capacity = transactions }) (record { slots = slots; readings = readings; capacity = room }) (index es events) (index le events) (λ d. index (ce d) events) (index ne events) → IsChains limits t s st l c n
 seal limits t s st l c n rows transactions slots readings room es le ce ne events tr tc ss sr sc ste le_is ce_is ne_is stc lc cc_is nc h =
@@ -71,7 +71,7 @@ one_at_most true = omega arith
 one_at_most false = omega arith
 
 -- An entered transaction is named.
-pub entered_named : (rows mid : List Row) (tx : List ℕ) (row : TableRow) → IsEntered rows mid tx row → IsNamed rows mid tx row row
+pub entered_named : (rows mid : List TxRow) (tx : List ℕ) (row : TableRow) → IsEntered rows mid tx row → IsNamed rows mid tx row row
 entered_named rows mid tx row entered = record {
   there = elim entered [ inl was ↦ ap (row_of tx) was.1 ∙ was.0 | inr fresh ↦ ap (row_of tx) fresh.1 ∙ row_here tx row rows ];
   same = refl;
@@ -117,16 +117,16 @@ module _ (limits : Bounds) (table : Table) (store : Slots) (stored live : Index)
     placed (Some row) = refl
 
   -- No more than all places are in a sub-index.
-  pub sub_few : (test : Stored → Bool) (sub : List Place) → IsSub test stored.entries store.slots sub → length sub ≤ length stored.entries
+  pub sub_few : (test : Stored → Bool) (sub : List EventPlace) → IsSub test stored.entries store.slots sub → length sub ≤ length stored.entries
   sub_few test sub is = fewer sub stored.entries is.rising chains.keyed.ranks (λ r s at. among_chosen test store.slots (place_of r stored.entries) s (sym (is.each r) ∙ at))
 
   -- Where there is no place, a sub-index has none.
-  pub sub_none : (test : Stored → Bool) (sub : List Place) (r0 : ℕ) → IsSub test stored.entries store.slots sub → place_of r0 stored.entries ≡ None → place_of r0 sub ≡ None
+  pub sub_none : (test : Stored → Bool) (sub : List EventPlace) (r0 : ℕ) → IsSub test stored.entries store.slots sub → place_of r0 stored.entries ≡ None → place_of r0 sub ≡ None
   sub_none test sub r0 is none = is.each r0 ∙ ap (chosen test store.slots) none
 
   -- As many transactions as the table has rows.
   pub ids_count : length (transactions_of all) ≡ length table.rows
-  ids_count = ap length (ids_flat table.rows stored.entries store.slots chains.keyed.rising chains.keyed.filled) ∙ length-map table.rows (λ (r : Row). r.0)
+  ids_count = ap length (ids_flat table.rows stored.entries store.slots chains.keyed.rising chains.keyed.filled) ∙ length-map table.rows (λ (r : TxRow). r.0)
 
   module _ (tx : List ℕ) (readings : ℕ) (fits : room_of limits (finite.entries events) tx readings ≡ Fits) where
     parts : (not (has_transaction tx all) && nat_le limits.transactions (length (transactions_of all)) ≡ false) × ((nat_le limits.events (length all) ≡ false) × (nat_lt limits.readings (readings_stored all + readings) ≡ false))
@@ -148,7 +148,7 @@ module _ (limits : Bounds) (table : Table) (store : Slots) (stored live : Index)
     reading_room = omega (arith, at_least limits.readings (readings_stored all + readings) parts.1.1, chains.counted.readings_are, chains.counted.room_is)
 
   -- A new key has no place.
-  pub none_at : (mid : List Row) (key : KeyName) (row : TableRow) (r0 : ℕ) → finite.get events key ≡ None → IsEntered table.rows mid key.tx row → key.seq < 2 ^ 31 → r0 ≡ rank row.slot key.seq → place_of r0 stored.entries ≡ None
+  pub none_at : (mid : List TxRow) (key : KeyName) (row : TableRow) (r0 : ℕ) → finite.get events key ≡ None → IsEntered table.rows mid key.tx row → key.seq < 2 ^ 31 → r0 ≡ rank row.slot key.seq → place_of r0 stored.entries ≡ None
   none_at mid key row r0 absent entered number is =
       let before = before_named table.rows stored.entries store.slots chains.keyed mid key.tx row row (entered_named table.rows mid key.tx row entered) key.seq in
       no_event (place_of r0 stored.entries) (ap (λ r. event_at store.slots (place_of r stored.entries)) is
@@ -158,7 +158,7 @@ module _ (limits : Bounds) (table : Table) (store : Slots) (stored live : Index)
         no_event (Some s) h = cc
 
   -- The counts of a transaction that was entered are small.
-  pub counts_few : (mid : List Row) (tx : List ℕ) (row : TableRow) → IsEntered table.rows mid tx row → (row.live ≤ length stored.entries) × (row.ends ≤ length stored.entries)
+  pub counts_few : (mid : List TxRow) (tx : List ℕ) (row : TableRow) → IsEntered table.rows mid tx row → (row.live ≤ length stored.entries) × (row.ends ≤ length stored.entries)
   counts_few mid tx row entered =
       let was = known_figures table.rows mid stored.entries store.slots tx row row (entered_named table.rows mid tx row entered) chains.figured in (
         omega (arith, was.live, chains.counted.all_are, sum_few (live_one tx) all (λ e. one_at_most (bytes_eq tx e.0.tx && not e.1.voided))),

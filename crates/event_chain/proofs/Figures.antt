@@ -10,20 +10,20 @@ use Rattle.ledger_model.specs.Content.{Entry, Stored}
 use Rattle.ledger_model.specs.Entries.{IsRising, entries_without}
 use Rattle.event_store.specs.Slots.{Held}
 use Rattle.event_chain.specs.declared.row.TableRow.{TableRow}
-use Rattle.event_chain.specs.Table.{Row, id_cmp, row_of}
-use Rattle.event_chain.specs.Flat.{Place, entry_of, segment, entries_of, flat}
+use Rattle.event_chain.specs.Table.{TxRow, id_cmp, row_of}
+use Rattle.event_chain.specs.Flat.{EventPlace, entry_of, segment, entries_of, flat}
 use Rattle.event_chain.specs.Kept.{live_one, end_one, is_end, IsFigured, AreFigured, IsNamed}
 use Rattle.event_chain.proofs.Decided.{id_test, not_so, denied}
 use Rattle.event_chain.proofs.Sums.{at_key, sum_put, sum_without}
 
 module _ (f : Entry → ℕ) (tx : List ℕ) (zero_if : (e : Entry) → bytes_eq tx e.0.tx ≡ false → f e ≡ 0) where
   -- Events of another transaction count nothing.
-  none_entries : (other : List ℕ) (slots : List (Option Held)) (ps : List Place) → bytes_eq tx other ≡ false → sum_by f (map (entry_of other slots) ps) ≡ 0
+  none_entries : (other : List ℕ) (slots : List (Option Held)) (ps : List EventPlace) → bytes_eq tx other ≡ false → sum_by f (map (entry_of other slots) ps) ≡ 0
   none_entries other slots [] apart = refl
   none_entries other slots (p ∷ ps) apart = omega (arith, sum_by-cons f (entry_of other slots p) (map (entry_of other slots) ps), zero_if (entry_of other slots p) apart, none_entries other slots ps apart)
 
   -- Where the transaction is absent, nothing counts.
-  pub none_flat : (rows : List Row) (es : List Place) (slots : List (Option Held)) → row_of tx rows ≡ None → sum_by f (flat rows es slots) ≡ 0
+  pub none_flat : (rows : List TxRow) (es : List EventPlace) (slots : List (Option Held)) → row_of tx rows ≡ None → sum_by f (flat rows es slots) ≡ 0
   none_flat [] es slots absent = refl
   none_flat (r ∷ rows) es slots absent =
       elim (eq_by_cmp id_cmp tx r.0) as (λ b. eq_by_cmp id_cmp tx r.0 ≡ b → cond b (Some r.1) (row_of tx rows) ≡ None → sum_by f (flat (r ∷ rows) es slots) ≡ 0) [
@@ -40,7 +40,7 @@ pub end_zero : (tx : List ℕ) (e : Entry) → bytes_eq tx e.0.tx ≡ false → 
 end_zero tx e apart = ap (λ b. cond {A = ℕ} (b && not e.1.voided && is_end e.1.event.kind) 1 0) apart
 
 -- What is counted of a transaction before the edit, where it may be new.
-pub known_figures : (rows new : List Row) (es : List Place) (slots : List (Option Held)) (tx : List ℕ) (row after : TableRow) → IsNamed rows new tx row after → AreFigured rows (flat rows es slots) → IsFigured rows (flat rows es slots) tx row
+pub known_figures : (rows new : List TxRow) (es : List EventPlace) (slots : List (Option Held)) (tx : List ℕ) (row after : TableRow) → IsNamed rows new tx row after → AreFigured rows (flat rows es slots) → IsFigured rows (flat rows es slots) tx row
 known_figures rows new es slots tx row after named figured = elim named.known [
   | inl was ↦ figured tx row was
   | inr fresh ↦ record { live = fresh.none_live ∙ sym (none_flat (live_one tx) tx (live_zero tx) rows es slots fresh.absent); ends = fresh.no_ends ∙ sym (none_flat (end_one tx) tx (end_zero tx) rows es slots fresh.absent) }
@@ -64,7 +64,7 @@ key_zero f key None zero_all = refl
 key_zero f key (Some s) zero_all = zero_all s
 
 -- The counts after an event was put in or written.
-pub figured_put : (rows new : List Row) (es : List Place) (slots : List (Option Held)) (key : KeyName) (v : Stored) (row after : TableRow) → let all = flat rows es slots in IsRising all → AreFigured rows all → IsNamed rows new key.tx row after
+pub figured_put : (rows new : List TxRow) (es : List EventPlace) (slots : List (Option Held)) (key : KeyName) (v : Stored) (row after : TableRow) → let all = flat rows es slots in IsRising all → AreFigured rows all → IsNamed rows new key.tx row after
     → after.live + at_key (live_one key.tx) key (find key_cmp key all) ≡ row.live + live_one key.tx (key, v) → after.ends + at_key (end_one key.tx) key (find key_cmp key all) ≡ row.ends + end_one key.tx (key, v) → AreFigured new (put key_cmp key v all)
 figured_put rows new es slots key v row after rising figured named live ends q of is =
     let all = flat rows es slots in
@@ -86,7 +86,7 @@ figured_put rows new es slots key v row after rising figured named live ends q o
     ] refl
 
 -- The counts after a voided event was taken out.
-pub figured_out : (rows new : List Row) (all : List Entry) (key : KeyName) (st : Stored) → IsRising all → AreFigured rows all → find key_cmp key all ≡ Some st → st.voided ≡ true → ((q : List ℕ) (row : TableRow) → row_of q new ≡ Some row → row_of q rows ≡ Some row) → AreFigured new (entries_without key all)
+pub figured_out : (rows new : List TxRow) (all : List Entry) (key : KeyName) (st : Stored) → IsRising all → AreFigured rows all → find key_cmp key all ≡ Some st → st.voided ≡ true → ((q : List ℕ) (row : TableRow) → row_of q new ≡ Some row → row_of q rows ≡ Some row) → AreFigured new (entries_without key all)
 figured_out rows new all key st rising figured found voided back q of is =
     let was = figured q of (back q of is) in
     let l0 = ap (at_key (live_one q) key) found ∙ void_live q key st voided in let e0 = ap (at_key (end_one q) key) found ∙ void_end q key st voided in

@@ -16,8 +16,8 @@ use Rattle.key_index.specs.Key.{rank}
 use Rattle.ledger_model.specs.Key.{KeyName, key_cmp}
 use Rattle.ledger_model.specs.Content.{Entry, Stored}
 use Rattle.event_store.specs.Slots.{Held}
-use Rattle.event_chain.specs.Table.{Row, AreRising, id_cmp, row_of}
-use Rattle.event_chain.specs.Flat.{Place, place_of, stored_at, entry_of, segment, entries_of, flat, event_at, number_at, look_in, look}
+use Rattle.event_chain.specs.Table.{TxRow, AreRising, id_cmp, row_of}
+use Rattle.event_chain.specs.Flat.{EventPlace, place_of, stored_at, entry_of, segment, entries_of, flat, event_at, number_at, look_in, look}
 use Rattle.event_chain.specs.Kept.{AreRanks}
 use Rattle.event_chain.proofs.Decided.{key_test, id_test, rank_test, not_so, denied, same_test}
 
@@ -36,7 +36,7 @@ rank_split : (r t : ℕ) → r / 2 ^ 31 ≡ t → r ≡ rank t (r % 2 ^ 31)
 rank_split r t e = omega (arith)
 
 -- A key of a transaction's place, told by its rank.
-key_place : (q : KeyName) (tx : List ℕ) (t : ℕ) (e : Place) → e.0 / 2 ^ 31 ≡ t → eq_by_cmp id_cmp q.tx tx ≡ true → eq_by_cmp key_cmp q (record { tx = tx; seq = e.0 % 2 ^ 31 }) ≡ eq_by_cmp nat_cmp (rank t q.seq) e.0
+key_place : (q : KeyName) (tx : List ℕ) (t : ℕ) (e : EventPlace) → e.0 / 2 ^ 31 ≡ t → eq_by_cmp id_cmp q.tx tx ≡ true → eq_by_cmp key_cmp q (record { tx = tx; seq = e.0 % 2 ^ 31 }) ≡ eq_by_cmp nat_cmp (rank t q.seq) e.0
 key_place q tx t e home is =
     let id : q.tx ≡ tx = (id_test q.tx tx).0 is in let split = rank_split e.0 t home in
     same_test _ _ (key_test q (record { tx = tx; seq = e.0 % 2 ^ 31 })) (rank_test (rank t q.seq) e.0)
@@ -44,7 +44,7 @@ key_place q tx t e home is =
     (λ k. let n : q.seq ≡ e.0 % 2 ^ 31 = omega (arith, split, k) in λ i. record { tx = id i; seq = n i })
 
 -- What is found among the events of a transaction.
-pub find_entries : (q : KeyName) (tx : List ℕ) (t : ℕ) (slots : List (Option Held)) (es : List Place) → find key_cmp q (map (entry_of tx slots) (segment t es)) ≡ cond (eq_by_cmp id_cmp q.tx tx) (event_at slots (place_of (rank t q.seq) (segment t es))) None
+pub find_entries : (q : KeyName) (tx : List ℕ) (t : ℕ) (slots : List (Option Held)) (es : List EventPlace) → find key_cmp q (map (entry_of tx slots) (segment t es)) ≡ cond (eq_by_cmp id_cmp q.tx tx) (event_at slots (place_of (rank t q.seq) (segment t es))) None
 find_entries q tx t slots [] = elim (eq_by_cmp id_cmp q.tx tx) as (λ b. ◌≡◌ {A = Option Stored} None (cond b None None)) [ true ↦ refl | false ↦ refl ]
 find_entries q tx t slots (e ∷ es) =
     let rest = find_entries q tx t slots es in
@@ -59,7 +59,7 @@ find_entries q tx t slots (e ∷ es) =
     ] refl
 
 -- A rank of a segment is that of all places, where its number is one.
-pub in_segment : (t seq : ℕ) (es : List Place) → place_of (rank t seq) (segment t es) ≡ cond (rank t seq / 2 ^ 31 == t) (place_of (rank t seq) es) None
+pub in_segment : (t seq : ℕ) (es : List EventPlace) → place_of (rank t seq) (segment t es) ≡ cond (rank t seq / 2 ^ 31 == t) (place_of (rank t seq) es) None
 in_segment t seq es = find-where_key nat_cmp (λ r. r / 2 ^ 31 == t) (rank t seq) (λ x e. ap (λ r. r / 2 ^ 31 == t) (sym (nat_cmp-IsAntisymmetric (rank t seq) x e))) es
 
 -- A number is one below 2^31.
@@ -67,16 +67,16 @@ number_test : (t seq : ℕ) → (rank t seq / 2 ^ 31 == t) ≡ nat_lt seq (2 ^ 3
 number_test t seq = same_test _ _ (Decides-eqb (rank t seq / 2 ^ 31) t) (Decides-ltb seq (2 ^ 31)) (λ e. omega arith) (λ lt. omega arith)
 
 -- The place of a number, in its transaction's segment.
-pub number_is : (t seq : ℕ) (es : List Place) → place_of (rank t seq) (segment t es) ≡ number_at t seq es
+pub number_is : (t seq : ℕ) (es : List EventPlace) → place_of (rank t seq) (segment t es) ≡ number_at t seq es
 number_is t seq es = in_segment t seq es ∙ ap (λ b. cond b (place_of (rank t seq) es) None) (number_test t seq)
 
 -- Ids below all others are not found.
-pub missing : (tx : List ℕ) (rows : List Row) → T (below_all id_cmp tx rows) → row_of tx rows ≡ None
+pub missing : (tx : List ℕ) (rows : List TxRow) → T (below_all id_cmp tx rows) → row_of tx rows ≡ None
 missing tx [] h = refl
 missing tx (r ∷ rows) h = ap (λ o. cond (is_eq o) (Some r.1) (row_of tx rows)) (less _ (first _ _ h)) ∙ missing tx rows (second _ _ h)
 
 -- What is found among all events is what the tables tell.
-pub find_flat : (q : KeyName) (rows : List Row) (es : List Place) (slots : List (Option Held)) → AreRising rows → find key_cmp q (flat rows es slots) ≡ look rows es slots q
+pub find_flat : (q : KeyName) (rows : List TxRow) (es : List EventPlace) (slots : List (Option Held)) → AreRising rows → find key_cmp q (flat rows es slots) ≡ look rows es slots q
 find_flat q [] es slots rising = refl
 find_flat q (r ∷ rows) es slots rising =
     let rest = find_flat q rows es slots (second _ _ rising) in
@@ -113,7 +113,7 @@ below_both k [] ys a b = b
 below_both k (x ∷ xs) ys a b = both _ _ (first _ _ a) (below_both k xs ys (second _ _ a) b)
 
 -- A place's key is in front of those of greater rank.
-below_places : (tx : List ℕ) (t r : ℕ) (slots : List (Option Held)) (es : List Place) → r / 2 ^ 31 ≡ t → T (below_all nat_cmp r es) → T (below_all key_cmp (record { tx = tx; seq = r % 2 ^ 31 }) (map (entry_of tx slots) (segment t es)))
+below_places : (tx : List ℕ) (t r : ℕ) (slots : List (Option Held)) (es : List EventPlace) → r / 2 ^ 31 ≡ t → T (below_all nat_cmp r es) → T (below_all key_cmp (record { tx = tx; seq = r % 2 ^ 31 }) (map (entry_of tx slots) (segment t es)))
 below_places tx t r slots [] home h = tt
 below_places tx t r slots (e ∷ es) home h =
     let rest = below_places tx t r slots es home (second _ _ h) in let up : r < e.0 = less_nat r e.0 (first _ _ h) in
@@ -123,7 +123,7 @@ below_places tx t r slots (e ∷ es) home h =
     ] refl
 
 -- The events of a transaction rise, and what comes after them.
-pub entries_rising : (tx : List ℕ) (t : ℕ) (slots : List (Option Held)) (es : List Place) (ys : List Entry) → AreRanks es → IsRising ys → ((n : ℕ) → T (below_all key_cmp (record { tx = tx; seq = n }) ys)) → IsRising (map (entry_of tx slots) (segment t es) ++ ys)
+pub entries_rising : (tx : List ℕ) (t : ℕ) (slots : List (Option Held)) (es : List EventPlace) (ys : List Entry) → AreRanks es → IsRising ys → ((n : ℕ) → T (below_all key_cmp (record { tx = tx; seq = n }) ys)) → IsRising (map (entry_of tx slots) (segment t es) ++ ys)
 entries_rising tx t slots [] ys ranks rising below = rising
 entries_rising tx t slots (e ∷ es) ys ranks rising below =
     let rest = entries_rising tx t slots es ys (second _ _ ranks) rising below in
@@ -133,17 +133,17 @@ entries_rising tx t slots (e ∷ es) ys ranks rising below =
     ] refl
 
 -- A key is in front of the events of a transaction of greater id.
-below_entries : (tx other : List ℕ) (n : ℕ) (slots : List (Option Held)) (ps : List Place) → id_cmp tx other ≡ Less → T (below_all key_cmp (record { tx = tx; seq = n }) (map (entry_of other slots) ps))
+below_entries : (tx other : List ℕ) (n : ℕ) (slots : List (Option Held)) (ps : List EventPlace) → id_cmp tx other ≡ Less → T (below_all key_cmp (record { tx = tx; seq = n }) (map (entry_of other slots) ps))
 below_entries tx other n slots [] p = tt
 below_entries tx other n slots (e ∷ ps) p = both _ _ (less_id tx other n (e.0 % 2 ^ 31) p) (below_entries tx other n slots ps p)
 
 -- A key is in front of the events of all transactions of greater ids.
-below_flat : (tx : List ℕ) (n : ℕ) (rows : List Row) (es : List Place) (slots : List (Option Held)) → T (below_all id_cmp tx rows) → T (below_all key_cmp (record { tx = tx; seq = n }) (flat rows es slots))
+below_flat : (tx : List ℕ) (n : ℕ) (rows : List TxRow) (es : List EventPlace) (slots : List (Option Held)) → T (below_all id_cmp tx rows) → T (below_all key_cmp (record { tx = tx; seq = n }) (flat rows es slots))
 below_flat tx n [] es slots h = tt
 below_flat tx n (r ∷ rows) es slots h = below_both _ (entries_of es slots r) (flat rows es slots) (below_entries tx r.0 n slots (segment r.1.slot es) (less _ (first _ _ h))) (below_flat tx n rows es slots (second _ _ h))
 
 -- All events rise by key.
-pub flat_rising : (rows : List Row) (es : List Place) (slots : List (Option Held)) → AreRising rows → AreRanks es → IsRising (flat rows es slots)
+pub flat_rising : (rows : List TxRow) (es : List EventPlace) (slots : List (Option Held)) → AreRising rows → AreRanks es → IsRising (flat rows es slots)
 flat_rising [] es slots rising ranks = tt
 flat_rising (r ∷ rows) es slots rising ranks = entries_rising r.0 r.1.slot slots es (flat rows es slots) ranks (flat_rising rows es slots (second _ _ rising) ranks) (λ n. below_flat r.0 n rows es slots (first _ _ rising))
 
@@ -152,5 +152,5 @@ pub same_flat : (xs ys : List Entry) → IsRising xs → IsRising ys → ((q : K
 same_flat xs ys a b same = same_entries key_cmp key_total exact_keys xs ys a b same
 
 -- Places that rise, and under which each rank finds the same, are the same.
-pub same_places : (xs ys : List Place) → AreRanks xs → AreRanks ys → ((r : ℕ) → place_of r xs ≡ place_of r ys) → xs ≡ ys
+pub same_places : (xs ys : List EventPlace) → AreRanks xs → AreRanks ys → ((r : ℕ) → place_of r xs ≡ place_of r ys) → xs ≡ ys
 same_places xs ys a b same = same_entries nat_cmp nat_cmp_total nat_cmp-IsAntisymmetric xs ys a b same

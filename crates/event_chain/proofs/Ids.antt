@@ -14,8 +14,8 @@ use Rattle.ledger_model.proofs.TransactionLemmas.{transactions-any}
 use Rattle.ledger_model.proofs.Callers.{first, second, less}
 use Rattle.event_store.specs.Slots.{Held}
 use Rattle.event_chain.specs.declared.row.TableRow.{TableRow}
-use Rattle.event_chain.specs.Table.{Row, AreRising, id_cmp, row_of}
-use Rattle.event_chain.specs.Flat.{Place, place_of, entry_of, segment, entries_of, flat}
+use Rattle.event_chain.specs.Table.{TxRow, AreRising, id_cmp, row_of}
+use Rattle.event_chain.specs.Flat.{EventPlace, place_of, entry_of, segment, entries_of, flat}
 use Rattle.event_chain.specs.Kept.{HasPlace}
 use Rattle.event_chain.proofs.Decided.{id_test, not_so}
 use Rattle.event_chain.proofs.Flats.{missing}
@@ -25,7 +25,7 @@ abbrev ids : List Entry → List (List ℕ)
 ids es = map (λ e. e.0.tx) es
 
 -- The ids of rows.
-abbrev names : List Row → List (List ℕ)
+abbrev names : List TxRow → List (List ℕ)
 names rows = map (λ r. r.0) rows
 
 -- Texts but for one.
@@ -41,14 +41,14 @@ others_twice x (y ∷ ys) = elim (bytes_eq x y) as (λ b. bytes_eq x y ≡ b →
 ] refl
 
 -- The ids of one transaction's events, and what follows.
-run_distinct : (x : List ℕ) (slots : List (Option Held)) (p : Place) (ps : List Place) (ys : List (List ℕ)) → distinct (ids (map (entry_of x slots) (p ∷ ps)) ++ ys) ≡ x ∷ others x (distinct ys)
+run_distinct : (x : List ℕ) (slots : List (Option Held)) (p : EventPlace) (ps : List EventPlace) (ys : List (List ℕ)) → distinct (ids (map (entry_of x slots) (p ∷ ps)) ++ ys) ≡ x ∷ others x (distinct ys)
 run_distinct x slots p [] ys = refl
 run_distinct x slots p (q ∷ ps) ys =
     ap (λ (zs : List (List ℕ)). x ∷ others x zs) (run_distinct x slots q ps ys)
     ∙ ap (λ b. x ∷ cond (not b) (x ∷ others x (others x (distinct ys))) (others x (others x (distinct ys)))) ((bytes_eq-Decides x x).1 refl) ∙ ap (λ (zs : List (List ℕ)). x ∷ zs) (others_twice x (distinct ys))
 
 -- Greater ids are others.
-others_below : (x : List ℕ) (rows : List Row) → T (below_all id_cmp x rows) → others x (names rows) ≡ names rows
+others_below : (x : List ℕ) (rows : List TxRow) → T (below_all id_cmp x rows) → others x (names rows) ≡ names rows
 others_below x [] h = refl
 others_below x (r ∷ rows) h =
     let apart : bytes_eq x r.0 ≡ false = sym (is_eq-slice_cmp x r.0) ∙ ap is_eq (less _ (first _ _ h)) in
@@ -59,12 +59,12 @@ gone : (o : Option TableRow) (row : TableRow) → o ≡ Some row → o ≡ None 
 gone o row a b = cc
 
 -- Each row's slot has a place.
-abbrev AllFilled : List Row → List Place → Type 0
+abbrev AllFilled : List TxRow → List EventPlace → Type 0
 AllFilled [] es = Unit {0}
 AllFilled (r ∷ rows) es = HasPlace es r.1.slot × AllFilled rows es
 
 -- That is so where each transaction found has one.
-all_filled : (rows : List Row) (es : List Place) → AreRising rows → ((tx : List ℕ) (row : TableRow) → row_of tx rows ≡ Some row → HasPlace es row.slot) → AllFilled rows es
+all_filled : (rows : List TxRow) (es : List EventPlace) → AreRising rows → ((tx : List ℕ) (row : TableRow) → row_of tx rows ≡ Some row → HasPlace es row.slot) → AllFilled rows es
 all_filled [] es rising filled = tt
 all_filled (r ∷ rows) es rising filled = (
   filled r.0 r.1 (ap (λ b. cond b (Some r.1) (row_of r.0 rows)) ((id_test r.0 r.0).1 refl)),
@@ -72,12 +72,12 @@ all_filled (r ∷ rows) es rising filled = (
 )
 
 -- What is found in a list makes it no empty one.
-split : (ps : List Place) → (r : ℕ) × ((s : ℕ) × (place_of r ps ≡ Some s)) → (p : Place) × ((rest : List Place) × (ps ≡ p ∷ rest))
+split : (ps : List EventPlace) → (r : ℕ) × ((s : ℕ) × (place_of r ps ≡ Some s)) → (p : EventPlace) × ((rest : List EventPlace) × (ps ≡ p ∷ rest))
 split [] some = let e = some.1.1 in cc
 split (p ∷ ps) some = (p, (ps, refl))
 
 -- A slot that has a place has a segment.
-pub some_segment : (t : ℕ) (es : List Place) → HasPlace es t → (p : Place) × ((ps : List Place) × (segment t es ≡ p ∷ ps))
+pub some_segment : (t : ℕ) (es : List EventPlace) → HasPlace es t → (p : EventPlace) × ((ps : List EventPlace) × (segment t es ≡ p ∷ ps))
 some_segment t es has = split (segment t es) (
   has.rank,
   (
@@ -87,20 +87,20 @@ some_segment t es has = split (segment t es) (
 )
 
 -- The transactions are those of the table.
-ids_rows : (rows : List Row) (es : List Place) (slots : List (Option Held)) → AreRising rows → AllFilled rows es → transactions_of (flat rows es slots) ≡ names rows
+ids_rows : (rows : List TxRow) (es : List EventPlace) (slots : List (Option Held)) → AreRising rows → AllFilled rows es → transactions_of (flat rows es slots) ≡ names rows
 ids_rows [] es slots rising filled = refl
 ids_rows (r ∷ rows) es slots rising filled =
     let some = some_segment r.1.slot es filled.0 in let rest = flat rows es slots in
     ap distinct (map-append (λ (e : Entry). e.0.tx) (entries_of es slots r) rest)
-    ∙ ap (λ (ps : List Place). distinct (ids (map (entry_of r.0 slots) ps) ++ ids rest)) some.1.1 ∙ run_distinct r.0 slots some.0 some.1.0 (ids rest)
+    ∙ ap (λ (ps : List EventPlace). distinct (ids (map (entry_of r.0 slots) ps) ++ ids rest)) some.1.1 ∙ run_distinct r.0 slots some.0 some.1.0 (ids rest)
     ∙ ap (λ (zs : List (List ℕ)). r.0 ∷ others r.0 zs) (ids_rows rows es slots (second _ _ rising) filled.1) ∙ ap (λ (zs : List (List ℕ)). r.0 ∷ zs) (others_below r.0 rows (first _ _ rising))
 
 -- The same, where each transaction found has a place.
-pub ids_flat : (rows : List Row) (es : List Place) (slots : List (Option Held)) → AreRising rows → ((tx : List ℕ) (row : TableRow) → row_of tx rows ≡ Some row → HasPlace es row.slot) → transactions_of (flat rows es slots) ≡ map (λ (r : Row). r.0) rows
+pub ids_flat : (rows : List TxRow) (es : List EventPlace) (slots : List (Option Held)) → AreRising rows → ((tx : List ℕ) (row : TableRow) → row_of tx rows ≡ Some row → HasPlace es row.slot) → transactions_of (flat rows es slots) ≡ map (λ (r : TxRow). r.0) rows
 ids_flat rows es slots rising filled = ids_rows rows es slots rising (all_filled rows es rising filled)
 
 -- A transaction has an event where the table has it.
-pub has_flat : (tx : List ℕ) (rows : List Row) (es : List Place) (slots : List (Option Held)) → AreRising rows → ((q : List ℕ) (row : TableRow) → row_of q rows ≡ Some row → HasPlace es row.slot) → has_transaction tx (flat rows es slots) ≡ is_some (row_of tx rows)
+pub has_flat : (tx : List ℕ) (rows : List TxRow) (es : List EventPlace) (slots : List (Option Held)) → AreRising rows → ((q : List ℕ) (row : TableRow) → row_of q rows ≡ Some row → HasPlace es row.slot) → has_transaction tx (flat rows es slots) ≡ is_some (row_of tx rows)
 has_flat tx rows es slots rising filled =
     sym (transactions-any tx (flat rows es slots)) ∙ ap (list_any (bytes_eq tx)) (ids_flat rows es slots rising filled)
     ∙ sym (λ i. list_any (λ y. is_eq-slice_cmp tx y i) (names rows)) ∙ sym (is_some-find id_cmp tx rows)

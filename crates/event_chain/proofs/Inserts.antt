@@ -12,7 +12,7 @@ use Rattle.ledger_model.specs.Key.{KeyName, key_cmp}
 use Rattle.ledger_model.specs.Limits.{Bounds}
 use Rattle.event_store.specs.Slots.{Slots}
 use Rattle.event_chain.specs.declared.row.TableRow.{TableRow}
-use Rattle.event_chain.specs.Table.{Table, Row, AreRising, AreApart, with_row}
+use Rattle.event_chain.specs.Table.{Table, TxRow, AreRising, AreApart, with_row}
 use Rattle.event_chain.specs.declared.answers.Room.TheVariants.{Fits}
 use Rattle.event_chain.specs.Room.{room_of}
 use Rattle.event_chain.specs.Flat.{place_of, flat}
@@ -37,7 +37,7 @@ pub record IsOpen (stored live : Index) (carriers : Direction → Index) (naming
   pub ends_few : row.ends < 65536
 
 module _ (limits : Bounds) (table : Table) (store : Slots) (stored live : Index) (carriers : Direction → Index) (naming : Index) (chains : IsChains limits table store stored live carriers naming)
-    (key : KeyName) (mid : List Row) (row : TableRow) (r0 : ℕ) (entered : IsEntered table.rows mid key.tx row) (number : key.seq < 2 ^ 31) (rank_is : r0 ≡ rank row.slot key.seq) (absent : finite.get (events_of table store stored) key ≡ None) where
+    (key : KeyName) (mid : List TxRow) (row : TableRow) (r0 : ℕ) (entered : IsEntered table.rows mid key.tx row) (number : key.seq < 2 ^ 31) (rank_is : r0 ≡ rank row.slot key.seq) (absent : finite.get (events_of table store stored) key ≡ None) where
   none : place_of r0 stored.entries ≡ None
   none = none_at limits table store stored live carriers naming chains mid key row r0 absent entered number rank_is
 

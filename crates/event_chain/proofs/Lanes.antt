@@ -11,7 +11,7 @@ use Rattle.key_index.specs.declared.filed.Filed.{Filed}
 use Rattle.key_index.specs.Entries as entries
 use Rattle.key_index.specs.Entries.{Entry, filed_at}
 use Rattle.key_index.specs.Marks.{has_mark, marked, mark_at}
-use Rattle.event_chain.specs.Flat.{Place, place_of}
+use Rattle.event_chain.specs.Flat.{EventPlace, place_of}
 use Rattle.event_chain.specs.Edits.{put_if, out}
 use Rattle.event_chain.specs.Ranked.{below, from, slot_at, first_of, last_of, AreAbove, AreRising}
 use Rattle.event_chain.specs.Placed.{place_in, lane, passes}
@@ -49,22 +49,22 @@ lane_rising o [] h = subst AreRising (sym (lane_nil o)) tt
 lane_rising o (e ∷ es) h = subst AreRising (sym (lane_on o e es)) (elim (passes o e.1.marks) as (λ b. AreRising (cond b (place_in e ∷ lane o es) (lane o es))) [ true ↦ (lane_above o e.0 es h.0, lane_rising o es h.1) | false ↦ lane_rising o es h.1 ])
 
 -- Of greater ranks none is in front.
-below_none : (r n : ℕ) (xs : List Place) → AreAbove n xs → r ≤ n → below r xs ≡ []
+below_none : (r n : ℕ) (xs : List EventPlace) → AreAbove n xs → r ≤ n → below r xs ≡ []
 below_none r n [] h le = refl
 below_none r n (x ∷ xs) h le = let up = h.0 in ap (λ b. cond b (x ∷ below r xs) []) (not_so _ (Decides-ltb x.0 r) (λ lt. absurd (omega arith)))
 
 -- All are from it on.
-from_all : (r n : ℕ) (xs : List Place) → AreAbove n xs → r ≤ n → from r xs ≡ xs
+from_all : (r n : ℕ) (xs : List EventPlace) → AreAbove n xs → r ≤ n → from r xs ≡ xs
 from_all r n [] h le = refl
 from_all r n (x ∷ xs) h le = let up = h.0 in ap (λ b. cond b (from r xs) (x ∷ xs)) (not_so _ (Decides-ltb x.0 r) (λ lt. absurd (omega arith)))
 
 -- None has the rank.
-slot_none : (r n : ℕ) (xs : List Place) → AreAbove n xs → r ≤ n → slot_at r xs ≡ None
+slot_none : (r n : ℕ) (xs : List EventPlace) → AreAbove n xs → r ≤ n → slot_at r xs ≡ None
 slot_none r n [] h le = refl
 slot_none r n (x ∷ xs) h le = let up = h.0 in ap (λ b. cond b (Some x.1) None) (not_so _ (Decides-eqb x.0 r) (λ is. absurd (omega arith)))
 
 -- What is in front and what is left are the whole.
-cut_whole : (r : ℕ) (xs : List Place) → below r xs ++ from r xs ≡ xs
+cut_whole : (r : ℕ) (xs : List EventPlace) → below r xs ++ from r xs ≡ xs
 cut_whole r [] = refl
 cut_whole r (x ∷ xs) = elim (nat_lt x.0 r) as (λ b. cond b (x ∷ below r xs) [] ++ cond b (from r xs) (x ∷ xs) ≡ x ∷ xs) [ true ↦ ap (λ l. x ∷ l) (cut_whole r xs) | false ↦ refl ]
 
@@ -77,7 +77,7 @@ lane_below o r (e ∷ es) h =
       | true ↦ λ y.
           lane_on o e (entries.below r es)
           ∙ elim (passes o e.1.marks) as (λ p. cond p (place_in e ∷ lane o (entries.below r es)) (lane o (entries.below r es)) ≡ below r (cond p (place_in e ∷ lane o es) (lane o es))) [
-            | true ↦ ap (λ (l : List Place). place_in e ∷ l) rest ∙ sym (ap (λ b. cond b (place_in e ∷ below r (lane o es)) []) y)
+            | true ↦ ap (λ (l : List EventPlace). place_in e ∷ l) rest ∙ sym (ap (λ b. cond b (place_in e ∷ below r (lane o es)) []) y)
             | false ↦ rest
           ]
           ∙ sym (ap (below r) (lane_on o e es))
@@ -192,16 +192,16 @@ from_rising r [] h = tt
 from_rising r (e ∷ es) h = elim (nat_lt e.0 r) as (λ b. entries.AreRising (cond b (entries.from r es) (e ∷ es))) [ true ↦ from_rising r es h.1 | false ↦ h ]
 
 -- Nothing is left out where the rank is absent.
-pub out_absent : (r : ℕ) (xs : List Place) → place_of r xs ≡ None → out r xs ≡ xs
+pub out_absent : (r : ℕ) (xs : List EventPlace) → place_of r xs ≡ None → out r xs ≡ xs
 out_absent r [] none = refl
 out_absent r (x ∷ xs) none =
     elim (is_eq (nat_cmp r x.0)) as (λ b. cond b (Some x.1) (place_of r xs) ≡ None → cond (not b) (x ∷ out r xs) (out r xs) ≡ x ∷ xs) [
       | true ↦ λ f. cc
-      | false ↦ λ left. ap (λ (l : List Place). x ∷ l) (out_absent r xs left)
+      | false ↦ λ left. ap (λ (l : List EventPlace). x ∷ l) (out_absent r xs left)
     ] none
 
 module _ (o : Option Mark) (r : ℕ) (f : Filed) (es : List Entry) (h : entries.AreRising es) (there : filed_at r (entries.from r es) ≡ Some f) where
-  abbrev L : List Place
+  abbrev L : List EventPlace
   L = lane o es
 
   -- The entries behind that of the rank.

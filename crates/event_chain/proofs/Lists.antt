@@ -14,7 +14,7 @@ use Rattle.event_chain.specs.Links.{Links, links, linked_in, linked_out, prev_of
 use Rattle.event_chain.specs.LinkChain.{head_or, last_or, IsChain, IsAbsent, AreElsewhere, AreSlots, IsLinked}
 use Rattle.event_chain.proofs.LinksChains.{chain_parts, slots_parts, length-linked_in, length-linked_out}
 use Rattle.event_chain.proofs.LinksLists.{linked_with_slot, linked_without_slot, linked_beside_in, linked_beside_out}
-use Rattle.event_chain.specs.Flat.{Place, place_of}
+use Rattle.event_chain.specs.Flat.{EventPlace, place_of}
 use Rattle.event_chain.specs.Kept.{AreRanks}
 use Rattle.event_chain.specs.Edits.{out, places_before, places_behind}
 use Rattle.event_chain.specs.Lists.{slot_in, slots_of, slot_before, slot_after, AreOwn, AreListed}
@@ -25,12 +25,12 @@ use Rattle.event_chain.proofs.Subs.{out_if_ranks}
 use Rattle.event_chain.proofs.Splits.{seg_absent, seg_put, seg_put_other, seg_present, seg_out, seg_out_other}
 
 -- The first slot of places.
-pub first_slot : (ps : List Place) → head_or None (map slot_in ps) ≡ option_map slot_in (slice_get ps 0)
+pub first_slot : (ps : List EventPlace) → head_or None (map slot_in ps) ≡ option_map slot_in (slice_get ps 0)
 first_slot [] = refl
 first_slot (p ∷ ps) = refl
 
 -- The last one.
-pub last_slot : (ps : List Place) → last_or None (map slot_in ps) ≡ option_map slot_in (last_of ps)
+pub last_slot : (ps : List EventPlace) → last_or None (map slot_in ps) ≡ option_map slot_in (last_of ps)
 last_slot [] = refl
 last_slot (p ∷ []) = refl
 last_slot (p ∷ q ∷ ps) = last_slot (q ∷ ps) ∙ ap (option_map slot_in) (sym (last_cons p q ps))
@@ -53,7 +53,7 @@ after_last l before (x ∷ []) after s chain last = let same : x ≡ s = cc in a
 after_last l before (x ∷ y ∷ ys) after s chain last = after_last l (Some x) (y ∷ ys) after s chain.2 last
 
 -- A slot is absent where no place that passes a test has it.
-absent_left : (s : ℕ) (f : Place → Bool) (ps : List Place) → AllPlaces (λ p. f p ≡ true → s ≢ p.1) ps → IsAbsent s (map slot_in (filter f ps))
+absent_left : (s : ℕ) (f : EventPlace → Bool) (ps : List EventPlace) → AllPlaces (λ p. f p ≡ true → s ≢ p.1) ps → IsAbsent s (map slot_in (filter f ps))
 absent_left s f [] h = tt
 absent_left s f (p ∷ ps) h = elim (f p) as (λ b. f p ≡ b → IsAbsent s (map slot_in (cond b (p ∷ filter f ps) (filter f ps)))) [
   | true ↦ λ y. (h.0 y, absent_left s f ps h.1)
@@ -61,7 +61,7 @@ absent_left s f (p ∷ ps) h = elim (f p) as (λ b. f p ≡ b → IsAbsent s (ma
 ] refl
 
 -- Slots are elsewhere where those of the places that pass a test are absent.
-elsewhere_left : (f : Place → Bool) (zs : List ℕ) (ps : List Place) → AllPlaces (λ p. f p ≡ true → IsAbsent p.1 zs) ps → AreElsewhere (map slot_in (filter f ps)) zs
+elsewhere_left : (f : EventPlace → Bool) (zs : List ℕ) (ps : List EventPlace) → AllPlaces (λ p. f p ≡ true → IsAbsent p.1 zs) ps → AreElsewhere (map slot_in (filter f ps)) zs
 elsewhere_left f zs [] h = tt
 elsewhere_left f zs (p ∷ ps) h = elim (f p) as (λ b. f p ≡ b → AreElsewhere (map slot_in (cond b (p ∷ filter f ps) (filter f ps))) zs) [
   | true ↦ λ y. (h.0 y, elsewhere_left f zs ps h.1)
@@ -69,16 +69,16 @@ elsewhere_left f zs (p ∷ ps) h = elim (f p) as (λ b. f p ≡ b → AreElsewhe
 ] refl
 
 -- A slot that has no place of a transaction is absent from its list.
-pub absent_of : (s t : ℕ) (es : List Place) → AreRanks es → ((r : ℕ) → place_of r es ≡ Some s → r / 2 ^ 31 ≡ t → ⊥) → IsAbsent s (slots_of t es)
+pub absent_of : (s t : ℕ) (es : List EventPlace) → AreRanks es → ((r : ℕ) → place_of r es ≡ Some s → r / 2 ^ 31 ≡ t → ⊥) → IsAbsent s (slots_of t es)
 absent_of s t es ranks never = absent_left s (λ e. e.0 / 2 ^ 31 == t) es (all_found (λ p. (p.0 / 2 ^ 31 == t) ≡ true → s ≢ p.1) es ranks (λ p at y e. never p.0 (at ∙ ap Some (sym e)) ((Decides-eqb (p.0 / 2 ^ 31) t).0 y)))
 
 -- The lists of two transactions share no slot.
-pub lists_elsewhere : (t q : ℕ) (es : List Place) → AreRanks es → AreOwn es → (t ≡ q → ⊥) → AreElsewhere (slots_of t es) (slots_of q es)
+pub lists_elsewhere : (t q : ℕ) (es : List EventPlace) → AreRanks es → AreOwn es → (t ≡ q → ⊥) → AreElsewhere (slots_of t es) (slots_of q es)
 lists_elsewhere t q es ranks own other = elsewhere_left (λ e. e.0 / 2 ^ 31 == t) (slots_of q es) es (all_found (λ p. (p.0 / 2 ^ 31 == t) ≡ true → IsAbsent p.1 (slots_of q es)) es ranks (λ p at y.
     absent_of p.1 q es ranks (λ r there home. other (sym ((Decides-eqb (p.0 / 2 ^ 31) t).0 y) ∙ ap (λ k. k / 2 ^ 31) (own p.0 r p.1 at there) ∙ home))))
 
 -- No slot gets two ranks where one is put in that had none.
-pub own_put : (r0 s0 : ℕ) (es : List Place) → AreOwn es → ((r : ℕ) → place_of r es ≡ Some s0 → ⊥) → AreOwn (put nat_cmp r0 s0 es)
+pub own_put : (r0 s0 : ℕ) (es : List EventPlace) → AreOwn es → ((r : ℕ) → place_of r es ≡ Some s0 → ⊥) → AreOwn (put nat_cmp r0 s0 es)
 own_put r0 s0 es own unused q r s a b = elim (cases_eq q r0) [
   | inl q_is ↦ elim (cases_eq r r0) [
     | inl r_is ↦ q_is ∙ sym r_is
@@ -95,16 +95,16 @@ not_gone : (o : Option ℕ) (s : ℕ) → o ≡ Some s → o ≡ None → ⊥
 not_gone o s a b = cc
 
 -- Nor where one is taken out.
-pub own_out : (r0 : ℕ) (es : List Place) → AreOwn es → AreOwn (out r0 es)
+pub own_out : (r0 : ℕ) (es : List EventPlace) → AreOwn es → AreOwn (out r0 es)
 own_out r0 es own q r s a b =
     let still : (k : ℕ) → place_of k (out r0 es) ≡ Some s → place_of k es ≡ Some s = λ k at. sym (out_other k r0 es (λ e. not_gone (place_of k (out r0 es)) s at (ap (λ x. place_of x (out r0 es)) e ∙ out_here r0 es))) ∙ at in
     own q r s (still q a) (still r b)
 
 -- What stands in front of a place put in, and what behind it.
-abbrev pub front_of : ℕ → List Place → List ℕ
+abbrev pub front_of : ℕ → List EventPlace → List ℕ
 front_of r es = map slot_in (places_before r es)
 
-abbrev pub back_of : ℕ → List Place → List ℕ
+abbrev pub back_of : ℕ → List EventPlace → List ℕ
 back_of r es = map slot_in (places_behind r es)
 
 -- What stands on a side of a rank is a slot, where there is one.
@@ -116,7 +116,7 @@ pub listed_same : (a b : Index) (l m : Links) → a.entries ≡ b.entries → a.
 listed_same a b l m entries capacity same h = subst (λ (x : Index). AreListed x l) (sym (λ i. index (entries i) (capacity i))) (subst (AreListed b) (sym same) h)
 
 module _ (live : Index) (l : Links) (listed : AreListed live l) (rising : AreRising live.entries) (r : ℕ) where
-  abbrev es : List Place
+  abbrev es : List EventPlace
   es = live.entries
 
   abbrev t : ℕ
@@ -149,7 +149,7 @@ module _ (live : Index) (l : Links) (listed : AreListed live l) (rising : AreRis
       pub slot_within : IsSlot l s
       slot_within = record { prev = subst (λ n. s < n) (sym listed.prevs) within; next = subst (λ n. s < n) (sym listed.nexts) within }
 
-      abbrev more : List Place
+      abbrev more : List EventPlace
       more = put nat_cmp r s es
 
       abbrev m : Links
@@ -204,7 +204,7 @@ module _ (live : Index) (l : Links) (listed : AreListed live l) (rising : AreRis
     pub prev_present : prev_of l s ≡ slot_before r es
     prev_present = (chain_parts l None front (s ∷ back) None whole.chain).1.0 ∙ last_slot (places_before r es)
 
-    abbrev fewer : List Place
+    abbrev fewer : List EventPlace
     fewer = out r es
 
     abbrev left : Links

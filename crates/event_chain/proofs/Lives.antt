@@ -19,8 +19,8 @@ use Rattle.ledger_model.proofs.Callers.{first, second, find_below}
 use Rattle.ledger_model.proofs.Rising.{both}
 use Rattle.event_store.specs.Slots.{Held}
 use Rattle.event_chain.specs.declared.row.TableRow.{TableRow}
-use Rattle.event_chain.specs.Table.{Row, AreRising, row_of}
-use Rattle.event_chain.specs.Flat.{Place, place_of, stored_at, entry_of, segment, flat, event_at, number_at, look_in, look}
+use Rattle.event_chain.specs.Table.{TxRow, AreRising, row_of}
+use Rattle.event_chain.specs.Flat.{EventPlace, place_of, stored_at, entry_of, segment, flat, event_at, number_at, look_in, look}
 use Rattle.event_chain.specs.Kept.{AreRanks, HasPlace, IsBare, IsSub, chosen, is_live, is_naming, is_end, live_one, end_one}
 use Rattle.event_chain.specs.Edits.{first_under, last_under, kind_in, evse_at}
 use Rattle.event_chain.specs.Walk.{number_in, numbers_at}
@@ -94,7 +94,7 @@ live_of_is tx (e ∷ es) =
       | false ↦ elim (bytes_eq tx e.0.tx) as (λ b. cond b (e ∷ live_of tx es) (live_of tx es) ≡ cond (b && true) (e ∷ passing_of is_live tx es) (passing_of is_live tx es)) [ true ↦ ap (λ (xs : List Entry). e ∷ xs) rest | false ↦ rest ]
     ]
 
-module _ (rows : List Row) (es : List Place) (slots : List (Option Held)) (rising : AreRising rows) (ranks : AreRanks es) (test : Stored → Bool) (sub : List Place) (is_sub : IsSub test es slots sub) (tx : List ℕ) (row : TableRow) (row_is : row_of tx rows ≡ Some row) where
+module _ (rows : List TxRow) (es : List EventPlace) (slots : List (Option Held)) (rising : AreRising rows) (ranks : AreRanks es) (test : Stored → Bool) (sub : List EventPlace) (is_sub : IsSub test es slots sub) (tx : List ℕ) (row : TableRow) (row_is : row_of tx rows ≡ Some row) where
   -- The event of a number in the sub-index.
   sub_number : (seq : ℕ) → event_at slots (number_at row.slot seq sub) ≡ passing test (event_at slots (number_at row.slot seq es))
   sub_number seq =
@@ -120,7 +120,7 @@ module _ (rows : List Row) (es : List Place) (slots : List (Option Held)) (risin
             ∙ sym (find_entries q tx row.slot slots sub ∙ ap (λ b. cond b (event_at slots (place_of (rank row.slot q.seq) (segment row.slot sub))) None) ((id_test q.tx tx).1 (sym id)))
       ] refl)
 
-module _ (rows : List Row) (es : List Place) (slots : List (Option Held)) (rising : AreRising rows) (ranks : AreRanks es) (test : Stored → Bool) (tx : List ℕ) (absent : row_of tx rows ≡ None) where
+module _ (rows : List TxRow) (es : List EventPlace) (slots : List (Option Held)) (rising : AreRising rows) (ranks : AreRanks es) (test : Stored → Bool) (tx : List ℕ) (absent : row_of tx rows ≡ None) where
   -- None of an absent transaction pass.
   pub none_passing : passing_of test tx (flat rows es slots) ≡ []
   none_passing =
@@ -160,12 +160,12 @@ first_map f [] = refl
 first_map f (x ∷ xs) = refl
 
 -- The numbers of places are those of their events.
-numbers_map : (tx : List ℕ) (slots : List (Option Held)) (ps : List Place) → map (λ (e : Entry). e.0.seq) (map (entry_of tx slots) ps) ≡ map number_in ps
+numbers_map : (tx : List ℕ) (slots : List (Option Held)) (ps : List EventPlace) → map (λ (e : Entry). e.0.seq) (map (entry_of tx slots) ps) ≡ map number_in ps
 numbers_map tx slots [] = refl
 numbers_map tx slots (p ∷ ps) = ap (λ (ns : List ℕ). number_in p ∷ ns) (numbers_map tx slots ps)
 
 -- The live numbers of a transaction are those of its live places.
-pub live_numbers : (rows : List Row) (es lives : List Place) (slots : List (Option Held)) → AreRising rows → AreRanks es → IsSub is_live es slots lives → (tx : List ℕ) → numbers_of tx (flat rows es slots) ≡ numbers_at lives (option_map (λ r. r.slot) (row_of tx rows))
+pub live_numbers : (rows : List TxRow) (es lives : List EventPlace) (slots : List (Option Held)) → AreRising rows → AreRanks es → IsSub is_live es slots lives → (tx : List ℕ) → numbers_of tx (flat rows es slots) ≡ numbers_at lives (option_map (λ r. r.slot) (row_of tx rows))
 live_numbers rows es lives slots rising ranks sub tx = told (row_of tx rows) refl where
   told : (o : Option TableRow) → row_of tx rows ≡ o → numbers_of tx (flat rows es slots) ≡ numbers_at lives (option_map (λ r. r.slot) o)
   told None is = ap (λ (xs : List Entry). map (λ e. e.0.seq) xs) (live_of_is tx (flat rows es slots) ∙ none_passing rows es slots rising ranks is_live tx is)
@@ -178,15 +178,15 @@ last_map f (x ∷ xs) zero = refl
 last_map f (x ∷ xs) (suc n) = last_map f xs n
 
 -- The last of what places are turned into.
-last_turned : {Y : Type 0} (g : Place → Y) (ps : List Place) → slice_get (map g ps) (length (map g ps) - 1) ≡ option_map g (last_of ps)
+last_turned : {Y : Type 0} (g : EventPlace → Y) (ps : List EventPlace) → slice_get (map g ps) (length (map g ps) - 1) ≡ option_map g (last_of ps)
 last_turned g ps = ap (λ n. slice_get (map g ps) (n - 1)) (length-map ps g) ∙ last_map g ps (length ps - 1)
 
 -- What entries of places are turned into.
-turned_map : {Y : Type 0} (f : Entry → Y) (tx : List ℕ) (slots : List (Option Held)) (ps : List Place) → map f (map (entry_of tx slots) ps) ≡ map (λ p. f (entry_of tx slots p)) ps
+turned_map : {Y : Type 0} (f : Entry → Y) (tx : List ℕ) (slots : List (Option Held)) (ps : List EventPlace) → map f (map (entry_of tx slots) ps) ≡ map (λ p. f (entry_of tx slots p)) ps
 turned_map f tx slots [] = refl
 turned_map {Y = Y} f tx slots (p ∷ ps) = ap (λ (ys : List Y). f (entry_of tx slots p) ∷ ys) (turned_map f tx slots ps)
 
-module _ {Y : Type 0} (f : Entry → Y) (rows : List Row) (es lives : List Place) (slots : List (Option Held)) (rising : AreRising rows) (ranks : AreRanks es) (sub : IsSub is_live es slots lives) (tx : List ℕ) where
+module _ {Y : Type 0} (f : Entry → Y) (rows : List TxRow) (es lives : List EventPlace) (slots : List (Option Held)) (rising : AreRising rows) (ranks : AreRanks es) (sub : IsSub is_live es slots lives) (tx : List ℕ) where
   -- All events.
   abbrev whole : List Entry
   whole = flat rows es slots
@@ -210,19 +210,19 @@ module _ {Y : Type 0} (f : Entry → Y) (rows : List Row) (es lives : List Place
         ∙ ap (λ ys. slice_get ys (length ys - 1)) (turned_map f tx slots (segment row.slot lives)) ∙ last_turned (λ p. f (entry_of tx slots p)) (segment row.slot lives)
 
 -- The first live number of a transaction is that of its first live place.
-pub first_number : (rows : List Row) (es lives : List Place) (slots : List (Option Held)) → AreRising rows → AreRanks es → IsSub is_live es slots lives → (tx : List ℕ) → slice_get (numbers_of tx (flat rows es slots)) 0 ≡ option_map number_in (first_under lives (row_of tx rows))
+pub first_number : (rows : List TxRow) (es lives : List EventPlace) (slots : List (Option Held)) → AreRising rows → AreRanks es → IsSub is_live es slots lives → (tx : List ℕ) → slice_get (numbers_of tx (flat rows es slots)) 0 ≡ option_map number_in (first_under lives (row_of tx rows))
 first_number rows es lives slots rising ranks sub tx = first_live (λ e. e.0.seq) rows es lives slots rising ranks sub tx
 
 -- The last is that of its last one.
-pub last_number : (rows : List Row) (es lives : List Place) (slots : List (Option Held)) → AreRising rows → AreRanks es → IsSub is_live es slots lives → (tx : List ℕ) → let numbers = numbers_of tx (flat rows es slots) in slice_get numbers (length numbers - 1) ≡ option_map number_in (last_under lives (row_of tx rows))
+pub last_number : (rows : List TxRow) (es lives : List EventPlace) (slots : List (Option Held)) → AreRising rows → AreRanks es → IsSub is_live es slots lives → (tx : List ℕ) → let numbers = numbers_of tx (flat rows es slots) in slice_get numbers (length numbers - 1) ≡ option_map number_in (last_under lives (row_of tx rows))
 last_number rows es lives slots rising ranks sub tx = last_live (λ e. e.0.seq) rows es lives slots rising ranks sub tx
 
 -- The first kind of a transaction is that of its first live place.
-pub first_kind : (rows : List Row) (es lives : List Place) (slots : List (Option Held)) → AreRising rows → AreRanks es → IsSub is_live es slots lives → (tx : List ℕ) → slice_get (kinds_of tx (flat rows es slots)) 0 ≡ option_map (kind_in slots) (first_under lives (row_of tx rows))
+pub first_kind : (rows : List TxRow) (es lives : List EventPlace) (slots : List (Option Held)) → AreRising rows → AreRanks es → IsSub is_live es slots lives → (tx : List ℕ) → slice_get (kinds_of tx (flat rows es slots)) 0 ≡ option_map (kind_in slots) (first_under lives (row_of tx rows))
 first_kind rows es lives slots rising ranks sub tx = first_live (λ e. e.1.event.kind) rows es lives slots rising ranks sub tx
 
 -- The last is that of its last one.
-pub last_kind : (rows : List Row) (es lives : List Place) (slots : List (Option Held)) → AreRising rows → AreRanks es → IsSub is_live es slots lives → (tx : List ℕ) → let kinds = kinds_of tx (flat rows es slots) in slice_get kinds (length kinds - 1) ≡ option_map (kind_in slots) (last_under lives (row_of tx rows))
+pub last_kind : (rows : List TxRow) (es lives : List EventPlace) (slots : List (Option Held)) → AreRising rows → AreRanks es → IsSub is_live es slots lives → (tx : List ℕ) → let kinds = kinds_of tx (flat rows es slots) in slice_get kinds (length kinds - 1) ≡ option_map (kind_in slots) (last_under lives (row_of tx rows))
 last_kind rows es lives slots rising ranks sub tx = last_live (λ e. e.1.event.kind) rows es lives slots rising ranks sub tx
 
 -- The EVSE of an entry, or 0.
@@ -244,10 +244,10 @@ evse_naming tx [] = refl
 evse_naming tx (e ∷ es) = let rest = evse_naming tx es in named e (bytes_eq tx e.0.tx) e.1.voided e.1.event.evse refl (passing_of is_live tx es) (passing_of is_naming tx es) rest
 
 -- The EVSE of a transaction is that of its first naming place.
-pub evse_number : (rows : List Row) (es names : List Place) (slots : List (Option Held)) → AreRising rows → AreRanks es → IsSub is_naming es slots names → (tx : List ℕ) → evse_of tx (flat rows es slots) ≡ evse_at slots (first_under names (row_of tx rows))
+pub evse_number : (rows : List TxRow) (es names : List EventPlace) (slots : List (Option Held)) → AreRising rows → AreRanks es → IsSub is_naming es slots names → (tx : List ℕ) → evse_of tx (flat rows es slots) ≡ evse_at slots (first_under names (row_of tx rows))
 evse_number rows es names slots rising ranks sub tx =
     ap (λ (xs : List Entry). first_or_none (filter_map (λ e. e.1.event.evse) xs)) (live_of_is tx (flat rows es slots)) ∙ evse_naming tx (flat rows es slots) ∙ told (row_of tx rows) refl where
-      placed : (ps : List Place) → evse_first (slice_get (map (entry_of tx slots) ps) 0) ≡ evse_at slots (slice_get ps 0)
+      placed : (ps : List EventPlace) → evse_first (slice_get (map (entry_of tx slots) ps) 0) ≡ evse_at slots (slice_get ps 0)
       placed [] = refl
       placed (p ∷ ps) = refl
 
@@ -256,7 +256,7 @@ evse_number rows es names slots rising ranks sub tx =
       told (Some row) is = ap (λ (xs : List Entry). evse_first (slice_get xs 0)) (segment_passing rows es slots rising ranks is_naming names sub tx row is) ∙ placed (segment row.slot names)
 
 -- A rank below all is not found.
-pub below_none : (r : ℕ) (es : List Place) → T (below_all nat_cmp r es) → place_of r es ≡ None
+pub below_none : (r : ℕ) (es : List EventPlace) → T (below_all nat_cmp r es) → place_of r es ≡ None
 below_none r [] h = refl
 below_none r (e ∷ es) h = ap (λ o. cond (is_eq o) (Some e.1) (place_of r es)) (nat_less r e.0 (less_nat r e.0 (first _ _ h))) ∙ below_none r es (second _ _ h)
 
@@ -265,34 +265,34 @@ never : (o : Option ℕ) (s : ℕ) → o ≡ Some s → o ≡ None → ⊥
 never o s a b = cc
 
 -- The first of a segment is found.
-seg_found : (t : ℕ) (es : List Place) (p : Place) → AreRanks es → slice_get (segment t es) 0 ≡ Some p → place_of p.0 es ≡ Some p.1
+seg_found : (t : ℕ) (es : List EventPlace) (p : EventPlace) → AreRanks es → slice_get (segment t es) 0 ≡ Some p → place_of p.0 es ≡ Some p.1
 seg_found t [] p h is = cc
 seg_found t (e ∷ es) p h is =
     elim (e.0 / 2 ^ 31 == t) as (λ b. slice_get (cond b (e ∷ segment t es) (segment t es)) 0 ≡ Some p → place_of p.0 (e ∷ es) ≡ Some p.1) [
-      | true ↦ λ some. let same : e ≡ p = cc in subst (λ (k : Place). place_of k.0 (e ∷ es) ≡ Some k.1) same (ap (λ b. cond b (Some e.1) (place_of e.0 es)) ((rank_test e.0 e.0).1 refl))
+      | true ↦ λ some. let same : e ≡ p = cc in subst (λ (k : EventPlace). place_of k.0 (e ∷ es) ≡ Some k.1) same (ap (λ b. cond b (Some e.1) (place_of e.0 es)) ((rank_test e.0 e.0).1 refl))
       | false ↦ λ some. let rest = seg_found t es p (second _ _ h) some in
           ap (λ b. cond b (Some e.1) (place_of p.0 es)) (not_so _ (rank_test p.0 e.0) (λ k. never (place_of p.0 es) p.1 rest (ap (λ r. place_of r es) k ∙ below_none e.0 es (first _ _ h)))) ∙ rest
     ] is
 
 -- The first of a segment is of its transaction.
-seg_home : (t : ℕ) (es : List Place) (p : Place) → slice_get (segment t es) 0 ≡ Some p → p.0 / 2 ^ 31 ≡ t
+seg_home : (t : ℕ) (es : List EventPlace) (p : EventPlace) → slice_get (segment t es) 0 ≡ Some p → p.0 / 2 ^ 31 ≡ t
 seg_home t [] p is = cc
 seg_home t (e ∷ es) p is =
     elim (e.0 / 2 ^ 31 == t) as (λ b. (e.0 / 2 ^ 31 == t) ≡ b → slice_get (cond b (e ∷ segment t es) (segment t es)) 0 ≡ Some p → p.0 / 2 ^ 31 ≡ t) [
-      | true ↦ λ y some. let same : e ≡ p = cc in ap (λ (k : Place). k.0 / 2 ^ 31) (sym same) ∙ (Decides-eqb (e.0 / 2 ^ 31) t).0 y
+      | true ↦ λ y some. let same : e ≡ p = cc in ap (λ (k : EventPlace). k.0 / 2 ^ 31) (sym same) ∙ (Decides-eqb (e.0 / 2 ^ 31) t).0 y
       | false ↦ λ _ some. seg_home t es p some
     ] refl is
 
 -- Where a segment has a first place, its transaction has one.
-pub seg_some : (t : ℕ) (es : List Place) (o : Option Place) → AreRanks es → o ≡ slice_get (segment t es) 0 → is_some o ≡ true → HasPlace es t
+pub seg_some : (t : ℕ) (es : List EventPlace) (o : Option EventPlace) → AreRanks es → o ≡ slice_get (segment t es) 0 → is_some o ≡ true → HasPlace es t
 seg_some t es None ranks is some = cc
 seg_some t es (Some p) ranks is some = record { rank = p.0; place = p.1; found = seg_found t es p ranks (sym is); slot_is = seg_home t es p (sym is) }
 
 -- Where it has none, its transaction has none.
-pub seg_bare : (t : ℕ) (es : List Place) (o : Option Place) → o ≡ slice_get (segment t es) 0 → is_some o ≡ false → IsBare es t
+pub seg_bare : (t : ℕ) (es : List EventPlace) (o : Option EventPlace) → o ≡ slice_get (segment t es) 0 → is_some o ≡ false → IsBare es t
 seg_bare t es (Some p) is some r s found home = cc
 seg_bare t es None is some r s found home = bare es (sym is) found where
-  bare : (ps : List Place) → slice_get (segment t ps) 0 ≡ None → place_of r ps ≡ Some s → ⊥
+  bare : (ps : List EventPlace) → slice_get (segment t ps) 0 ≡ None → place_of r ps ≡ Some s → ⊥
   bare [] none there = cc
   bare (p ∷ ps) none there =
       elim (p.0 / 2 ^ 31 == t) as (λ b. (p.0 / 2 ^ 31 == t) ≡ b → slice_get (cond b (p ∷ segment t ps) (segment t ps)) 0 ≡ None → ⊥) [

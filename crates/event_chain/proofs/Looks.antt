@@ -6,12 +6,12 @@ use Rattle.key_index.specs.Key.{rank}
 use Rattle.ledger_model.specs.Key.{KeyName}
 use Rattle.event_store.specs.Slots.{Held}
 use Rattle.event_chain.specs.declared.row.TableRow.{TableRow}
-use Rattle.event_chain.specs.Table.{Row, id_cmp, row_of}
-use Rattle.event_chain.specs.Flat.{Place, place_of, stored_at, event_at, number_at, look_in, look}
+use Rattle.event_chain.specs.Table.{TxRow, id_cmp, row_of}
+use Rattle.event_chain.specs.Flat.{EventPlace, place_of, stored_at, event_at, number_at, look_in, look}
 use Rattle.event_chain.proofs.Decided.{id_test, denied}
 
 -- One place, one slot and one transaction may differ.
-pub record IsMove (rows new : List Row) (es more : List Place) (slots held : List (Option Held)) (key : KeyName) (slot r0 s0 : ℕ) : Type 0 where
+pub record IsMove (rows new : List TxRow) (es more : List EventPlace) (slots held : List (Option Held)) (key : KeyName) (slot r0 s0 : ℕ) : Type 0 where
   pub rank_is : r0 ≡ rank slot key.seq
   pub number : key.seq < 2 ^ 31
   pub ranks : (r : ℕ) → (r ≡ r0 → ⊥) → place_of r more ≡ place_of r es
@@ -22,7 +22,7 @@ pub record IsMove (rows new : List Row) (es more : List Place) (slots held : Lis
   pub before : (seq : ℕ) → look_in es slots seq (row_of key.tx rows) ≡ event_at slots (number_at slot seq es)
   pub after : (seq : ℕ) → look_in more held seq (row_of key.tx new) ≡ event_at held (number_at slot seq more)
 
-module _ (rows new : List Row) (es more : List Place) (slots held : List (Option Held)) (key : KeyName) (slot r0 s0 : ℕ) (move : IsMove rows new es more slots held key slot r0 s0) where
+module _ (rows new : List TxRow) (es more : List EventPlace) (slots held : List (Option Held)) (key : KeyName) (slot r0 s0 : ℕ) (move : IsMove rows new es more slots held key slot r0 s0) where
   -- The event of another place is the same.
   same_event : (r : ℕ) → (r ≡ r0 → ⊥) → event_at held (place_of r more) ≡ event_at slots (place_of r es)
   same_event r other = ap (event_at held) (move.ranks r other) ∙ kept (place_of r es) refl where

@@ -15,8 +15,8 @@ use Rattle.ledger_model.specs.Content.{Entry, Stored}
 use Rattle.ledger_model.specs.Step.{marked, marked_at}
 use Rattle.event_store.specs.Slots.{Held, Slots, voided_as, voided_at}
 use Rattle.event_chain.specs.declared.row.TableRow.{TableRow}
-use Rattle.event_chain.specs.Table.{Table, Row, AreRising, AreApart, row_of, with_row}
-use Rattle.event_chain.specs.Flat.{Place, place_of, stored_in, event_at, flat}
+use Rattle.event_chain.specs.Table.{Table, TxRow, AreRising, AreApart, row_of, with_row}
+use Rattle.event_chain.specs.Flat.{EventPlace, place_of, stored_in, event_at, flat}
 use Rattle.event_chain.specs.Edits.{put_if, out, place_in, place_at}
 use Rattle.event_chain.specs.Kept.{IsSub, chosen, is_live, is_carrier, is_naming, is_end, live_one, end_one, AreIndexed, IsChains, IsNamed, events_of}
 use Rattle.event_chain.proofs.Facts.{seal, all_rising, get_place, counts_few}
@@ -71,15 +71,15 @@ module _ (limits : Bounds) (table : Table) (store : Slots) (stored live : Index)
         ∙ ap (λ o. Some (stored_in o)) spot_here
 
     -- The place in a sub-index.
-    pub spot_sub : (test : Stored → Bool) (sub : List Place) → IsSub test stored.entries store.slots sub → place_of r0 sub ≡ cond (test spot_event) (Some s0) None
+    pub spot_sub : (test : Stored → Bool) (sub : List EventPlace) → IsSub test stored.entries store.slots sub → place_of r0 sub ≡ cond (test spot_event) (Some s0) None
     spot_sub test sub is = is.each r0 ∙ ap (chosen test store.slots) at ∙ ap (λ o. cond (test (stored_in o)) (Some s0) None) spot_here
 
     -- It is there where the event passes.
-    pub spot_there : (test : Stored → Bool) (sub : List Place) (b : Bool) → IsSub test stored.entries store.slots sub → b ≡ test spot_event → b ≡ true → is_some (place_of r0 sub) ≡ true
+    pub spot_there : (test : Stored → Bool) (sub : List EventPlace) (b : Bool) → IsSub test stored.entries store.slots sub → b ≡ test spot_event → b ≡ true → is_some (place_of r0 sub) ≡ true
     spot_there test sub b is same holds = ap is_some (spot_sub test sub is ∙ ap (λ c. cond c (Some s0) None) (sym same ∙ holds))
 
     -- It is not there where the event does not.
-    pub spot_absent : (test : Stored → Bool) (sub : List Place) → IsSub test stored.entries store.slots sub → test spot_event ≡ false → place_of r0 sub ≡ None
+    pub spot_absent : (test : Stored → Bool) (sub : List EventPlace) → IsSub test stored.entries store.slots sub → test spot_event ≡ false → place_of r0 sub ≡ None
     spot_absent test sub is never = spot_sub test sub is ∙ ap (λ c. cond c (Some s0) None) never
 
     -- There are no more places than events may be.
@@ -87,7 +87,7 @@ module _ (limits : Bounds) (table : Table) (store : Slots) (stored live : Index)
     places_few = omega (arith, chains.counted.held_are, chains.counted.slots_are, count_by-le-length (is_some {T = Held}) store.slots)
 
     -- There is room for it where it is not.
-    pub spot_room : (test : Stored → Bool) (sub : List Place) → IsSub test stored.entries store.slots sub → test spot_event ≡ false → length sub < limits.events
+    pub spot_room : (test : Stored → Bool) (sub : List EventPlace) → IsSub test stored.entries store.slots sub → test spot_event ≡ false → length sub < limits.events
     spot_room test sub is never = let few = places_few in let lt = room_for_one test stored.entries sub store.slots r0 s0 chains.keyed.ranks is.rising (λ r _. is.each r) at (spot_absent test sub is never) in omega (arith, few, lt)
 
     abbrev all : List Entry
@@ -118,7 +118,7 @@ module _ (limits : Bounds) (table : Table) (store : Slots) (stored live : Index)
     pub spot_is : (h : Held) → value_at store.slots s0 ≡ Some h → h.1 ≡ spot_event
     spot_is h is = let e : h ≡ (r0, spot_event) = same_held (value_at store.slots s0) h (r0, spot_event) is spot_here in ap (λ (x : Held). x.1) e
 
-    module _ (new : List Row) (after : TableRow) (rows : new ≡ with_row key.tx after table.rows) (same : after.slot ≡ row.slot) (rising : AreRising new) (apart : AreApart new) (voided : Bool) where
+    module _ (new : List TxRow) (after : TableRow) (rows : new ≡ with_row key.tx after table.rows) (same : after.slot ≡ row.slot) (rising : AreRising new) (apart : AreApart new) (voided : Bool) where
       abbrev now : Stored
       now = record { event = spot_event.event; voided = voided }
 
@@ -129,19 +129,19 @@ module _ (limits : Bounds) (table : Table) (store : Slots) (stored live : Index)
       named_now = named_after table.rows table.rows new key.tx row after (inl (row_is, refl)) rows same
 
       -- An index that takes the place.
-      spot_in : (test : Stored → Bool) (sub is' : List Place) (b : Bool) → is' ≡ put_if b r0 s0 sub → b ≡ test now → test spot_event ≡ false → IsSub test stored.entries store.slots sub → IsSub test stored.entries held is'
+      spot_in : (test : Stored → Bool) (sub is' : List EventPlace) (b : Bool) → is' ≡ put_if b r0 s0 sub → b ≡ test now → test spot_event ≡ false → IsSub test stored.entries store.slots sub → IsSub test stored.entries held is'
       spot_in test sub is' b is b_is never was = subst (IsSub test stored.entries held) (sym is)
           (mark_in limits table.rows new stored.entries live.entries (λ d. (carriers d).entries) naming.entries store.slots key row after r0 s0 table.capacity store.readings store.capacity chains.keyed chains.indexed chains.figured chains.counted named_now number rank_is rising apart
           spot_event now spot_here spot_within at test sub b b_is never was)
 
       -- An index that gives the place up.
-      spot_out : (test : Stored → Bool) (sub is' : List Place) → is' ≡ out r0 sub → test now ≡ false → IsSub test stored.entries store.slots sub → IsSub test stored.entries held is'
+      spot_out : (test : Stored → Bool) (sub is' : List EventPlace) → is' ≡ out r0 sub → test now ≡ false → IsSub test stored.entries store.slots sub → IsSub test stored.entries held is'
       spot_out test sub is' is never was = subst (IsSub test stored.entries held) (sym is)
           (mark_out limits table.rows new stored.entries live.entries (λ d. (carriers d).entries) naming.entries store.slots key row after r0 s0 table.capacity store.readings store.capacity chains.keyed chains.indexed chains.figured chains.counted named_now number rank_is rising apart
           spot_event now spot_here spot_within at test sub never was)
 
       -- The indexes of an event that is live again.
-      pub in_indexes : (l : List Place) (c : Direction → List Place) (n : List Place) (carries : Direction → Bool) (names : Bool) → voided ≡ false → spot_event.voided ≡ true → l ≡ put_if true r0 s0 live.entries → ((d : Direction) → c d ≡ put_if (carries d) r0 s0 (carriers d).entries) → n ≡ put_if names r0 s0 naming.entries
+      pub in_indexes : (l : List EventPlace) (c : Direction → List EventPlace) (n : List EventPlace) (carries : Direction → Bool) (names : Bool) → voided ≡ false → spot_event.voided ≡ true → l ≡ put_if true r0 s0 live.entries → ((d : Direction) → c d ≡ put_if (carries d) r0 s0 (carriers d).entries) → n ≡ put_if names r0 s0 naming.entries
           → ((d : Direction) → carries d ≡ is_some (first_reading (toward d spot_event.event.readings))) → names ≡ is_some spot_event.event.evse → AreIndexed stored.entries held l c n
       in_indexes l c n carries names no_more was l_is c_is n_is carries_is names_is = record {
         lives = spot_in is_live live.entries l true l_is (sym (ap not no_more)) (ap not was) chains.indexed.lives;
@@ -150,7 +150,7 @@ module _ (limits : Bounds) (table : Table) (store : Slots) (stored live : Index)
       }
 
       -- The indexes of an event that was voided.
-      pub out_indexes : (l : List Place) (c : Direction → List Place) (n : List Place) → voided ≡ true → l ≡ out r0 live.entries → ((d : Direction) → c d ≡ out r0 (carriers d).entries) → n ≡ out r0 naming.entries → AreIndexed stored.entries held l c n
+      pub out_indexes : (l : List EventPlace) (c : Direction → List EventPlace) (n : List EventPlace) → voided ≡ true → l ≡ out r0 live.entries → ((d : Direction) → c d ≡ out r0 (carriers d).entries) → n ≡ out r0 naming.entries → AreIndexed stored.entries held l c n
       out_indexes l c n now_void l_is c_is n_is = record {
         lives = spot_out is_live live.entries l l_is (ap not now_void) chains.indexed.lives;
         carry = λ d. spot_out (is_carrier d) (carriers d).entries (c d) (c_is d) (ap (λ v. not v && is_some (first_reading (toward d spot_event.event.readings))) now_void) (chains.indexed.carry d);

@@ -7,8 +7,8 @@ use Rattle.ledger_model.specs.Content.{Stored}
 use Rattle.ledger_model.proofs.Callers.{first, second}
 use Rattle.event_store.specs.Slots.{Held}
 use Rattle.event_chain.specs.declared.row.TableRow.{TableRow}
-use Rattle.event_chain.specs.Table.{Row}
-use Rattle.event_chain.specs.Flat.{Place, place_of, stored_at}
+use Rattle.event_chain.specs.Table.{TxRow}
+use Rattle.event_chain.specs.Flat.{EventPlace, place_of, stored_at}
 use Rattle.event_chain.specs.Kept.{AreRanks, IsSub, IsKeyed, chosen}
 use Rattle.event_chain.specs.Edits.{IsStored, first_under, last_under}
 use Rattle.event_chain.proofs.Decided.{rank_test, not_so}
@@ -16,7 +16,7 @@ use Rattle.event_chain.proofs.Lives.{chosen_place, below_none}
 use Rattle.event_chain.proofs.Places.{last_cons}
 
 -- Each place of the list is so.
-abbrev pub AllPlaces : (Place → Type 0) → List Place → Type 0
+abbrev pub AllPlaces : (EventPlace → Type 0) → List EventPlace → Type 0
 AllPlaces P [] = Unit {0}
 AllPlaces P (p ∷ ps) = P p × AllPlaces P ps
 
@@ -25,7 +25,7 @@ pub never : (o : Option ℕ) (s : ℕ) → o ≡ Some s → o ≡ None → ⊥
 never o s a b = cc
 
 -- What holds of each place that is found holds of all.
-pub all_found : (P : Place → Type 0) (ps : List Place) → AreRanks ps → ((p : Place) → place_of p.0 ps ≡ Some p.1 → P p) → AllPlaces P ps
+pub all_found : (P : EventPlace → Type 0) (ps : List EventPlace) → AreRanks ps → ((p : EventPlace) → place_of p.0 ps ≡ Some p.1 → P p) → AllPlaces P ps
 all_found P [] h each = tt
 all_found P (p ∷ ps) h each = (
   each p (ap (λ b. cond b (Some p.1) (place_of p.0 ps)) ((rank_test p.0 p.0).1 refl)),
@@ -33,7 +33,7 @@ all_found P (p ∷ ps) h each = (
 )
 
 -- What holds of all holds of those that are left.
-pub all_left : (P : Place → Type 0) (f : Place → Bool) (ps : List Place) → AllPlaces P ps → AllPlaces P (filter f ps)
+pub all_left : (P : EventPlace → Type 0) (f : EventPlace → Bool) (ps : List EventPlace) → AllPlaces P ps → AllPlaces P (filter f ps)
 all_left P f [] h = tt
 all_left P f (p ∷ ps) h = elim (f p) as (λ b. AllPlaces P (cond b (p ∷ filter f ps) (filter f ps))) [ true ↦ (h.0, all_left P f ps h.1) | false ↦ all_left P f ps h.1 ]
 
@@ -46,31 +46,31 @@ chosen_test test slots (Some n) s h = elim (test (stored_at slots n)) as (λ b. 
 ] refl h
 
 -- The event of each place passes the index's test.
-pub all_chosen : (test : Stored → Bool) (es sub : List Place) (slots : List (Option Held)) → IsSub test es slots sub → AllPlaces (λ p. test (stored_at slots p.1) ≡ true) sub
+pub all_chosen : (test : Stored → Bool) (es sub : List EventPlace) (slots : List (Option Held)) → IsSub test es slots sub → AllPlaces (λ p. test (stored_at slots p.1) ≡ true) sub
 all_chosen test es sub slots is = all_found (λ p. test (stored_at slots p.1) ≡ true) sub is.rising (λ p at. chosen_test test slots (place_of p.0 es) p.1 (sym (is.each p.0) ∙ at))
 
 -- Each place is that of an event.
-pub all_held : (test : Stored → Bool) (rows : List Row) (es sub : List Place) (slots : List (Option Held)) → IsKeyed rows es slots → IsSub test es slots sub → AllPlaces (λ p. IsHeld slots p.1) sub
+pub all_held : (test : Stored → Bool) (rows : List TxRow) (es sub : List EventPlace) (slots : List (Option Held)) → IsKeyed rows es slots → IsSub test es slots sub → AllPlaces (λ p. IsHeld slots p.1) sub
 all_held test rows es sub slots keyed is = all_found (λ p. IsHeld slots p.1) sub is.rising (λ p at.
     ap is_some (keyed.homes p.0 p.1 (chosen_place test slots (place_of p.0 es) p.1 (sym (is.each p.0) ∙ at))).held_is)
 
 -- The first of such places is that of an event.
-pub stored_first : (slots : List (Option Held)) (ps : List Place) → AllPlaces (λ p. IsHeld slots p.1) ps → IsStored slots (slice_get ps 0)
+pub stored_first : (slots : List (Option Held)) (ps : List EventPlace) → AllPlaces (λ p. IsHeld slots p.1) ps → IsStored slots (slice_get ps 0)
 stored_first slots [] h = tt
 stored_first slots (p ∷ ps) h = h.0
 
 -- So is the last.
-pub stored_last : (slots : List (Option Held)) (ps : List Place) → AllPlaces (λ p. IsHeld slots p.1) ps → IsStored slots (last_of ps)
+pub stored_last : (slots : List (Option Held)) (ps : List EventPlace) → AllPlaces (λ p. IsHeld slots p.1) ps → IsStored slots (last_of ps)
 stored_last slots [] h = tt
 stored_last slots (p ∷ []) h = h.0
 stored_last slots (p ∷ q ∷ ps) h = subst (IsStored slots) (sym (last_cons p q ps)) (stored_last slots (q ∷ ps) h.1)
 
 -- The first place of a transaction is that of an event.
-pub first_held : (slots : List (Option Held)) (ps : List Place) (o : Option TableRow) → AllPlaces (λ p. IsHeld slots p.1) ps → IsStored slots (first_under ps o)
+pub first_held : (slots : List (Option Held)) (ps : List EventPlace) (o : Option TableRow) → AllPlaces (λ p. IsHeld slots p.1) ps → IsStored slots (first_under ps o)
 first_held slots ps None h = tt
 first_held slots ps (Some row) h = stored_first slots (filter (λ e. e.0 / 2 ^ 31 == row.slot) ps) (all_left (λ p. IsHeld slots p.1) (λ e. e.0 / 2 ^ 31 == row.slot) ps h)
 
 -- So is the last.
-pub last_held : (slots : List (Option Held)) (ps : List Place) (o : Option TableRow) → AllPlaces (λ p. IsHeld slots p.1) ps → IsStored slots (last_under ps o)
+pub last_held : (slots : List (Option Held)) (ps : List EventPlace) (o : Option TableRow) → AllPlaces (λ p. IsHeld slots p.1) ps → IsStored slots (last_under ps o)
 last_held slots ps None h = tt
 last_held slots ps (Some row) h = stored_last slots (filter (λ e. e.0 / 2 ^ 31 == row.slot) ps) (all_left (λ p. IsHeld slots p.1) (λ e. e.0 / 2 ^ 31 == row.slot) ps h)

@@ -12,23 +12,23 @@ use Rattle.ledger_model.specs.Key.{KeyName}
 use Rattle.ledger_model.specs.Content.{Stored}
 use Rattle.event_store.specs.Slots.{Held}
 use Rattle.event_chain.specs.declared.row.TableRow.{TableRow}
-use Rattle.event_chain.specs.Table.{Row, AreRising, AreApart, IsFresh, id_cmp, row_of}
-use Rattle.event_chain.specs.Flat.{Place, place_of, stored_in, stored_at, event_at, number_at, look_in}
+use Rattle.event_chain.specs.Table.{TxRow, AreRising, AreApart, IsFresh, id_cmp, row_of}
+use Rattle.event_chain.specs.Flat.{EventPlace, place_of, stored_in, stored_at, event_at, number_at, look_in}
 use Rattle.event_chain.specs.Kept.{AreRanks, IsHome, HasPlace, IsKeyed, IsNamed, IsBare, IsLeft}
 use Rattle.event_chain.specs.Edits.{out}
 use Rattle.event_chain.proofs.Decided.{id_test, rank_test, denied, not_so}
 use Rattle.event_chain.proofs.Looks.{IsMove}
 
 -- What is found under a rank after one was put in.
-pub put_found : (r r0 s0 : ℕ) (es : List Place) → place_of r (put nat_cmp r0 s0 es) ≡ cond (eq_by_cmp nat_cmp r r0) (Some s0) (place_of r es)
+pub put_found : (r r0 s0 : ℕ) (es : List EventPlace) → place_of r (put nat_cmp r0 s0 es) ≡ cond (eq_by_cmp nat_cmp r r0) (Some s0) (place_of r es)
 put_found r r0 s0 es = find-put nat_cmp nat_cmp_total r r0 s0 es
 
 -- The rank itself.
-pub put_here : (r0 s0 : ℕ) (es : List Place) → place_of r0 (put nat_cmp r0 s0 es) ≡ Some s0
+pub put_here : (r0 s0 : ℕ) (es : List EventPlace) → place_of r0 (put nat_cmp r0 s0 es) ≡ Some s0
 put_here r0 s0 es = put_found r0 r0 s0 es ∙ ap (λ b. cond b (Some s0) (place_of r0 es)) ((rank_test r0 r0).1 refl)
 
 -- Another.
-pub put_other : (r r0 s0 : ℕ) (es : List Place) → (r ≡ r0 → ⊥) → place_of r (put nat_cmp r0 s0 es) ≡ place_of r es
+pub put_other : (r r0 s0 : ℕ) (es : List EventPlace) → (r ≡ r0 → ⊥) → place_of r (put nat_cmp r0 s0 es) ≡ place_of r es
 put_other r r0 s0 es other = put_found r r0 s0 es ∙ ap (λ b. cond b (Some s0) (place_of r es)) (not_so _ (rank_test r r0) other)
 
 turned : {A : Type 0} (b : Bool) (x y : A) → cond (not b) x y ≡ cond b y x
@@ -36,17 +36,17 @@ turned true x y = refl
 turned false x y = refl
 
 -- What is found under a rank after one was taken out.
-pub out_found : (r r0 : ℕ) (es : List Place) → place_of r (out r0 es) ≡ cond (eq_by_cmp nat_cmp r r0) None (place_of r es)
+pub out_found : (r r0 : ℕ) (es : List EventPlace) → place_of r (out r0 es) ≡ cond (eq_by_cmp nat_cmp r r0) None (place_of r es)
 out_found r r0 es =
     find-where_key nat_cmp (λ x. not (eq_by_cmp nat_cmp r0 x)) r (λ x t. ap (λ o. not (is_eq o)) (sym (alike_right nat_cmp_total r x r0 t))) es
     ∙ turned (eq_by_cmp nat_cmp r0 r) (place_of r es) None ∙ ap (λ b. cond b None (place_of r es)) ((eq_by_cmp_equiv nat_cmp_total).symm r0 r)
 
 -- The rank itself.
-pub out_here : (r0 : ℕ) (es : List Place) → place_of r0 (out r0 es) ≡ None
+pub out_here : (r0 : ℕ) (es : List EventPlace) → place_of r0 (out r0 es) ≡ None
 out_here r0 es = out_found r0 r0 es ∙ ap (λ b. cond b None (place_of r0 es)) ((rank_test r0 r0).1 refl)
 
 -- Another.
-pub out_other : (r r0 : ℕ) (es : List Place) → (r ≡ r0 → ⊥) → place_of r (out r0 es) ≡ place_of r es
+pub out_other : (r r0 : ℕ) (es : List EventPlace) → (r ≡ r0 → ⊥) → place_of r (out r0 es) ≡ place_of r es
 out_other r r0 es other = out_found r r0 es ∙ ap (λ b. cond b None (place_of r es)) (not_so _ (rank_test r r0) other)
 
 -- A slot that was written holds what was written; another what it did.
@@ -74,7 +74,7 @@ no_row : (o : Option TableRow) (a : TableRow) → o ≡ Some a → o ≡ None �
 no_row o a x y = cc
 
 -- No number of a slot without places has one.
-bare_number : (es : List Place) (t seq : ℕ) → IsBare es t → number_at t seq es ≡ None
+bare_number : (es : List EventPlace) (t seq : ℕ) → IsBare es t → number_at t seq es ≡ None
 bare_number es t seq bare =
     elim (nat_lt seq (2 ^ 31)) as (λ b. nat_lt seq (2 ^ 31) ≡ b → cond b (place_of (rank t seq) es) None ≡ None) [
       | false ↦ λ _. refl
@@ -84,7 +84,7 @@ bare_number es t seq bare =
       ] refl
     ] refl
 
-module _ (rows : List Row) (es : List Place) (slots : List (Option Held)) (keyed : IsKeyed rows es slots) where
+module _ (rows : List TxRow) (es : List EventPlace) (slots : List (Option Held)) (keyed : IsKeyed rows es slots) where
   -- The slot of a place holds the event of its rank alone.
   pub own_rank : (r r0 s0 : ℕ) (st : Stored) → value_at slots s0 ≡ Some (r0, st) → place_of r es ≡ Some s0 → r ≡ r0
   own_rank r r0 s0 st here is = same_rank (value_at slots s0) r r0 (keyed.homes r s0 is).stored st (keyed.homes r s0 is).held_is here
@@ -105,7 +105,7 @@ module _ (rows : List Row) (es : List Place) (slots : List (Option Held)) (keyed
         ] refl
       ] refl
 
-  module _ (new : List Row) (tx : List ℕ) (row after : TableRow) (named : IsNamed rows new tx row after) where
+  module _ (new : List TxRow) (tx : List ℕ) (row after : TableRow) (named : IsNamed rows new tx row after) where
     -- The slot is the transaction's alone.
     pub apart_named : (q : List ℕ) (other : TableRow) → row_of q rows ≡ Some other → other.slot ≡ row.slot → q ≡ tx
     apart_named q other is same = elim named.known [
@@ -121,11 +121,11 @@ module _ (rows : List Row) (es : List Place) (slots : List (Option Held)) (keyed
     ]
 
     -- So is what is found after.
-    pub after_named : (more : List Place) (held : List (Option Held)) (seq : ℕ) → look_in more held seq (row_of tx new) ≡ event_at held (number_at row.slot seq more)
+    pub after_named : (more : List EventPlace) (held : List (Option Held)) (seq : ℕ) → look_in more held seq (row_of tx new) ≡ event_at held (number_at row.slot seq more)
     after_named more held seq = ap (look_in more held seq) named.there ∙ ap (λ t. event_at held (number_at t seq more)) named.same
 
   -- A new event is such a move.
-  pub put_move : (new : List Row) (key : KeyName) (row after : TableRow) (r0 s0 : ℕ) (x : Held) → IsNamed rows new key.tx row after → key.seq < 2 ^ 31 → r0 ≡ rank row.slot key.seq → value_at slots s0 ≡ None → IsMove rows new es (put nat_cmp r0 s0 es) slots (set slots s0 (Some x)) key row.slot r0 s0
+  pub put_move : (new : List TxRow) (key : KeyName) (row after : TableRow) (r0 s0 : ℕ) (x : Held) → IsNamed rows new key.tx row after → key.seq < 2 ^ 31 → r0 ≡ rank row.slot key.seq → value_at slots s0 ≡ None → IsMove rows new es (put nat_cmp r0 s0 es) slots (set slots s0 (Some x)) key row.slot r0 s0
   put_move new key row after r0 s0 x named number is free = record {
     rank_is = is;
     number = number;
@@ -139,7 +139,7 @@ module _ (rows : List Row) (es : List Place) (slots : List (Option Held)) (keyed
   }
 
   -- So is an event marked.
-  pub mark_move : (new : List Row) (key : KeyName) (row after : TableRow) (r0 s0 : ℕ) (st : Stored) (x : Held) → IsNamed rows new key.tx row after → key.seq < 2 ^ 31 → r0 ≡ rank row.slot key.seq → value_at slots s0 ≡ Some (r0, st) → IsMove rows new es es slots (set slots s0 (Some x)) key row.slot r0 s0
+  pub mark_move : (new : List TxRow) (key : KeyName) (row after : TableRow) (r0 s0 : ℕ) (st : Stored) (x : Held) → IsNamed rows new key.tx row after → key.seq < 2 ^ 31 → r0 ≡ rank row.slot key.seq → value_at slots s0 ≡ Some (r0, st) → IsMove rows new es es slots (set slots s0 (Some x)) key row.slot r0 s0
   mark_move new key row after r0 s0 st x named number is here = record {
     rank_is = is;
     number = number;
@@ -153,7 +153,7 @@ module _ (rows : List Row) (es : List Place) (slots : List (Option Held)) (keyed
   }
 
   -- The row of a transaction that was there has the slot still.
-  kept_row : (new : List Row) (tx : List ℕ) (row after : TableRow) → IsNamed rows new tx row after → (q : List ℕ) (other : TableRow) → row_of q rows ≡ Some other → (now : TableRow) × ((row_of q new ≡ Some now) × (now.slot ≡ other.slot))
+  kept_row : (new : List TxRow) (tx : List ℕ) (row after : TableRow) → IsNamed rows new tx row after → (q : List ℕ) (other : TableRow) → row_of q rows ≡ Some other → (now : TableRow) × ((row_of q new ≡ Some now) × (now.slot ≡ other.slot))
   kept_row new tx row after named q other is =
       elim (eq_by_cmp id_cmp q tx) as (λ b. eq_by_cmp id_cmp q tx ≡ b → (now : TableRow) × ((row_of q new ≡ Some now) × (now.slot ≡ other.slot))) [
         | true ↦ λ e. let same = (id_test q tx).0 e in let was : row_of tx rows ≡ Some other = sym (ap (λ k. row_of k rows) same) ∙ is in
@@ -162,7 +162,7 @@ module _ (rows : List Row) (es : List Place) (slots : List (Option Held)) (keyed
       ] refl
 
   -- A place that stays has its home still.
-  pub moved_home : (new : List Row) (s0 : ℕ) (x : Option Held) (r s : ℕ) → ((q : List ℕ) (other : TableRow) → row_of q rows ≡ Some other → r / 2 ^ 31 ≡ other.slot → (now : TableRow) × ((row_of q new ≡ Some now) × (now.slot ≡ other.slot))) → place_of r es ≡ Some s → (s ≡ s0 → ⊥) → IsHome new (set slots s0 x) r s
+  pub moved_home : (new : List TxRow) (s0 : ℕ) (x : Option Held) (r s : ℕ) → ((q : List ℕ) (other : TableRow) → row_of q rows ≡ Some other → r / 2 ^ 31 ≡ other.slot → (now : TableRow) × ((row_of q new ≡ Some now) × (now.slot ≡ other.slot))) → place_of r es ≡ Some s → (s ≡ s0 → ⊥) → IsHome new (set slots s0 x) r s
   moved_home new s0 x r s kept is other =
       let home = keyed.homes r s is in let now = kept home.tx home.row home.row_is home.slot_is in record {
         tx = home.tx;
@@ -174,7 +174,7 @@ module _ (rows : List Row) (es : List Place) (slots : List (Option Held)) (keyed
       }
 
   -- The places of a transaction after a place was put in under its rank.
-  pub put_keyed : (new : List Row) (tx : List ℕ) (row after : TableRow) (r0 s0 : ℕ) (st : Stored) → IsNamed rows new tx row after → r0 / 2 ^ 31 ≡ row.slot → value_at slots s0 ≡ None → s0 < length slots → AreRising new → AreApart new → AreRanks (put nat_cmp r0 s0 es)
+  pub put_keyed : (new : List TxRow) (tx : List ℕ) (row after : TableRow) (r0 s0 : ℕ) (st : Stored) → IsNamed rows new tx row after → r0 / 2 ^ 31 ≡ row.slot → value_at slots s0 ≡ None → s0 < length slots → AreRising new → AreApart new → AreRanks (put nat_cmp r0 s0 es)
       → IsKeyed new (put nat_cmp r0 s0 es) (set slots s0 (Some (r0, st)))
   put_keyed new tx row after r0 s0 st named home free lt rising apart ranks = record {
     rising = rising;
@@ -200,7 +200,7 @@ module _ (rows : List Row) (es : List Place) (slots : List (Option Held)) (keyed
   }
 
   -- The places after an event was marked.
-  pub mark_keyed : (new : List Row) (tx : List ℕ) (row after : TableRow) (r0 s0 : ℕ) (was st : Stored) → IsNamed rows new tx row after → r0 / 2 ^ 31 ≡ row.slot → place_of r0 es ≡ Some s0 → value_at slots s0 ≡ Some (r0, was) → s0 < length slots → AreRising new → AreApart new → IsKeyed new es (set slots s0 (Some (r0, st)))
+  pub mark_keyed : (new : List TxRow) (tx : List ℕ) (row after : TableRow) (r0 s0 : ℕ) (was st : Stored) → IsNamed rows new tx row after → r0 / 2 ^ 31 ≡ row.slot → place_of r0 es ≡ Some s0 → value_at slots s0 ≡ Some (r0, was) → s0 < length slots → AreRising new → AreApart new → IsKeyed new es (set slots s0 (Some (r0, st)))
   mark_keyed new tx row after r0 s0 was st named home at here lt rising apart = record {
     rising = rising;
     apart = apart;
@@ -224,14 +224,14 @@ module _ (rows : List Row) (es : List Place) (slots : List (Option Held)) (keyed
   }
 
   -- A transaction that went is found no more.
-  pub after_left : (new : List Row) (left : List Place) (held : List (Option Held)) (tx : List ℕ) (row : TableRow) → IsLeft rows new left tx row → (seq : ℕ) → look_in left held seq (row_of tx new) ≡ event_at held (number_at row.slot seq left)
+  pub after_left : (new : List TxRow) (left : List EventPlace) (held : List (Option Held)) (tx : List ℕ) (row : TableRow) → IsLeft rows new left tx row → (seq : ℕ) → look_in left held seq (row_of tx new) ≡ event_at held (number_at row.slot seq left)
   after_left new left held tx row is seq = elim is.end [
     | inl kept ↦ ap (look_in left held seq) kept.0
     | inr gone ↦ ap (look_in left held seq) gone.0 ∙ sym (ap (event_at held) (bare_number left row.slot seq gone.1))
   ]
 
   -- An event taken out is such a move.
-  pub out_move : (new : List Row) (key : KeyName) (row : TableRow) (r0 s0 : ℕ) (st : Stored) → IsLeft rows new (out r0 es) key.tx row → key.seq < 2 ^ 31 → r0 ≡ rank row.slot key.seq → value_at slots s0 ≡ Some (r0, st) → IsMove rows new es (out r0 es) slots (set slots s0 None) key row.slot r0 s0
+  pub out_move : (new : List TxRow) (key : KeyName) (row : TableRow) (r0 s0 : ℕ) (st : Stored) → IsLeft rows new (out r0 es) key.tx row → key.seq < 2 ^ 31 → r0 ≡ rank row.slot key.seq → value_at slots s0 ≡ Some (r0, st) → IsMove rows new es (out r0 es) slots (set slots s0 None) key row.slot r0 s0
   out_move new key row r0 s0 st left number is here = record {
     rank_is = is;
     number = number;
@@ -245,7 +245,7 @@ module _ (rows : List Row) (es : List Place) (slots : List (Option Held)) (keyed
   }
 
   -- The places after an event was taken out.
-  pub out_keyed : (new : List Row) (tx : List ℕ) (row : TableRow) (r0 s0 : ℕ) (st : Stored) → IsLeft rows new (out r0 es) tx row → r0 / 2 ^ 31 ≡ row.slot → value_at slots s0 ≡ Some (r0, st) → AreRising new → AreApart new → AreRanks (out r0 es) → IsKeyed new (out r0 es) (set slots s0 None)
+  pub out_keyed : (new : List TxRow) (tx : List ℕ) (row : TableRow) (r0 s0 : ℕ) (st : Stored) → IsLeft rows new (out r0 es) tx row → r0 / 2 ^ 31 ≡ row.slot → value_at slots s0 ≡ Some (r0, st) → AreRising new → AreApart new → AreRanks (out r0 es) → IsKeyed new (out r0 es) (set slots s0 None)
   out_keyed new tx row r0 s0 st left home here rising apart ranks = record {
     rising = rising;
     apart = apart;

@@ -5,8 +5,8 @@ use Rattle.std.specs.Cmp.{eq_by_cmp_equiv, alike_right}
 use Rattle.std.specs.Cmp.Lexicographic.{nat_list_cmp_total}
 use Rattle.std.specs.FinMap.Entries.{find-put, find-where_key}
 use Rattle.event_chain.specs.declared.row.TableRow.{TableRow}
-use Rattle.event_chain.specs.Table.{Row, id_cmp, row_of, with_row, without_row}
-use Rattle.event_chain.specs.Flat.{Place}
+use Rattle.event_chain.specs.Table.{TxRow, id_cmp, row_of, with_row, without_row}
+use Rattle.event_chain.specs.Flat.{EventPlace}
 use Rattle.event_chain.specs.Kept.{IsBare, IsNamed, IsEntered, IsLeft}
 use Rattle.event_chain.proofs.Decided.{id_test, not_so}
 
@@ -15,21 +15,21 @@ turned true x y = refl
 turned false x y = refl
 
 -- The row of the transaction that was put in.
-pub row_here : (tx : List ℕ) (r : TableRow) (rows : List Row) → row_of tx (with_row tx r rows) ≡ Some r
+pub row_here : (tx : List ℕ) (r : TableRow) (rows : List TxRow) → row_of tx (with_row tx r rows) ≡ Some r
 row_here tx r rows = find-put id_cmp nat_list_cmp_total tx tx r rows ∙ ap (λ b. cond b (Some r) (row_of tx rows)) ((id_test tx tx).1 refl)
 
 -- The row of another.
-pub row_other : (q tx : List ℕ) (r : TableRow) (rows : List Row) → (q ≡ tx → ⊥) → row_of q (with_row tx r rows) ≡ row_of q rows
+pub row_other : (q tx : List ℕ) (r : TableRow) (rows : List TxRow) → (q ≡ tx → ⊥) → row_of q (with_row tx r rows) ≡ row_of q rows
 row_other q tx r rows other = find-put id_cmp nat_list_cmp_total q tx r rows ∙ ap (λ b. cond b (Some r) (row_of q rows)) (not_so _ (id_test q tx) other)
 
 -- What is found where a row was taken out.
-row_out : (q tx : List ℕ) (rows : List Row) → row_of q (without_row tx rows) ≡ cond (eq_by_cmp id_cmp q tx) None (row_of q rows)
+row_out : (q tx : List ℕ) (rows : List TxRow) → row_of q (without_row tx rows) ≡ cond (eq_by_cmp id_cmp q tx) None (row_of q rows)
 row_out q tx rows =
     find-where_key id_cmp (λ x. not (eq_by_cmp id_cmp tx x)) q (λ x t. ap (λ r. not (is_eq r)) (sym (alike_right nat_list_cmp_total q x tx t))) rows
     ∙ turned (eq_by_cmp id_cmp tx q) (row_of q rows) None ∙ ap (λ b. cond b None (row_of q rows)) ((eq_by_cmp_equiv nat_list_cmp_total).symm tx q)
 
 -- A transaction that was taken out, as no place of it is left.
-pub left_out : (rows new : List Row) (left : List Place) (tx : List ℕ) (row : TableRow) → new ≡ without_row tx rows → row_of tx rows ≡ Some row → IsBare left row.slot → IsLeft rows new left tx row
+pub left_out : (rows new : List TxRow) (left : List EventPlace) (tx : List ℕ) (row : TableRow) → new ≡ without_row tx rows → row_of tx rows ≡ Some row → IsBare left row.slot → IsLeft rows new left tx row
 left_out rows new left tx row is was bare = subst (λ rs. IsLeft rows rs left tx row) (sym is) (record {
   was = was;
   others = λ q other. row_out q tx rows ∙ ap (λ b. cond b None (row_of q rows)) (not_so _ (id_test q tx) other);
@@ -37,7 +37,7 @@ left_out rows new left tx row is was bare = subst (λ rs. IsLeft rows rs left tx
 })
 
 -- A transaction that was entered, and its row written.
-pub named_after : (rows mid new : List Row) (tx : List ℕ) (row after : TableRow) → IsEntered rows mid tx row → new ≡ with_row tx after mid → after.slot ≡ row.slot → IsNamed rows new tx row after
+pub named_after : (rows mid new : List TxRow) (tx : List ℕ) (row after : TableRow) → IsEntered rows mid tx row → new ≡ with_row tx after mid → after.slot ≡ row.slot → IsNamed rows new tx row after
 named_after rows mid new tx row after entered is same = subst (λ rs. IsNamed rows rs tx row after) (sym is) (record {
   there = row_here tx after mid;
   same = same;

@@ -13,8 +13,8 @@ use Rattle.ledger_model.specs.Deltas.{first_reading, last_reading, own_readings,
 use Rattle.ledger_model.proofs.Callers.{own_before_key, own_behind_key}
 use Rattle.event_store.specs.Slots.{Held}
 use Rattle.event_chain.specs.declared.row.TableRow.{TableRow}
-use Rattle.event_chain.specs.Table.{Row, row_of}
-use Rattle.event_chain.specs.Flat.{Place, stored_at, entry_of, segment, flat}
+use Rattle.event_chain.specs.Table.{TxRow, row_of}
+use Rattle.event_chain.specs.Flat.{EventPlace, stored_at, entry_of, segment, flat}
 use Rattle.event_chain.specs.Kept.{IsSub, IsKeyed, is_live, is_carrier}
 use Rattle.event_chain.specs.Edits.{places_before, places_behind, IsStored, first_at, last_at}
 use Rattle.event_chain.proofs.Lives.{passing_of, live_of_is, segment_passing, none_passing}
@@ -28,7 +28,7 @@ module _ (d : Direction) where
   readings_of e = toward d e.1.event.readings
 
   -- The event of the place has a reading.
-  abbrev HasReading : List (Option Held) → Place → Type 0
+  abbrev HasReading : List (Option Held) → EventPlace → Type 0
   HasReading slots p = 0 < length (toward d (stored_at slots p.1).event.readings)
 
   -- Readings of which there is a first are some.
@@ -44,7 +44,7 @@ module _ (d : Direction) where
     both false b h = cc
 
   -- The events of all places have readings.
-  all_carry : (slots : List (Option Held)) (ps : List Place) → AllPlaces (λ p. (is_carrier d) (stored_at slots p.1) ≡ true) ps → AllPlaces (HasReading slots) ps
+  all_carry : (slots : List (Option Held)) (ps : List EventPlace) → AllPlaces (λ p. (is_carrier d) (stored_at slots p.1) ≡ true) ps → AllPlaces (HasReading slots) ps
   all_carry slots [] h = tt
   all_carry slots (p ∷ ps) h = (carries_some (stored_at slots p.1) h.0, all_carry slots ps h.1)
 
@@ -66,12 +66,12 @@ module _ (d : Direction) where
   last_back (x ∷ xs) ys some = last_rest x (xs ++ ys) (omega (arith, length-append xs ys)) ∙ last_back xs ys some
 
   -- The first reading of events that have one each.
-  first_flat : (tx : List ℕ) (slots : List (Option Held)) (ps : List Place) → AllPlaces (HasReading slots) ps → first_reading (flat_map readings_of (map (entry_of tx slots) ps)) ≡ first_at slots d (slice_get ps 0)
+  first_flat : (tx : List ℕ) (slots : List (Option Held)) (ps : List EventPlace) → AllPlaces (HasReading slots) ps → first_reading (flat_map readings_of (map (entry_of tx slots) ps)) ≡ first_at slots d (slice_get ps 0)
   first_flat tx slots [] h = refl
   first_flat tx slots (p ∷ ps) h = first_front (toward d (stored_at slots p.1).event.readings) (flat_map readings_of (map (entry_of tx slots) ps)) h.0
 
   -- The last one.
-  last_flat : (tx : List ℕ) (slots : List (Option Held)) (ps : List Place) → AllPlaces (HasReading slots) ps → last_reading (flat_map readings_of (map (entry_of tx slots) ps)) ≡ last_at slots d (last_of ps)
+  last_flat : (tx : List ℕ) (slots : List (Option Held)) (ps : List EventPlace) → AllPlaces (HasReading slots) ps → last_reading (flat_map readings_of (map (entry_of tx slots) ps)) ≡ last_at slots d (last_of ps)
   last_flat tx slots [] h = refl
   last_flat tx slots (p ∷ []) h = ap last_reading (append-nil (toward d (stored_at slots p.1).event.readings))
   last_flat tx slots (p ∷ q ∷ ps) h =
@@ -93,7 +93,7 @@ module _ (d : Direction) where
   carrying f tx [] = refl
   carrying f tx (e ∷ es) = one_carrying f e (bytes_eq tx e.0.tx) e.1.voided (toward d e.1.event.readings) refl (passing_of is_live tx es) (passing_of (is_carrier d) tx es) (carrying f tx es)
 
-  module _ (rows : List Row) (es carriers : List Place) (slots : List (Option Held)) (keyed : IsKeyed rows es slots) (sub : IsSub (is_carrier d) es slots carriers) (key : KeyName) where
+  module _ (rows : List TxRow) (es carriers : List EventPlace) (slots : List (Option Held)) (keyed : IsKeyed rows es slots) (sub : IsSub (is_carrier d) es slots carriers) (key : KeyName) where
     -- All events.
     abbrev all : List Entry
     all = flat rows es slots
@@ -124,11 +124,11 @@ module _ (d : Direction) where
       home = ap (λ k. k / 2 ^ 31) is ∙ slot_back row.slot key.seq number
 
       -- What holds of all places holds of those in front.
-      in_front : (P : Place → Type 0) → AllPlaces P carriers → AllPlaces P (places_before r carriers)
+      in_front : (P : EventPlace → Type 0) → AllPlaces P carriers → AllPlaces P (places_before r carriers)
       in_front P h = all_left P (λ e. nat_lt e.0 r) (segment (r / 2 ^ 31) carriers) (all_left P (λ e. e.0 / 2 ^ 31 == r / 2 ^ 31) carriers h)
 
       -- And of those behind.
-      at_back : (P : Place → Type 0) → AllPlaces P carriers → AllPlaces P (places_behind r carriers)
+      at_back : (P : EventPlace → Type 0) → AllPlaces P carriers → AllPlaces P (places_behind r carriers)
       at_back P h = all_left P (λ e. nat_lt r e.0) (segment (r / 2 ^ 31) carriers) (all_left P (λ e. e.0 / 2 ^ 31 == r / 2 ^ 31) carriers h)
 
       -- All places are those of events with readings.
@@ -147,7 +147,7 @@ module _ (d : Direction) where
       cut : (f g : ℕ → Bool) → ((x : ℕ) → x / 2 ^ 31 ≡ row.slot → f (x % 2 ^ 31) ≡ g x) → left f (passing_of is_live key.tx all) ≡ flat_map readings_of (map (entry_of key.tx slots) (filter (λ e. g e.0) (segment (r / 2 ^ 31) carriers)))
       cut f g same =
           carrying (λ e. f e.0.seq) key.tx all ∙ ap (left f) (segment_passing rows es slots keyed.rising keyed.ranks (is_carrier d) carriers sub key.tx row row_is)
-          ∙ ap (flat_map readings_of) (map_cut (entry_of key.tx slots) (λ e. f e.0.seq) g row.slot carriers (λ e at. same e.0 at)) ∙ ap (λ t. flat_map readings_of (map (entry_of key.tx slots) (filter (λ (e : Place). g e.0) (segment t carriers)))) (sym home)
+          ∙ ap (flat_map readings_of) (map_cut (entry_of key.tx slots) (λ e. f e.0.seq) g row.slot carriers (λ e at. same e.0 at)) ∙ ap (λ t. flat_map readings_of (map (entry_of key.tx slots) (filter (λ (e : EventPlace). g e.0) (segment t carriers)))) (sym home)
 
       -- The last reading in front of the key.
       pub before_is : last_reading (own_readings d key.tx (before_key key all)) ≡ last_at slots d (last_of (places_before r carriers))

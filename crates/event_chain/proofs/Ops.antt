@@ -20,8 +20,8 @@ use Rattle.ledger_model.specs.Entries.{IsRising, entries_without}
 use Rattle.ledger_model.proofs.Callers.{key_total}
 use Rattle.event_store.specs.Slots.{Held, Slots}
 use Rattle.event_chain.specs.declared.row.TableRow.{TableRow}
-use Rattle.event_chain.specs.Table.{Table, Row, AreRising, AreApart, id_cmp, row_of}
-use Rattle.event_chain.specs.Flat.{Place, place_of, stored_in, stored_at, event_at, flat}
+use Rattle.event_chain.specs.Table.{Table, TxRow, AreRising, AreApart, id_cmp, row_of}
+use Rattle.event_chain.specs.Flat.{EventPlace, place_of, stored_in, stored_at, event_at, flat}
 use Rattle.event_chain.specs.Edits.{put_if, out}
 use Rattle.event_chain.specs.Kept.{AreRanks, IsSub, is_live, is_carrier, is_naming, is_end, live_one, end_one, IsKeyed, AreIndexed, AreFigured, IsCounted, AreRoomy, IsChains, IsNamed, IsLeft, chosen}
 use Rattle.event_chain.proofs.Flats.{flat_rising}
@@ -77,7 +77,7 @@ count_take xs i x there lt = omega (arith, sum_by-set one xs i None None lt, ap 
 no_row : (o : Option TableRow) (a : TableRow) → o ≡ Some a → o ≡ None → ⊥
 no_row o a x y = cc
 
-module _ (limits : Bounds) (rows new : List Row) (es live : List Place) (carriers : Direction → List Place) (naming : List Place) (slots : List (Option Held)) (key : KeyName) (row after : TableRow) (r0 s0 transactions readings room : ℕ)
+module _ (limits : Bounds) (rows new : List TxRow) (es live : List EventPlace) (carriers : Direction → List EventPlace) (naming : List EventPlace) (slots : List (Option Held)) (key : KeyName) (row after : TableRow) (r0 s0 transactions readings room : ℕ)
     (keyed : IsKeyed rows es slots) (indexed : AreIndexed es slots live carriers naming) (figured : AreFigured rows (flat rows es slots)) (counted : IsCounted limits transactions slots readings room es (flat rows es slots))
     (named : IsNamed rows new key.tx row after) (number : key.seq < 2 ^ 31) (rank_is : r0 ≡ rank row.slot key.seq) (rising : AreRising new) (apart : AreApart new) where
   -- All events before.
@@ -95,7 +95,7 @@ module _ (limits : Bounds) (rows new : List Row) (es live : List Place) (carrier
     abbrev st : Stored
     st = record { event = event; voided = false }
 
-    abbrev more : List Place
+    abbrev more : List EventPlace
     more = put nat_cmp r0 s0 es
 
     abbrev held : List (Option Held)
@@ -119,7 +119,7 @@ module _ (limits : Bounds) (rows new : List Row) (es live : List Place) (carrier
     put_absent : find key_cmp key all ≡ None
     put_absent = found_before rows new es more slots held key row.slot r0 s0 put_moved keyed.rising keyed.ranks rising put_ranks ∙ ap (event_at slots) none
 
-    put_sub : (test : Stored → Bool) (sub : List Place) (b : Bool) → b ≡ test st → IsSub test es slots sub → IsSub test more held (put_if b r0 s0 sub)
+    put_sub : (test : Stored → Bool) (sub : List EventPlace) (b : Bool) → b ≡ test st → IsSub test es slots sub → IsSub test more held (put_if b r0 s0 sub)
     put_sub test sub b is was =
         let move = put_moved in
         sub_move test es more sub (put_if b r0 s0 sub) slots held r0 s0 was move.ranks (put_if_others b r0 s0 sub) move.own move.stays (put_if_ranks b r0 s0 sub was.rising)
@@ -180,25 +180,25 @@ module _ (limits : Bounds) (rows new : List Row) (es live : List Place) (carrier
     mark_chosen : (test : Stored → Bool) → chosen test marked_slots (place_of r0 es) ≡ cond (test st) (Some s0) None
     mark_chosen test = ap (chosen test marked_slots) at ∙ ap (λ s. cond (test s) (Some s0) None) mark_stored
 
-    was_chosen : (test : Stored → Bool) (sub : List Place) → IsSub test es slots sub → place_of r0 sub ≡ cond (test old) (Some s0) None
+    was_chosen : (test : Stored → Bool) (sub : List EventPlace) → IsSub test es slots sub → place_of r0 sub ≡ cond (test old) (Some s0) None
     was_chosen test sub was = was.each r0 ∙ ap (chosen test slots) at ∙ ap (λ o. cond (test (stored_in o)) (Some s0) None) here
 
     -- An index that takes the place.
-    pub mark_in : (test : Stored → Bool) (sub : List Place) (b : Bool) → b ≡ test st → test old ≡ false → IsSub test es slots sub → IsSub test es marked_slots (put_if b r0 s0 sub)
+    pub mark_in : (test : Stored → Bool) (sub : List EventPlace) (b : Bool) → b ≡ test st → test old ≡ false → IsSub test es slots sub → IsSub test es marked_slots (put_if b r0 s0 sub)
     mark_in test sub b is not_old was =
         let move = mark_moved in
         sub_move test es es sub (put_if b r0 s0 sub) slots marked_slots r0 s0 was move.ranks (put_if_others b r0 s0 sub) move.own move.stays (put_if_ranks b r0 s0 sub was.rising)
         (put_if_here b r0 s0 sub (was_chosen test sub was ∙ ap (λ c. cond c (Some s0) None) not_old) ∙ ap (λ c. cond c (Some s0) None) is ∙ sym (mark_chosen test))
 
     -- An index that gives the place up.
-    pub mark_out : (test : Stored → Bool) (sub : List Place) → test st ≡ false → IsSub test es slots sub → IsSub test es marked_slots (out r0 sub)
+    pub mark_out : (test : Stored → Bool) (sub : List EventPlace) → test st ≡ false → IsSub test es slots sub → IsSub test es marked_slots (out r0 sub)
     mark_out test sub not_new was =
         let move = mark_moved in
         sub_move test es es sub (out r0 sub) slots marked_slots r0 s0 was move.ranks (out_if_others true r0 sub) move.own move.stays (out_if_ranks true r0 sub was.rising)
         (out_here r0 sub ∙ sym (mark_chosen test ∙ ap (λ c. cond c (Some s0) None) not_new))
 
     -- Chains with an event marked.
-    pub mark_chains : (l : List Place) (c : Direction → List Place) (n : List Place) → AreIndexed es marked_slots l c n → st.event ≡ old.event → after.live + cond (not old.voided) 1 0 ≡ row.live + cond (not st.voided) 1 0
+    pub mark_chains : (l : List EventPlace) (c : Direction → List EventPlace) (n : List EventPlace) → AreIndexed es marked_slots l c n → st.event ≡ old.event → after.live + cond (not old.voided) 1 0 ≡ row.live + cond (not st.voided) 1 0
         → after.ends + cond (not old.voided && is_end old.event.kind) 1 0 ≡ row.ends + cond (not st.voided && is_end st.event.kind) 1 0 → AreRoomy limits.events limits.events limits.events (λ _. limits.events) limits.events
         → IsChains limits (record { rows = new; capacity = transactions }) (record { slots = marked_slots; readings = readings; capacity = room }) (index es limits.events) (index l limits.events) (λ d. index (c d) limits.events) (index n limits.events)
     mark_chains l c n indexes same live_is ends_is roomy = record {
@@ -218,7 +218,7 @@ module _ (limits : Bounds) (rows new : List Row) (es live : List Place) (carrier
       roomy = roomy;
     }
 
-module _ (limits : Bounds) (rows new : List Row) (es live : List Place) (carriers : Direction → List Place) (naming : List Place) (slots : List (Option Held)) (key : KeyName) (row : TableRow) (r0 s0 transactions readings left room : ℕ) (st : Stored)
+module _ (limits : Bounds) (rows new : List TxRow) (es live : List EventPlace) (carriers : Direction → List EventPlace) (naming : List EventPlace) (slots : List (Option Held)) (key : KeyName) (row : TableRow) (r0 s0 transactions readings left room : ℕ) (st : Stored)
     (keyed : IsKeyed rows es slots) (indexed : AreIndexed es slots live carriers naming) (figured : AreFigured rows (flat rows es slots)) (counted : IsCounted limits transactions slots readings room es (flat rows es slots))
     (gone : IsLeft rows new (out r0 es) key.tx row) (number : key.seq < 2 ^ 31) (rank_is : r0 ≡ rank row.slot key.seq) (rising : AreRising new) (apart : AreApart new)
     (here : value_at slots s0 ≡ Some (r0, st)) (within : s0 < length slots) (at : place_of r0 es ≡ Some s0) (voided : st.voided ≡ true) where
@@ -248,7 +248,7 @@ module _ (limits : Bounds) (rows new : List Row) (es live : List Place) (carrier
   out_found : find key_cmp key before ≡ Some st
   out_found = found_before rows new es (out r0 es) slots bare key row.slot r0 s0 out_moved keyed.rising keyed.ranks rising out_ranks ∙ ap (event_at slots) at ∙ ap (λ o. Some (stored_in o)) here
 
-  out_sub : (test : Stored → Bool) (sub : List Place) → test st ≡ false → IsSub test es slots sub → IsSub test (out r0 es) bare sub
+  out_sub : (test : Stored → Bool) (sub : List EventPlace) → test st ≡ false → IsSub test es slots sub → IsSub test (out r0 es) bare sub
   out_sub test sub never was =
       let move = out_moved in
       sub_move test es (out r0 es) sub sub slots bare r0 s0 was move.ranks (λ r _. refl) move.own move.stays was.rising

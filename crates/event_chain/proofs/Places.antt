@@ -10,22 +10,22 @@ use Rattle.std.specs.FinMap.Entries.{by_order, below_all}
 use Rattle.event_chain.specs.Ranked.{below, from, slot_at, first_of, last_of, AreAbove, AreRising}
 use Rattle.key_index.specs.Key.{rank}
 use Rattle.ledger_model.proofs.Rising.{both}
-use Rattle.event_chain.specs.Flat.{Place, place_of, segment}
+use Rattle.event_chain.specs.Flat.{EventPlace, place_of, segment}
 use Rattle.ledger_model.specs.Key.{KeyName}
 use Rattle.event_chain.specs.declared.row.TableRow.{TableRow}
-use Rattle.event_chain.specs.Table.{Row, row_of}
+use Rattle.event_chain.specs.Table.{TxRow, row_of}
 use Rattle.event_chain.specs.Kept.{AreRanks}
 use Rattle.event_chain.specs.Edits.{place_in, place_at, at_home}
 use Rattle.event_chain.proofs.Decided.{rank_test, not_so, denied}
 use Rattle.event_chain.proofs.Flats.{nat_less}
 
 -- Greater ranks are behind.
-above_below : (r : ℕ) (es : List Place) → AreAbove r es → T (below_all nat_cmp r es)
+above_below : (r : ℕ) (es : List EventPlace) → AreAbove r es → T (below_all nat_cmp r es)
 above_below r [] h = tt
 above_below r (e ∷ es) h = both _ _ (subst (λ o. T (is_lt o)) (sym (nat_less r e.0 h.0)) tt) (above_below r es h.1)
 
 -- The keys of an index rise.
-pub ranks_of : (es : List Place) → AreRising es → AreRanks es
+pub ranks_of : (es : List EventPlace) → AreRising es → AreRanks es
 ranks_of [] h = tt
 ranks_of (e ∷ es) h = both _ _ (above_below e.0 es h.0) (ranks_of es h.1)
 
@@ -34,17 +34,17 @@ nat_greater : (a b : ℕ) → b < a → nat_cmp a b ≡ Greater
 nat_greater a b lt = ap (λ c. cond c Less (cond (a == b) Equal Greater)) (not_so _ (Decides-ltb a b) (λ h. absurd (omega arith))) ∙ ap (λ c. cond c Equal Greater) (not_so _ (Decides-eqb a b) (λ h. absurd (omega arith)))
 
 -- A rank below all of a list is not found in it.
-none_below : (r : ℕ) (es : List Place) → AreAbove r es → place_of r es ≡ None
+none_below : (r : ℕ) (es : List EventPlace) → AreAbove r es → place_of r es ≡ None
 none_below r [] h = refl
 none_below r (e ∷ es) h = ap (λ o. cond (is_eq o) (Some e.1) (place_of r es)) (nat_less r e.0 h.0) ∙ none_below r es h.1
 
 -- More are above a smaller number.
-above_less : (m n : ℕ) (es : List Place) → m < n → AreAbove n es → AreAbove m es
+above_less : (m n : ℕ) (es : List EventPlace) → m < n → AreAbove n es → AreAbove m es
 above_less m n [] lt h = tt
 above_less m n (e ∷ es) lt h = let up = h.0 in (omega arith, above_less m n es lt h.1)
 
 -- What an index finds under a key.
-pub found_at : (key : ℕ) (es : List Place) → AreRising es → slot_at key (from key es) ≡ place_of key es
+pub found_at : (key : ℕ) (es : List EventPlace) → AreRising es → slot_at key (from key es) ≡ place_of key es
 found_at key [] h = refl
 found_at key (e ∷ es) h =
     elim (cases_lt e.0 key) [
@@ -56,14 +56,14 @@ found_at key (e ∷ es) h =
     ]
 
 -- An index with a new key.
-pub put_is : (key slot : ℕ) (es : List Place) → slot_at key (from key es) ≡ None → below key es ++ (key, slot) ∷ from key es ≡ put nat_cmp key slot es
+pub put_is : (key slot : ℕ) (es : List EventPlace) → slot_at key (from key es) ≡ None → below key es ++ (key, slot) ∷ from key es ≡ put nat_cmp key slot es
 put_is key slot [] absent = refl
 put_is key slot (e ∷ es) absent =
     elim (cases_lt e.0 key) [
       | inl lt ↦
           let yes = (Decides-ltb e.0 key).1 lt in
           ap (λ b. cond b (e ∷ below key es) [] ++ (key, slot) ∷ cond b (from key es) (e ∷ es)) yes
-          ∙ ap (λ (rest : List Place). e ∷ rest) (put_is key slot es (sym (ap (λ b. slot_at key (cond b (from key es) (e ∷ es))) yes) ∙ absent))
+          ∙ ap (λ (rest : List EventPlace). e ∷ rest) (put_is key slot es (sym (ap (λ b. slot_at key (cond b (from key es) (e ∷ es))) yes) ∙ absent))
           ∙ sym (ap (λ o. by_order o ((key, slot) ∷ e ∷ es) ((e.0, slot) ∷ es) (e ∷ put nat_cmp key slot es)) (nat_greater key e.0 lt))
       | inr le ↦
           let never = not_so _ (Decides-ltb e.0 key) (λ lt. absurd (omega arith)) in
@@ -76,20 +76,20 @@ put_is key slot (e ∷ es) absent =
     ]
 
 -- Greater ranks stay where one is left out.
-without_above : (key : ℕ) (es : List Place) → AreAbove key es → filter (λ e. not (eq_by_cmp nat_cmp key e.0)) es ≡ es
+without_above : (key : ℕ) (es : List EventPlace) → AreAbove key es → filter (λ e. not (eq_by_cmp nat_cmp key e.0)) es ≡ es
 without_above key [] h = refl
-without_above key (e ∷ es) h = ap (λ o. cond (not (is_eq o)) (e ∷ filter (λ x. not (eq_by_cmp nat_cmp key x.0)) es) (filter (λ x. not (eq_by_cmp nat_cmp key x.0)) es)) (nat_less key e.0 h.0) ∙ ap (λ (rest : List Place). e ∷ rest) (without_above key es h.1)
+without_above key (e ∷ es) h = ap (λ o. cond (not (is_eq o)) (e ∷ filter (λ x. not (eq_by_cmp nat_cmp key x.0)) es) (filter (λ x. not (eq_by_cmp nat_cmp key x.0)) es)) (nat_less key e.0 h.0) ∙ ap (λ (rest : List EventPlace). e ∷ rest) (without_above key es h.1)
 
 -- An index without a key that was there.
-pub out_is : (key : ℕ) (es : List Place) → AreRising es → is_some (slot_at key (from key es)) ≡ true → below key es ++ drop 1 (from key es) ≡ filter (λ e. not (eq_by_cmp nat_cmp key e.0)) es
+pub out_is : (key : ℕ) (es : List EventPlace) → AreRising es → is_some (slot_at key (from key es)) ≡ true → below key es ++ drop 1 (from key es) ≡ filter (λ e. not (eq_by_cmp nat_cmp key e.0)) es
 out_is key [] rising there = cc
 out_is key (e ∷ es) rising there =
-    let rest = filter (λ (x : Place). not (eq_by_cmp nat_cmp key x.0)) es in
+    let rest = filter (λ (x : EventPlace). not (eq_by_cmp nat_cmp key x.0)) es in
     elim (cases_lt e.0 key) [
       | inl lt ↦
           let yes = (Decides-ltb e.0 key).1 lt in
           ap (λ b. cond b (e ∷ below key es) [] ++ drop 1 (cond b (from key es) (e ∷ es))) yes
-          ∙ ap (λ (more : List Place). e ∷ more) (out_is key es rising.1 (sym (ap (λ b. is_some (slot_at key (cond b (from key es) (e ∷ es)))) yes) ∙ there))
+          ∙ ap (λ (more : List EventPlace). e ∷ more) (out_is key es rising.1 (sym (ap (λ b. is_some (slot_at key (cond b (from key es) (e ∷ es)))) yes) ∙ there))
           ∙ sym (ap (λ o. cond (not (is_eq o)) (e ∷ rest) rest) (nat_greater key e.0 lt))
       | inr le ↦
           let never = not_so _ (Decides-ltb e.0 key) (λ lt. absurd (omega arith)) in
@@ -105,17 +105,17 @@ pub not_less : (a b : ℕ) → nat_lt a b ≡ false → b ≤ a
 not_less a b never = elim (cases_lt a b) [ inl lt ↦ let f : true ≡ false = sym ((Decides-ltb a b).1 lt) ∙ never in cc | inr le ↦ le ]
 
 -- The place of a key whose transaction is known.
-pub place_at_row : (rows : List Row) (es : List Place) (key : KeyName) (row : TableRow) → row_of key.tx rows ≡ Some row → key.seq < 2 ^ 31 → place_at rows es key ≡ place_of (rank row.slot key.seq) es
+pub place_at_row : (rows : List TxRow) (es : List EventPlace) (key : KeyName) (row : TableRow) → row_of key.tx rows ≡ Some row → key.seq < 2 ^ 31 → place_at rows es key ≡ place_of (rank row.slot key.seq) es
 place_at_row rows es key row is lt = ap (place_in es key.seq) is ∙ ap (λ b. cond b (place_of (rank row.slot key.seq) es) None) ((Decides-ltb key.seq (2 ^ 31)).1 lt)
 
 -- None above a greater slot's ranks is of the transaction.
-pub seg_above : (t n : ℕ) (es : List Place) → AreAbove n es → t < n / 2 ^ 31 → segment t es ≡ []
+pub seg_above : (t n : ℕ) (es : List EventPlace) → AreAbove n es → t < n / 2 ^ 31 → segment t es ≡ []
 seg_above t n [] h lt = refl
 seg_above t n (e ∷ es) h lt = let up = h.0 in
     ap (λ b. cond b (e ∷ segment t es) (segment t es)) (not_so _ (Decides-eqb (e.0 / 2 ^ 31) t) (λ is. absurd (omega arith))) ∙ seg_above t n es h.1 lt
 
 -- The first of a segment is the first place from its slot's ranks on, where that is its.
-pub first_seg : (t : ℕ) (es : List Place) → AreRising es → at_home t (first_of (from (rank t 0) es)) ≡ slice_get (segment t es) 0
+pub first_seg : (t : ℕ) (es : List EventPlace) → AreRising es → at_home t (first_of (from (rank t 0) es)) ≡ slice_get (segment t es) 0
 first_seg t [] h = refl
 first_seg t (e ∷ es) h =
     elim (nat_lt e.0 (rank t 0)) as (λ b. nat_lt e.0 (rank t 0) ≡ b → at_home t (first_of (cond b (from (rank t 0) es) (e ∷ es))) ≡ slice_get (cond (e.0 / 2 ^ 31 == t) (e ∷ segment t es) (segment t es)) 0) [
@@ -129,18 +129,18 @@ first_seg t (e ∷ es) h =
     ] refl
 
 -- The last of a list is that of its rest, where it has one.
-pub last_cons : (e f : Place) (es : List Place) → last_of (e ∷ f ∷ es) ≡ last_of (f ∷ es)
+pub last_cons : (e f : EventPlace) (es : List EventPlace) → last_of (e ∷ f ∷ es) ≡ last_of (f ∷ es)
 last_cons e f es =
     let a : suc (suc (length es)) - 1 ≡ suc (length es) = omega arith in let b : suc (length es) - 1 ≡ length es = omega arith in
     ap (slice_get (e ∷ f ∷ es)) a ∙ sym (ap (slice_get (f ∷ es)) b)
 
 -- Ranks below the end of a slot's.
-abbrev pub AllUnder : ℕ → List Place → Type 0
+abbrev pub AllUnder : ℕ → List EventPlace → Type 0
 AllUnder n [] = Unit {0}
 AllUnder n (e ∷ es) = (e.0 < n) × AllUnder n es
 
 -- The last of a segment, among ranks below its end.
-pub last_under_seg : (t : ℕ) (es : List Place) → AreRising es → AllUnder (rank (t + 1) 0) es → at_home t (last_of es) ≡ last_of (segment t es)
+pub last_under_seg : (t : ℕ) (es : List EventPlace) → AreRising es → AllUnder (rank (t + 1) 0) es → at_home t (last_of es) ≡ last_of (segment t es)
 last_under_seg t [] h u = refl
 last_under_seg t (e ∷ []) h u = elim (e.0 / 2 ^ 31 == t) as (λ b. cond b (Some e) None ≡ last_of (cond b (e ∷ []) [])) [ true ↦ refl | false ↦ refl ]
 last_under_seg t (e ∷ f ∷ es) h u =
@@ -150,34 +150,34 @@ last_under_seg t (e ∷ f ∷ es) h u =
       | false ↦ λ _. refl
       | true ↦ λ y. let home = (Decides-eqb (e.0 / 2 ^ 31) t).0 y in let up = h.0.0 in let under = u.1.0 in let same : f.0 / 2 ^ 31 ≡ t = omega arith in
           let seg : segment t (f ∷ es) ≡ f ∷ segment t es = ap (λ b. cond b (f ∷ segment t es) (segment t es)) ((Decides-eqb (f.0 / 2 ^ 31) t).1 same) in
-          ap last_of seg ∙ sym (last_cons e f (segment t es)) ∙ sym (ap (λ (xs : List Place). last_of (e ∷ xs)) seg)
+          ap last_of seg ∙ sym (last_cons e f (segment t es)) ∙ sym (ap (λ (xs : List EventPlace). last_of (e ∷ xs)) seg)
     ] refl
 
 -- What stands below a rank is under it.
-pub below_under : (n : ℕ) (es : List Place) → AllUnder n (below n es)
+pub below_under : (n : ℕ) (es : List EventPlace) → AllUnder n (below n es)
 below_under n [] = tt
 below_under n (e ∷ es) = elim (nat_lt e.0 n) as (λ b. nat_lt e.0 n ≡ b → AllUnder n (cond b (e ∷ below n es) [])) [ true ↦ λ y. ((Decides-ltb e.0 n).0 y, below_under n es) | false ↦ λ _. tt ] refl
 
 -- It stays above a number.
-below_above : (m n : ℕ) (es : List Place) → AreAbove m es → AreAbove m (below n es)
+below_above : (m n : ℕ) (es : List EventPlace) → AreAbove m es → AreAbove m (below n es)
 below_above m n [] h = tt
 below_above m n (e ∷ es) h = elim (nat_lt e.0 n) as (λ b. AreAbove m (cond b (e ∷ below n es) [])) [ true ↦ (h.0, below_above m n es h.1) | false ↦ tt ]
 
 -- It rises.
-pub below_rising : (n : ℕ) (es : List Place) → AreRising es → AreRising (below n es)
+pub below_rising : (n : ℕ) (es : List EventPlace) → AreRising es → AreRising (below n es)
 below_rising n [] h = tt
 below_rising n (e ∷ es) h = elim (nat_lt e.0 n) as (λ b. AreRising (cond b (e ∷ below n es) [])) [ true ↦ (below_above e.0 n es h.0, below_rising n es h.1) | false ↦ tt ]
 
 -- No place from the end of a slot's ranks on is of its transaction.
-below_seg : (t : ℕ) (es : List Place) → AreRising es → segment t (below (rank (t + 1) 0) es) ≡ segment t es
+below_seg : (t : ℕ) (es : List EventPlace) → AreRising es → segment t (below (rank (t + 1) 0) es) ≡ segment t es
 below_seg t [] h = refl
 below_seg t (e ∷ es) h =
     elim (nat_lt e.0 (rank (t + 1) 0)) as (λ b. nat_lt e.0 (rank (t + 1) 0) ≡ b → segment t (cond b (e ∷ below (rank (t + 1) 0) es) []) ≡ segment t (e ∷ es)) [
-      | true ↦ λ _. elim (e.0 / 2 ^ 31 == t) as (λ b. cond b (e ∷ segment t (below (rank (t + 1) 0) es)) (segment t (below (rank (t + 1) 0) es)) ≡ cond b (e ∷ segment t es) (segment t es)) [ true ↦ ap (λ (xs : List Place). e ∷ xs) (below_seg t es h.1) | false ↦ below_seg t es h.1 ]
+      | true ↦ λ _. elim (e.0 / 2 ^ 31 == t) as (λ b. cond b (e ∷ segment t (below (rank (t + 1) 0) es)) (segment t (below (rank (t + 1) 0) es)) ≡ cond b (e ∷ segment t es) (segment t es)) [ true ↦ ap (λ (xs : List EventPlace). e ∷ xs) (below_seg t es h.1) | false ↦ below_seg t es h.1 ]
       | false ↦ λ never. let ge : rank (t + 1) 0 ≤ e.0 = not_less e.0 (rank (t + 1) 0) never in let up : t < e.0 / 2 ^ 31 = omega arith in
           sym (ap (λ b. cond b (e ∷ segment t es) (segment t es)) (not_so _ (Decides-eqb (e.0 / 2 ^ 31) t) (λ is. absurd (omega arith))) ∙ seg_above t e.0 es h.0 up)
     ] refl
 
 -- The last of a segment is the last place before the end of its slot's ranks, where that is its.
-pub last_seg : (t : ℕ) (es : List Place) → AreRising es → at_home t (last_of (below (rank (t + 1) 0) es)) ≡ last_of (segment t es)
+pub last_seg : (t : ℕ) (es : List EventPlace) → AreRising es → at_home t (last_of (below (rank (t + 1) 0) es)) ≡ last_of (segment t es)
 last_seg t es h = last_under_seg t (below (rank (t + 1) 0) es) (below_rising (rank (t + 1) 0) es h) (below_under (rank (t + 1) 0) es) ∙ ap last_of (below_seg t es h)

@@ -4,11 +4,11 @@ use Rattle.std.specs.Ordering.{eq_by_cmp}
 use Rattle.transaction_map.proofs.Rising.{same_id}
 use Rattle.transaction_map.proofs.Found.{put_cases, out_cases, rising_put, rising_out, length_put, length_out}
 use Rattle.event_chain.specs.declared.row.TableRow.{TableRow}
-use Rattle.event_chain.specs.Table.{Row, IsFresh, id_cmp, row_of, with_row, without_row}
+use Rattle.event_chain.specs.Table.{TxRow, IsFresh, id_cmp, row_of, with_row, without_row}
 use Rattle.event_chain.specs.TableKept.{IsNone, AreSpare, IsTable}
 
 -- The last of the slots to spare.
-pub record IsLast (capacity slot : ℕ) (rows : List Row) (ss : List ℕ) : Type 0 where
+pub record IsLast (capacity slot : ℕ) (rows : List TxRow) (ss : List ℕ) : Type 0 where
   pub fresh : IsFresh slot rows
   pub below : slot < capacity
   pub none : IsNone slot ss
@@ -20,7 +20,7 @@ none_parts n s [] h = (tt, h.0)
 none_parts n s (m ∷ ss) h = let rest = none_parts n s ss h.1 in ((h.0, rest.0), rest.1)
 
 -- The slots to spare, with the last apart.
-pub last_spare : (capacity slot : ℕ) (rows : List Row) (ss : List ℕ) → AreSpare capacity rows (ss ++ slot ∷ []) → IsLast capacity slot rows ss
+pub last_spare : (capacity slot : ℕ) (rows : List TxRow) (ss : List ℕ) → AreSpare capacity rows (ss ++ slot ∷ []) → IsLast capacity slot rows ss
 last_spare capacity slot rows [] h = record { fresh = h.0; below = h.1.0; none = tt; rest = tt }
 last_spare capacity slot rows (s ∷ ss) h =
     let rest = last_spare capacity slot rows ss h.1.1.1 in let none = none_parts s slot ss h.1.1.0 in
@@ -32,7 +32,7 @@ none_more n s [] h apart = (apart, tt)
 none_more n s (m ∷ ss) h apart = (h.0, none_more n s ss h.1 apart)
 
 -- One more slot to spare.
-pub more_spare : (capacity slot : ℕ) (rows : List Row) (ss : List ℕ) → IsLast capacity slot rows ss → AreSpare capacity rows (ss ++ slot ∷ [])
+pub more_spare : (capacity slot : ℕ) (rows : List TxRow) (ss : List ℕ) → IsLast capacity slot rows ss → AreSpare capacity rows (ss ++ slot ∷ [])
 more_spare capacity slot rows [] last = (last.fresh, (last.below, (tt, tt)))
 more_spare capacity slot rows (s ∷ ss) last = (
   last.rest.0,
@@ -46,17 +46,17 @@ more_spare capacity slot rows (s ∷ ss) last = (
 )
 
 -- Slots to spare, among other rows where each is as fresh.
-pub spare_on : (capacity : ℕ) (rows new : List Row) (n : ℕ) (ss : List ℕ) → IsNone n ss → ((s : ℕ) → (n ≡ s → ⊥) → IsFresh s rows → IsFresh s new) → AreSpare capacity rows ss → AreSpare capacity new ss
+pub spare_on : (capacity : ℕ) (rows new : List TxRow) (n : ℕ) (ss : List ℕ) → IsNone n ss → ((s : ℕ) → (n ≡ s → ⊥) → IsFresh s rows → IsFresh s new) → AreSpare capacity rows ss → AreSpare capacity new ss
 spare_on capacity rows new n [] none turn h = tt
 spare_on capacity rows new n (s ∷ ss) none turn h = (turn s none.0 h.0, (h.1.0, (h.1.1.0, spare_on capacity rows new n ss none.1 turn h.1.1.1)))
 
 -- A slot that is no transaction's is none of those to spare where it is one's.
-pub none_fresh : (capacity : ℕ) (tx : List ℕ) (row : TableRow) (rows : List Row) (ss : List ℕ) → row_of tx rows ≡ Some row → AreSpare capacity rows ss → IsNone row.slot ss
+pub none_fresh : (capacity : ℕ) (tx : List ℕ) (row : TableRow) (rows : List TxRow) (ss : List ℕ) → row_of tx rows ≡ Some row → AreSpare capacity rows ss → IsNone row.slot ss
 none_fresh capacity tx row rows [] there h = tt
 none_fresh capacity tx row rows (s ∷ ss) there h = (h.0 tx row there, none_fresh capacity tx row rows ss there h.1.1.1)
 
 -- A transaction put in with a slot that was to spare.
-pub IsTable-add : (rows : List Row) (spare ss : List ℕ) (capacity slot : ℕ) (tx : List ℕ) (r : TableRow) → spare ≡ ss ++ slot ∷ [] → IsTable rows spare capacity → row_of tx rows ≡ None → r.slot ≡ slot → IsTable (with_row tx r rows) ss capacity
+pub IsTable-add : (rows : List TxRow) (spare ss : List ℕ) (capacity slot : ℕ) (tx : List ℕ) (r : TableRow) → spare ≡ ss ++ slot ∷ [] → IsTable rows spare capacity → row_of tx rows ≡ None → r.slot ≡ slot → IsTable (with_row tx r rows) ss capacity
 IsTable-add rows spare ss capacity slot tx r is table absent same =
     let last = last_spare capacity slot rows ss (subst (AreSpare capacity rows) is table.spare_are) in
     let fresh : (q : List ℕ) (x : TableRow) → row_of q rows ≡ Some x → x.slot ≡ r.slot → ⊥ = λ q x there e. last.fresh q x there (e ∙ same) in
@@ -84,7 +84,7 @@ IsTable-add rows spare ss capacity slot tx r is table absent same =
     }
 
 -- What is kept of a transaction changed, but for its slot.
-pub IsTable-set : (rows : List Row) (ss : List ℕ) (capacity : ℕ) (tx : List ℕ) (old r : TableRow) → IsTable rows ss capacity → row_of tx rows ≡ Some old → r.slot ≡ old.slot → IsTable (with_row tx r rows) ss capacity
+pub IsTable-set : (rows : List TxRow) (ss : List ℕ) (capacity : ℕ) (tx : List ℕ) (old r : TableRow) → IsTable rows ss capacity → row_of tx rows ≡ Some old → r.slot ≡ old.slot → IsTable (with_row tx r rows) ss capacity
 IsTable-set rows ss capacity tx old r table there same =
     let back : (q : List ℕ) (x : TableRow) → row_of q (with_row tx r rows) ≡ Some x → (y : TableRow) × ((row_of q rows ≡ Some y) × (x.slot ≡ y.slot)) = λ q x at. elim (put_cases q tx r x rows at) [
       | inl a ↦ (old, (ap (λ k. row_of k rows) a.0 ∙ there, ap (λ (z : TableRow). z.slot) a.1 ∙ same))
@@ -99,9 +99,9 @@ IsTable-set rows ss capacity tx old r table there same =
     }
 
 -- A transaction taken out, and its slot given back.
-pub IsTable-remove : (rows : List Row) (ss : List ℕ) (capacity : ℕ) (tx : List ℕ) (r : TableRow) → IsTable rows ss capacity → row_of tx rows ≡ Some r → IsTable (without_row tx rows) (ss ++ r.slot ∷ []) capacity
+pub IsTable-remove : (rows : List TxRow) (ss : List ℕ) (capacity : ℕ) (tx : List ℕ) (r : TableRow) → IsTable rows ss capacity → row_of tx rows ≡ Some r → IsTable (without_row tx rows) (ss ++ r.slot ∷ []) capacity
 IsTable-remove rows ss capacity tx r table there =
-    let new : List Row = without_row tx rows in
+    let new : List TxRow = without_row tx rows in
     let gone : IsFresh r.slot new = λ q x at e. let o = out_cases q tx x rows at in let is = table.apart q tx x r o.1 there e in let f : false ≡ true = sym o.0 ∙ ap (λ k. eq_by_cmp id_cmp k tx) is ∙ same_id tx in cc in
     record {
       rising = rising_out tx rows table.rising;

@@ -4,8 +4,8 @@ use Rattle.std.proofs.lemmas.Bool.Decides.{Decides-eqb}
 use Rattle.slot_arena.specs.Arena.{value_at}
 use Rattle.ledger_model.specs.Content.{Stored}
 use Rattle.event_store.specs.Slots.{Held}
-use Rattle.event_chain.specs.Table.{Row}
-use Rattle.event_chain.specs.Flat.{Place, place_of, stored_in}
+use Rattle.event_chain.specs.Table.{TxRow}
+use Rattle.event_chain.specs.Flat.{EventPlace, place_of, stored_in}
 use Rattle.event_chain.specs.Kept.{IsSub, IsKeyed, is_live}
 use Rattle.event_chain.specs.Walk.{is_under, are_under}
 use Rattle.event_chain.proofs.Lives.{chosen_place}
@@ -16,7 +16,7 @@ use Rattle.event_chain.proofs.Walks.{all_under}
 not_free : (o : Option Held) (h : Held) → o ≡ Some h → o ≡ None → ⊥
 not_free o h a b = cc
 
-module _ (rows : List Row) (es live : List Place) (slots : List (Option Held)) (keyed : IsKeyed rows es slots) (lives : IsSub is_live es slots live) where
+module _ (rows : List TxRow) (es live : List EventPlace) (slots : List (Option Held)) (keyed : IsKeyed rows es slots) (lives : IsSub is_live es slots live) where
   -- The event of a live place is in its slot, under its rank.
   held_live : (r s : ℕ) → place_of r live ≡ Some s → (stored : Stored) × (value_at slots s ≡ Some (r, stored))
   held_live r s at = let home = keyed.homes r s (chosen_place is_live slots (place_of r es) s (sym (lives.each r) ∙ at)) in (home.stored, home.held_is)
@@ -30,7 +30,7 @@ module _ (rows : List Row) (es live : List Place) (slots : List (Option Held)) (
   live_under = all_under slots live (all_found (λ p. is_under p.0 (value_at slots p.1) ≡ true) live lives.rising (λ p at. let held = held_live p.0 p.1 at in ap (is_under p.0) held.1 ∙ (Decides-eqb p.0 p.0).1 refl))
 
 -- No live place has the slot of a voided event.
-pub unused_voided : (es live : List Place) (slots : List (Option Held)) → IsSub is_live es slots live → (s r0 : ℕ) (event : Stored) → value_at slots s ≡ Some (r0, event) → event.voided ≡ true → (r : ℕ) → place_of r live ≡ Some s → ⊥
+pub unused_voided : (es live : List EventPlace) (slots : List (Option Held)) → IsSub is_live es slots live → (s r0 : ℕ) (event : Stored) → value_at slots s ≡ Some (r0, event) → event.voided ≡ true → (r : ℕ) → place_of r live ≡ Some s → ⊥
 unused_voided es live slots lives s r0 event here voided r at =
     let counts = chosen_test is_live slots (place_of r es) s (sym (lives.each r) ∙ at) in
     let never : true ≡ false = sym counts ∙ ap (λ o. is_live (stored_in o)) here ∙ ap not voided in cc

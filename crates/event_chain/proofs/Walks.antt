@@ -11,7 +11,7 @@ use Rattle.ledger_model.specs.BoardLaws.{AreRising}
 use Rattle.ledger_model.proofs.Callers.{first, second}
 use Rattle.ledger_model.specs.Content.{Stored}
 use Rattle.event_store.specs.Slots.{Held}
-use Rattle.event_chain.specs.Flat.{Place, place_of, segment}
+use Rattle.event_chain.specs.Flat.{EventPlace, place_of, segment}
 use Rattle.event_chain.specs.Edits.{places_behind}
 use Rattle.event_chain.specs.Kept.{AreRanks}
 use Rattle.event_chain.specs.Lists.{slot_in, HasRank, AreOwn}
@@ -48,7 +48,7 @@ rising_more n [] h rising = tt
 rising_more n (m ∷ ms) h rising = (h.0, rising)
 
 -- Numbers of greater ranks of one transaction are greater.
-numbers_above : (t r : ℕ) (es : List Place) → AreAbove r es → r / 2 ^ 31 ≡ t → AllAbove (r % 2 ^ 31) (map number_in (segment t es))
+numbers_above : (t r : ℕ) (es : List EventPlace) → AreAbove r es → r / 2 ^ 31 ≡ t → AllAbove (r % 2 ^ 31) (map number_in (segment t es))
 numbers_above t r [] h home = tt
 numbers_above t r (e ∷ es) h home =
     let up = h.0 in let rest = numbers_above t r es h.1 home in
@@ -58,7 +58,7 @@ numbers_above t r (e ∷ es) h home =
     ] refl
 
 -- The numbers of a transaction rise.
-pub numbers_rising : (t : ℕ) (es : List Place) → entries.AreRising es → AreRising (map number_in (segment t es))
+pub numbers_rising : (t : ℕ) (es : List EventPlace) → entries.AreRising es → AreRising (map number_in (segment t es))
 numbers_rising t [] h = tt
 numbers_rising t (e ∷ es) h =
     let rest = numbers_rising t es h.1 in
@@ -68,56 +68,56 @@ numbers_rising t (e ∷ es) h =
     ] refl
 
 -- What is left of greater ranks is greater.
-left_above : (n : ℕ) (f : Place → Bool) (es : List Place) → AreAbove n es → AreAbove n (filter f es)
+left_above : (n : ℕ) (f : EventPlace → Bool) (es : List EventPlace) → AreAbove n es → AreAbove n (filter f es)
 left_above n f [] h = tt
 left_above n f (e ∷ es) h = elim (f e) as (λ b. AreAbove n (cond b (e ∷ filter f es) (filter f es))) [ true ↦ (h.0, left_above n f es h.1) | false ↦ left_above n f es h.1 ]
 
 -- What is left of rising ranks rises.
-left_rising : (f : Place → Bool) (es : List Place) → entries.AreRising es → entries.AreRising (filter f es)
+left_rising : (f : EventPlace → Bool) (es : List EventPlace) → entries.AreRising es → entries.AreRising (filter f es)
 left_rising f [] h = tt
 left_rising f (e ∷ es) h = elim (f e) as (λ b. entries.AreRising (cond b (e ∷ filter f es) (filter f es))) [ true ↦ (left_above e.0 f es h.0, left_rising f es h.1) | false ↦ left_rising f es h.1 ]
 
 -- All greater ranks are greater.
-above_all : (n : ℕ) (es : List Place) → AreAbove n es → filter (λ e. nat_lt n e.0) es ≡ es
+above_all : (n : ℕ) (es : List EventPlace) → AreAbove n es → filter (λ e. nat_lt n e.0) es ≡ es
 above_all n [] h = refl
-above_all n (e ∷ es) h = ap (λ b. cond b (e ∷ filter (λ (x : Place). nat_lt n x.0) es) (filter (λ x. nat_lt n x.0) es)) ((Decides-ltb n e.0).1 h.0) ∙ ap (λ (xs : List Place). e ∷ xs) (above_all n es h.1)
+above_all n (e ∷ es) h = ap (λ b. cond b (e ∷ filter (λ (x : EventPlace). nat_lt n x.0) es) (filter (λ x. nat_lt n x.0) es)) ((Decides-ltb n e.0).1 h.0) ∙ ap (λ (xs : List EventPlace). e ∷ xs) (above_all n es h.1)
 
 -- Those greater than the first are the others.
-behind_first : (e : Place) (es : List Place) → entries.AreRising (e ∷ es) → filter (λ x. nat_lt e.0 x.0) (e ∷ es) ≡ es
-behind_first e es h = ap (λ b. cond b (e ∷ filter (λ (x : Place). nat_lt e.0 x.0) es) (filter (λ x. nat_lt e.0 x.0) es)) (not_so _ (Decides-ltb e.0 e.0) (λ lt. absurd (omega arith))) ∙ above_all e.0 es h.0
+behind_first : (e : EventPlace) (es : List EventPlace) → entries.AreRising (e ∷ es) → filter (λ x. nat_lt e.0 x.0) (e ∷ es) ≡ es
+behind_first e es h = ap (λ b. cond b (e ∷ filter (λ (x : EventPlace). nat_lt e.0 x.0) es) (filter (λ x. nat_lt e.0 x.0) es)) (not_so _ (Decides-ltb e.0 e.0) (λ lt. absurd (omega arith))) ∙ above_all e.0 es h.0
 
 -- Those greater than a greater rank are among the greater.
-greater_twice : (n m : ℕ) (es : List Place) → n < m → filter (λ e. nat_lt m e.0) (filter (λ e. nat_lt n e.0) es) ≡ filter (λ e. nat_lt m e.0) es
+greater_twice : (n m : ℕ) (es : List EventPlace) → n < m → filter (λ e. nat_lt m e.0) (filter (λ e. nat_lt n e.0) es) ≡ filter (λ e. nat_lt m e.0) es
 greater_twice n m [] lt = refl
 greater_twice n m (e ∷ es) lt =
-    let rest = greater_twice n m es lt in let more = filter (λ (x : Place). nat_lt m x.0) es in
+    let rest = greater_twice n m es lt in let more = filter (λ (x : EventPlace). nat_lt m x.0) es in
     elim (nat_lt n e.0) as (λ b. nat_lt n e.0 ≡ b → filter (λ x. nat_lt m x.0) (cond b (e ∷ filter (λ x. nat_lt n x.0) es) (filter (λ x. nat_lt n x.0) es)) ≡ cond (nat_lt m e.0) (e ∷ more) more) [
-      | true ↦ λ _. ap (λ (xs : List Place). cond (nat_lt m e.0) (e ∷ xs) xs) rest
+      | true ↦ λ _. ap (λ (xs : List EventPlace). cond (nat_lt m e.0) (e ∷ xs) xs) rest
       | false ↦ λ never. rest ∙ sym (ap (λ b. cond b (e ∷ more) more) (not_so _ (Decides-ltb m e.0) (λ up. let f : false ≡ true = sym never ∙ (Decides-ltb n e.0).1 (omega arith) in cc)))
     ] refl
 
 -- What holds of all holds of those in front of a rank.
-all_below : (P : Place → Type 0) (n : ℕ) (es : List Place) → AllPlaces P es → AllPlaces P (below n es)
+all_below : (P : EventPlace → Type 0) (n : ℕ) (es : List EventPlace) → AllPlaces P es → AllPlaces P (below n es)
 all_below P n [] h = tt
 all_below P n (e ∷ es) h = elim (nat_lt e.0 n) as (λ b. AllPlaces P (cond b (e ∷ below n es) [])) [ true ↦ (h.0, all_below P n es h.1) | false ↦ tt ]
 
 -- The test holds too of what it leaves.
-all_tested : (P : Place → Type 0) (f : Place → Bool) (es : List Place) → AllPlaces P es → AllPlaces (λ p. (f p ≡ true) × P p) (filter f es)
+all_tested : (P : EventPlace → Type 0) (f : EventPlace → Bool) (es : List EventPlace) → AllPlaces P es → AllPlaces (λ p. (f p ≡ true) × P p) (filter f es)
 all_tested P f [] h = tt
 all_tested P f (e ∷ es) h = elim (f e) as (λ b. f e ≡ b → AllPlaces (λ p. (f p ≡ true) × P p) (cond b (e ∷ filter f es) (filter f es))) [ true ↦ λ y. ((y, h.0), all_tested P f es h.1) | false ↦ λ _. all_tested P f es h.1 ] refl
 
 -- No place in front of a slot's has the slot.
-none_front : (s r : ℕ) (es : List Place) → AllPlaces (λ p. p.1 ≡ s → p.0 ≡ r) es → AllUnder r es → AllPlaces (λ p. p.1 ≡ s → ⊥) es
+none_front : (s r : ℕ) (es : List EventPlace) → AllPlaces (λ p. p.1 ≡ s → p.0 ≡ r) es → AllUnder r es → AllPlaces (λ p. p.1 ≡ s → ⊥) es
 none_front s r [] own under = tt
 none_front s r (e ∷ es) own under = ((λ is. let same = own.0 is in let lt = under.0 in absurd (omega arith)), none_front s r es own.1 under.1)
 
 -- Places without the slot are passed over.
-on_passed : (s : ℕ) (xs ys : List Place) → AllPlaces (λ p. p.1 ≡ s → ⊥) xs → numbers_on s (xs ++ ys) ≡ numbers_on s ys
+on_passed : (s : ℕ) (xs ys : List EventPlace) → AllPlaces (λ p. p.1 ≡ s → ⊥) xs → numbers_on s (xs ++ ys) ≡ numbers_on s ys
 on_passed s [] ys h = refl
 on_passed s (x ∷ xs) ys h = ap (λ b. cond b (number_in x ∷ map number_in (segment (x.0 / 2 ^ 31) (xs ++ ys))) (numbers_on s (xs ++ ys))) (not_so _ (Decides-eqb x.1 s) h.0) ∙ on_passed s xs ys h.1
 
 -- From a slot's place on come its number and those behind it.
-pub on_is : (r s : ℕ) (es : List Place) → entries.AreRising es → AreOwn es → place_of r es ≡ Some s → numbers_on s es ≡ number_in (r, s) ∷ map number_in (places_behind r es)
+pub on_is : (r s : ℕ) (es : List EventPlace) → entries.AreRising es → AreOwn es → place_of r es ≡ Some s → numbers_on s es ≡ number_in (r, s) ∷ map number_in (places_behind r es)
 on_is r s es rising own there =
     let mine = all_found (λ p. p.1 ≡ s → p.0 ≡ r) es (ranks_of es rising) (λ p at e. own p.0 r s (at ∙ ap Some e) there) in
     let rest = entries.from (r + 1) es in
@@ -127,7 +127,7 @@ on_is r s es rising own there =
     ∙ ap (λ xs. number_in (r, s) ∷ map number_in xs) (behind_present r es rising s there)
 
 -- A slot from which there are numbers has a rank.
-pub rank_on : (s : ℕ) (es : List Place) → AreRanks es → 0 < length (numbers_on s es) → HasRank es s
+pub rank_on : (s : ℕ) (es : List EventPlace) → AreRanks es → 0 < length (numbers_on s es) → HasRank es s
 rank_on s [] ranks some = absurd (omega arith)
 rank_on s (e ∷ es) ranks some =
     elim (e.1 == s) as (λ b. (e.1 == s) ≡ b → 0 < length (cond b (number_in e ∷ map number_in (segment (e.0 / 2 ^ 31) es)) (numbers_on s es)) → HasRank (e ∷ es) s) [
@@ -137,7 +137,7 @@ rank_on s (e ∷ es) ranks some =
     ] refl some
 
 -- The event of a place that is found has its rank.
-under_found : (slots : List (Option Held)) (r s : ℕ) (es : List Place) → are_under slots es ≡ true → place_of r es ≡ Some s → is_under r (value_at slots s) ≡ true
+under_found : (slots : List (Option Held)) (r s : ℕ) (es : List EventPlace) → are_under slots es ≡ true → place_of r es ≡ Some s → is_under r (value_at slots s) ≡ true
 under_found slots r s [] all there = cc
 under_found slots r s (e ∷ es) all there =
     let parts = and_parts (is_under e.0 (value_at slots e.1)) (are_under slots es) all in
@@ -153,7 +153,7 @@ under_held r None h = cc
 under_held r (Some held) h = (held.1, ap (λ (k : ℕ). Some (k, held.1)) ((Decides-eqb held.0 r).0 h))
 
 -- Each event has its rank where each place that is found says so.
-pub all_under : (slots : List (Option Held)) (es : List Place) → AllPlaces (λ p. is_under p.0 (value_at slots p.1) ≡ true) es → are_under slots es ≡ true
+pub all_under : (slots : List (Option Held)) (es : List EventPlace) → AllPlaces (λ p. is_under p.0 (value_at slots p.1) ≡ true) es → are_under slots es ≡ true
 all_under slots [] h = refl
 all_under slots (e ∷ es) h = ap (λ b. b && are_under slots es) h.0 ∙ all_under slots es h.1
 
@@ -167,11 +167,11 @@ held_same : (o : Option Held) (a b : Held) → o ≡ Some a → o ≡ Some b →
 held_same o a b x y = cc
 
 -- A list that has a first is that and the rest.
-first_of_some : (xs : List Place) (e : Place) → slice_get xs 0 ≡ Some e → (ps : List Place) × (xs ≡ e ∷ ps)
+first_of_some : (xs : List EventPlace) (e : EventPlace) → slice_get xs 0 ≡ Some e → (ps : List EventPlace) × (xs ≡ e ∷ ps)
 first_of_some [] e none = cc
-first_of_some (x ∷ xs) e some = let same : x ≡ e = cc in (xs, ap (λ (y : Place). y ∷ xs) same)
+first_of_some (x ∷ xs) e some = let same : x ≡ e = cc in (xs, ap (λ (y : EventPlace). y ∷ xs) same)
 
-module _ (es : List Place) (slots : List (Option Held)) (rising : entries.AreRising es) (own : AreOwn es) where
+module _ (es : List EventPlace) (slots : List (Option Held)) (rising : entries.AreRising es) (own : AreOwn es) where
   -- Where a walk stands at a slot.
   pub record IsAt (s : ℕ) : Type 0 where
     pub rank : ℕ
@@ -192,7 +192,7 @@ module _ (es : List Place) (slots : List (Option Held)) (rising : entries.AreRis
   at_place s some = let parts = told (are_under slots es) (numbers_on s es) some in let has = rank_on s es (ranks_of es rising) parts.1 in at_found has.rank s parts.0 has.found
 
   -- Numbers from the first of some places on are theirs.
-  from_first : (e : Place) (ps : List Place) → are_under slots es ≡ true → place_of e.0 es ≡ Some e.1 → places_behind e.0 es ≡ ps → numbers_from es slots e.1 ≡ number_in e ∷ map number_in ps
+  from_first : (e : EventPlace) (ps : List EventPlace) → are_under slots es ≡ true → place_of e.0 es ≡ Some e.1 → places_behind e.0 es ≡ ps → numbers_from es slots e.1 ≡ number_in e ∷ map number_in ps
   unfolding at_found
   from_first e ps all there behind = (at_found e.0 e.1 all there).numbers ∙ ap (λ xs. number_in e ∷ map number_in xs) behind
 
@@ -201,18 +201,18 @@ module _ (es : List Place) (slots : List (Option Held)) (rising : entries.AreRis
   found_all = all_found (λ p. place_of p.0 es ≡ Some p.1) es (ranks_of es rising) (λ p at. at)
 
   -- A walk starts at the first place of its transaction.
-  pub start_some : (t : ℕ) (e : Place) → are_under slots es ≡ true → slice_get (segment t es) 0 ≡ Some e → numbers_from es slots e.1 ≡ map number_in (segment t es)
+  pub start_some : (t : ℕ) (e : EventPlace) → are_under slots es ≡ true → slice_get (segment t es) 0 ≡ Some e → numbers_from es slots e.1 ≡ map number_in (segment t es)
   start_some t e all first_is =
       let split = first_of_some (segment t es) e first_is in
       let mine = all_tested (λ p. place_of p.0 es ≡ Some p.1) (λ p. p.0 / 2 ^ 31 == t) es found_all in
       let here = subst (AllPlaces (λ p. ((p.0 / 2 ^ 31 == t) ≡ true) × (place_of p.0 es ≡ Some p.1))) split.1 mine in
       let home : e.0 / 2 ^ 31 ≡ t = (Decides-eqb (e.0 / 2 ^ 31) t).0 here.0.0 in
       let up = subst entries.AreRising split.1 (left_rising (λ p. p.0 / 2 ^ 31 == t) es rising) in
-      from_first e split.0 all here.0.1 (ap (λ k. filter (λ (x : Place). nat_lt e.0 x.0) (segment k es)) home ∙ ap (filter (λ (x : Place). nat_lt e.0 x.0)) split.1 ∙ behind_first e split.0 up)
+      from_first e split.0 all here.0.1 (ap (λ k. filter (λ (x : EventPlace). nat_lt e.0 x.0) (segment k es)) home ∙ ap (filter (λ (x : EventPlace). nat_lt e.0 x.0)) split.1 ∙ behind_first e split.0 up)
       ∙ ap (map number_in) (sym split.1)
 
   module _ (s : ℕ) (at : IsAt s) where
-    abbrev behind : List Place
+    abbrev behind : List EventPlace
     behind = places_behind at.rank es
 
     abbrev home_of : ℕ
@@ -225,7 +225,7 @@ module _ (es : List Place) (slots : List (Option Held)) (rising : entries.AreRis
     pub number_read : (h : Held) → value_at slots s ≡ Some h → h.0 % 2 ^ 31 ≡ slice_index (numbers_from es slots s) 0
     number_read h here = let same : (at.rank, at.stored) ≡ h = held_same (value_at slots s) (at.rank, at.stored) h at.held_is here in ap (λ (x : Held). x.0 % 2 ^ 31) (sym same) ∙ sym (ap (λ ns. slice_index ns 0) at.numbers)
 
-    next_from : (e : Place) (ps : List Place) → behind ≡ e ∷ ps → numbers_from es slots e.1 ≡ map number_in behind
+    next_from : (e : EventPlace) (ps : List EventPlace) → behind ≡ e ∷ ps → numbers_from es slots e.1 ≡ map number_in behind
     next_from e ps is =
         let mine = all_tested (λ p. place_of p.0 es ≡ Some p.1) (λ p. p.0 / 2 ^ 31 == home_of) es found_all in
         let after = all_tested (λ p. ((p.0 / 2 ^ 31 == home_of) ≡ true) × (place_of p.0 es ≡ Some p.1)) (λ p. nat_lt at.rank p.0) (segment home_of es) mine in
@@ -233,36 +233,36 @@ module _ (es : List Place) (slots : List (Option Held)) (rising : entries.AreRis
         let home : e.0 / 2 ^ 31 ≡ home_of = (Decides-eqb (e.0 / 2 ^ 31) home_of).0 here.0.1.0 in
         let more : at.rank < e.0 = (Decides-ltb at.rank e.0).0 here.0.0 in
         let up = subst entries.AreRising is (left_rising (λ p. nat_lt at.rank p.0) (segment home_of es) (left_rising (λ p. p.0 / 2 ^ 31 == home_of) es rising)) in
-        from_first e ps at.all here.0.1.1 (ap (λ k. filter (λ (x : Place). nat_lt e.0 x.0) (segment k es)) home ∙ sym (greater_twice at.rank e.0 (segment home_of es) more) ∙ ap (filter (λ (x : Place). nat_lt e.0 x.0)) is ∙ behind_first e ps up)
+        from_first e ps at.all here.0.1.1 (ap (λ k. filter (λ (x : EventPlace). nat_lt e.0 x.0) (segment k es)) home ∙ sym (greater_twice at.rank e.0 (segment home_of es) more) ∙ ap (filter (λ (x : EventPlace). nat_lt e.0 x.0)) is ∙ behind_first e ps up)
         ∙ ap (map number_in) (sym is)
 
     -- A step goes to the first place behind.
     pub next_some : (k : ℕ) → Some k ≡ option_map slot_in (slice_get behind 0) → numbers_from es slots k ≡ drop 1 (numbers_from es slots s)
     next_some k is = step behind refl is ∙ sym rest_is where
-      step : (xs : List Place) → behind ≡ xs → Some k ≡ option_map slot_in (slice_get xs 0) → numbers_from es slots k ≡ map number_in behind
+      step : (xs : List EventPlace) → behind ≡ xs → Some k ≡ option_map slot_in (slice_get xs 0) → numbers_from es slots k ≡ map number_in behind
       step [] _ none = cc
       step (e ∷ ps) xs_is some = let same : k ≡ e.1 = cc in ap (numbers_from es slots) same ∙ next_from e ps xs_is
 
     -- There are numbers from it on.
     pub next_stands : (k : ℕ) → Some k ≡ option_map slot_in (slice_get behind 0) → 0 < length (numbers_from es slots k)
     next_stands k is = step behind refl is where
-      step : (xs : List Place) → behind ≡ xs → Some k ≡ option_map slot_in (slice_get xs 0) → 0 < length (numbers_from es slots k)
+      step : (xs : List EventPlace) → behind ≡ xs → Some k ≡ option_map slot_in (slice_get xs 0) → 0 < length (numbers_from es slots k)
       step [] _ none = cc
       step (e ∷ ps) xs_is some = let all = ap length (next_some k is ∙ rest_is ∙ ap (map number_in) xs_is) in omega (arith, all)
 
     -- Where there is none behind, the walk is over.
     pub next_none : None ≡ option_map slot_in (slice_get behind 0) → [] ≡ drop 1 (numbers_from es slots s)
     next_none is = over behind refl is ∙ sym rest_is where
-      over : (xs : List Place) → behind ≡ xs → None ≡ option_map slot_in (slice_get xs 0) → [] ≡ map number_in behind
+      over : (xs : List EventPlace) → behind ≡ xs → None ≡ option_map slot_in (slice_get xs 0) → [] ≡ map number_in behind
       over [] xs_is _ = ap (map number_in) (sym xs_is)
       over (e ∷ ps) _ none = cc
 
 -- Where a transaction has no first place it has no numbers.
-pub start_none : (ps : List Place) → None ≡ slice_get ps 0 → [] ≡ map number_in ps
+pub start_none : (ps : List EventPlace) → None ≡ slice_get ps 0 → [] ≡ map number_in ps
 start_none [] none = refl
 start_none (p ∷ ps) none = cc
 
 -- Where it has one there are numbers.
-pub start_stands : (ps : List Place) (e : Place) → slice_get ps 0 ≡ Some e → 0 < length (map number_in ps)
+pub start_stands : (ps : List EventPlace) (e : EventPlace) → slice_get ps 0 ≡ Some e → 0 < length (map number_in ps)
 start_stands [] e none = cc
 start_stands (p ∷ ps) e some = omega arith

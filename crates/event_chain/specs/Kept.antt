@@ -17,8 +17,8 @@ use Rattle.ledger_model.specs.Step.{readings_stored}
 use Rattle.event_store.specs.Slots.{Held, Slots}
 use Rattle.event_chain.specs.Placed.{Index}
 use Rattle.event_chain.specs.declared.row.TableRow.{TableRow}
-use Rattle.event_chain.specs.Table.{Table, Row, AreRising, AreApart, IsFresh, row_of, with_row}
-use Rattle.event_chain.specs.Flat.{Place, place_of, stored_at, flat}
+use Rattle.event_chain.specs.Table.{Table, TxRow, AreRising, AreApart, IsFresh, row_of, with_row}
+use Rattle.event_chain.specs.Flat.{EventPlace, place_of, stored_at, flat}
 
 -- The event is live.
 abbrev pub is_live : Stored → Bool
@@ -38,16 +38,16 @@ chosen test slots None = None
 chosen test slots (Some s) = cond (test (stored_at slots s)) (Some s) None
 
 -- The ranks rise.
-abbrev pub AreRanks : List Place → Type 0
+abbrev pub AreRanks : List EventPlace → Type 0
 AreRanks es = T (is_sorted nat_cmp es)
 
 -- An index of those places whose events pass a test.
-pub record IsSub (test : Stored → Bool) (es : List Place) (slots : List (Option Held)) (sub : List Place) : Type 0 where
+pub record IsSub (test : Stored → Bool) (es : List EventPlace) (slots : List (Option Held)) (sub : List EventPlace) : Type 0 where
   pub rising : AreRanks sub
   pub each : (r : ℕ) → place_of r sub ≡ chosen test slots (place_of r es)
 
 -- The transaction and the slot of a place.
-pub record IsHome (rows : List Row) (slots : List (Option Held)) (r s : ℕ) : Type 0 where
+pub record IsHome (rows : List TxRow) (slots : List (Option Held)) (r s : ℕ) : Type 0 where
   pub tx : List ℕ
   pub row : TableRow
   pub row_is : row_of tx rows ≡ Some row
@@ -56,14 +56,14 @@ pub record IsHome (rows : List Row) (slots : List (Option Held)) (r s : ℕ) : T
   pub held_is : value_at slots s ≡ Some (r, stored)
 
 -- A place of a transaction.
-pub record HasPlace (es : List Place) (slot : ℕ) : Type 0 where
+pub record HasPlace (es : List EventPlace) (slot : ℕ) : Type 0 where
   pub rank : ℕ
   pub place : ℕ
   pub found : place_of rank es ≡ Some place
   pub slot_is : rank / 2 ^ 31 ≡ slot
 
 -- The stored events by their keys: each has its transaction and its slot, and no transaction is without one.
-pub record IsKeyed (rows : List Row) (es : List Place) (slots : List (Option Held)) : Type 0 where
+pub record IsKeyed (rows : List TxRow) (es : List EventPlace) (slots : List (Option Held)) : Type 0 where
   pub rising : AreRising rows
   pub apart : AreApart rows
   pub ranks : AreRanks es
@@ -89,22 +89,22 @@ abbrev pub end_one : List ℕ → Entry → ℕ
 end_one tx e = cond (bytes_eq tx e.0.tx && not e.1.voided && is_end e.1.event.kind) 1 0
 
 -- What is counted of each transaction.
-pub record IsFigured (rows : List Row) (all : List Entry) (tx : List ℕ) (row : TableRow) : Type 0 where
+pub record IsFigured (rows : List TxRow) (all : List Entry) (tx : List ℕ) (row : TableRow) : Type 0 where
   pub live : row.live ≡ sum_by (live_one tx) all
   pub ends : row.ends ≡ sum_by (end_one tx) all
 
 -- The counts of all transactions.
-abbrev pub AreFigured : List Row → List Entry → Type 0
+abbrev pub AreFigured : List TxRow → List Entry → Type 0
 AreFigured rows all = (tx : List ℕ) (row : TableRow) → row_of tx rows ≡ Some row → IsFigured rows all tx row
 
 -- The indexes of the live events.
-pub record AreIndexed (es : List Place) (slots : List (Option Held)) (live : List Place) (carriers : Direction → List Place) (naming : List Place) : Type 0 where
+pub record AreIndexed (es : List EventPlace) (slots : List (Option Held)) (live : List EventPlace) (carriers : Direction → List EventPlace) (naming : List EventPlace) : Type 0 where
   pub lives : IsSub is_live es slots live
   pub carry : (d : Direction) → IsSub (is_carrier d) es slots (carriers d)
   pub names : IsSub is_naming es slots naming
 
 -- The counts and the rooms.
-pub record IsCounted (limits : Bounds) (transactions : ℕ) (slots : List (Option Held)) (readings room : ℕ) (es : List Place) (all : List Entry) : Type 0 where
+pub record IsCounted (limits : Bounds) (transactions : ℕ) (slots : List (Option Held)) (readings room : ℕ) (es : List EventPlace) (all : List Entry) : Type 0 where
   pub all_are : length all ≡ length es
   pub held_are : held_count slots ≡ length es
   pub readings_are : readings ≡ readings_stored all
@@ -133,29 +133,29 @@ abbrev pub events_of : Table → Slots → Index → FinMap key_cmp Stored
 events_of table store stored = finite.from_sorted (flat table.rows stored.entries store.slots)
 
 -- A transaction that was not there, with a slot of its own and no live event.
-pub record IsNew (rows : List Row) (tx : List ℕ) (row : TableRow) : Type 0 where
+pub record IsNew (rows : List TxRow) (tx : List ℕ) (row : TableRow) : Type 0 where
   pub absent : row_of tx rows ≡ None
   pub fresh : IsFresh row.slot rows
   pub none_live : row.live ≡ 0
   pub no_ends : row.ends ≡ 0
 
 -- A transaction with its row before and after, put in where it was new.
-pub record IsNamed (rows new : List Row) (tx : List ℕ) (row after : TableRow) : Type 0 where
+pub record IsNamed (rows new : List TxRow) (tx : List ℕ) (row after : TableRow) : Type 0 where
   pub there : row_of tx new ≡ Some after
   pub same : after.slot ≡ row.slot
   pub others : (q : List ℕ) → (q ≡ tx → ⊥) → row_of q new ≡ row_of q rows
   pub known : (row_of tx rows ≡ Some row) ⊎ IsNew rows tx row
 
 -- No place of the slot's transaction is left.
-abbrev pub IsBare : List Place → ℕ → Type 0
+abbrev pub IsBare : List EventPlace → ℕ → Type 0
 IsBare es slot = (r s : ℕ) → place_of r es ≡ Some s → r / 2 ^ 31 ≡ slot → ⊥
 
 -- A transaction after one of its places went: kept while it has another, else gone.
-pub record IsLeft (rows new : List Row) (left : List Place) (tx : List ℕ) (row : TableRow) : Type 0 where
+pub record IsLeft (rows new : List TxRow) (left : List EventPlace) (tx : List ℕ) (row : TableRow) : Type 0 where
   pub was : row_of tx rows ≡ Some row
   pub others : (q : List ℕ) → (q ≡ tx → ⊥) → row_of q new ≡ row_of q rows
   pub end : ((row_of tx new ≡ Some row) × HasPlace left row.slot) ⊎ ((row_of tx new ≡ None) × IsBare left row.slot)
 
 -- A transaction that was there, or was put in with a slot of its own and no live event.
-abbrev pub IsEntered : List Row → List Row → List ℕ → TableRow → Type 0
+abbrev pub IsEntered : List TxRow → List TxRow → List ℕ → TableRow → Type 0
 IsEntered rows new tx row = ((row_of tx rows ≡ Some row) × (new ≡ rows)) ⊎ (IsNew rows tx row × (new ≡ with_row tx row rows))

@@ -3,33 +3,33 @@ use Rattle.std.specs.Prelude.{◌≡◌, ℕ, List, Option, Some, length, map, s
 use Rattle.event_chain.specs.Placed.{Index}
 use Rattle.event_chain.specs.Links.{Links}
 use Rattle.event_chain.specs.LinkChain.{IsLinked}
-use Rattle.event_chain.specs.Flat.{Place, place_of, segment}
+use Rattle.event_chain.specs.Flat.{EventPlace, place_of, segment}
 use Rattle.event_chain.specs.Ranked.{last_of}
 use Rattle.event_chain.specs.Edits.{places_before, places_behind}
 
 -- The slot of a place.
-abbrev pub slot_in : Place → ℕ
+abbrev pub slot_in : EventPlace → ℕ
 slot_in e = e.1
 
 -- The slots of a transaction's places, in order.
-abbrev pub slots_of : ℕ → List Place → List ℕ
+abbrev pub slots_of : ℕ → List EventPlace → List ℕ
 slots_of t es = map slot_in (segment t es)
 
 -- The slot in front of a rank, of its transaction.
-abbrev pub slot_before : ℕ → List Place → Option ℕ
+abbrev pub slot_before : ℕ → List EventPlace → Option ℕ
 slot_before r es = option_map slot_in (last_of (places_before r es))
 
 -- The slot behind it.
-abbrev pub slot_after : ℕ → List Place → Option ℕ
+abbrev pub slot_after : ℕ → List EventPlace → Option ℕ
 slot_after r es = option_map slot_in (slice_get (places_behind r es) 0)
 
 -- A rank under which the slot stands.
-pub record HasRank (es : List Place) (slot : ℕ) : Type 0 where
+pub record HasRank (es : List EventPlace) (slot : ℕ) : Type 0 where
   pub rank : ℕ
   pub found : place_of rank es ≡ Some slot
 
 -- No slot stands under two ranks.
-abbrev pub AreOwn : List Place → Type 0
+abbrev pub AreOwn : List EventPlace → Type 0
 AreOwn es = (q r s : ℕ) → place_of q es ≡ Some s → place_of r es ≡ Some s → q ≡ r
 
 -- The slots of each transaction's places are a linked list, in order.

@@ -8,23 +8,23 @@ use Rattle.key_index.specs.declared.filed.Marks.{Marks}
 use Rattle.key_index.specs.Entries.{Entry}
 use Rattle.key_index.specs.Index as keyed
 use Rattle.key_index.specs.Marks.{has_mark, marked}
-use Rattle.event_chain.specs.Flat.{Place}
+use Rattle.event_chain.specs.Flat.{EventPlace}
 
 -- Places by rising rank, and how many there may be.
 pub record Index : Type 0 where
-  pub entries : List Place
+  pub entries : List EventPlace
   pub capacity : ℕ
 
 -- An index of these places.
-abbrev pub index : List Place → ℕ → Index
+abbrev pub index : List EventPlace → ℕ → Index
 index entries capacity = record { entries = entries; capacity = capacity }
 
 -- The rank of an entry and its slot.
-abbrev pub place_in : Entry → Place
+abbrev pub place_in : Entry → EventPlace
 place_in e = (e.0, e.1.slot)
 
 -- The places of a lane: of all entries, or of those that have a mark.
-abbrev pub lane : Option Mark → List Entry → List Place
+abbrev pub lane : Option Mark → List Entry → List EventPlace
 lane None es = map place_in es
 lane (Some m) es = map place_in (marked m es)
 

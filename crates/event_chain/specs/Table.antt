@@ -11,41 +11,41 @@ use Rattle.event_chain.specs.declared.row.TableRow.{TableRow}
 pub use Rattle.transaction_map.specs.Map.{id_cmp}
 
 -- A transaction's id, and what the table keeps of it.
-abbrev pub Row : Type 0
-Row = List ℕ × TableRow
+abbrev pub TxRow : Type 0
+TxRow = List ℕ × TableRow
 
 -- The transactions by rising id, and how many there may be.
 abbrev pub Table : Type 0
 Table = Mapped TableRow
 
 -- The ids rise strictly.
-abbrev pub AreRising : List Row → Type 0
+abbrev pub AreRising : List TxRow → Type 0
 AreRising rows = ids.AreRising rows
 
 -- What the table keeps of a transaction.
-abbrev pub row_of : List ℕ → List Row → Option TableRow
+abbrev pub row_of : List ℕ → List TxRow → Option TableRow
 row_of tx rows = find id_cmp tx rows
 
 -- The row of a transaction is at this place.
-abbrev pub IsRowAt : List ℕ → List Row → ℕ → Type 0
+abbrev pub IsRowAt : List ℕ → List TxRow → ℕ → Type 0
 IsRowAt tx rows i = IsAt tx rows i
 
 -- The rows, with this one of a transaction.
-abbrev pub with_row : List ℕ → TableRow → List Row → List Row
+abbrev pub with_row : List ℕ → TableRow → List TxRow → List TxRow
 with_row tx row rows = put id_cmp tx row rows
 
 -- The rows without that of a transaction.
-abbrev pub without_row : List ℕ → List Row → List Row
+abbrev pub without_row : List ℕ → List TxRow → List TxRow
 without_row tx rows = filter (λ r. not (eq_by_cmp id_cmp tx r.0)) rows
 
 -- No transaction has this slot.
-abbrev pub IsFresh : ℕ → List Row → Type 0
+abbrev pub IsFresh : ℕ → List TxRow → Type 0
 IsFresh slot rows = (tx : List ℕ) (row : TableRow) → row_of tx rows ≡ Some row → row.slot ≡ slot → ⊥
 
 -- No two transactions have one slot.
-abbrev pub AreApart : List Row → Type 0
+abbrev pub AreApart : List TxRow → Type 0
 AreApart rows = (tx other : List ℕ) (a b : TableRow) → row_of tx rows ≡ Some a → row_of other rows ≡ Some b → a.slot ≡ b.slot → tx ≡ other
 
 -- Each slot is below the number.
-abbrev pub AreBelow : ℕ → List Row → Type 0
+abbrev pub AreBelow : ℕ → List TxRow → Type 0
 AreBelow n rows = (tx : List ℕ) (row : TableRow) → row_of tx rows ≡ Some row → row.slot < n

@@ -15,7 +15,7 @@ use crate::row::TableRow;
 use crate::spots::{carriers_around, first_at, last_at};
 use crate::table::TransactionTable;
 use event_store::EventStore;
-use key_index::{IndexKey, Place};
+use key_index::{IndexKey, KeyPlace};
 use ledger_model::{Direction, Key, Reading};
 
 /// The live readings of a direction just before and just behind an event's place in its transaction;
@@ -62,7 +62,7 @@ pub(crate) fn sides_of(
     store: &EventStore,
     places: &PlaceIndex,
     row: Option<TableRow>,
-    place: Place,
+    place: KeyPlace,
     key: &Key,
     direction: Direction,
     sides: &mut Sides,
@@ -97,7 +97,7 @@ fn sides_where(
     store: &EventStore,
     places: &PlaceIndex,
     row: Option<TableRow>,
-    place: Place,
+    place: KeyPlace,
     key: &Key,
     direction: Direction,
     sides: &mut Sides,
@@ -132,7 +132,7 @@ pub(crate) fn around_of(
     store: &EventStore,
     places: &PlaceIndex,
     known: Option<(usize, TableRow)>,
-    place: Place,
+    place: KeyPlace,
     key: &Key,
     carries: Carries,
     around: &mut Around,

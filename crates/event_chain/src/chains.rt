@@ -31,7 +31,7 @@ use crate::table::TransactionTable;
 use crate::tx_ids::TxIds;
 use crate::tx_walk::TxWalk;
 use event_store::{EventRef, EventStore, Readings};
-use key_index::{IndexKey, Place};
+use key_index::{IndexKey, KeyPlace};
 use ledger_model::{Direction, Event, EvseId, Key, Kind, Limits, Reading, TxId};
 use std::alloc::{AllocError, Global};
 use std::marker::Model;
@@ -164,7 +164,7 @@ impl Chains {
     }
 
     /// The same, and where the key stands or belongs, as a hint for [`Chains::admit`].
-    pub fn look(&self, key: &Key) -> (Option<EventRef<'_>>, Place)
+    pub fn look(&self, key: &Key) -> (Option<EventRef<'_>>, KeyPlace)
         ensures { option_map (λ e. e.1) result.0 ≡ finite.get self.now.events key.now }
     {
         let found = look_up(&self.table, &self.places, key);
@@ -197,7 +197,7 @@ impl Chains {
 
     /// The same at the place that [`Chains::look`] told, a hint that saves a search. It answers what
     /// [`Chains::neighbours`] would, in each direction of which the event has a reading.
-    pub fn admit(&mut self, key: &Key, event: &Event, place: Place) -> Around
+    pub fn admit(&mut self, key: &Key, event: &Event, place: KeyPlace) -> Around
         requires absent { finite.get self.old.events key.now ≡ None }
         requires room { room_of self.old.limits (stored self.old) key.now.tx (length event.now.readings) ≡ Fits }
         ensures limits { self.new.limits ≡ self.old.limits }

@@ -3,7 +3,7 @@ ghost use Rattle.std.specs.Prelude.{◌≡◌, ◌≤◌, length, option_map};
 ghost use Rattle.event_chain.specs.Ranked.{below, from, slot_at, first_of, last_of, AreRising};
 ghost use Rattle.event_chain.specs.Placed.{place_in, lane_of};
 
-use key_index::{Filed, IndexKey, KeyIndex, Mark, Place};
+use key_index::{Filed, IndexKey, KeyIndex, KeyPlace, Mark};
 use std::marker::Model;
 
 // The entries of an index that have a mark, or all of them. Contracts see an index of their places. The
@@ -12,7 +12,7 @@ use std::marker::Model;
 pub(crate) struct Lane<'a> {
     index: &'a KeyIndex,
     mark: Option<Mark>,
-    place: Place,
+    place: KeyPlace,
 }
 
 impl<'a> Model for Lane<'a> {
@@ -35,7 +35,7 @@ pub(crate) fn slot_under(entry: Option<(IndexKey, Filed)>) -> Option<(IndexKey, 
 
 impl<'a> Lane<'a> {
     // The lane of a mark, or of all entries.
-    pub(crate) fn over(index: &'a KeyIndex, mark: Option<Mark>, place: Place) -> Self
+    pub(crate) fn over(index: &'a KeyIndex, mark: Option<Mark>, place: KeyPlace) -> Self
         ensures { result ≡ lane_of mark index.now }
     {
         Lane { index, mark, place }

@@ -15,7 +15,7 @@ use crate::carries::Carries;
 use crate::lane::{Lane, slot_under};
 use crate::links::SlotLinks;
 use crate::spots::{place_before, place_behind};
-use key_index::{Filed, IndexKey, KeyIndex, Mark, Marks, Place};
+use key_index::{Filed, IndexKey, KeyIndex, KeyPlace, Mark, Marks};
 use ledger_model::Direction;
 use std::alloc::{AllocError, Global};
 use std::marker::Model;
@@ -30,9 +30,9 @@ pub(crate) struct PlaceIndex {
     // The key that was sought last, where it stands or belongs, and where its transaction begins and
     // ends: they save searches, and change no answer.
     sought: IndexKey,
-    near: Place,
-    start: Place,
-    end: Place,
+    near: KeyPlace,
+    start: KeyPlace,
+    end: KeyPlace,
 }
 
 impl Model for PlaceIndex {
@@ -89,7 +89,7 @@ fn slot_behind(
 }
 
 // Links the event of a slot in between those on either side of its key.
-fn link_live(index: &KeyIndex, links: &mut SlotLinks, place: Place, key: IndexKey, slot: u32)
+fn link_live(index: &KeyIndex, links: &mut SlotLinks, place: KeyPlace, key: IndexKey, slot: u32)
     requires listed { AreListed (lane_of (Some Live) index.now) links.old }
     requires absent { place_of key (lane_of (Some Live) index.now).entries ≡ None }
     requires slot { slot < (lane_of (Some Live) index.now).capacity }
@@ -115,9 +115,9 @@ impl PlaceIndex {
             index: KeyIndex::open(alloc, events)?,
             links: SlotLinks::open(alloc, events)?,
             sought: IndexKey::new(0, 0),
-            near: Place::UNKNOWN,
-            start: Place::UNKNOWN,
-            end: Place::UNKNOWN,
+            near: KeyPlace::UNKNOWN,
+            start: KeyPlace::UNKNOWN,
+            end: KeyPlace::UNKNOWN,
         })
     }
 
@@ -129,7 +129,7 @@ impl PlaceIndex {
     }
 
     // Takes this place for that of a key, for the calls that come next.
-    pub(crate) fn seek_at(&mut self, key: IndexKey, place: Place)
+    pub(crate) fn seek_at(&mut self, key: IndexKey, place: KeyPlace)
         ensures { self.new ≡ self.old }
     {
         let ends = self.ends_at(key, place);
@@ -140,9 +140,9 @@ impl PlaceIndex {
     }
 
     // Where the transaction of the key of a place begins and ends.
-    fn ends_at(&self, key: IndexKey, place: Place) -> (Place, Place) {
+    fn ends_at(&self, key: IndexKey, place: KeyPlace) -> (KeyPlace, KeyPlace) {
         let slot = key.transaction();
-        if slot == self.sought.transaction() && self.start != Place::UNKNOWN {
+        if slot == self.sought.transaction() && self.start != KeyPlace::UNKNOWN {
             return (self.start, self.end);
         }
         // A transaction's events mostly come in order.
@@ -152,7 +152,7 @@ impl PlaceIndex {
     }
 
     // The first place from a key on, and where the key stands or belongs.
-    fn first_from(&self, key: IndexKey) -> (Option<(IndexKey, u32)>, Place)
+    fn first_from(&self, key: IndexKey) -> (Option<(IndexKey, u32)>, KeyPlace)
         ensures { result.0 ≡ first_of (from key self.now.stored.entries) }
     {
         self.index.keys_rise();
@@ -161,7 +161,7 @@ impl PlaceIndex {
     }
 
     // The slot of the first place from a key on, where that is the key's.
-    fn first_slot(&self, key: IndexKey) -> (Option<u32>, Place)
+    fn first_slot(&self, key: IndexKey) -> (Option<u32>, KeyPlace)
         ensures { result.0 ≡ slot_at key (from key self.now.stored.entries) }
     {
         let found = self.first_from(key);
@@ -172,45 +172,45 @@ impl PlaceIndex {
     }
 
     // The slot of a key, none where it is absent, and where the key stands or belongs.
-    pub(crate) fn find(&self, key: IndexKey) -> (Option<u32>, Place)
+    pub(crate) fn find(&self, key: IndexKey) -> (Option<u32>, KeyPlace)
         ensures { result.0 ≡ place_of key self.now.stored.entries }
     {
-        self.stored(Place::UNKNOWN).keys_rise();
+        self.stored(KeyPlace::UNKNOWN).keys_rise();
         self.first_slot(key)
     }
 
     // A key that comes after the one that was sought last mostly stands or belongs right behind it.
-    fn behind(&self, key: IndexKey) -> Place {
+    fn behind(&self, key: IndexKey) -> KeyPlace {
         if self.sought.is_before(key) {
             return self.near.next();
         }
-        Place::UNKNOWN
+        KeyPlace::UNKNOWN
     }
 
     // Where the key that was sought last stands or belongs.
-    pub(crate) fn near(&self) -> Place {
+    pub(crate) fn near(&self) -> KeyPlace {
         self.near
     }
 
     // Where its transaction begins.
-    pub(crate) fn start(&self) -> Place {
+    pub(crate) fn start(&self) -> KeyPlace {
         self.start
     }
 
     // Where it ends.
-    pub(crate) fn end(&self) -> Place {
+    pub(crate) fn end(&self) -> KeyPlace {
         self.end
     }
 
     // All events.
-    pub(crate) fn stored(&self, place: Place) -> Lane<'_>
+    pub(crate) fn stored(&self, place: KeyPlace) -> Lane<'_>
         ensures { result ≡ self.now.stored }
     {
         Lane::over(&self.index, None, place)
     }
 
     // The live events, each with a slot of its own.
-    pub(crate) fn live(&self, place: Place) -> Lane<'_>
+    pub(crate) fn live(&self, place: KeyPlace) -> Lane<'_>
         ensures same { result ≡ self.now.live }
         ensures rising { AreRising self.now.live.entries }
         ensures own { AreOwn self.now.live.entries }
@@ -221,14 +221,14 @@ impl PlaceIndex {
     }
 
     // The live events that have a reading of a direction.
-    pub(crate) fn carriers(&self, direction: Direction, place: Place) -> Lane<'_>
+    pub(crate) fn carriers(&self, direction: Direction, place: KeyPlace) -> Lane<'_>
         ensures { result ≡ carriers_of self.now direction }
     {
         Lane::over(&self.index, Some(mark_of(direction)), place)
     }
 
     // The live events that name an EVSE.
-    pub(crate) fn naming(&self, place: Place) -> Lane<'_>
+    pub(crate) fn naming(&self, place: KeyPlace) -> Lane<'_>
         ensures { result ≡ self.now.naming }
     {
         Lane::over(&self.index, Some(Mark::Names), place)
@@ -237,7 +237,7 @@ impl PlaceIndex {
     // Puts in a live event under a new key.
     pub(crate) fn insert(
         &mut self,
-        place: Place,
+        place: KeyPlace,
         key: IndexKey,
         slot: u32,
         carries: Carries,

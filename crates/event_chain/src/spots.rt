@@ -16,7 +16,7 @@ use crate::place_index::PlaceIndex;
 use crate::row::TableRow;
 use crate::table::TransactionTable;
 use event_store::EventStore;
-use key_index::{IndexKey, Place};
+use key_index::{IndexKey, KeyPlace};
 use ledger_model::{Direction, EvseId, Key, Kind, Reading, TxId};
 
 // The greatest sequence number.
@@ -31,7 +31,7 @@ pub(crate) struct Spot {
 }
 
 // The slot of a key of the index; none where it is absent.
-fn slot_at(places: &PlaceIndex, near: Place, key: IndexKey) -> Option<u32>
+fn slot_at(places: &PlaceIndex, near: KeyPlace, key: IndexKey) -> Option<u32>
     ensures { result ≡ place_of key places.now.stored.entries }
 {
     let stored = places.stored(near);
@@ -45,12 +45,12 @@ pub(crate) fn look_up(
     table: &TransactionTable,
     places: &PlaceIndex,
     key: &Key,
-) -> (Option<u32>, Place)
+) -> (Option<u32>, KeyPlace)
     ensures { result.0 ≡ place_at table.now.rows places.now.stored.entries key.now }
 {
     match table.get(key.tx()) {
         Some(row) => places.find(IndexKey::new(row.slot, key.seq())),
-        None => (None, Place::UNKNOWN),
+        None => (None, KeyPlace::UNKNOWN),
     }
 }
 
@@ -270,7 +270,7 @@ fn places_around(
 pub(crate) fn carriers_around(
     places: &PlaceIndex,
     direction: Direction,
-    place: Place,
+    place: KeyPlace,
     key: IndexKey,
 ) -> (Option<(IndexKey, u32)>, Option<(IndexKey, u32)>)
     ensures before { result.0 ≡ last_of (places_before key (carriers_of places.now direction).entries) }

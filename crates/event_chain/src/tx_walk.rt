@@ -5,7 +5,7 @@ use crate::place_index::PlaceIndex;
 use crate::spots::first_place;
 use event_store::EventStore;
 use gap_list::NumberWalk;
-use key_index::Place;
+use key_index::KeyPlace;
 use std::marker::Model;
 
 /// A walk over the live numbers of a transaction, rising. Its start is found by a look-up, and each
@@ -57,7 +57,7 @@ impl<'a> NumberWalk for TxWalk<'a> {
     ghost ahead = { λ w place. numbers_from place.live.now.live.entries place.store.now.slots place.slot };
 
     fn start(&self) -> Option<TxPlace<'a>> {
-        let index = self.live.live(Place::UNKNOWN);
+        let index = self.live.live(KeyPlace::UNKNOWN);
         match self.slot {
             Some(slot) => match first_place(&index, slot) {
                 Some(first) => Some(TxPlace {
@@ -73,13 +73,13 @@ impl<'a> NumberWalk for TxWalk<'a> {
 
     fn number(&self, place: TxPlace<'a>) -> u32 {
         // The indexed keys rise, each with a slot of its own.
-        let _index = place.live.live(Place::UNKNOWN);
+        let _index = place.live.live(KeyPlace::UNKNOWN);
         place.store.get(place.slot).key().number()
     }
 
     fn next(&self, place: TxPlace<'a>) -> Option<TxPlace<'a>> {
         // The indexed keys rise, each with a slot of its own.
-        let _index = place.live.live(Place::UNKNOWN);
+        let _index = place.live.live(KeyPlace::UNKNOWN);
         match place.live.next(place.slot) {
             Some(slot) => Some(TxPlace { slot, ..place }),
             None => None,

@@ -8,11 +8,11 @@ use Rattle.ledger_model.specs.Deltas.{last_reading}
 use Rattle.event_store.specs.Links.{reading_of, next_of, owner_of, left_of, chain, IsLink, IsRun, IsLast, AreReadings, AreKept, AreOthersKept}
 
 -- The links of an arena.
-abbrev pub Row : Type 0
-Row = List (Option ReadingLink)
+abbrev pub LinkRow : Type 0
+LinkRow = List (Option ReadingLink)
 
 -- A chain stays where its links are kept.
-pub run_same : (old new : Row) (owner first n : ℕ) → ((i : ℕ) → is_some (value_at old i) ≡ true → owner_of (value_at old i) ≡ owner → left_of (value_at old i) ≤ n → value_at new i ≡ value_at old i) → IsRun old owner first n → IsRun new owner first n × (chain new first n ≡ chain old first n)
+pub run_same : (old new : LinkRow) (owner first n : ℕ) → ((i : ℕ) → is_some (value_at old i) ≡ true → owner_of (value_at old i) ≡ owner → left_of (value_at old i) ≤ n → value_at new i ≡ value_at old i) → IsRun old owner first n → IsRun new owner first n × (chain new first n ≡ chain old first n)
 run_same old new owner first zero same run = (tt, refl)
 run_same old new owner first (suc n) same run =
     let here : value_at new first ≡ value_at old first = same first run.0.there run.0.owner_is (omega (arith, run.0.left_is)) in
@@ -22,15 +22,15 @@ run_same old new owner first (suc n) same run =
     )
 
 -- Where all links are kept, each chain is.
-pub run_kept : (old new : Row) (owner first n : ℕ) → AreKept old new → IsRun old owner first n → IsRun new owner first n × (chain new first n ≡ chain old first n)
+pub run_kept : (old new : LinkRow) (owner first n : ℕ) → AreKept old new → IsRun old owner first n → IsRun new owner first n × (chain new first n ≡ chain old first n)
 run_kept old new owner first n kept run = run_same old new owner first n (λ i there _ _. kept i there) run
 
 -- Where the links of all but one event are kept, another's chain is.
-pub run_other : (old new : Row) (owner other first n : ℕ) → AreOthersKept owner old new → (other ≡ owner → ⊥) → IsRun old other first n → IsRun new other first n × (chain new first n ≡ chain old first n)
+pub run_other : (old new : LinkRow) (owner other first n : ℕ) → AreOthersKept owner old new → (other ≡ owner → ⊥) → IsRun old other first n → IsRun new other first n × (chain new first n ≡ chain old first n)
 run_other old new owner other first n kept apart run = run_same old new other first n (λ i there is _. kept i there (λ e. apart (sym is ∙ e))) run
 
 -- The last link stays where it is kept, and its chain.
-last_same : (old new : Row) (owner first n last : ℕ) → (is_some (value_at old last) ≡ true → owner_of (value_at old last) ≡ owner → value_at new last ≡ value_at old last) → chain new first n ≡ chain old first n → IsLast old owner first n last → IsLast new owner first n last
+last_same : (old new : LinkRow) (owner first n last : ℕ) → (is_some (value_at old last) ≡ true → owner_of (value_at old last) ≡ owner → value_at new last ≡ value_at old last) → chain new first n ≡ chain old first n → IsLast old owner first n last → IsLast new owner first n last
 last_same old new owner first zero last same is ends = tt
 last_same old new owner first (suc n) last same is ends =
     let here : value_at new last ≡ value_at old last = same ends.0.there ends.0.owner_is in (
@@ -39,13 +39,13 @@ last_same old new owner first (suc n) last same is ends =
     )
 
 -- Where all links are kept, the readings of each event are.
-pub readings_kept : (old new : Row) (owner first n last : ℕ) → AreKept old new → AreReadings old owner first n last → AreReadings new owner first n last × (chain new first n ≡ chain old first n)
+pub readings_kept : (old new : LinkRow) (owner first n last : ℕ) → AreKept old new → AreReadings old owner first n last → AreReadings new owner first n last × (chain new first n ≡ chain old first n)
 readings_kept old new owner first n last kept was =
     let r = run_kept old new owner first n kept was.run in
     (record { run = r.0; ends = last_same old new owner first n last (λ there _. kept last there) r.1 was.ends }, r.1)
 
 -- Where the links of all but one event are kept, another's readings are.
-pub readings_other : (old new : Row) (owner other first n last : ℕ) → AreOthersKept owner old new → (other ≡ owner → ⊥) → AreReadings old other first n last → AreReadings new other first n last × (chain new first n ≡ chain old first n)
+pub readings_other : (old new : LinkRow) (owner other first n last : ℕ) → AreOthersKept owner old new → (other ≡ owner → ⊥) → AreReadings old other first n last → AreReadings new other first n last × (chain new first n ≡ chain old first n)
 readings_other old new owner other first n last kept apart was =
     let r = run_other old new owner other first n kept apart was.run in
     (record { run = r.0; ends = last_same old new other first n last (λ there is. kept last there (λ e. apart (sym is ∙ e))) r.1 was.ends }, r.1)
@@ -70,15 +70,15 @@ module _ {X : Type 0} where
   count_take xs i there = omega (arith, sum_by-set one xs i None None (there_within xs i there), ap (λ (b : Bool). cond {A = ℕ} b 1 0) there)
 
 -- A link put into a free slot leaves all others.
-pub put_kept : (links : Row) (id : ℕ) (link : ReadingLink) → value_at links id ≡ None → AreKept links (set links id (Some link))
+pub put_kept : (links : LinkRow) (id : ℕ) (link : ReadingLink) → value_at links id ≡ None → AreKept links (set links id (Some link))
 put_kept links id link free i there = get_or-set_other links id i (Some link) None (λ same. let e : None ≡ value_at links i = sym free ∙ ap (value_at links) (sym same) in let f : false ≡ true = ap is_some e ∙ there in cc)
 
 -- Kept twice is kept.
-pub kept_on : (old mid new : Row) → AreKept old mid → AreKept mid new → AreKept old new
+pub kept_on : (old mid new : LinkRow) → AreKept old mid → AreKept mid new → AreKept old new
 kept_on old mid new a b i there = b i (ap is_some (a i there) ∙ there) ∙ a i there
 
 -- A link put in front of a chain.
-pub put_run : (links : Row) (id first n owner : ℕ) (link : ReadingLink) → value_at links id ≡ None → id < length links → link.owner ≡ owner → link.left ≡ suc n → link.next ≡ first → IsRun links owner first n
+pub put_run : (links : LinkRow) (id first n owner : ℕ) (link : ReadingLink) → value_at links id ≡ None → id < length links → link.owner ≡ owner → link.left ≡ suc n → link.next ≡ first → IsRun links owner first n
     → IsRun (set links id (Some link)) owner id (suc n) × (chain (set links id (Some link)) id (suc n) ≡ link.reading ∷ chain links first n)
 put_run links id first n owner link free lt is left next run =
     let new = set links id (Some link) in
@@ -89,25 +89,25 @@ put_run links id first n owner link free lt is left next run =
     )
 
 -- The first link of a chain taken out.
-pub give_run : (links : Row) (owner first n : ℕ) → IsRun links owner first (suc n) → IsRun (set links first None) owner (next_of (value_at links first)) n
+pub give_run : (links : LinkRow) (owner first n : ℕ) → IsRun links owner first (suc n) → IsRun (set links first None) owner (next_of (value_at links first)) n
 give_run links owner first n run =
     (run_same links (set links first None) owner (next_of (value_at links first)) n
     (λ i there is le. get_or-set_other links first i None None (λ same. let e : left_of (value_at links i) ≡ suc n = ap (λ k. left_of (value_at links k)) same ∙ run.0.left_is in absurd (omega arith))) run.1).0
 
 -- The others are kept.
-pub give_kept : (start links : Row) (owner first n : ℕ) → IsRun links owner first (suc n) → AreOthersKept owner start links → AreOthersKept owner start (set links first None)
+pub give_kept : (start links : LinkRow) (owner first n : ℕ) → IsRun links owner first (suc n) → AreOthersKept owner start links → AreOthersKept owner start (set links first None)
 give_kept start links owner first n run kept i there apart =
     get_or-set_other links first i None None (λ same. apart (ap owner_of (sym (kept i there apart) ∙ ap (value_at links) same) ∙ run.0.owner_is)) ∙ kept i there apart
 
 -- What is left when the first link of a chain was taken out.
-pub record IsGiven (start links new : Row) (owner next n : ℕ) : Type 0 where
+pub record IsGiven (start links new : LinkRow) (owner next n : ℕ) : Type 0 where
   pub run : IsRun new owner next n
   pub kept : AreOthersKept owner start new
   pub held : held_count new + 1 ≡ held_count links
   pub same : length new ≡ length links
 
 -- That is so.
-pub give_step : (start links new : Row) (owner here left n id : ℕ) (link : ReadingLink) → left ≡ suc n → id ≡ here → value_at links id ≡ Some link → new ≡ set links id None → IsRun links owner here left → AreOthersKept owner start links → IsGiven start links new owner link.next n
+pub give_step : (start links new : LinkRow) (owner here left n id : ℕ) (link : ReadingLink) → left ≡ suc n → id ≡ here → value_at links id ≡ Some link → new ≡ set links id None → IsRun links owner here left → AreOthersKept owner start links → IsGiven start links new owner link.next n
 give_step start links new owner here left n id link up is value gone run kept =
     let whole : IsRun links owner here (suc n) = subst (IsRun links owner here) up run in
     let at : value_at links here ≡ Some link = ap (value_at links) (sym is) ∙ value in
@@ -127,7 +127,7 @@ front_last (y ∷ z ∷ xs) ys x zero long is = absurd (omega arith)
 front_last (y ∷ xs) ys x (suc n) long is = ap (λ (zs : List MeterReading). y ∷ zs) (front_last xs ys x n (omega arith) is)
 
 -- What there is when a link was put in front of a chain.
-pub record IsPut (start links new : Row) (owner first n : ℕ) (rest all : List MeterReading) : Type 0 where
+pub record IsPut (start links new : LinkRow) (owner first n : ℕ) (rest all : List MeterReading) : Type 0 where
   pub run : IsRun new owner first n
   pub whole : rest ++ chain new first n ≡ all
   pub kept : AreKept start new
@@ -135,7 +135,7 @@ pub record IsPut (start links new : Row) (owner first n : ℕ) (rest all : List 
   pub same : length new ≡ length links
 
 -- That is so.
-pub put_step : (start links new : Row) (id first n more owner : ℕ) (link : ReadingLink) (rest all : List MeterReading) (m : ℕ) → more ≡ suc n → m + 1 ≡ length rest → value_at links id ≡ None → id < length links → new ≡ set links id (Some link) → link.owner ≡ owner → link.left ≡ more → link.next ≡ first → link.reading ≡ get_or rest m link.reading
+pub put_step : (start links new : LinkRow) (id first n more owner : ℕ) (link : ReadingLink) (rest all : List MeterReading) (m : ℕ) → more ≡ suc n → m + 1 ≡ length rest → value_at links id ≡ None → id < length links → new ≡ set links id (Some link) → link.owner ≡ owner → link.left ≡ more → link.next ≡ first → link.reading ≡ get_or rest m link.reading
     → IsRun links owner first n → rest ++ chain links first n ≡ all → AreKept start links → IsPut start links new owner id more (take m rest) all
 put_step start links new id first n more owner link rest all m up long free lt put is left next last run whole kept =
     let step = put_run links id first n owner link free lt is (left ∙ up) next run in
@@ -154,11 +154,11 @@ last_more x y ys =
     ap (slice_get (x ∷ y ∷ ys)) a ∙ sym (ap (slice_get (y ∷ ys)) b)
 
 -- A link put in front of a chain is its last one where there was none; else the last one stays.
-pub put_last : (links new : Row) (id first n more owner last end : ℕ) (link : ReadingLink) → more ≡ suc n → value_at links id ≡ None → id < length links → new ≡ set links id (Some link) → link.owner ≡ owner → link.left ≡ more → link.next ≡ first
+pub put_last : (links new : LinkRow) (id first n more owner last end : ℕ) (link : ReadingLink) → more ≡ suc n → value_at links id ≡ None → id < length links → new ≡ set links id (Some link) → link.owner ≡ owner → link.left ≡ more → link.next ≡ first
     → (more ≡ 1 → end ≡ id) → (1 < more → end ≡ last) → IsRun links owner first n → IsLast links owner first n last → IsLast new owner id more end
 put_last links new id first n more owner last end link up free lt put is left next only others run ends =
     subst (λ row. IsLast row owner id more end) (sym put) (subst (λ k. IsLast (set links id (Some link)) owner id k end) (sym up) (told n up run ends)) where
-      whole : Row
+      whole : LinkRow
       whole = set links id (Some link)
 
       told : (m : ℕ) → more ≡ suc m → IsRun links owner first m → IsLast links owner first m last → IsLast whole owner id (suc m) end
@@ -176,6 +176,6 @@ put_last links new id first n more owner last end link up free lt put is left ne
           )
 
 -- A chain is as long as it is said to be.
-pub chain_long : (links : Row) (first n : ℕ) → length (chain links first n) ≡ n
+pub chain_long : (links : LinkRow) (first n : ℕ) → length (chain links first n) ≡ n
 chain_long links first zero = refl
 chain_long links first (suc n) = ap suc (chain_long links (next_of (value_at links first)) n)

@@ -8,77 +8,77 @@ use Rattle.event_store.specs.Links.{chain, AreReadings, AreKept, AreOthersKept}
 use Rattle.event_store.specs.Slots.{Held, voided_as, voided_at, readings_at, readings_in}
 use Rattle.ledger_model.specs.Event.{EventContent}
 use Rattle.event_store.specs.Store.{slot_in, slots_in, new_slot, run_set, IsChained, AreChained}
-use Rattle.event_store.proofs.Runs.{Row, one, there_within, readings_kept, readings_other, chain_long}
+use Rattle.event_store.proofs.Runs.{LinkRow, one, there_within, readings_kept, readings_other, chain_long}
 
 -- The event slots of an arena.
 abbrev Events : Type 0
 Events = List (Option EventSlot)
 
 -- What a slot shows, by its number.
-pub slot_at : (links : Row) (events : Events) (i : ℕ) → value_at (slots_in links events) i ≡ slot_in links (value_at events i)
+pub slot_at : (links : LinkRow) (events : Events) (i : ℕ) → value_at (slots_in links events) i ≡ slot_in links (value_at events i)
 slot_at links [] i = refl
 slot_at links (e ∷ events) zero = refl
 slot_at links (e ∷ events) (suc i) = slot_at links events i
 
 -- A slot that was written.
-pub slots_set : (links : Row) (events : Events) (i : ℕ) (e : Option EventSlot) → slots_in links (set events i e) ≡ set (slots_in links events) i (slot_in links e)
+pub slots_set : (links : LinkRow) (events : Events) (i : ℕ) (e : Option EventSlot) → slots_in links (set events i e) ≡ set (slots_in links events) i (slot_in links e)
 slots_set links [] i e = refl
 slots_set links (x ∷ events) zero e = refl
 slots_set links (x ∷ events) (suc i) e = ap (λ (es : List (Option Held)). slot_in links x ∷ es) (slots_set links events i e)
 
 -- As many slots are held.
-pub slots_held : (links : Row) (events : Events) → held_count (slots_in links events) ≡ held_count events
+pub slots_held : (links : LinkRow) (events : Events) → held_count (slots_in links events) ≡ held_count events
 slots_held links [] = refl
 slots_held links (None ∷ events) = slots_held links events
 slots_held links (Some e ∷ events) = omega (arith, slots_held links events, sum_by-cons (one {X = Held}) (slot_in links (Some e)) (slots_in links events), sum_by-cons (one {X = EventSlot}) (Some e) events)
 
 -- As many slots there are.
-pub slots_long : (links : Row) (events : Events) → length (slots_in links events) ≡ length events
+pub slots_long : (links : LinkRow) (events : Events) → length (slots_in links events) ≡ length events
 slots_long links [] = refl
 slots_long links (e ∷ events) = ap suc (slots_long links events)
 
 -- No slot is held.
-pub slots_free : (links : Row) (n : ℕ) → slots_in links (replicate n None) ≡ replicate n None
+pub slots_free : (links : LinkRow) (n : ℕ) → slots_in links (replicate n None) ≡ replicate n None
 slots_free links zero = refl
 slots_free links (suc n) = ap (λ (es : List (Option Held)). None ∷ es) (slots_free links n)
 
 -- Slots show the same where each of them does.
-pub slots_same : (old new : Row) (events : Events) → ((i : ℕ) → slot_in new (value_at events i) ≡ slot_in old (value_at events i)) → slots_in new events ≡ slots_in old events
+pub slots_same : (old new : LinkRow) (events : Events) → ((i : ℕ) → slot_in new (value_at events i) ≡ slot_in old (value_at events i)) → slots_in new events ≡ slots_in old events
 slots_same old new [] same = refl
 slots_same old new (e ∷ events) same = ap (λ (x : Option Held). x ∷ slots_in new events) (same 0) ∙ ap (λ (es : List (Option Held)). slot_in old e ∷ es) (slots_same old new events (λ i. same (suc i)))
 
 -- A slot whose chain is kept shows the same.
-chained_same : (old new : Row) (slot : ℕ) (e : EventSlot) → AreReadings new slot e.first e.count e.last × (chain new e.first e.count ≡ chain old e.first e.count) → slot_in new (Some e) ≡ slot_in old (Some e)
+chained_same : (old new : LinkRow) (slot : ℕ) (e : EventSlot) → AreReadings new slot e.first e.count e.last × (chain new e.first e.count ≡ chain old e.first e.count) → slot_in new (Some e) ≡ slot_in old (Some e)
 chained_same old new slot e kept = ap (λ rs. Some (e.key, record { event = record { kind = e.kind; moment = e.moment; evse = e.evse; readings = rs }; voided = e.voided })) kept.1
 
 -- One of them.
-kept_slot : (old new : Row) (i : ℕ) (e : Option EventSlot) → AreKept old new → IsChained old i e → slot_in new e ≡ slot_in old e
+kept_slot : (old new : LinkRow) (i : ℕ) (e : Option EventSlot) → AreKept old new → IsChained old i e → slot_in new e ≡ slot_in old e
 kept_slot old new i None kept run = refl
 kept_slot old new i (Some e) kept run = chained_same old new i e (readings_kept old new i e.first e.count e.last kept run)
 
 -- Where all links are kept, the slots show the same.
-pub kept_same : (old new : Row) (events : Events) → AreKept old new → AreChained events old → slots_in new events ≡ slots_in old events
+pub kept_same : (old new : LinkRow) (events : Events) → AreKept old new → AreChained events old → slots_in new events ≡ slots_in old events
 kept_same old new events kept chained = slots_same old new events (λ i. kept_slot old new i (value_at events i) kept (chained i))
 
 -- A slot stays chained.
-pub kept_chained : (old new : Row) (i : ℕ) (e : Option EventSlot) → AreKept old new → IsChained old i e → IsChained new i e
+pub kept_chained : (old new : LinkRow) (i : ℕ) (e : Option EventSlot) → AreKept old new → IsChained old i e → IsChained new i e
 kept_chained old new i None kept run = tt
 kept_chained old new i (Some e) kept run = (readings_kept old new i e.first e.count e.last kept run).0
 
 -- A slot of another event shows the same, and stays chained.
-pub other_slot : (old new : Row) (owner i : ℕ) (e : Option EventSlot) → AreOthersKept owner old new → (i ≡ owner → ⊥) → IsChained old i e → (slot_in new e ≡ slot_in old e) × IsChained new i e
+pub other_slot : (old new : LinkRow) (owner i : ℕ) (e : Option EventSlot) → AreOthersKept owner old new → (i ≡ owner → ⊥) → IsChained old i e → (slot_in new e ≡ slot_in old e) × IsChained new i e
 other_slot old new owner i None kept apart run = (refl, tt)
 other_slot old new owner i (Some e) kept apart run = let r = readings_other old new owner i e.first e.count e.last kept apart run in (chained_same old new i e r, r.0)
 
 -- The slots, one of them voided or not.
-pub voided_slots : (links : Row) (events : Events) (slots : List (Option Held)) (slot id : ℕ) (e : EventSlot) (voided : Bool) → id ≡ slot → value_at events id ≡ Some e → slots_in links events ≡ slots → slots_in links (set events id (Some (record e { voided = voided }))) ≡ voided_at slots slot voided
+pub voided_slots : (links : LinkRow) (events : Events) (slots : List (Option Held)) (slot id : ℕ) (e : EventSlot) (voided : Bool) → id ≡ slot → value_at events id ≡ Some e → slots_in links events ≡ slots → slots_in links (set events id (Some (record e { voided = voided }))) ≡ voided_at slots slot voided
 voided_slots links events slots slot id e voided is value view =
     slots_set links events id (Some (record e { voided = voided }))
     ∙ ap (λ (o : Option Held). set (slots_in links events) id (voided_as voided o)) (sym (slot_at links events id ∙ ap (slot_in links) value))
     ∙ ap (λ k. voided_at (slots_in links events) k voided) is ∙ ap (λ ss. voided_at ss slot voided) view
 
 -- A slot that was written is chained where what was written is.
-written_chained : (links : Row) (events : Events) (id : ℕ) (old : EventSlot) (new : Option EventSlot) → value_at events id ≡ Some old → AreChained events links → (IsChained links id (Some old) → IsChained links id new) → AreChained (set events id new) links
+written_chained : (links : LinkRow) (events : Events) (id : ℕ) (old : EventSlot) (new : Option EventSlot) → value_at events id ≡ Some old → AreChained events links → (IsChained links id (Some old) → IsChained links id new) → AreChained (set events id new) links
 written_chained links events id old new was chained turn i =
     elim (cases_eq i id) [
       | inl same ↦ subst (λ k. IsChained links k (value_at (set events id new) k)) (sym same)
@@ -87,7 +87,7 @@ written_chained links events id old new was chained turn i =
     ]
 
 -- A slot whose event was voided is chained as before.
-pub voided_chained : (links : Row) (events : Events) (id : ℕ) (e : EventSlot) (voided : Bool) → value_at events id ≡ Some e → AreChained events links → AreChained (set events id (Some (record e { voided = voided }))) links
+pub voided_chained : (links : LinkRow) (events : Events) (id : ℕ) (e : EventSlot) (voided : Bool) → value_at events id ≡ Some e → AreChained events links → AreChained (set events id (Some (record e { voided = voided }))) links
 voided_chained links events id e voided value chained = written_chained links events id e (Some (record e { voided = voided })) value chained (λ run. run)
 
 -- A slot that was emptied is free.
@@ -97,12 +97,12 @@ none_set (e ∷ events) zero = refl
 none_set (e ∷ events) (suc i) = none_set events i
 
 -- What a store keeps when an event was taken out of it.
-pub record IsOut (events gone : Events) (links new : Row) (slot : ℕ) : Type 0 where
+pub record IsOut (events gone : Events) (links new : LinkRow) (slot : ℕ) : Type 0 where
   pub chained : AreChained gone new
   pub shown : slots_in new gone ≡ set (slots_in links events) slot None
 
 -- That is so.
-pub taken_out : (events gone : Events) (links new : Row) (slot id owner : ℕ) → id ≡ slot → owner ≡ slot → gone ≡ set events id None → AreChained events links → AreOthersKept owner links new → IsOut events gone links new slot
+pub taken_out : (events gone : Events) (links new : LinkRow) (slot id owner : ℕ) → id ≡ slot → owner ≡ slot → gone ≡ set events id None → AreChained events links → AreOthersKept owner links new → IsOut events gone links new slot
 taken_out events gone links new slot id owner is own written chained kept =
     let bare : Events = set events slot None in
     let at : gone ≡ bare = written ∙ ap (λ k. set events k None) is in
@@ -117,17 +117,17 @@ taken_out events gone links new slot id owner is own written chained kept =
     })
 
 -- The readings of a slot.
-pub slot_readings : (links : Row) (events : Events) (slots : List (Option Held)) (slot id : ℕ) (e : EventSlot) → id ≡ slot → value_at events id ≡ Some e → slots_in links events ≡ slots → readings_at slots slot ≡ e.count
+pub slot_readings : (links : LinkRow) (events : Events) (slots : List (Option Held)) (slot id : ℕ) (e : EventSlot) → id ≡ slot → value_at events id ≡ Some e → slots_in links events ≡ slots → readings_at slots slot ≡ e.count
 slot_readings links events slots slot id e is value view =
     ap (λ ss. readings_at ss slot) (sym view) ∙ ap (λ k. readings_at (slots_in links events) k) (sym is) ∙ ap readings_in (slot_at links events id ∙ ap (slot_in links) value) ∙ chain_long links e.first e.count
 
 -- What a store keeps when an event was put into it.
-pub record IsIn (events more : Events) (links new : Row) (slot key : ℕ) (event : EventContent) : Type 0 where
+pub record IsIn (events more : Events) (links new : LinkRow) (slot key : ℕ) (event : EventContent) : Type 0 where
   pub chained : AreChained more new
   pub shown : slots_in new more ≡ set (slots_in links events) slot (Some (key, record { event = event; voided = false }))
 
 -- That is so.
-pub put_in : (events mid more : Events) (links new : Row) (slot id first last count key : ℕ) (event : EventContent) → id ≡ slot → value_at events slot ≡ None → slot < length events → mid ≡ set events slot (Some (new_slot key event)) → more ≡ set mid id (run_set (value_at mid id) first last count)
+pub put_in : (events mid more : Events) (links new : LinkRow) (slot id first last count key : ℕ) (event : EventContent) → id ≡ slot → value_at events slot ≡ None → slot < length events → mid ≡ set events slot (Some (new_slot key event)) → more ≡ set mid id (run_set (value_at mid id) first last count)
     → AreKept links new → AreReadings new slot first count last → chain new first count ≡ event.readings → AreChained events links → IsIn events more links new slot key event
 put_in events mid more links new slot id first last count key event is free lt put set_is kept run readings chained =
     let e : EventSlot = record (new_slot key event) { first = first; last = last; count = count } in

@@ -9,7 +9,7 @@ use Rattle.ledger_model.specs.Event.{EventContent}
 use Rattle.ledger_model.specs.Key.{KeyName}
 use Rattle.script_lines.specs.LineMeaning.{LineMeaning, commands, line_meaning}
 use Rattle.site_book.specs.Book.{Known}
-use Rattle.site_desk.specs.declared.roster.Place.{Place}
+use Rattle.site_desk.specs.declared.roster.StationPlace.{StationPlace}
 use Rattle.station_cell.specs.Cell.{Held}
 use Rattle.site_desk.specs.Roster.{IsNamed}
 use Rattle.site_desk.specs.Submit.{IsUnchanged}
@@ -25,7 +25,7 @@ some_is : {X : Type 0} (x y : X) → Some x ≡ Some y → x ≡ y
 some_is x y e = cc e
 
 -- a line that speaks for a station's name speaks for the name of its place
-pub speaks_at : (places : List Place) (name line : List ℕ) (command : Command) (station : ℕ) (at : Place) → 0 < length name → Speaks name line command → IsNamed places name station → slice_get places station ≡ Some at → SpeaksOf at.name line command
+pub speaks_at : (places : List StationPlace) (name line : List ℕ) (command : Command) (station : ℕ) (at : StationPlace) → 0 < length name → Speaks name line command → IsNamed places name station → slice_get places station ≡ Some at → SpeaksOf at.name line command
 speaks_at places name line command station at some speaks named there =
     let same : at.name ≡ name = ap (λ p. p.name) (some_is at named.place (sym there ∙ named.there)) ∙ named.same in
     subst (λ n. SpeaksOf n line command) (sym same) (record { some = some; speaks = speaks })
@@ -35,7 +35,7 @@ pub says_command : (m : LineMeaning) (name : List ℕ) (command : Command) → m
 says_command m name command e = subst (λ x. Says x name command) (sym e) (refl, refl)
 
 -- nothing more is accepted
-pub exhausted : (places : List Place) (p : Held) (command : Command) (a : Answer) (told : Option Known) → a ≡ Refused ChangesExhausted → told ≡ None → IsSubmitted places p command a p told
+pub exhausted : (places : List StationPlace) (p : Held) (command : Command) (a : Answer) (told : Option Known) → a ≡ Refused ChangesExhausted → told ≡ None → IsSubmitted places p command a p told
 exhausted places p command a told answer none =
     subst (λ x. IsSubmitted places p command x p told) (sym answer)
     (subst (λ t. IsSubmitted places p command (Refused ChangesExhausted) p t) (sym none)

@@ -5,7 +5,7 @@ ghost use Rattle.ledger_model.specs.declared.answer.Refusal.{Refusal};
 ghost use Rattle.ledger_model.specs.declared.command.Command.{Command};
 ghost use Rattle.script_lines.specs.LineMeaning.{commands, line_meaning};
 ghost use Rattle.script_lines.specs.Lines.{line_bytes};
-ghost use Rattle.site_desk.specs.declared.roster.Place.{Place};
+ghost use Rattle.site_desk.specs.declared.roster.StationPlace.{StationPlace};
 ghost use Rattle.site_desk.specs.Roster.{IsNamed};
 ghost use Rattle.site_desk.specs.Submit.{Submitted};
 ghost use Rattle.station_link.specs.Answer.{Asks, IsSubmitted};
@@ -45,7 +45,7 @@ impl<J: Naming, K: Ties + Opening, W: Write + Drop> Serving<J, K, W> {
     ) -> (Answer, Option<Told<J>>)
         requires named { IsNamed self.now.kept.stations name.now pass.old.station }
         requires line { line_meaning (line_bytes line) ≡ commands name.now what }
-        ensures { (at : Place) → slice_get self.now.kept.stations pass.old.station ≡ Some at → Submitted at pass.old what result.0 pass.new result.1 }
+        ensures { (at : StationPlace) → slice_get self.now.kept.stations pass.old.station ≡ Some at → Submitted at pass.old what result.0 pass.new result.1 }
     {
         let Some(bytes) = line else {
             return exhausted();

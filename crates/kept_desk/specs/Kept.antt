@@ -7,7 +7,7 @@ use Rattle.ledger_model.specs.Admissible.{IsAdmissible}
 use Rattle.ledger_model.specs.Content.{Content}
 use Rattle.ledger_model.specs.Laws.{AreAccepted, left_by}
 use Rattle.ledger_model.specs.Limits.{Bounds}
-use Rattle.site_desk.specs.declared.roster.Place.{Place}
+use Rattle.site_desk.specs.declared.roster.StationPlace.{StationPlace}
 use Rattle.station_cell.specs.Cell.{Cell, IsInService}
 
 -- The commands of entries, in their order.
@@ -35,8 +35,8 @@ abbrev pub AreSpoken : (List ℕ → List ℕ → Command → Type 0) → (ℕ �
 AreSpoken speaks name entries = All (λ e. speaks (name e.station) e.line e.command) entries
 
 -- What a desk with a journal keeps: the names are those of its stations, there is room for their cells, and they are few.
-pub record IsKeptDesk (name : ℕ → List ℕ) (places : List Place) (cells room : ℕ) : Type 0 where
-  pub names : (k : ℕ) (p : Place) → slice_get places k ≡ Some p → name k ≡ p.name
+pub record IsKeptDesk (name : ℕ → List ℕ) (places : List StationPlace) (cells room : ℕ) : Type 0 where
+  pub names : (k : ℕ) (p : StationPlace) → slice_get places k ≡ Some p → name k ≡ p.name
   pub none : cells ≡ 0
   pub room_for_all : length places ≤ room
   pub few : length places ≤ 64

@@ -15,7 +15,7 @@ use crate::way::Journalled;
 use ledger_model::{Answer, Command, Refusal};
 use site_book::{Naming, SiteBook, Told};
 use site_desk::{
-    HasCell, Pass, Place, StationCell, TooManyPasses, can_settle, enlist_cell, settle_at,
+    HasCell, Pass, StationCell, StationPlace, TooManyPasses, can_settle, enlist_cell, settle_at,
 };
 use std::io::Write;
 use std::marker::Model;
@@ -83,7 +83,7 @@ impl<K: Ties + Opening> KeptCell<K> {
         rt: &R,
         book: &Mutex<SiteBook<J>>,
         number: usize,
-        place: &Place,
+        place: &StationPlace,
         pass: &mut Pass,
         command: Command,
         way: &Journalled<'_, K, L, W>,
@@ -108,7 +108,7 @@ impl<K: Ties + Opening> KeptCell<K> {
         rt: &R,
         book: &Mutex<SiteBook<J>>,
         number: usize,
-        place: &Place,
+        place: &StationPlace,
         pass: &mut Pass,
         command: Command,
         way: &Journalled<'_, K, L, W>,
@@ -135,7 +135,7 @@ fn settle_written<J: Naming, R: Wait>(
     cell: &mut StationCell,
     book: &Mutex<SiteBook<J>>,
     number: usize,
-    place: &Place,
+    place: &StationPlace,
     pass: &mut Pass,
     command: Command,
 ) -> (Answer, Option<Told<J>>)

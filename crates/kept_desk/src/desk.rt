@@ -3,7 +3,7 @@ ghost use Rattle.kept_desk.specs.Entries.{HasNoFeed};
 ghost use Rattle.ledger_model.specs.declared.answer.Answer.{Answer};
 ghost use Rattle.ledger_model.specs.declared.answer.Refusal.{Refusal};
 ghost use Rattle.site_desk.specs.declared.fault.CloseFault.{CloseFault};
-ghost use Rattle.site_desk.specs.declared.roster.Place.{Place};
+ghost use Rattle.site_desk.specs.declared.roster.StationPlace.{StationPlace};
 ghost use Rattle.site_desk.specs.Close.{IsClosable, Saw};
 ghost use Rattle.site_desk.specs.Plan.{plan_fault};
 ghost use Rattle.site_desk.specs.Roster.{AreNewPlaces};
@@ -130,8 +130,8 @@ impl<J: Naming, K: Ties + Opening, L: Speaks, W: Write + Drop> KeptDesk<J, K, L,
         gate: &G,
     ) -> (Answer, Option<Told<J>>)
         requires line { HasNoFeed line.now }
-        requires speaks { (at : Place) → slice_get self.now.stations pass.old.station ≡ Some at → L.speaks at.name line.now command }
-        ensures settled { (at : Place) → slice_get self.now.stations pass.old.station ≡ Some at → Submitted at pass.old command result.0 pass.new result.1 }
+        requires speaks { (at : StationPlace) → slice_get self.now.stations pass.old.station ≡ Some at → L.speaks at.name line.now command }
+        ensures settled { (at : StationPlace) → slice_get self.now.stations pass.old.station ≡ Some at → Submitted at pass.old command result.0 pass.new result.1 }
         ensures stranger { slice_get self.now.stations pass.old.station ≡ None → (result.0 ≡ Answer.Refused Refusal.ChangesExhausted) × IsUnchanged pass.old pass.new result.1 }
     {
         let way = Journalled {

@@ -10,7 +10,7 @@ use crate::opening::{Opening, Speaks};
 use crate::ties::Ties;
 use ledger_model::{Answer, Command, Refusal};
 use site_book::{Naming, SiteBook, Told};
-use site_desk::{HasCell, Pass, Place, Settles, can_judge};
+use site_desk::{HasCell, Pass, Settles, StationPlace, can_judge};
 use std::io::Write;
 use std::sync::{Mutex, MutexGuard, Wait};
 use std::thread::yield_now;
@@ -52,7 +52,7 @@ impl<'a, J: Naming, K: Ties + Opening, L: Speaks, W: Write + Drop> Settles<J, Ke
         held: &mut KeptCell<K>,
         book: &Mutex<SiteBook<J>>,
         number: usize,
-        place: &Place,
+        place: &StationPlace,
         pass: &mut Pass,
         command: Command,
     ) -> (Answer, Option<Told<J>>) {

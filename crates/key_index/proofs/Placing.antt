@@ -4,7 +4,7 @@ use Rattle.std.specs.List.{insert}
 use Rattle.std.proofs.lemmas.Bool.{cases_lt}
 use Rattle.std.proofs.lemmas.List.{append-nil}
 use Rattle.key_index.specs.declared.filed.Marks.{Marks}
-use Rattle.key_index.specs.declared.place.Place.{Place}
+use Rattle.key_index.specs.declared.place.KeyPlace.{KeyPlace}
 use Rattle.key_index.specs.Entries.{Entry, below, from, first_of, last_of, AreAbove, AreRising}
 use Rattle.key_index.specs.Leaves.{all_of, AreBelow, Belongs}
 use Rattle.key_index.specs.Marks.{mark_at}
@@ -39,14 +39,14 @@ cut_here key xs ys rising cut =
     (parts.0 ∙ ap (λ l. xs ++ l) ends.0 ∙ append-nil xs, parts.1 ∙ ends.1)
 
 -- A place that fits is the key's.
-pub place_fits : (key : ℕ) (ls : List (List Entry)) (place : Place) → AreRising (all_of ls) → place.leaf < length ls → place.entry ≤ length (get_or ls place.leaf []) → IsCutAt key (in_front place.leaf place.entry ls) (on_from place.leaf place.entry ls) → IsPlace key ls place
+pub place_fits : (key : ℕ) (ls : List (List Entry)) (place : KeyPlace) → AreRising (all_of ls) → place.leaf < length ls → place.entry ≤ length (get_or ls place.leaf []) → IsCutAt key (in_front place.leaf place.entry ls) (on_from place.leaf place.entry ls) → IsPlace key ls place
 place_fits key ls place rising leaf entry cut =
     let front = in_front place.leaf place.entry ls in let back = on_from place.leaf place.entry ls in let all = parted place.leaf place.entry ls leaf in
     let is = cut_here key front back (subst AreRising (sym all) rising) cut in
     record { leaf = leaf; entry = entry; front = sym is.0 ∙ ap (below key) all; back = sym is.1 ∙ ap (from key) all }
 
 -- The place that is found is.
-pub place_found : (key : ℕ) (ls : List (List Entry)) (place : Place) → Belongs key ls place.leaf → place.entry ≡ length (below key (get_or ls place.leaf [])) → place.entry ≤ length (get_or ls place.leaf []) → IsPlace key ls place
+pub place_found : (key : ℕ) (ls : List (List Entry)) (place : KeyPlace) → Belongs key ls place.leaf → place.entry ≡ length (below key (get_or ls place.leaf [])) → place.entry ≤ length (get_or ls place.leaf []) → IsPlace key ls place
 place_found key ls place b is within =
     let at = place.leaf in let leaf = get_or ls at [] in let front = all_of (take at ls) in let back = all_of (drop (suc at) ls) in
     record {
@@ -57,7 +57,7 @@ place_found key ls place b is within =
     }
 
 -- An entry put in at its key's place.
-pub put_place : (key : ℕ) (e : Entry) (ls : List (List Entry)) (place : Place) → IsPlace key ls place → all_of (set ls place.leaf (insert (get_or ls place.leaf []) place.entry e)) ≡ below key (all_of ls) ++ e ∷ from key (all_of ls)
+pub put_place : (key : ℕ) (e : Entry) (ls : List (List Entry)) (place : KeyPlace) → IsPlace key ls place → all_of (set ls place.leaf (insert (get_or ls place.leaf []) place.entry e)) ≡ below key (all_of ls) ++ e ∷ from key (all_of ls)
 put_place key e ls place is =
     let at = place.leaf in let i = place.entry in let leaf = get_or ls at [] in let front = all_of (take at ls) in let back = all_of (drop (suc at) ls) in
     all_set ls at (insert leaf i e) is.leaf ∙ ap (λ l. front ++ l) (append_assoc (take i leaf) (e ∷ drop i leaf) back) ∙ sym (append_assoc front (take i leaf) (e ∷ drop i leaf ++ back))

@@ -1,6 +1,6 @@
 -- Places in an index: where it is cut by a key.
 use Rattle.std.specs.Prelude.{◌≡◌, ℕ, suc, ◌<◌, ◌≤◌, List, [], ◌++◌, Some, length, take, drop, get_or}
-use Rattle.key_index.specs.declared.place.Place.{Place}
+use Rattle.key_index.specs.declared.place.KeyPlace.{KeyPlace}
 use Rattle.key_index.specs.Entries.{Entry, below, from, first_of, last_of}
 use Rattle.key_index.specs.Leaves.{all_of}
 
@@ -13,7 +13,7 @@ abbrev pub on_from : ℕ → ℕ → List (List Entry) → List Entry
 on_from at i leaves = drop i (get_or leaves at []) ++ all_of (drop (suc at) leaves)
 
 -- The key belongs at this place: all smaller keys stand in front of it, and no other.
-pub record IsPlace (key : ℕ) (leaves : List (List Entry)) (place : Place) : Type 0 where
+pub record IsPlace (key : ℕ) (leaves : List (List Entry)) (place : KeyPlace) : Type 0 where
   pub leaf : place.leaf < length leaves
   pub entry : place.entry ≤ length (get_or leaves place.leaf [])
   pub front : in_front place.leaf place.entry leaves ≡ below key (all_of leaves)

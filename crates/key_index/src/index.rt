@@ -10,7 +10,7 @@ use crate::leaves::{
     first_from, first_marked, last_before, last_marked, leaf_of, make_room, mark, put, put_at,
     reclaim, release_empty, seek, settled, take_out,
 };
-use crate::place::Place;
+use crate::place::KeyPlace;
 use std::alloc::{AllocError, Global};
 use std::marker::Model;
 
@@ -81,23 +81,23 @@ impl KeyIndex {
     }
 
     /// The place where a key stands or belongs, to be handed to the calls that take one.
-    pub fn place(&self, key: IndexKey) -> Place {
+    pub fn place(&self, key: IndexKey) -> KeyPlace {
         if self.leaves.is_empty() {
-            return Place { leaf: 0, entry: 0 };
+            return KeyPlace { leaf: 0, entry: 0 };
         }
         seek(&self.leaves, key)
     }
 
     /// The same, where it may be the place given.
-    pub fn place_near(&self, near: Place, key: IndexKey) -> Place {
+    pub fn place_near(&self, near: KeyPlace, key: IndexKey) -> KeyPlace {
         if self.leaves.is_empty() {
-            return Place { leaf: 0, entry: 0 };
+            return KeyPlace { leaf: 0, entry: 0 };
         }
         settled(&self.leaves, near, key)
     }
 
     /// What stands under a key; none where the key is absent.
-    pub fn get(&self, place: Place, key: IndexKey) -> Option<Filed>
+    pub fn get(&self, place: KeyPlace, key: IndexKey) -> Option<Filed>
         ensures { result ≡ filed_at key (from key self.now.entries) }
     {
         match self.at_or_after(place, key) {
@@ -107,25 +107,25 @@ impl KeyIndex {
     }
 
     /// The first entry whose key is the one given or greater.
-    pub fn at_or_after(&self, place: Place, key: IndexKey) -> Option<(IndexKey, Filed)>
+    pub fn at_or_after(&self, place: KeyPlace, key: IndexKey) -> Option<(IndexKey, Filed)>
         ensures { result ≡ first_of (from key self.now.entries) }
     {
         self.find(place, key).0
     }
 
     /// The same, and the place where the key stands or belongs.
-    pub fn find(&self, near: Place, key: IndexKey) -> (Option<(IndexKey, Filed)>, Place)
+    pub fn find(&self, near: KeyPlace, key: IndexKey) -> (Option<(IndexKey, Filed)>, KeyPlace)
         ensures { result.0 ≡ first_of (from key self.now.entries) }
     {
         if self.leaves.is_empty() {
-            return (None, Place { leaf: 0, entry: 0 });
+            return (None, KeyPlace { leaf: 0, entry: 0 });
         }
         let at = settled(&self.leaves, near, key);
         (first_from(&self.leaves, at.leaf, at.entry), at)
     }
 
     /// The last entry whose key is smaller than the one given.
-    pub fn before(&self, place: Place, key: IndexKey) -> Option<(IndexKey, Filed)>
+    pub fn before(&self, place: KeyPlace, key: IndexKey) -> Option<(IndexKey, Filed)>
         ensures { result ≡ last_of (below key self.now.entries) }
     {
         if self.leaves.is_empty() {
@@ -138,7 +138,7 @@ impl KeyIndex {
     /// The last entry with a mark whose key is smaller than the one given.
     pub fn before_marked(
         &self,
-        place: Place,
+        place: KeyPlace,
         key: IndexKey,
         mark: Mark,
     ) -> Option<(IndexKey, Filed)>
@@ -154,7 +154,7 @@ impl KeyIndex {
     /// The first entry with a mark whose key is the one given or greater.
     pub fn at_or_after_marked(
         &self,
-        place: Place,
+        place: KeyPlace,
         key: IndexKey,
         mark: Mark,
     ) -> Option<(IndexKey, Filed)>
@@ -171,7 +171,7 @@ impl KeyIndex {
     /// whose key is that or greater. The place is tested once.
     pub fn around_marked(
         &self,
-        place: Place,
+        place: KeyPlace,
         key: IndexKey,
         mark: Mark,
     ) -> (Option<(IndexKey, Filed)>, Option<(IndexKey, Filed)>)
@@ -198,7 +198,7 @@ impl KeyIndex {
     }
 
     /// Puts in an entry at its place. The key is absent, and there is room.
-    pub fn insert(&mut self, place: Place, key: IndexKey, filed: Filed)
+    pub fn insert(&mut self, place: KeyPlace, key: IndexKey, filed: Filed)
         requires absent { filed_at key (from key self.old.entries) ≡ None }
         requires room { length self.old.entries < self.old.capacity }
         ensures entries { self.new.entries ≡ below key self.old.entries ++ (key, filed) ∷ from key self.old.entries }

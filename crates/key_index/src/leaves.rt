@@ -10,7 +10,7 @@ ghost use Rattle.key_index.specs.Leaves.{all_of, AreFilled, AreEmpty, Belongs, N
 use crate::filed::{Filed, Mark, Marks};
 use crate::key::IndexKey;
 use crate::leaf::{LEAF_SIZE, Leaf};
-use crate::place::Place;
+use crate::place::KeyPlace;
 
 /// The leaf in which a key stands or belongs: the last one that begins at the key or before it, or
 /// the first leaf.
@@ -61,17 +61,17 @@ pub(crate) fn last_before(leaves: &Vec<Leaf>, at: usize, place: usize) -> Option
 }
 
 /// The place of a key.
-pub(crate) fn seek(leaves: &Vec<Leaf>, key: IndexKey) -> Place
+pub(crate) fn seek(leaves: &Vec<Leaf>, key: IndexKey) -> KeyPlace
     requires { (0 < length leaves.now.items) × AreFilled leaves.now.items × AreRising (all_of leaves.now.items) }
     ensures { IsPlace key leaves.now.items result }
 {
     let at = leaf_of(leaves, key);
     let entry = leaves[at].place_of(key);
-    Place { leaf: at, entry }
+    KeyPlace { leaf: at, entry }
 }
 
 /// Tells whether a place is that of a key.
-fn fits(leaves: &Vec<Leaf>, place: Place, key: IndexKey) -> bool
+fn fits(leaves: &Vec<Leaf>, place: KeyPlace, key: IndexKey) -> bool
     requires { (place.leaf < length leaves.now.items) × AreFilled leaves.now.items × (place.entry ≤ length (get_or leaves.now.items place.leaf [])) }
     ensures { result ≡ true → IsCutAt key (in_front place.leaf place.entry leaves.now.items) (on_from place.leaf place.entry leaves.now.items) }
 {
@@ -87,7 +87,7 @@ fn fits(leaves: &Vec<Leaf>, place: Place, key: IndexKey) -> bool
 }
 
 /// The place of a key, where there is a hint of it.
-pub(crate) fn settled(leaves: &Vec<Leaf>, place: Place, key: IndexKey) -> Place
+pub(crate) fn settled(leaves: &Vec<Leaf>, place: KeyPlace, key: IndexKey) -> KeyPlace
     requires { (0 < length leaves.now.items) × AreFilled leaves.now.items × AreRising (all_of leaves.now.items) }
     ensures { IsPlace key leaves.now.items result }
 {
@@ -133,7 +133,11 @@ fn first_behind(leaves: &Vec<Leaf>, at: usize, mark: Mark) -> Option<(IndexKey, 
 }
 
 /// The last entry with a mark in front of a place.
-pub(crate) fn last_marked(leaves: &Vec<Leaf>, place: Place, mark: Mark) -> Option<(IndexKey, Filed)>
+pub(crate) fn last_marked(
+    leaves: &Vec<Leaf>,
+    place: KeyPlace,
+    mark: Mark,
+) -> Option<(IndexKey, Filed)>
     requires { (place.leaf < length leaves.now.items) × (place.entry ≤ length (get_or leaves.now.items place.leaf [])) }
     ensures { result ≡ last_of (marked mark (in_front place.leaf place.entry leaves.now.items)) }
 {
@@ -146,7 +150,7 @@ pub(crate) fn last_marked(leaves: &Vec<Leaf>, place: Place, mark: Mark) -> Optio
 /// The first entry with a mark from a place on.
 pub(crate) fn first_marked(
     leaves: &Vec<Leaf>,
-    place: Place,
+    place: KeyPlace,
     mark: Mark,
 ) -> Option<(IndexKey, Filed)>
     requires { place.leaf < length leaves.now.items }
@@ -170,7 +174,7 @@ pub(crate) fn mark(leaves: &mut Vec<Leaf>, at: usize, key: IndexKey, marks: Mark
 }
 
 /// Puts an entry at a place of a leaf that is not full.
-pub(crate) fn put_at(leaves: &mut Vec<Leaf>, place: Place, key: IndexKey, filed: Filed)
+pub(crate) fn put_at(leaves: &mut Vec<Leaf>, place: KeyPlace, key: IndexKey, filed: Filed)
     requires { (place.leaf < length leaves.old.items) × (length (get_or leaves.old.items place.leaf []) < 128) × (place.entry ≤ length (get_or leaves.old.items place.leaf [])) }
     ensures items { let leaf = get_or leaves.old.items place.leaf [] in leaves.new.items ≡ slice_set leaves.old.items place.leaf (insert leaf place.entry (key, filed)) }
     ensures capacity { vec_capacity leaves.new ≡ vec_capacity leaves.old }

@@ -13,7 +13,7 @@
 //! [`KeyIndex::around_marked`] both of these at once.
 //! [`KeyIndex::insert`] puts an entry between what is in front of its key and what is left,
 //! [`KeyIndex::set_marks`] changes its marks where it stands, and [`KeyIndex::remove`] takes one out.
-//! Most calls take a [`Place`] beside the key, a hint that saves the search: [`KeyIndex::place`] gives
+//! Most calls take a [`KeyPlace`] beside the key, a hint that saves the search: [`KeyIndex::place`] gives
 //! the one of a key, and an old or a wrong one changes no answer.
 //!
 //! ```text
@@ -22,7 +22,7 @@
 //! let place = index.place(key);
 //! index.insert(place, key, Filed { slot: 41, marks: Marks::NONE });
 //! // index.get(place, key) is Some(..) with slot 41
-//! // index.before(Place::UNKNOWN, IndexKey::new(3, 9)) is the same entry
+//! // index.before(KeyPlace::UNKNOWN, IndexKey::new(3, 9)) is the same entry
 //! ```
 #![tactic(auto)]
 
@@ -37,7 +37,7 @@ mod place;
 pub use filed::{Filed, Mark, Marks};
 pub use index::KeyIndex;
 pub use key::IndexKey;
-pub use place::Place;
+pub use place::KeyPlace;
 // A crate can name an index in a contract only if the types of its fields are exported.
 #[doc(hidden)]
 pub use counts::Counts;

@@ -2,7 +2,7 @@
 use Rattle.std.proofs.Common.{◌≤◌, ◌||◌, ◌≡◌, ◌<◌, ◌+◌, ℕ, zero, suc, Bool, true, false, cond, eqb, not, List, [], ◌∷◌, ◌++◌, take, drop, get_or, length, Ok, Err, refl, ap, sym, ◌∙◌, append_assoc, append-nil, arith, ◌-◌, zero-le, subst, min, ◌⊎◌, inl, inr}
 use Rattle.std.specs.List.{prefix_len, take_while}
 use Rattle.std.proofs.lemmas.Bool.Decides.{nat_tests}
-use Rattle.marked_json.specs.Marking.{Place, outside, in_number, in_string, after_backslash, Marks, with_front, marked, marked_token, marked_outside, is_before_colon, begins_number, goes_on_number}
+use Rattle.marked_json.specs.Marking.{BytePlace, outside, in_number, in_string, after_backslash, Marks, with_front, marked, marked_token, marked_outside, is_before_colon, begins_number, goes_on_number}
 use Rattle.marked_json.specs.Number.{is_number}
 use Rattle.marked_json.specs.declared.fault.JsonFault.TheVariants.{BadNumber, NumberAsKey}
 use Rattle.std.proofs.lemmas.List.{at_drop_more, at_drop_all, take_more, take_all, length-drop, get_or-drop, drop-drop}
@@ -22,7 +22,7 @@ with_front-nil (Ok zs) = refl
 with_front-nil (Err e) = refl
 
 -- where a string stands, by whether a backslash was just before
-abbrev pub place_of : Bool → Place
+abbrev pub place_of : Bool → BytePlace
 place_of true = after_backslash
 place_of false = in_string
 

@@ -6,11 +6,11 @@ use Rattle.marked_json.specs.declared.fault.JsonFault.TheVariants.{BadNumber, Nu
 use Rattle.marked_json.specs.Number.{is_digit, is_number}
 
 -- where in a text a byte stands
-pub data Place : Type 0 where
-  outside : Place
-  in_number : Place
-  in_string : Place
-  after_backslash : Place
+pub data BytePlace : Type 0 where
+  outside : BytePlace
+  in_number : BytePlace
+  in_string : BytePlace
+  after_backslash : BytePlace
 
 -- a marked text, or the first fault
 abbrev pub Marks : Type 0
@@ -50,7 +50,7 @@ marked_token token rest more =
     else with_front (34 ∷ 35 ∷ (token ++ 34 ∷ [])) more)
 
 -- the byte c outside strings and numbers: `$` goes behind an opening quote, a number is the longest run, all else is copied
-abbrev pub marked_outside : ℕ → List ℕ → (Place → Marks) → Marks
+abbrev pub marked_outside : ℕ → List ℕ → (BytePlace → Marks) → Marks
 marked_outside c cs more =
     if c == 34 then with_front (34 ∷ 36 ∷ []) (more in_string)
     else (if begins_number c
@@ -58,7 +58,7 @@ marked_outside c cs more =
     else with_front (c ∷ []) (more outside))
 
 -- the byte c at a place, before cs; `more` marks cs from a place on
-abbrev pub marked_byte : Place → ℕ → List ℕ → (Place → Marks) → Marks
+abbrev pub marked_byte : BytePlace → ℕ → List ℕ → (BytePlace → Marks) → Marks
 marked_byte outside c cs more = marked_outside c cs more
 marked_byte in_number c cs more = if goes_on_number c then more in_number else marked_outside c cs more
 marked_byte in_string c cs more =
@@ -66,6 +66,6 @@ marked_byte in_string c cs more =
 marked_byte after_backslash c cs more = with_front (c ∷ []) (more in_string)
 
 -- the text from a place on, marked
-unfoldable pub marked : Place → List ℕ → Marks
+unfoldable pub marked : BytePlace → List ℕ → Marks
 marked place [] = Ok []
 marked place (c ∷ cs) = marked_byte place c cs (λ next. marked next cs)

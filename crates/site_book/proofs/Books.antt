@@ -11,27 +11,27 @@ use Rattle.ledger_model.specs.Limits.{Bounds}
 use Rattle.ledger_model.specs.Board.{plus_figures}
 use Rattle.ledger_model.specs.Posts.{Post, row_after, totals_after}
 use Rattle.ledger_model.proofs.PostLemmas.{row-push_same, row-push_other, totals-push}
-use Rattle.site_book.specs.declared.row.Row.{Row}
+use Rattle.site_book.specs.declared.row.BookRow.{BookRow}
 use Rattle.site_book.specs.Book.{Admits, ArePlanned}
 use Rattle.site_book.specs.Kept.{AreRows}
 use Rattle.site_book.proofs.Named.{get_else, get_here}
 use Rattle.site_book.proofs.Totals.{plus-cancel}
 
 -- the row of limits that are there
-row_at : (rows : List Row) (k : ℕ) (b : Bounds) → slice_get (map (λ r. r.limits) rows) k ≡ Some b → (r : Row) × (slice_get rows k ≡ Some r) × (r.limits ≡ b)
+row_at : (rows : List BookRow) (k : ℕ) (b : Bounds) → slice_get (map (λ r. r.limits) rows) k ≡ Some b → (r : BookRow) × (slice_get rows k ≡ Some r) × (r.limits ≡ b)
 row_at [] k b e = absurd (cc (e))
 row_at (r ∷ rows) zero b e = (r, refl, cc (e))
 row_at (r ∷ rows) (suc k) b e = row_at rows k b e
 
 -- figures that are admitted are within the limits of the row as it is read
-pub admitted : (rows : List Row) (k : ℕ) (f : Figures) (r : Row) → Admits (map (λ q. q.limits) rows) k f → r ≡ get_or rows k r → (slice_get rows k ≡ Some r) × AreWithin r.limits f
+pub admitted : (rows : List BookRow) (k : ℕ) (f : Figures) (r : BookRow) → Admits (map (λ q. q.limits) rows) k f → r ≡ get_or rows k r → (slice_get rows k ≡ Some r) × AreWithin r.limits f
 admitted rows k f r a read =
     let at = row_at rows k a.bounds a.there in
     let same : r ≡ at.0 = read ∙ get_or_from_slice_get rows k at.0 r at.1 in
     (at.1 ∙ ap Some (sym same), subst (λ (b : Bounds). AreWithin b f) (sym (ap (λ q. q.limits) same ∙ at.2)) a.within)
 
 -- the rows after a post
-pub rows-posted : (rows : List Row) (log : List Post) (k : ℕ) (r r' : Row) (f : Figures) → AreRows rows log → slice_get rows k ≡ Some r → r'.limits ≡ r.limits → r'.figures ≡ f
+pub rows-posted : (rows : List BookRow) (log : List Post) (k : ℕ) (r r' : BookRow) (f : Figures) → AreRows rows log → slice_get rows k ≡ Some r → r'.limits ≡ r.limits → r'.figures ≡ f
     → AreRows (set rows k r') (log ++ (k, f) ∷ [])
 rows-posted rows log k r r' f kept at limits figures =
     let less : k < length rows = slice_get_within rows k r at in
@@ -46,7 +46,7 @@ rows-posted rows log k r r' f kept at limits figures =
           (λ (apart : j ≢ k). kept.figures j q (sym (get_else rows k j r' apart) ∙ here) ∙ sym (row-push_other k j f log (λ e. apart (sym e))))
           (cases_eq j k);
       posted = subst (λ n. All (λ (p : Post). p.0 < n) (log ++ (k, f) ∷ [])) (sym count) (All-push (λ (p : Post). p.0 < length rows) log (k, f) kept.posted less);
-      planned = subst ArePlanned (sym (map-set_same (λ (q : Row). q.limits) rows k r' r (limits ∙ ap (λ q. q.limits) (sym (get_or_from_slice_get rows k r r at))))) kept.planned;
+      planned = subst ArePlanned (sym (map-set_same (λ (q : BookRow). q.limits) rows k r' r (limits ∙ ap (λ q. q.limits) (sym (get_or_from_slice_get rows k r r at))))) kept.planned;
     }
 
 -- what a replaced total is
@@ -63,11 +63,11 @@ totals-part log k totals old f is row =
     ap (plus_figures (totals_after (log ++ (k, f) ∷ []))) row ∙ totals-push k f log ∙ ap (λ t. plus_figures t f) (sym is)
 
 -- rows for which nothing was posted
-pub rows-blank : (rows : List Row) → All (λ r. r.figures ≡ no_figures) rows → ArePlanned (map (λ r. r.limits) rows) → AreRows rows []
+pub rows-blank : (rows : List BookRow) → All (λ r. r.figures ≡ no_figures) rows → ArePlanned (map (λ r. r.limits) rows) → AreRows rows []
 rows-blank rows blank planned = record {
   figures = λ k r at.
       let less : k < length rows = slice_get_within rows k r at in
-      ap (λ q. q.figures) (sym (get_or_from_slice_get rows k r r at)) ∙ All-get_or (λ (q : Row). q.figures ≡ no_figures) rows k r less blank;
+      ap (λ q. q.figures) (sym (get_or_from_slice_get rows k r r at)) ∙ All-get_or (λ (q : BookRow). q.figures ≡ no_figures) rows k r less blank;
   posted = All-nil (λ (p : Post). p.0 < length rows);
   planned = planned;
 }

@@ -10,7 +10,7 @@ use Rattle.ledger_model.specs.Figures.{AreWithin}
 use Rattle.ledger_model.specs.Board.{plus_figures, sum_of_figures}
 use Rattle.ledger_model.specs.Posts.{Post, row_after, totals_after}
 use Rattle.ledger_model.proofs.PostLemmas.{totals-rows}
-use Rattle.site_book.specs.declared.row.Row.{Row}
+use Rattle.site_book.specs.declared.row.BookRow.{BookRow}
 use Rattle.site_book.specs.Kept.{AreRows}
 use Rattle.site_book.specs.Sums.{AreAtMost, AreWords}
 
@@ -26,10 +26,10 @@ record AreUnder (stations readings : ℕ) (f : Figures) : Type 0 where
   export_up : f.export_up ≤ 10_000_000_000_000 * readings
   export_down : f.export_down ≤ 10_000_000_000_000 * readings
 
-abbrev readings_of : List Row → ℕ
+abbrev readings_of : List BookRow → ℕ
 readings_of rows = sum_by (λ l. l.readings) (map (λ r. r.limits) rows)
 
-sum-under : (rows : List Row) → AreUnder (length rows) (readings_of rows) (sum_of_figures (map (λ r. r.figures) rows))
+sum-under : (rows : List BookRow) → AreUnder (length rows) (readings_of rows) (sum_of_figures (map (λ r. r.figures) rows))
 sum-under [] = record { events = omega arith; voided = omega arith; transactions = omega arith; complete = omega arith; missing = omega arith; up = omega arith; down = omega arith; export_up = omega arith; export_down = omega arith }
 sum-under (r ∷ rows) =
     let rest = sum-under rows in
@@ -50,7 +50,7 @@ sum-under (r ∷ rows) =
     }
 
 -- rows in their order, from the row a on
-listed : (rows : List Row) (g : ℕ → Figures) (a : ℕ) → ((k : ℕ) (r : Row) → slice_get rows k ≡ Some r → r.figures ≡ g (a + k)) → map (λ r. r.figures) rows ≡ map g (range_with_len a (length rows))
+listed : (rows : List BookRow) (g : ℕ → Figures) (a : ℕ) → ((k : ℕ) (r : BookRow) → slice_get rows k ≡ Some r → r.figures ≡ g (a + k)) → map (λ r. r.figures) rows ≡ map g (range_with_len a (length rows))
 listed [] g a each = refl
 listed (r ∷ rows) g a each =
     let here : a + 0 ≡ a = omega arith in
@@ -60,7 +60,7 @@ listed (r ∷ rows) g a each =
     λ i. head i ∷ tail i
 
 -- the totals of a book's posts
-totals-under : (rows : List Row) (log : List Post) → AreRows rows log → AreUnder (length rows) (readings_of rows) (totals_after log)
+totals-under : (rows : List BookRow) (log : List Post) → AreRows rows log → AreUnder (length rows) (readings_of rows) (totals_after log)
 totals-under rows log kept =
     let same : map (λ r. r.figures) rows ≡ map (λ row. row_after row log) (range_with_len 0 (length rows))
     = listed rows (λ row. row_after row log) 0 (λ k r at. let zero_plus : k ≡ 0 + k = omega arith in kept.figures k r at ∙ ap (λ n. row_after n log) zero_plus) in
@@ -68,10 +68,10 @@ totals-under rows log kept =
     subst (AreUnder (length rows) (readings_of rows)) (sym total) (sum-under rows)
 
 -- the totals and a row's new figures together fit a word each
-pub totals-words : (rows : List Row) (log : List Post) (r : Row) (totals f : Figures) → AreRows rows log → totals ≡ totals_after log → AreWithin r.limits f → AreWords (plus_figures totals f)
+pub totals-words : (rows : List BookRow) (log : List Post) (r : BookRow) (totals f : Figures) → AreRows rows log → totals ≡ totals_after log → AreWithin r.limits f → AreWords (plus_figures totals f)
 totals-words rows log r totals f kept is w =
     let u = subst (AreUnder (length rows) (readings_of rows)) (sym is) (totals-under rows log kept) in
-    let count : length (map (λ (q : Row). q.limits) rows) ≡ length rows = length-map rows (λ (q : Row). q.limits) in
+    let count : length (map (λ (q : BookRow). q.limits) rows) ≡ length rows = length-map rows (λ (q : BookRow). q.limits) in
     let few : length rows ≤ 64 = omega (arith, kept.planned.few, count) in
     let readings : readings_of rows ≤ most_plan_readings = kept.planned.readings in
     let events : r.limits.events ≤ 65_536 = r.events in
@@ -118,8 +118,8 @@ plus-cancel a b c e =
     λ i. record { events = events i; voided = voided i; transactions = transactions i; complete = complete i; missing = missing i; up = up i; down = down i; export_up = export_up i; export_down = export_down i }
 
 -- the totals are the sums over as many rows as there are limits
-pub totals-sums : (rows : List Row) (log : List Post) → AreRows rows log
+pub totals-sums : (rows : List BookRow) (log : List Post) → AreRows rows log
     → totals_after log ≡ sum_of_figures (map (λ row. row_after row log) (range_with_len 0 (length (map (λ r. r.limits) rows))))
 totals-sums rows log kept =
-    let count : length (map (λ (q : Row). q.limits) rows) ≡ length rows = length-map rows (λ (q : Row). q.limits) in
+    let count : length (map (λ (q : BookRow). q.limits) rows) ≡ length rows = length-map rows (λ (q : BookRow). q.limits) in
     totals-rows (length rows) log kept.posted ∙ ap (λ n. sum_of_figures (map (λ row. row_after row log) (range_with_len 0 n))) (sym count)

@@ -4,7 +4,7 @@ use Rattle.atomic_table.specs.Seated.{TableId}
 use Rattle.ledger_model.specs.declared.figures.Figures.{Figures}
 use Rattle.ledger_model.specs.Posts.{Post, row_after, totals_after}
 use Rattle.site_book.specs.declared.table.View.{View}
-use Rattle.site_book.specs.declared.row.Row.{Row}
+use Rattle.site_book.specs.declared.row.BookRow.{BookRow}
 use Rattle.site_book.specs.Book.{ArePlanned}
 use Rattle.site_book.specs.Rule.{writing, seeing}
 
@@ -23,13 +23,13 @@ pub record IsUnused (table seat : TableId) (me : Seated) : Type 0 where
   pub me_is : me ≡ (writing [] [] [] 0, [])
 
 -- The rows of a book after these posts: the figures of each are those posted last, and no post is for another row.
-pub record AreRows (rows : List Row) (log : List Post) : Type 0 where
-  pub figures : (k : ℕ) (r : Row) → slice_get rows k ≡ Some r → r.figures ≡ row_after k log
+pub record AreRows (rows : List BookRow) (log : List Post) : Type 0 where
+  pub figures : (k : ℕ) (r : BookRow) → slice_get rows k ≡ Some r → r.figures ≡ row_after k log
   pub posted : All (λ p. p.0 < length rows) log
   pub planned : ArePlanned (map (λ r. r.limits) rows)
 
 -- What a book keeps beside its table: the figures of each row, the totals and the number of posts.
-pub record IsBook (naming : ℕ → TableId) (site : ℕ) (rows : List Row) (totals : Figures) (posts : ℕ) (table seat : TableId) (me : Seated) : Type 0 where
+pub record IsBook (naming : ℕ → TableId) (site : ℕ) (rows : List BookRow) (totals : Figures) (posts : ℕ) (table seat : TableId) (me : Seated) : Type 0 where
   pub named : table ≡ naming site
   pub sits : Sits table seat
   pub me_is : me ≡ (writing me.0.log [] [] 0, [])

@@ -9,7 +9,7 @@ ghost use Rattle.site_book.specs.Tables.{HasTable, NamedBy};
 
 use crate::naming::Naming;
 use crate::rounds::announce;
-use crate::row::Row;
+use crate::row::BookRow;
 use crate::steps::{recall, share, take_in};
 use crate::sums::replaced;
 use crate::table::{SiteTable, TableSeat};
@@ -27,7 +27,7 @@ pub struct SiteBook<J: Naming> {
     site: u16,
     table: Arc<SiteTable, Global>,
     seat: TableSeat,
-    rows: Vec<Row>,
+    rows: Vec<BookRow>,
     totals: Figures,
     posts: u64,
     desk: PhantomData<J>,
@@ -191,13 +191,13 @@ impl<J: Naming> SiteBook<J> {
 }
 
 // A row for each of these limits, with no figures.
-fn blank_rows(alloc: Global, limits: &[Limits]) -> Result<Vec<Row>, AllocError>
+fn blank_rows(alloc: Global, limits: &[Limits]) -> Result<Vec<BookRow>, AllocError>
     ensures limits { IfOk result (λ rows. map (λ r. r.limits) rows.items ≡ limits.now) }
     ensures blank { IfOk result (λ rows. All (λ r. r.figures ≡ no_figures) rows.items) }
 {
     let mut rows = Vec::with_capacity(alloc, limits.len())?;
     for each in limits {
-        rows.push(Row::new(each))?;
+        rows.push(BookRow::new(each))?;
     }
     Ok(rows)
 }

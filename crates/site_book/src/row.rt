@@ -5,7 +5,7 @@ use ledger_model::{Figures, Limits};
 
 // The row of one station: what its ledger may keep, and the figures that were posted last.
 #[derive(Clone, Copy)]
-pub(crate) struct Row {
+pub(crate) struct BookRow {
     pub(crate) limits: Limits,
     pub(crate) figures: Figures,
     pub(crate) ghost within: { AreWithin limits figures },
@@ -14,7 +14,7 @@ pub(crate) struct Row {
     pub(crate) ghost readings: { limits.readings ≤ 65_536 },
 }
 
-impl Row {
+impl BookRow {
     // A row for which nothing was posted.
     pub(crate) fn new(limits: &Limits) -> Self
         ensures limits { result.limits ≡ limits.now }
@@ -22,7 +22,7 @@ impl Row {
     {
         // What limits can be bounds the sums over all rows.
         limits.keep_ranges();
-        Row {
+        BookRow {
             limits: *limits,
             figures: Figures::zero(),
         }

@@ -5,7 +5,7 @@ use Rattle.std.proofs.lemmas.Option.{slice_get_within, slice_get_read, get_or_fr
 use Rattle.site_book.specs.Book.{Book}
 use Rattle.site_desk.specs.declared.plan.SitePlan.{SitePlan}
 use Rattle.site_desk.specs.declared.plan.StationPlan.{StationPlan}
-use Rattle.site_desk.specs.declared.roster.Place.{Place}
+use Rattle.site_desk.specs.declared.roster.StationPlace.{StationPlace}
 use Rattle.station_cell.specs.Cell.{Cell}
 use Rattle.site_desk.specs.Parts.{AreTied, IsTied}
 use Rattle.site_desk.specs.Plan.{plan_fault}
@@ -17,7 +17,7 @@ pub known_not : {A : Type 0} (r u : A) (b : Bool) → (r ≡ u → ⊥) → true
 known_not r u b apart known = ((λ e. absurd (apart e)), (λ none. let both : true ≡ false = known ∙ none in absurd (cc (both))))
 
 -- the desk of a plan without a fault
-pub new_desk : (sites : List SitePlan) (stations : List StationPlan) (places : List Place) (cells books : ℕ) → plan_fault sites stations ≡ None → AreNewPlaces sites stations places → length stations ≤ 64 → length sites ≤ 16 → cells ≡ length stations → books ≡ length sites
+pub new_desk : (sites : List SitePlan) (stations : List StationPlan) (places : List StationPlace) (cells books : ℕ) → plan_fault sites stations ≡ None → AreNewPlaces sites stations places → length stations ≤ 64 → length sites ≤ 16 → cells ≡ length stations → books ≡ length sites
     → IsDesk places cells books
 new_desk sites stations places cells books h new few fewer count sums = record {
   each_cell = count ∙ sym new.count;
@@ -27,7 +27,7 @@ new_desk sites stations places cells books h new few fewer count sums = record {
       let less : k < length stations = let in_places = slice_get_within places k p at in omega (arith, in_places, new.count) in
       let found = found_at stations k less in
       let same : Some (new_place sites stations k found.0) ≡ Some p = sym (new.each k found.0 found.1) ∙ at in
-      let site : found.0.site ≡ p.site = ap (λ (q : Place). q.site) (some_same _ _ same) in
+      let site : found.0.site ≡ p.site = ap (λ (q : StationPlace). q.site) (some_same _ _ same) in
       let low = planned_sites sites stations k found.0 h found.1 in
       omega (arith, site, low, sums);
 }
@@ -37,7 +37,7 @@ new_desk sites stations places cells books h new few fewer count sums = record {
     found_at (x ∷ xs) zero less = (x, refl)
     found_at (x ∷ xs) (suc k) less = found_at xs k (omega arith)
 
-    some_same : (a b : Place) → Some a ≡ Some b → a ≡ b
+    some_same : (a b : StationPlace) → Some a ≡ Some b → a ≡ b
     some_same a b h = cc
 
 -- the cell that is read is tied

@@ -11,14 +11,14 @@ use Rattle.ledger_model.specs.Limits.{Bounds}
 use Rattle.ledger_model.specs.Step.{Reached, answer, step}
 use Rattle.std.proofs.lemmas.Option.{get_or_from_slice_get}
 use Rattle.site_book.specs.Book.{Book, Known, known}
-use Rattle.site_desk.specs.declared.roster.Place.{Place}
+use Rattle.site_desk.specs.declared.roster.StationPlace.{StationPlace}
 use Rattle.station_cell.specs.Cell.{Cell, Held, Knows}
 use Rattle.site_desk.specs.Roster.{IsNamed, StandsAt}
 use Rattle.station_cell.specs.Settle.{cell_after, pass_after, posts_after, told_after}
 use Rattle.site_desk.specs.Submit.{IsAnswered, IsBoardOfName, IsBoardWithin, IsTaken, Submitted}
 use Rattle.station_cell.proofs.Counts.{count_part, next_number}
 
-module _ (at : Place) (number : ℕ) (c : Cell) (b : Book) (p : Held) (command : Command) (stands : StandsAt number at c) (site : b.site ≡ at.site)
+module _ (at : StationPlace) (number : ℕ) (c : Cell) (b : Book) (p : Held) (command : Command) (stands : StandsAt number at c) (site : b.site ≡ at.site)
     (reached : Reached c.limits c.content.changes c.content) (counted : sum c.counts ≡ c.content.changes) (knows : Knows c p) where
   -- at the place's limits
   reached_here : Reached at.limits c.content.changes c.content
@@ -71,9 +71,9 @@ board_shown (Ok b) limits by period content c shown same is reached = record { c
 board_shown (Err e) limits by period content c shown same is reached = tt
 
 -- the board of a cell that stands at the place of the station of this name
-pub board_named : (places : List Place) (name : List ℕ) (k : ℕ) (at : Place) (c : Cell) (b : Board) → IsNamed places name k → at ≡ get_or places k at → StandsAt k at c → IsBoardWithin c.limits c.period b → IsBoardOfName places name b
+pub board_named : (places : List StationPlace) (name : List ℕ) (k : ℕ) (at : StationPlace) (c : Cell) (b : Board) → IsNamed places name k → at ≡ get_or places k at → StandsAt k at c → IsBoardWithin c.limits c.period b → IsBoardOfName places name b
 board_named places name k at c b named is stands within =
     let place : at ≡ named.place = is ∙ get_or_from_slice_get places k named.place at named.there in
-    let limits = stands.limits ∙ ap (λ (p : Place). p.limits) place in
-    let period = stands.period ∙ ap (λ (p : Place). p.period) place in
+    let limits = stands.limits ∙ ap (λ (p : StationPlace). p.limits) place in
+    let period = stands.period ∙ ap (λ (p : StationPlace). p.period) place in
     record { number = k; named = named; board = subst (λ l. IsBoardWithin l named.place.period b) limits (subst (λ s. IsBoardWithin c.limits s b) period within) }

@@ -8,7 +8,7 @@ use Rattle.ledger_model.specs.Posts.{Post, totals_after}
 use Rattle.ledger_model.specs.Step.{Reached}
 use Rattle.site_book.specs.Book.{Book, Known}
 use Rattle.site_book.specs.Prefix.{IsPrefix}
-use Rattle.site_desk.specs.declared.roster.Place.{Place}
+use Rattle.site_desk.specs.declared.roster.StationPlace.{StationPlace}
 use Rattle.station_ledger.specs.Ledger.{bounds_code}
 use Rattle.station_cell.specs.Cell.{Cell, Held, cell_code}
 use Rattle.site_desk.specs.Parts.{IsTied}
@@ -51,8 +51,8 @@ abbrev pub figures_with : Cell → ℕ → Figures → Figures
 figures_with c site sum = if c.site == site then plus_figures (figures (entries c.content)) sum else sum
 
 -- The cell is that of the station of this number, where the plan has it.
-pub record IsPlaced (places : List Place) (number : ℕ) (c : Cell) : Type 0 where
-  pub place : Place
+pub record IsPlaced (places : List StationPlace) (number : ℕ) (c : Cell) : Type 0 where
+  pub place : StationPlace
   pub there : slice_get places number ≡ Some place
   pub stands : StandsAt number place c
 
@@ -62,7 +62,7 @@ pub record IsCounted (passes : List Held) (number : ℕ) (c : Cell) : Type 0 whe
   pub reached : Reached c.limits (changes_of number passes) c.content
 
 -- The cell is where the plan has it, its content is what its passes made, and its row is tied.
-pub record IsWhole (places : List Place) (books : List Book) (passes : List Held) (number : ℕ) (c : Cell) : Type 0 where
+pub record IsWhole (places : List StationPlace) (books : List Book) (passes : List Held) (number : ℕ) (c : Cell) : Type 0 where
   pub placed : IsPlaced places number c
   pub counted : IsCounted passes number c
   pub tied : IsTied books c
@@ -83,7 +83,7 @@ abbrev pub AreAllPasses : List Cell → List Held → Type 0
 AreAllPasses cells passes = (k : ℕ) (c : Cell) → slice_get cells k ≡ Some c → passes_of k passes ≡ length c.counts
 
 -- Each cell is whole.
-abbrev pub AreWhole : List Place → List Book → List Held → List Cell → Type 0
+abbrev pub AreWhole : List StationPlace → List Book → List Held → List Cell → Type 0
 AreWhole places books passes cells = (k : ℕ) (c : Cell) → slice_get cells k ≡ Some c → IsWhole places books passes k c
 
 -- Each book's totals are the sums over its site's stations.
@@ -95,7 +95,7 @@ abbrev pub AreViewed : ℕ → List Known → Type 0
 AreViewed sites viewers = (k : ℕ) (v : Known) → slice_get viewers k ≡ Some v → v.site < sites
 
 -- What lay behind the locks of a desk fits together: its stations stand at these places, so many viewers were given out, and all passes and viewers are here.
-pub record IsClosable (places : List Place) (given : ℕ) (cells : List Cell) (books : List Book) (passes : List Held) (viewers : List Known) : Type 0 where
+pub record IsClosable (places : List StationPlace) (given : ℕ) (cells : List Cell) (books : List Book) (passes : List Held) (viewers : List Known) : Type 0 where
   pub all_passes : AreAllPasses cells passes
   pub all_viewers : length viewers ≡ given
   pub whole : AreWhole places books passes cells

@@ -9,7 +9,7 @@ use Rattle.ledger_model.specs.Content.{Content, entries}
 use Rattle.ledger_model.specs.Figures.{AreWithin}
 use Rattle.ledger_model.specs.Limits.{Bounds}
 use Rattle.ledger_model.specs.Step.{Reached}
-use Rattle.site_desk.specs.declared.roster.Place.{Place}
+use Rattle.site_desk.specs.declared.roster.StationPlace.{StationPlace}
 use Rattle.site_desk.specs.Roster.{IsNamed}
 use Rattle.site_desk.specs.Submit.{IsBoardWithin}
 
@@ -22,24 +22,24 @@ pub record AreTotalsWithin (limits : Bounds) (f : Figures) (e x : Energy) : Type
   pub exported : x ≡ energy Export (entries content)
 
 -- They are of the station of this name: some content has them that accepted commands leave within the limits of the station's place.
-pub record AreTotalsOfName (places : List Place) (name : List ℕ) (f : Figures) (e x : Energy) : Type 0 where
+pub record AreTotalsOfName (places : List StationPlace) (name : List ℕ) (f : Figures) (e x : Energy) : Type 0 where
   pub number : ℕ
   pub named : IsNamed places name number
   pub totals : AreTotalsWithin named.place.limits f e x
 
 -- The board of the station of this place, under its name: some content makes it that accepted commands leave within the place's limits, by the place's period.
-pub record IsBoardAt (p : Place) (b : List ℕ × Board) : Type 0 where
+pub record IsBoardAt (p : StationPlace) (b : List ℕ × Board) : Type 0 where
   pub name : b.0 ≡ p.name
   pub board : IsBoardWithin p.limits p.period b.1
   pub within : AreWithin p.limits b.1.figures
 
 -- As many boards as places, each of the station of the place that stands where it stands.
-abbrev pub AreBoardsOf : List Place → List (List ℕ × Board) → Type 0
+abbrev pub AreBoardsOf : List StationPlace → List (List ℕ × Board) → Type 0
 AreBoardsOf [] [] = ⊤
 AreBoardsOf [] (b ∷ boards) = ⊥
 AreBoardsOf (p ∷ places) [] = ⊥
 AreBoardsOf (p ∷ places) (b ∷ boards) = IsBoardAt p b × AreBoardsOf places boards
 
 -- The boards of the stations of the site of this number: each of its stations once, in the plan's order.
-abbrev pub AreBoardsAt : List Place → ℕ → List (List ℕ × Board) → Type 0
+abbrev pub AreBoardsAt : List StationPlace → ℕ → List (List ℕ × Board) → Type 0
 AreBoardsAt places site boards = AreBoardsOf (filter (λ p. p.site == site) places) boards

@@ -1,34 +1,34 @@
 use Rattle.std.specs.Prelude.{◌≡◌, ℕ, ◌<◌, ◌≤◌, List, length, Some, slice_get}
 use Rattle.site_desk.specs.declared.plan.SitePlan.{SitePlan}
 use Rattle.site_desk.specs.declared.plan.StationPlan.{StationPlan}
-use Rattle.site_desk.specs.declared.roster.Place.{Place}
+use Rattle.site_desk.specs.declared.roster.StationPlace.{StationPlace}
 use Rattle.station_cell.specs.Cell.{Cell}
 use Rattle.site_desk.specs.Parts.{row_at}
 use Rattle.site_desk.specs.Plan.{period_at}
 
 -- A desk: where each of its stations stands, how many sites it has, and how many viewers were given out.
 pub record Roster : Type 0 where
-  pub stations : List Place
+  pub stations : List StationPlace
   pub sites : ℕ
   pub viewers : ℕ
 
 -- The place of a station of a plan, by its number.
-abbrev pub new_place : List SitePlan → List StationPlan → ℕ → StationPlan → Place
+abbrev pub new_place : List SitePlan → List StationPlan → ℕ → StationPlan → StationPlace
 new_place sites stations k s = record { name = s.name; site = s.site; row = row_at stations s.site k; limits = s.limits; period = period_at sites s.site }
 
 -- The places of a plan's stations, in the plan's order.
-pub record AreNewPlaces (sites : List SitePlan) (stations : List StationPlan) (places : List Place) : Type 0 where
+pub record AreNewPlaces (sites : List SitePlan) (stations : List StationPlan) (places : List StationPlace) : Type 0 where
   pub count : length places ≡ length stations
   pub each : (k : ℕ) (s : StationPlan) → slice_get stations k ≡ Some s → slice_get places k ≡ Some (new_place sites stations k s)
 
 -- The station of this number has this name.
-pub record IsNamed (places : List Place) (name : List ℕ) (k : ℕ) : Type 0 where
-  pub place : Place
+pub record IsNamed (places : List StationPlace) (name : List ℕ) (k : ℕ) : Type 0 where
+  pub place : StationPlace
   pub there : slice_get places k ≡ Some place
   pub same : place.name ≡ name
 
 -- The cell is that of the station of this number, which stands at this place.
-pub record StandsAt (k : ℕ) (at : Place) (c : Cell) : Type 0 where
+pub record StandsAt (k : ℕ) (at : StationPlace) (c : Cell) : Type 0 where
   pub station : c.station ≡ k
   pub site : c.site ≡ at.site
   pub row : c.row ≡ at.row
@@ -36,11 +36,11 @@ pub record StandsAt (k : ℕ) (at : Place) (c : Cell) : Type 0 where
   pub period : c.period ≡ at.period
 
 -- What a desk keeps: a cell for each station, and a book for each site that a station is at; both are no more than a plan may have.
-pub record IsDesk (places : List Place) (cells books : ℕ) : Type 0 where
+pub record IsDesk (places : List StationPlace) (cells books : ℕ) : Type 0 where
   pub each_cell : cells ≡ length places
   pub few_cells : cells ≤ 64
   pub few_books : books ≤ 16
-  pub sites : (k : ℕ) (p : Place) → slice_get places k ≡ Some p → p.site < books
+  pub sites : (k : ℕ) (p : StationPlace) → slice_get places k ≡ Some p → p.site < books
 
 -- The cells of a plan's stations, in the plan's order, each where the plan has its station.
 pub record AreCellsOf (sites : List SitePlan) (stations : List StationPlan) (cells : List Cell) : Type 0 where

@@ -9,13 +9,13 @@ use Rattle.ledger_model.specs.Limits.{Bounds}
 use Rattle.ledger_model.specs.Posts.{Post}
 use Rattle.ledger_model.specs.Step.{Reached, answer, step}
 use Rattle.site_book.specs.Book.{Book, Known, known}
-use Rattle.site_desk.specs.declared.roster.Place.{Place}
+use Rattle.site_desk.specs.declared.roster.StationPlace.{StationPlace}
 use Rattle.station_cell.specs.Cell.{Cell, Held, IsInService, Knows}
 use Rattle.site_desk.specs.Roster.{IsNamed, StandsAt}
 use Rattle.station_cell.specs.Settle.{Holds, Tied}
 
 -- The command was accepted as change n at some content that n - 1 accepted commands leave; its station's figures after it were posted last, and the pass made one change more.
-pub record IsTaken (at : Place) (p : Held) (command : Command) (n : ℕ) (p' : Held) (told : Option Known) : Type 0 where
+pub record IsTaken (at : StationPlace) (p : Held) (command : Command) (n : ℕ) (p' : Held) (told : Option Known) : Type 0 where
   pub before : Content
   pub count : ℕ
   pub number : n ≡ suc count
@@ -32,14 +32,14 @@ pub record IsUnchanged (p p' : Held) (told : Option Known) : Type 0 where
   pub untold : told ≡ None
 
 -- This is the answer to the command at some content that accepted commands leave, and nothing changed.
-pub record IsAnswered (at : Place) (p : Held) (command : Command) (told_answer : Answer) (p' : Held) (told : Option Known) : Type 0 where
+pub record IsAnswered (at : StationPlace) (p : Held) (command : Command) (told_answer : Answer) (p' : Held) (told : Option Known) : Type 0 where
   pub before : Content
   pub reached : Reached at.limits before.changes before
   pub answered : answer at.limits before command ≡ told_answer
   pub unchanged : IsUnchanged p p' told
 
 -- All that judging a command of a pass asks, at the cell of the station of this number, which stands at this place; and what is known of such a cell.
-pub record CanJudge (number : ℕ) (at : Place) (c : Cell) (p : Held) : Type 0 where
+pub record CanJudge (number : ℕ) (at : StationPlace) (c : Cell) (p : Held) : Type 0 where
   pub serves : IsInService c
   pub stands : StandsAt number at c
   pub knows : Knows c p
@@ -47,7 +47,7 @@ pub record CanJudge (number : ℕ) (at : Place) (c : Cell) (p : Held) : Type 0 w
   pub counted : sum c.counts ≡ c.content.changes
 
 -- All that settling a command of a pass asks, at the cell of the station of this number, which stands at this place; and what is known of such a cell.
-pub record CanSettle (number : ℕ) (at : Place) (c : Cell) (b : Book) (p : Held) : Type 0 where
+pub record CanSettle (number : ℕ) (at : StationPlace) (c : Cell) (b : Book) (p : Held) : Type 0 where
   pub stands : StandsAt number at c
   pub site : b.site ≡ at.site
   pub knows : Knows c p
@@ -58,7 +58,7 @@ pub record CanSettle (number : ℕ) (at : Place) (c : Cell) (b : Book) (p : Held
   pub counted : sum c.counts ≡ c.content.changes
 
 -- What a submitted command comes to, at a station of this place.
-abbrev pub Submitted : Place → Held → Command → Answer → Held → Option Known → Type 0
+abbrev pub Submitted : StationPlace → Held → Command → Answer → Held → Option Known → Type 0
 Submitted at p command (Accepted n) p' told = IsTaken at p command n p' told
 Submitted at p command Repeat p' told = IsAnswered at p command Repeat p' told
 Submitted at p command (Refused ChangesExhausted) p' told = IsUnchanged p p' told
@@ -77,7 +77,7 @@ pub record IsBoardWithin (limits : Bounds) (period : ℕ) (b : Board) : Type 0 w
   pub shown : b ≡ board period (entries content)
 
 -- The board is one of the station of this name: some content makes it that accepted commands leave within the limits of the station's place, by that place's period.
-pub record IsBoardOfName (places : List Place) (name : List ℕ) (b : Board) : Type 0 where
+pub record IsBoardOfName (places : List StationPlace) (name : List ℕ) (b : Board) : Type 0 where
   pub number : ℕ
   pub named : IsNamed places name number
   pub board : IsBoardWithin named.place.limits named.place.period b

@@ -7,7 +7,7 @@ ghost use Rattle.site_desk.specs.declared.fault.CloseFault.{CloseFault};
 
 use crate::fault::CloseFault;
 use crate::has_cell::HasCell;
-use crate::roster::Place;
+use crate::roster::StationPlace;
 use crate::submit::stands_at;
 use ledger_model::Figures;
 use site_book::{Naming, SiteBook, Viewer};
@@ -52,7 +52,7 @@ pub(crate) fn are_all_passes<C: HasCell>(cells: &[C], passes: &[Pass]) -> bool
 }
 
 // Tells whether the cell is where the plan has it.
-fn is_placed(cell: &StationCell, number: usize, places: &[Place]) -> bool
+fn is_placed(cell: &StationCell, number: usize, places: &[StationPlace]) -> bool
     ensures { IsTrue result → IsPlaced places.now number cell.now }
 {
     match places.get(number) {
@@ -85,7 +85,7 @@ fn is_tied<J: Naming>(cell: &StationCell, books: &[SiteBook<J>]) -> bool
 fn is_whole<J: Naming>(
     cell: &StationCell,
     number: usize,
-    places: &[Place],
+    places: &[StationPlace],
     books: &[SiteBook<J>],
     passes: &[Pass],
 ) -> bool
@@ -97,7 +97,7 @@ fn is_whole<J: Naming>(
 // Tells whether each cell is whole.
 pub(crate) fn are_whole<C: HasCell, J: Naming>(
     cells: &[C],
-    places: &[Place],
+    places: &[StationPlace],
     books: &[SiteBook<J>],
     passes: &[Pass],
 ) -> bool
@@ -186,7 +186,7 @@ pub(crate) fn are_viewed<J: Naming>(viewers: &[Viewer<J>], sites: usize) -> bool
 
 // What keeps a desk from being closed, if anything does.
 pub(crate) fn fault_of<C: HasCell, J: Naming>(
-    places: &[Place],
+    places: &[StationPlace],
     given: usize,
     cells: &[C],
     books: &[SiteBook<J>],

@@ -8,7 +8,7 @@ ghost use Rattle.site_desk.specs.declared.fault.BoardFault.{BoardFault};
 ghost use Rattle.site_desk.specs.declared.fault.CloseFault.{CloseFault};
 ghost use Rattle.site_desk.specs.declared.fault.DeskFault.{DeskFault};
 ghost use Rattle.site_desk.specs.declared.fault.EnlistFault.{EnlistFault};
-ghost use Rattle.site_desk.specs.declared.roster.Place.{Place};
+ghost use Rattle.site_desk.specs.declared.roster.StationPlace.{StationPlace};
 ghost use Rattle.site_desk.specs.Close.{IsClosable, Saw};
 ghost use Rattle.site_desk.specs.Parts.{AreTied, new_viewers};
 ghost use Rattle.site_desk.specs.Plan.{plan_fault};
@@ -26,7 +26,7 @@ use crate::locks::{Locked, Spare, lock_up, take_viewers, unlock};
 use crate::operator::{hold_stations, site_boards_of, sum_of, totals_of};
 use crate::parts::Parts;
 use crate::plan::Plan;
-use crate::roster::{Place, number_of, open_places};
+use crate::roster::{StationPlace, number_of, open_places};
 use crate::settles::{AtCell, Settles};
 use crate::submit::{board_of, stands_at};
 use energy_flow::Flow;
@@ -45,7 +45,7 @@ use std::time::Clock;
 /// Contracts see where each station stands, how many sites it has, and how many viewers were given out.
 #[derive(Drop)]
 pub struct Desk<J: Naming, C = StationCell> {
-    places: Vec<Place>,
+    places: Vec<StationPlace>,
     viewers: usize,
     cells: Vec<Locked<C>>,
     books: Vec<Locked<SiteBook<J>>>,
@@ -106,7 +106,7 @@ impl<J: Naming> Desk<J, StationCell> {
         command: Command,
         gate: &G,
     ) -> (Answer, Option<Told<J>>)
-        ensures settled { (at : Place) → slice_get self.now.stations pass.old.station ≡ Some at → Submitted at pass.old command result.0 pass.new result.1 }
+        ensures settled { (at : StationPlace) → slice_get self.now.stations pass.old.station ≡ Some at → Submitted at pass.old command result.0 pass.new result.1 }
         ensures stranger { slice_get self.now.stations pass.old.station ≡ None → (result.0 ≡ Answer.Refused Refusal.ChangesExhausted) × IsUnchanged pass.old pass.new result.1 }
     {
         self.submit_by(rt, pass, command, gate, &AtCell)
@@ -210,8 +210,8 @@ impl<J: Naming, C: HasCell> Desk<J, C> {
         gate: &G,
         way: &S,
     ) -> (Answer, Option<Told<J>>)
-        requires { (at : Place) → slice_get self.now.stations pass.old.station ≡ Some at → S.asks way.now pass.old.station command }
-        ensures settled { (at : Place) → slice_get self.now.stations pass.old.station ≡ Some at → Submitted at pass.old command result.0 pass.new result.1 }
+        requires { (at : StationPlace) → slice_get self.now.stations pass.old.station ≡ Some at → S.asks way.now pass.old.station command }
+        ensures settled { (at : StationPlace) → slice_get self.now.stations pass.old.station ≡ Some at → Submitted at pass.old command result.0 pass.new result.1 }
         ensures stranger { slice_get self.now.stations pass.old.station ≡ None → (result.0 ≡ Answer.Refused Refusal.ChangesExhausted) × IsUnchanged pass.old pass.new result.1 }
     {
         let number = pass.station() as usize;

@@ -50,7 +50,7 @@ pub use gate::{Gate, NoGate};
 pub use has_cell::HasCell;
 pub use parts::Parts;
 pub use plan::{MAX_VIEWERS, Plan, SitePlan, StationPlan};
-pub use roster::Place;
+pub use roster::StationPlace;
 pub use settles::Settles;
 pub use station_cell::{MAX_PASSES, Pass, StationCell, TooManyPasses, enlist_cell, settle, tied};
 pub use submit::{can_judge, can_settle, settle_at};

@@ -8,7 +8,7 @@ use crate::checks::plus;
 use crate::fault::BoardFault;
 use crate::has_cell::HasCell;
 use crate::locks::Locked;
-use crate::roster::Place;
+use crate::roster::StationPlace;
 use crate::submit::{board_of, stands_at};
 use energy_flow::Flow;
 use ledger_model::{Figures, Name};
@@ -29,7 +29,7 @@ pub(crate) fn totals_of(cell: &StationCell) -> (Figures, Flow, Flow)
 pub(crate) fn hold_stations<'a, R: Wait, C>(
     rt: &R,
     alloc: Global,
-    places: &[Place],
+    places: &[StationPlace],
     cells: &'a [Locked<C>],
     site: u16,
 ) -> Result<Vec<MutexGuard<'a, C>>, AllocError> {
@@ -46,7 +46,7 @@ pub(crate) fn hold_stations<'a, R: Wait, C>(
 // The boards of a site's stations, whose cells are held in the plan's order.
 pub(crate) fn site_boards_of<C: HasCell>(
     alloc: Global,
-    places: &[Place],
+    places: &[StationPlace],
     held: &[MutexGuard<'_, C>],
     site: u16,
 ) -> Result<Vec<(Name, StationBoard)>, BoardFault>
@@ -64,7 +64,7 @@ pub(crate) fn site_boards_of<C: HasCell>(
 // cell is the first that none of those has.
 fn add_board<C: HasCell>(
     alloc: Global,
-    place: &Place,
+    place: &StationPlace,
     number: usize,
     held: &[MutexGuard<'_, C>],
     site: u16,

@@ -12,7 +12,7 @@ use std::alloc::{AllocError, Global};
 /// Where a station stands: its name, its site's number, its row in the site's book, its limits, and its
 /// settlement period.
 #[derive(Drop)]
-pub struct Place {
+pub struct StationPlace {
     pub(crate) name: Name,
     pub(crate) site: u16,
     pub(crate) row: u16,
@@ -25,14 +25,14 @@ pub(crate) fn open_places(
     alloc: Global,
     sites: &[SitePlan],
     stations: &[StationPlan],
-) -> Result<Vec<Place>, AllocError>
+) -> Result<Vec<StationPlace>, AllocError>
     requires { length stations.now ≤ 64 }
     ensures { IfOk result (λ places. AreNewPlaces sites.now stations.now places.items) }
 {
     let mut places = Vec::with_capacity(alloc, stations.len())?;
     for k in 0..stations.len() {
         let station = &stations[k];
-        places.push(Place {
+        places.push(StationPlace {
             name: station.name.copied(),
             site: station.site,
             row: row_of(stations, station.site, k),
@@ -44,7 +44,7 @@ pub(crate) fn open_places(
 }
 
 // The number of the station of this name.
-pub(crate) fn number_of(places: &[Place], name: &Name) -> Option<usize>
+pub(crate) fn number_of(places: &[StationPlace], name: &Name) -> Option<usize>
     ensures known { is_some result ≡ list_any (λ p. bytes_eq name.now p.name) places.now }
     ensures named { IfSome result (IsNamed places.now name.now) }
 {

@@ -1,6 +1,6 @@
 ghost use Rattle.site_desk.specs.Submit.{Submitted};
 
-use crate::roster::Place;
+use crate::roster::StationPlace;
 use crate::submit::try_settle;
 use ledger_model::{Answer, Command};
 use site_book::{Naming, SiteBook, Told};
@@ -24,7 +24,7 @@ pub trait Settles<J: Naming, C> {
         held: &mut C,
         book: &Mutex<SiteBook<J>>,
         number: usize,
-        place: &Place,
+        place: &StationPlace,
         pass: &mut Pass,
         command: Command,
     ) -> (Answer, Option<Told<J>>)
@@ -44,7 +44,7 @@ impl<J: Naming> Settles<J, StationCell> for AtCell {
         held: &mut StationCell,
         book: &Mutex<SiteBook<J>>,
         number: usize,
-        place: &Place,
+        place: &StationPlace,
         pass: &mut Pass,
         command: Command,
     ) -> (Answer, Option<Told<J>>) {

@@ -5,7 +5,7 @@ ghost use Rattle.site_desk.specs.Roster.{StandsAt};
 ghost use Rattle.station_cell.specs.Settle.{cell_after};
 ghost use Rattle.site_desk.specs.Submit.{CanJudge, CanSettle, IsBoardWithin, Submitted};
 
-use crate::roster::Place;
+use crate::roster::StationPlace;
 use ledger_model::{Answer, Command, Refusal};
 use site_book::{Naming, SiteBook, Told};
 use station_cell::{Pass, StationCell, settle, tied};
@@ -13,7 +13,7 @@ use station_ledger::StationBoard;
 use std::alloc::{AllocError, Global};
 
 // Tells whether the cell is that of the station of this number and place.
-pub(crate) fn stands_at(cell: &StationCell, number: usize, place: &Place) -> bool
+pub(crate) fn stands_at(cell: &StationCell, number: usize, place: &StationPlace) -> bool
     ensures { IsTrue result → StandsAt number place.now cell.now }
 {
     cell.station() as usize == number
@@ -24,7 +24,12 @@ pub(crate) fn stands_at(cell: &StationCell, number: usize, place: &Place) -> boo
 }
 
 // Tells whether the cell is that of the station of this number and place, and the book its site's.
-fn are_at<J: Naming>(cell: &StationCell, book: &SiteBook<J>, number: usize, place: &Place) -> bool
+fn are_at<J: Naming>(
+    cell: &StationCell,
+    book: &SiteBook<J>,
+    number: usize,
+    place: &StationPlace,
+) -> bool
     ensures { IsTrue result → (StandsAt number place.now cell.now) × (book.now.site ≡ place.now.site) }
 {
     stands_at(cell, number, place) && book.site() == place.site
@@ -32,7 +37,7 @@ fn are_at<J: Naming>(cell: &StationCell, book: &SiteBook<J>, number: usize, plac
 
 /// Tells whether all is so that judging a command of the pass asks, at the cell of the station of this number
 /// and place, whatever its site's book is.
-pub fn can_judge(cell: &StationCell, number: usize, place: &Place, pass: &Pass) -> bool
+pub fn can_judge(cell: &StationCell, number: usize, place: &StationPlace, pass: &Pass) -> bool
     ensures { IsTrue result → CanJudge number place.now cell.now pass.now }
 {
     cell.is_in_service() && stands_at(cell, number, place) && cell.knows(pass)
@@ -44,7 +49,7 @@ pub fn can_settle<J: Naming>(
     cell: &StationCell,
     book: &SiteBook<J>,
     number: usize,
-    place: &Place,
+    place: &StationPlace,
     pass: &Pass,
 ) -> bool
     ensures { IsTrue result → CanSettle number place.now cell.now book.now pass.now }
@@ -64,7 +69,7 @@ pub fn settle_at<J: Naming>(
     cell: &mut StationCell,
     book: &mut SiteBook<J>,
     number: usize,
-    place: &Place,
+    place: &StationPlace,
     pass: &mut Pass,
     command: Command,
 ) -> (Answer, Option<Told<J>>)
@@ -81,7 +86,7 @@ pub(crate) fn try_settle<J: Naming>(
     cell: &mut StationCell,
     book: &mut SiteBook<J>,
     number: usize,
-    place: &Place,
+    place: &StationPlace,
     pass: &mut Pass,
     command: Command,
 ) -> (Answer, Option<Told<J>>)

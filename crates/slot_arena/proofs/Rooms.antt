@@ -49,8 +49,8 @@ module _ (E : El) where
   step_of = type_size (R E)
 
   -- What one place holds.
-  abbrev pub Place : Type 0
-  Place = Option (el_x E)
+  abbrev pub PlaceValue : Type 0
+  PlaceValue = Option (el_x E)
 
 -- A struct of one pointer.
 abbrev one_pointer : Shape
@@ -113,7 +113,7 @@ holding_within (place ∷ row) (suc i) x e = omega (arith, holding_within row i 
 
 module _ (E : El) (block : ℕ) where
   -- The other places of a row, where one is taken out.
-  abbrev pub others : ℕ → List (Place E) → ℕ → Fml
+  abbrev pub others : ℕ → List (PlaceValue E) → ℕ → Fml
   others at [] i = ftrue
   others at (place ∷ row) zero = places_at (R E) block (at + step_of E) row
   others at (place ∷ row) (suc i) = fsep (place_at (R E) block at place) (others (at + step_of E) row i)
@@ -134,15 +134,15 @@ module _ (E : El) {M : Type 1} {𝓤 : Ura M} (𝓛 : Logic 𝓤) (block : ℕ) 
   s = step_of E
 
   -- One place.
-  abbrev One : ℕ → Place E → Fml
+  abbrev One : ℕ → PlaceValue E → Fml
   One = place_at (R E) block
 
   -- A row of them.
-  abbrev All : ℕ → List (Place E) → Fml
+  abbrev All : ℕ → List (PlaceValue E) → Fml
   All = places_at (R E) block
 
   -- One place is taken out of a row.
-  pub taken_out : (row : List (Place E)) (i at : ℕ) → i < length row
+  pub taken_out : (row : List (PlaceValue E)) (i at : ℕ) → i < length row
       → ent 𝓤 (sem 𝓛 (All at row)) (sep 𝓤 (sem 𝓛 (One (i * s + at) (get_or row i None))) (sem 𝓛 (others E block at row i)))
   taken_out [] i at lt = absurd (omega arith)
   taken_out (place ∷ row) zero at lt = qed 𝓛 (‵ (All at (place ∷ row)) ∷ []) ∵ fsplit ! $ rewrite ! 0 (λ (k : ℕ). ‵ (One k place)) (no_on s at) refl $ done !
@@ -151,7 +151,7 @@ module _ (E : El) {M : Type 1} {𝓤 : Ura M} (𝓛 : Logic 𝓤) (block : ℕ) 
       rewrite ! 0 (λ (k : ℕ). ‵ (One k (get_or row i None))) (one_on i s at) refl $ move ! (2 ∷ 1 ∷ []) $ fjoin ! $ move ! (1 ∷ []) $ done !
 
   -- It is put back, with another content.
-  pub put_back : (row : List (Place E)) (i at : ℕ) (new : Place E) → i < length row
+  pub put_back : (row : List (PlaceValue E)) (i at : ℕ) (new : PlaceValue E) → i < length row
       → ent 𝓤 (sep 𝓤 (sem 𝓛 (One (i * s + at) new)) (sem 𝓛 (others E block at row i))) (sem 𝓛 (All at (set row i new)))
   put_back [] i at new lt = absurd (omega arith)
   put_back (place ∷ row) zero at new lt = qed 𝓛 (‵ (One (0 * s + at) new) ∷ ‵ (others E block at (place ∷ row) 0) ∷ []) ∵
@@ -161,7 +161,7 @@ module _ (E : El) {M : Type 1} {𝓤 : Ura M} (𝓛 : Logic 𝓤) (block : ℕ) 
       use2 𝓛 (‵ (All (at + s) (set row i new))) (put_back row i (at + s) new (omega arith)) $ move ! (1 ∷ 0 ∷ []) $ fjoin ! $ done !
 
   -- A row shows each of its places.
-  pub place_shown : (κ : Lft) (row : List (Place E)) (i at : ℕ) → i < length row
+  pub place_shown : (κ : Lft) (row : List (PlaceValue E)) (i at : ℕ) → i < length row
       → ent 𝓤 (sem 𝓛 (places_lent (R E) block at row κ)) (sem 𝓛 (place_lent (R E) block (i * s + at) (get_or row i None) κ))
   place_shown κ [] i at lt = absurd (omega arith)
   place_shown κ (place ∷ row) zero at lt = qed 𝓛 (‵ (places_lent (R E) block at (place ∷ row) κ) ∷ []) ∵ fsplit ! $ keep ! (0 ∷ []) $

@@ -17,7 +17,7 @@ use crate::moves::carry_out;
 use crate::sums::Sums;
 use energy_flow::{Flow, Work};
 use event_chain::{Chains, Found, Room};
-use key_index::Place;
+use key_index::KeyPlace;
 use ledger_model::{Answer, Command, Event, EvseId, Figures, Key, Limits, Period, Refusal, TxId};
 use std::alloc::{AllocError, Global};
 use std::marker::Model;
@@ -70,19 +70,19 @@ impl StationLedger {
     }
 
     // The same, and where the command's key stands or belongs, where that was searched.
-    fn judge_at(&self, command: &Command) -> (Answer, Place)
+    fn judge_at(&self, command: &Command) -> (Answer, KeyPlace)
         ensures { result.0 ≡ answer self.now.limits self.now.content command.now }
     {
         match command {
             Command::Deliver(key, event) => self.judge_delivery(key, event),
-            Command::Void(key) => (self.judge_void(key), Place::UNKNOWN),
-            Command::Restore(key) => (self.judge_voided(key), Place::UNKNOWN),
-            Command::Erase(key) => (self.judge_voided(key), Place::UNKNOWN),
+            Command::Void(key) => (self.judge_void(key), KeyPlace::UNKNOWN),
+            Command::Restore(key) => (self.judge_voided(key), KeyPlace::UNKNOWN),
+            Command::Erase(key) => (self.judge_voided(key), KeyPlace::UNKNOWN),
         }
     }
 
     // The answer to an event under this key, and where the key stands or belongs.
-    fn judge_delivery(&self, key: &Key, event: &Event) -> (Answer, Place)
+    fn judge_delivery(&self, key: &Key, event: &Event) -> (Answer, KeyPlace)
         ensures { result.0 ≡ answer_to_deliver self.now.limits self.now.content key.now event.now (finite.get self.now.content.events key.now) }
     {
         let (found, place) = self.chains.look(key);

@@ -18,7 +18,7 @@ ghost use Rattle.station_ledger.specs.Sums.{AreAllowed, AreSummed};
 use crate::sums::{Sums, add_event, take_event};
 use energy_flow::Work;
 use event_chain::{Around, Chains, Sides};
-use key_index::Place;
+use key_index::KeyPlace;
 use ledger_model::{Command, Direction, Event, Key};
 
 // The readings of a direction on either side of the place of a key, where its event has any.
@@ -52,7 +52,7 @@ fn around(chains: &Chains, key: &Key, imports: bool, exports: bool) -> Around
 fn deliver(
     chains: &mut Chains,
     sums: &mut Sums,
-    place: Place,
+    place: KeyPlace,
     key: &Key,
     event: &Event,
     work: &mut Work,
@@ -140,11 +140,11 @@ pub(crate) fn erase(chains: &mut Chains, sums: &mut Sums, key: &Key)
 }
 
 // Finds a key for what is done there, where its place is not known.
-fn seek(chains: &mut Chains, sums: &mut Sums, place: Place, key: &Key)
+fn seek(chains: &mut Chains, sums: &mut Sums, place: KeyPlace, key: &Key)
     ensures chains { chains.new ≡ chains.old }
     ensures sums { sums.new ≡ sums.old }
 {
-    if place == Place::UNKNOWN {
+    if place == KeyPlace::UNKNOWN {
         chains.seek(key);
         sums.kept.look_near(chains.near());
     }
@@ -152,7 +152,7 @@ fn seek(chains: &mut Chains, sums: &mut Sums, place: Place, key: &Key)
 
 // Carries out a command that may be accepted.
 #[tactic(auto, unfolding(crate::specs::Spent::most_spent))]
-fn carry(chains: &mut Chains, sums: &mut Sums, place: Place, command: &Command, work: &mut Work)
+fn carry(chains: &mut Chains, sums: &mut Sums, place: KeyPlace, command: &Command, work: &mut Work)
     requires ready { IsReady chains.old command.now }
     requires before { AreAllowed chains.old.limits (stored chains.old) }
     requires after { AreAllowed chains.old.limits (finite.entries (events_after chains.old.events command.now)) }
@@ -178,7 +178,7 @@ fn carry(chains: &mut Chains, sums: &mut Sums, place: Place, command: &Command, 
 pub(crate) fn carry_out(
     chains: &mut Chains,
     sums: &mut Sums,
-    place: Place,
+    place: KeyPlace,
     command: &Command,
     work: &mut Work,
 )

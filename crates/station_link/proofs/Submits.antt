@@ -13,7 +13,7 @@ use Rattle.ocppj_frame.specs.declared.action.Action.TheVariants.{BootNotificatio
 use Rattle.ocppj_frame.specs.Frame.{Frame, Called, Ready, Silence, frame}
 use Rattle.ocppj_frame.specs.Ranges.{longest_message}
 use Rattle.site_book.specs.Book.{Known}
-use Rattle.site_desk.specs.declared.roster.Place.{Place}
+use Rattle.site_desk.specs.declared.roster.StationPlace.{StationPlace}
 use Rattle.station_cell.specs.Cell.{Held}
 use Rattle.site_desk.specs.Submit.{IsAnswered, IsUnchanged, Submitted}
 use Rattle.transaction_event.specs.Laws.{EachDeliveryIsAnswered}
@@ -24,13 +24,13 @@ use Rattle.transaction_event.specs.Reply.{answers_delivery, memory_reply}
 use Rattle.station_link.specs.Answer.{IsNextPass, IsSubmitted, TellsMemory}
 
 -- an answer of the step to a delivery has a reply
-by_step : (at : Place) (p : Held) (key : KeyName) (event : EventContent) (a : Answer) (p' : Held) (told : Option Known) → EachDeliveryIsAnswered → IsAnswered at p (Deliver key event) a p' told → answers_delivery a ≡ true
+by_step : (at : StationPlace) (p : Held) (key : KeyName) (event : EventContent) (a : Answer) (p' : Held) (told : Option Known) → EachDeliveryIsAnswered → IsAnswered at p (Deliver key event) a p' told → answers_delivery a ≡ true
 by_step at p key event a p' told law h =
     let P : Answer → Type 0 = λ x. answers_delivery x ≡ true in
     subst P h.answered (law at.limits h.before key event)
 
 -- what a delivery comes to at a place has a reply
-replied_at : (at : Place) (p : Held) (key : KeyName) (event : EventContent) (a : Answer) (p' : Held) (told : Option Known) → EachDeliveryIsAnswered → Submitted at p (Deliver key event) a p' told → answers_delivery a ≡ true
+replied_at : (at : StationPlace) (p : Held) (key : KeyName) (event : EventContent) (a : Answer) (p' : Held) (told : Option Known) → EachDeliveryIsAnswered → Submitted at p (Deliver key event) a p' told → answers_delivery a ≡ true
 replied_at at p key event (Accepted n) p' told law h = refl
 replied_at at p key event Repeat p' told law h = refl
 replied_at at p key event (Refused ChangesExhausted) p' told law h = refl
@@ -49,7 +49,7 @@ same_pass p p' told h =
     subst P (sym h.pass) (record { station = refl; changes = omega arith })
 
 -- the pass after a command at a place
-next_at : (at : Place) (p : Held) (command : Command) (a : Answer) (p' : Held) (told : Option Known) → Submitted at p command a p' told → IsNextPass p p'
+next_at : (at : StationPlace) (p : Held) (command : Command) (a : Answer) (p' : Held) (told : Option Known) → Submitted at p command a p' told → IsNextPass p p'
 next_at at p command (Accepted n) p' told h =
     let P : Held → Type 0 = λ q. IsNextPass p q in
     subst P (sym h.pass) (record { station = refl; changes = omega arith })
@@ -63,32 +63,32 @@ next_at at p command (Refused NoSuchEvent) p' told h = same_pass p p' told h.unc
 next_at at p command (Refused AlreadyVoided) p' told h = same_pass p p' told h.unchanged
 next_at at p command (Refused NotVoided) p' told h = same_pass p p' told h.unchanged
 
-replied_by : (stations : List Place) (there : Option Place) (p : Held) (key : KeyName) (event : EventContent) (a : Answer) (p' : Held) (told : Option Known) → slice_get stations p.station ≡ there → EachDeliveryIsAnswered → IsSubmitted stations p (Deliver key event) a p' told → answers_delivery a ≡ true
+replied_by : (stations : List StationPlace) (there : Option StationPlace) (p : Held) (key : KeyName) (event : EventContent) (a : Answer) (p' : Held) (told : Option Known) → slice_get stations p.station ≡ there → EachDeliveryIsAnswered → IsSubmitted stations p (Deliver key event) a p' told → answers_delivery a ≡ true
 replied_by stations None p key event a p' told e law h =
     let P : Answer → Type 0 = λ x. answers_delivery x ≡ true in
     subst P (sym (h.stranger e).0) refl
 replied_by stations (Some at) p key event a p' told e law h = replied_at at p key event a p' told law (h.settled at e)
 
-next_by : (stations : List Place) (there : Option Place) (p : Held) (command : Command) (a : Answer) (p' : Held) (told : Option Known) → slice_get stations p.station ≡ there → IsSubmitted stations p command a p' told → IsNextPass p p'
+next_by : (stations : List StationPlace) (there : Option StationPlace) (p : Held) (command : Command) (a : Answer) (p' : Held) (told : Option Known) → slice_get stations p.station ≡ there → IsSubmitted stations p command a p' told → IsNextPass p p'
 next_by stations None p command a p' told e h = same_pass p p' told (h.stranger e).1
 next_by stations (Some at) p command a p' told e h = next_at at p command a p' told (h.settled at e)
 
 -- what a desk answers to a delivery has a reply
-pub submitted_is_replied : (stations : List Place) (p : Held) (key : KeyName) (event : EventContent) (a : Answer) (p' : Held) (told : Option Known) → EachDeliveryIsAnswered → IsSubmitted stations p (Deliver key event) a p' told → answers_delivery a ≡ true
+pub submitted_is_replied : (stations : List StationPlace) (p : Held) (key : KeyName) (event : EventContent) (a : Answer) (p' : Held) (told : Option Known) → EachDeliveryIsAnswered → IsSubmitted stations p (Deliver key event) a p' told → answers_delivery a ≡ true
 submitted_is_replied stations p key event a p' told law h = replied_by stations (slice_get stations p.station) p key event a p' told refl law h
 
 -- the pass after a command to a desk
-pub submitted_pass : (stations : List Place) (p : Held) (command : Command) (a : Answer) (p' : Held) (told : Option Known) → IsSubmitted stations p command a p' told → IsNextPass p p'
+pub submitted_pass : (stations : List StationPlace) (p : Held) (command : Command) (a : Answer) (p' : Held) (told : Option Known) → IsSubmitted stations p command a p' told → IsNextPass p p'
 submitted_pass stations p command a p' told h = next_by stations (slice_get stations p.station) p command a p' told refl h
 
 -- what is answered to a delivery has a reply
-pub delivered_is_replied : {E : Type 0} (stations : List Place) (p : Held) (key : KeyName) (event : EventContent) (result : Result (Answer × Option Known) E) (p' : Held) → EachDeliveryIsAnswered
+pub delivered_is_replied : {E : Type 0} (stations : List StationPlace) (p : Held) (key : KeyName) (event : EventContent) (result : Result (Answer × Option Known) E) (p' : Held) → EachDeliveryIsAnswered
     → IfOk result (λ r. IsSubmitted stations p (Deliver key event) r.0 p' r.1) → IfOk result (λ r. answers_delivery r.0 ≡ true)
 delivered_is_replied stations p key event (Ok r) p' law h = submitted_is_replied stations p key event r.0 p' r.1 law h
 delivered_is_replied stations p key event (Err e) p' law h = h
 
 -- the pass after a delivery, and where there was no memory for it
-pub delivered_pass : {E : Type 0} (stations : List Place) (p : Held) (command : Command) (result : Result (Answer × Option Known) E) (p' : Held)
+pub delivered_pass : {E : Type 0} (stations : List StationPlace) (p : Held) (command : Command) (result : Result (Answer × Option Known) E) (p' : Held)
     → IfOk result (λ r. IsSubmitted stations p command r.0 p' r.1) → OnErr result (p' ≡ p) → IsNextPass p p'
 delivered_pass stations p command (Ok r) p' h same = submitted_pass stations p command r.0 p' r.1 h
 delivered_pass stations p command (Err e) p' h same =

@@ -9,7 +9,7 @@ use Rattle.ledger_model.specs.Event.{EventContent}
 use Rattle.ledger_model.specs.Key.{KeyName}
 use Rattle.ocppj_frame.specs.Frame.{frame}
 use Rattle.site_book.specs.Book.{Known}
-use Rattle.site_desk.specs.declared.roster.Place.{Place}
+use Rattle.site_desk.specs.declared.roster.StationPlace.{StationPlace}
 use Rattle.station_cell.specs.Cell.{Held}
 use Rattle.site_desk.specs.Submit.{IsUnchanged, Submitted}
 use Rattle.transaction_event.specs.Message.{Meaning, Event, Ready, Silence, message}
@@ -27,8 +27,8 @@ pub record Asks (text : List ℕ) (key : KeyName) (event : EventContent) : Type 
   pub event_is : request.event ≡ event
 
 -- What a desk of these stations can answer to a command of a pass; a pass of no station of the desk is told that changes are exhausted.
-pub record IsSubmitted (stations : List Place) (p : Held) (command : Command) (answer : Answer) (p' : Held) (told : Option Known) : Type 0 where
-  pub settled : (at : Place) → slice_get stations p.station ≡ Some at → Submitted at p command answer p' told
+pub record IsSubmitted (stations : List StationPlace) (p : Held) (command : Command) (answer : Answer) (p' : Held) (told : Option Known) : Type 0 where
+  pub settled : (at : StationPlace) → slice_get stations p.station ≡ Some at → Submitted at p command answer p' told
   pub stranger : slice_get stations p.station ≡ None → (answer ≡ Refused ChangesExhausted) × IsUnchanged p p' told
 
 -- The pass after one text: it is of the same station, and made at most one change more.
@@ -37,7 +37,7 @@ pub record IsNextPass (p p' : Held) : Type 0 where
   pub changes : p'.changes ≤ p.changes + 1
 
 -- The reply to an event is that to an answer which the desk can give to its delivery.
-pub record IsDelivered (stations : List Place) (p : Held) (id : List ℕ) (request : Request) (text : Option (List ℕ)) (p' : Held) (told : Option Known) : Type 0 where
+pub record IsDelivered (stations : List StationPlace) (p : Held) (id : List ℕ) (request : Request) (text : Option (List ℕ)) (p' : Held) (told : Option Known) : Type 0 where
   pub answer : Answer
   pub submitted : IsSubmitted stations p (Deliver request.key request.event) answer p' told
   pub reply : text ≡ Some (event_reply_bytes id request.token answer)
@@ -54,12 +54,12 @@ pub record TellsMemory (words : List ℕ) (p : Held) (text : Option (List ℕ)) 
   pub ready : IsReady (Some reply) p text p' told
 
 -- What a meaning is answered: silence, the ready reply, or the reply to the delivery.
-abbrev pub AnswersMeaning : List Place → Held → Meaning → Option (List ℕ) → Held → Option Known → Type 0
+abbrev pub AnswersMeaning : List StationPlace → Held → Meaning → Option (List ℕ) → Held → Option Known → Type 0
 AnswersMeaning stations p Silence text p' told = IsReady None p text p' told
 AnswersMeaning stations p (Ready reply) text p' told = IsReady (Some reply) p text p' told
 AnswersMeaning stations p (Event id request) text p' told = IsDelivered stations p id request text p' told
 
 -- What a station's words are answered at a moment; the last tells whether there was no memory to read them.
-abbrev pub Answers : List Place → Held → List ℕ → ℕ → Option (List ℕ) → Held → Option Known → Bool → Type 0
+abbrev pub Answers : List StationPlace → Held → List ℕ → ℕ → Option (List ℕ) → Held → Option Known → Bool → Type 0
 Answers stations p words now text p' told true = TellsMemory words p text p' told
 Answers stations p words now text p' told false = AnswersMeaning stations p (message words now) text p' told

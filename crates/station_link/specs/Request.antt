@@ -5,7 +5,7 @@ use Rattle.std.specs.declared.result.Result.TheVariants.{Ok, Err}
 use Rattle.std.specs.List.{list_any}
 use Rattle.std.specs.Str.{bytes_eq}
 use Rattle.ledger_model.specs.Name.{is_name}
-use Rattle.site_desk.specs.declared.roster.Place.{Place}
+use Rattle.site_desk.specs.declared.roster.StationPlace.{StationPlace}
 use Rattle.station_cell.specs.Cell.{Held}
 use Rattle.site_desk.specs.Roster.{IsNamed}
 use Rattle.station_link.specs.declared.ending.Why.{Why}
@@ -19,7 +19,7 @@ IsPathOf path (Some name) = path ≡ codes "/ocpp/" ++ name
 IsPathOf path None = (name : List ℕ) → is_name name ≡ true → path ≢ codes "/ocpp/" ++ name
 
 -- Why a request is refused, whatever passes were given out: no request was seen, the subprotocol was not offered, the path names no station, in this order.
-abbrev pub refusal : List Place → Seen → Option Why
+abbrev pub refusal : List StationPlace → Seen → Option Why
 refusal stations Nothing = Some HandshakeFailed
 refusal stations NoMemory = Some OutOfMemory
 refusal stations (Request false station) = Some NotOcpp
@@ -27,11 +27,11 @@ refusal stations (Request true None) = Some UnknownStation
 refusal stations (Request true (Some name)) = if list_any (λ p. bytes_eq name p.name) stations then None else Some UnknownStation
 
 -- What a request is told that gets no pass: why it is refused, or else that its station gave out all its passes.
-abbrev pub IsRefusal : List Place → Seen → Why → Type 0
+abbrev pub IsRefusal : List StationPlace → Seen → Why → Type 0
 IsRefusal stations seen why = why ≡ unwrap_or (refusal stations seen) TooManyPasses
 
 -- A request that is not refused gets a pass of the station that it names, which made no change yet.
-pub record IsAdmitted (stations : List Place) (seen : Seen) (name : List ℕ) (p : Held) : Type 0 where
+pub record IsAdmitted (stations : List StationPlace) (seen : Seen) (name : List ℕ) (p : Held) : Type 0 where
   pub allowed : refusal stations seen ≡ None
   pub asked : seen ≡ Request true (Some name)
   pub named : IsNamed stations name p.station
@@ -40,4 +40,4 @@ pub record IsAdmitted (stations : List Place) (seen : Seen) (name : List ℕ) (p
 -- A request asks for the station of this name, or is refused for this reason whatever stations there are.
 abbrev pub IsAsked : Seen → Result (List ℕ) Why → Type 0
 IsAsked seen (Ok name) = seen ≡ Request true (Some name)
-IsAsked seen (Err why) = (stations : List Place) → refusal stations seen ≡ Some why
+IsAsked seen (Err why) = (stations : List StationPlace) → refusal stations seen ≡ Some why

@@ -10,10 +10,10 @@ use std::time::Clock;
 pub trait Delivers<J: Naming> {
     ghost use Rattle.std.specs.Prelude.{◌≡◌, List, IfOk, OnErr};
     ghost use Rattle.ledger_model.specs.declared.command.Command.{Command};
-    ghost use Rattle.site_desk.specs.declared.roster.Place.{Place};
+    ghost use Rattle.site_desk.specs.declared.roster.StationPlace.{StationPlace};
     ghost use Rattle.station_link.specs.Answer.{Asks, IsSubmitted};
 
-    ghost stations: { Self → List Place };
+    ghost stations: { Self → List StationPlace };
 
     /// Takes the delivery that a text asks for, with a pass, and answers it as
     /// [`Desk::submit`](site_desk::Desk::submit) does. Where there is no memory, nothing changed.

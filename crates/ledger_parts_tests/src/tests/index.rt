@@ -1,4 +1,4 @@
-use key_index::{Filed, IndexKey, KeyIndex, Mark, Marks, Place};
+use key_index::{Filed, IndexKey, KeyIndex, KeyPlace, Mark, Marks};
 use std::test::Fail;
 
 // The key of a transaction and a sequence number below 2^31.
@@ -39,7 +39,7 @@ fn put(index: &mut KeyIndex, key: IndexKey, slot: u32) -> bool {
 
 // Takes a key out where it is there, and tells whether it did.
 fn cut(index: &mut KeyIndex, key: IndexKey) -> bool {
-    if index.get(Place::UNKNOWN, key).is_none() {
+    if index.get(KeyPlace::UNKNOWN, key).is_none() {
         return false;
     }
     index.remove(key);
@@ -47,7 +47,7 @@ fn cut(index: &mut KeyIndex, key: IndexKey) -> bool {
 }
 
 // The slot numbers of the nearest entries with a mark in front of a key and from it on.
-fn sides(index: &KeyIndex, place: Place, key: IndexKey, mark: Mark) -> (u32, u32) {
+fn sides(index: &KeyIndex, place: KeyPlace, key: IndexKey, mark: Mark) -> (u32, u32) {
     let before = index.before_marked(place, key, mark);
     let behind = index.at_or_after_marked(place, key, mark);
     (
@@ -68,7 +68,7 @@ fn finds_three(index: &KeyIndex) -> bool {
 
 // Whether each of the three has its neighbours.
 fn neighbours_of_three(index: &KeyIndex) -> bool {
-    let any = Place::UNKNOWN;
+    let any = KeyPlace::UNKNOWN;
     index.before(any, key(2, 5)) == Some((key(2, 1), filed(21)))
         && index.before(any, key(1, 9)).is_none()
         && index.at_or_after(any, key(1, 10)) == Some((key(2, 1), filed(21)))
@@ -78,7 +78,7 @@ fn neighbours_of_three(index: &KeyIndex) -> bool {
 
 // Whether the first entry has these parts of a key.
 fn begins_with(index: &KeyIndex, transaction: u32, number: u32) -> bool {
-    match index.at_or_after(Place::UNKNOWN, key(1, 0)) {
+    match index.at_or_after(KeyPlace::UNKNOWN, key(1, 0)) {
         Some((found, _)) => found.transaction() == transaction && found.number() == number,
         None => false,
     }
@@ -87,11 +87,11 @@ fn begins_with(index: &KeyIndex, transaction: u32, number: u32) -> bool {
 #[test]
 fn keys_go_by_transaction_then_number(rt: HostRuntime) -> Result<(), Fail> {
     let mut index = KeyIndex::open(rt.alloc(), 4)?;
-    assert!(rt; index.capacity() == 4 && index.at_or_after(Place::UNKNOWN, key(0, 0)).is_none());
+    assert!(rt; index.capacity() == 4 && index.at_or_after(KeyPlace::UNKNOWN, key(0, 0)).is_none());
     assert!(rt; three_entries(&mut index));
     assert!(rt; finds_three(&index) && neighbours_of_three(&index));
     assert!(rt; cut(&mut index, key(2, 1)));
-    assert!(rt; index.before(Place::UNKNOWN, key(2, 5)) == Some((key(1, 9), filed(19))));
+    assert!(rt; index.before(KeyPlace::UNKNOWN, key(2, 5)) == Some((key(1, 9), filed(19))));
     assert!(rt; begins_with(&index, 1, 9));
     Ok(())
 }
@@ -137,7 +137,7 @@ fn fill_again(index: &mut KeyIndex) -> bool {
 fn count_rising(index: &KeyIndex) -> u32 {
     let mut at = key(0, 0);
     for count in 0..65_537 {
-        match index.at_or_after(Place::UNKNOWN, at) {
+        match index.at_or_after(KeyPlace::UNKNOWN, at) {
             Some((found, _)) => at = key(found.transaction(), found.number().wrapping_add(1)),
             None => return count,
         }
@@ -157,7 +157,7 @@ fn ten_entries(index: &mut KeyIndex) -> bool {
 
 // Sets the marks of a key where it is there.
 fn set_live(index: &mut KeyIndex, key: IndexKey, live: bool) -> bool {
-    if index.get(Place::UNKNOWN, key).is_none() {
+    if index.get(KeyPlace::UNKNOWN, key).is_none() {
         return false;
     }
     let marks = Marks {
@@ -195,7 +195,7 @@ fn a_place_of_another_key_is_not_taken(rt: HostRuntime) -> Result<(), Fail> {
 }
 
 // Puts in an entry at a place that may be another key's.
-fn index_at(index: &mut KeyIndex, place: Place, key: IndexKey) {
+fn index_at(index: &mut KeyIndex, place: KeyPlace, key: IndexKey) {
     if index.get(place, key).is_none() && index.len() < index.capacity() {
         index.insert(place, key, filed(41));
     }
@@ -215,7 +215,7 @@ fn unmark(index: &mut KeyIndex) -> bool {
 fn count_live(index: &KeyIndex) -> u32 {
     let mut at = key(0, 0);
     for count in 0..65_537 {
-        match index.at_or_after_marked(Place::UNKNOWN, at, Mark::Live) {
+        match index.at_or_after_marked(KeyPlace::UNKNOWN, at, Mark::Live) {
             Some((found, _)) => at = key(found.transaction(), found.number().wrapping_add(1)),
             None => return count,
         }

@@ -39,7 +39,7 @@ use Rattle.std_alloc.proofs.VecSteps.Shapes.{after}
 use Rattle.slot_arena.specs.Owned.{owned_places, owned_lease}
 use Rattle.slot_arena.specs.contracts.block.Lease as lease
 use Rattle.slot_arena.specs.contracts.block.release as f
-use Rattle.slot_arena.proofs.Rooms.{Row, First, Place, step_of, mark_told, word_told, room_of_row}
+use Rattle.slot_arena.proofs.Rooms.{Row, First, PlaceValue, step_of, mark_told, word_told, room_of_row}
 use Rattle.slot_arena.proofs.block.release.Statement.{statement}
 use Rattle.slot_arena.proofs.block.release.Code as code
 
@@ -77,7 +77,7 @@ release_spec 𝓤 𝓛 𝓜 𝓡 wired T W laws alloc_laws g d dd met md =
     regoal ! (λ (us : List Val × List Val × List Val × List Val × List Val). prop (WpFn 𝓤 𝓛.H C Λ fn (us.0 ++ (us.1 ++ (us.2 ++ (us.3 ++ (us.4 ++ []))))) Post)) (λ j. (e0 j, e1 j, e2 j, e3 j, e4 j)) refl $
     -- [the places; the lease; the handle; its token; the other tokens]
     enter ! C Λ fn _ Post $ alloc_all ! (λ l. pass_all ! refl ((tt, tt), (word-Good [] start.ptr, ((tt, record { fits = len_fits }), ((tt, (tt, tt)), ((tt, (tt, tt)), tt))))) $
-    rewrite ! 0 (λ (at : Ptr × List (Place E)). ‵ (owned_places (R E) at.0 at.1)) (λ i. (asked.0 i, asked.1 i)) refl $
+    rewrite ! 0 (λ (at : Ptr × List (PlaceValue E)). ‵ (owned_places (R E) at.0 at.1)) (λ i. (asked.0 i, asked.1 i)) refl $
     in_a_block ! start.ptr (λ at. owned_places (R E) at (replicate len None)) (id⊢ 𝓤 (never 𝓤)) (λ b o at_block. fsplit ! $ flt_l ! (λ row_fits.
     let bytes_fit : len * s < 2 ^ 64 = let small : len * s < 2 ^ 63 = subst (λ n. n * s < 2 ^ 63) (length-replicate len None) row_fits in omega arith in
     let al : ℕ = capped (align (elτ E)) in let same = uncapped len s bytes_fit in

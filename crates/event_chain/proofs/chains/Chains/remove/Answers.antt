@@ -8,7 +8,7 @@ use Rattle.event_store.specs.Slots.{readings_in}
 use Rattle.event_chain.specs.Chains.{Chained}
 use Rattle.event_chain.specs.Room.{found_of}
 use Rattle.event_chain.specs.Edits.{out}
-use Rattle.event_chain.specs.Flat.{Place, flat}
+use Rattle.event_chain.specs.Flat.{EventPlace, flat}
 use Rattle.ledger_model.specs.Key.{key_cmp}
 use Rattle.event_chain.specs.Kept.{events_of, is_live, is_carrier, is_naming, IsLeft}
 use Rattle.event_chain.proofs.Facts.{found_voided, seal, all_rising}
@@ -47,7 +47,7 @@ pub invariant_of-self : goal.invariant_of-self
 invariant_of-self c =
     let m = c.self.inside in let was = found_voided (finite.get (events_of m.table m.store m.places.stored) c.args.key.now) (ap (λ (x : Chained). found_of (finite.get x.events c.args.key.now)) c.self.view_is ∙ c.requires) in
     let at = c.locate-at.result in let void = ap (λ (x : Stored). x.voided) (same_stored (finite.get (events_of m.table m.store m.places.stored) c.args.key.now) (spot_event m.limits m.table m.store m.places.stored m.places.live (carriers_of m.places) m.places.naming c.self.invariant c.args.key.now at.row at.key at.slot c.locate-at.ensures.row c.locate-at.ensures.number c.locate-at.ensures.key c.locate-at.ensures.slot) was.0 (spot_get m.limits m.table m.store m.places.stored m.places.live (carriers_of m.places) m.places.naming c.self.invariant c.args.key.now at.row at.key at.slot c.locate-at.ensures.row c.locate-at.ensures.number c.locate-at.ensures.key c.locate-at.ensures.slot) was.1.0) ∙ was.1.1 in
-    let gone = subst (λ t. IsLeft m.table.rows c.leave.new.table.rows (out at.key m.places.stored.entries) t at.row) c.tx.ensures (subst (λ (es : List Place). IsLeft m.table.rows c.leave.new.table.rows es c.tx.result.now at.row) (λ i. (c.remove.ensures.stored i).entries) c.leave.ensures.left) in
+    let gone = subst (λ t. IsLeft m.table.rows c.leave.new.table.rows (out at.key m.places.stored.entries) t at.row) c.tx.ensures (subst (λ (es : List EventPlace). IsLeft m.table.rows c.leave.new.table.rows es c.tx.result.now at.row) (λ i. (c.remove.ensures.stored i).entries) c.leave.ensures.left) in
     let k = c.self.invariant in
     let r = k.roomy in
     seal m.limits c.leave.new.table c.take_out.new.self c.remove.new.self.stored c.remove.new.self.live (carriers_of c.remove.new.self) c.remove.new.self.naming c.leave.new.table.rows m.table.capacity (set m.store.slots at.slot None) c.take_out.new.self.readings m.store.capacity (out at.key m.places.stored.entries) m.places.live.entries (λ d. (carriers_of m.places d).entries) m.places.naming.entries m.limits.events
@@ -58,7 +58,7 @@ pub returns-clause-events : goal.returns-clause-events
 returns-clause-events c =
     let m = c.self.inside in let was = found_voided (finite.get (events_of m.table m.store m.places.stored) c.args.key.now) (ap (λ (x : Chained). found_of (finite.get x.events c.args.key.now)) c.self.view_is ∙ c.requires) in
     let at = c.locate-at.result in let void = ap (λ (x : Stored). x.voided) (same_stored (finite.get (events_of m.table m.store m.places.stored) c.args.key.now) (spot_event m.limits m.table m.store m.places.stored m.places.live (carriers_of m.places) m.places.naming c.self.invariant c.args.key.now at.row at.key at.slot c.locate-at.ensures.row c.locate-at.ensures.number c.locate-at.ensures.key c.locate-at.ensures.slot) was.0 (spot_get m.limits m.table m.store m.places.stored m.places.live (carriers_of m.places) m.places.naming c.self.invariant c.args.key.now at.row at.key at.slot c.locate-at.ensures.row c.locate-at.ensures.number c.locate-at.ensures.key c.locate-at.ensures.slot) was.1.0) ∙ was.1.1 in
-    let gone = subst (λ t. IsLeft m.table.rows c.leave.new.table.rows (out at.key m.places.stored.entries) t at.row) c.tx.ensures (subst (λ (es : List Place). IsLeft m.table.rows c.leave.new.table.rows es c.tx.result.now at.row) (λ i. (c.remove.ensures.stored i).entries) c.leave.ensures.left) in
+    let gone = subst (λ t. IsLeft m.table.rows c.leave.new.table.rows (out at.key m.places.stored.entries) t at.row) c.tx.ensures (subst (λ (es : List EventPlace). IsLeft m.table.rows c.leave.new.table.rows es c.tx.result.now at.row) (λ i. (c.remove.ensures.stored i).entries) c.leave.ensures.left) in
     let k = c.self.invariant in
     (λ i. finite.from_sorted {R = key_cmp} (flat c.leave.new.table.rows ((c.remove.ensures.stored i).entries) (c.take_out.ensures.slots i)))
     ∙ map_out (flat m.table.rows m.places.stored.entries m.store.slots) (flat c.leave.new.table.rows (out at.key m.places.stored.entries) (set m.store.slots at.slot None)) c.args.key.now (all_rising m.limits m.table m.store m.places.stored m.places.live (carriers_of m.places) m.places.naming c.self.invariant) (out_all m.limits m.table.rows c.leave.new.table.rows m.places.stored.entries m.places.live.entries (λ d. (carriers_of m.places d).entries) m.places.naming.entries m.store.slots c.args.key.now at.row at.key at.slot m.table.capacity m.store.readings c.take_out.new.self.readings m.store.capacity (spot_event m.limits m.table m.store m.places.stored m.places.live (carriers_of m.places) m.places.naming c.self.invariant c.args.key.now at.row at.key at.slot c.locate-at.ensures.row c.locate-at.ensures.number c.locate-at.ensures.key c.locate-at.ensures.slot) k.keyed k.indexed k.figured k.counted gone c.locate-at.ensures.number c.locate-at.ensures.key c.rows_rise.ensures.rising c.rows_rise.ensures.apart (spot_here m.limits m.table m.store m.places.stored m.places.live (carriers_of m.places) m.places.naming c.self.invariant c.args.key.now at.row at.key at.slot c.locate-at.ensures.row c.locate-at.ensures.number c.locate-at.ensures.key c.locate-at.ensures.slot) (spot_within m.limits m.table m.store m.places.stored m.places.live (carriers_of m.places) m.places.naming c.self.invariant c.args.key.now at.row at.key at.slot c.locate-at.ensures.row c.locate-at.ensures.number c.locate-at.ensures.key c.locate-at.ensures.slot) c.locate-at.ensures.slot void)

@@ -1,14 +1,14 @@
 use Rattle.std.proofs.Common.{◌≡◌, ℕ, suc, ◌+◌, ◌<◌, List, ◌∷◌, Some, length, map, slice_get, drop, sym, ap, ◌∙◌, arith}
 use Rattle.std.proofs.lemmas.List.{length-map}
 use Rattle.std.proofs.lemmas.Option.{slice_get_within}
-use Rattle.event_chain.specs.Table.{Row}
+use Rattle.event_chain.specs.Table.{TxRow}
 use Rattle.event_chain.proofs.Drops.{drop_some, drop_none}
 use Rattle.event_chain.proofs.tx_ids.TxIdsIterator.next.Goals.{After-copied}
 use Rattle.event_chain.proofs.tx_ids.TxIdsIterator.next.Goals as goal
 
 -- The ids of the table's rows.
-abbrev ids : List Row → List (List ℕ)
-ids rows = map (λ (r : Row). r.0) rows
+abbrev ids : List TxRow → List (List ℕ)
+ids rows = map (λ (r : TxRow). r.0) rows
 
 -- The id that was read stands at the place.
 read_id : (c : After-copied) → slice_get (ids c.self.inside.table.now.rows) c.self.inside.next ≡ Some c.copied.result
@@ -23,7 +23,7 @@ first_is c =
 pub invariant_of-self : goal.invariant_of-self
 invariant_of-self c =
     let rows = c.self.inside.table.now.rows in
-    omega (arith, slice_get_within (ids rows) c.self.inside.next c.copied.result (read_id c), length-map rows (λ (r : Row). r.0))
+    omega (arith, slice_get_within (ids rows) c.self.inside.next c.copied.result (read_id c), length-map rows (λ (r : TxRow). r.0))
 
 pub returns-in-Some-clause-steps : goal.returns-in-Some-clause-steps
 returns-in-Some-clause-steps c = first_is c

@@ -2,7 +2,7 @@ use Rattle.std.proofs.Common.{◌≡◌, ◌+◌, List, length, ap, sym, ◌∙�
 use Rattle.std.proofs.lemmas.List.{length_push}
 use Rattle.std.proofs.lemmas.Option.{get_or_from_slice_get}
 use Rattle.std.proofs.Math.Seq.{map-set_same}
-use Rattle.site_book.specs.declared.row.Row.{Row}
+use Rattle.site_book.specs.declared.row.BookRow.{BookRow}
 use Rattle.ledger_model.specs.Posts.{Post, totals_after}
 use Rattle.site_book.specs.Kept.{AreRows}
 use Rattle.site_book.specs.Book.{Admits}
@@ -68,6 +68,6 @@ returns-clause-posted g c =
     let rows = c.self.inside.rows.items in
     let r = c.index_mut-kept.result.now in
     let a = admitted rows c.args.row c.args.figures _ (subst (λ b. Admits b.limits c.args.row c.args.figures) (sym c.self.view_is) c.requires.admitted) c.index_mut-kept.ensures.value in
-    let limits = map-set_same (λ (q : Row). q.limits) rows c.args.row _ r (ap (λ (q : Row). q.limits) (sym (get_or_from_slice_get rows c.args.row r r a.0))) ∙ ap (λ b. b.limits) is in
+    let limits = map-set_same (λ (q : BookRow). q.limits) rows c.args.row _ r (ap (λ (q : BookRow). q.limits) (sym (get_or_from_slice_get rows c.args.row r r a.0))) ∙ ap (λ b. b.limits) is in
     let posts = ap (λ m. m.0.log) (c.share.ensures.same ∙ c.announce.ensures.posted) ∙ ap (λ b. b.posts ++ (c.args.row, c.args.figures) ∷ []) is in
     λ i. record { site = (is i).site; limits = limits i; posts = posts i }

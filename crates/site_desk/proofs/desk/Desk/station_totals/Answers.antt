@@ -1,6 +1,6 @@
 use Rattle.std.proofs.Common.{ap, ◌∙◌, bytes_eq, get_or, subst}
 use Rattle.std.specs.List.{list_any}
-use Rattle.site_desk.specs.declared.roster.Place.{Place}
+use Rattle.site_desk.specs.declared.roster.StationPlace.{StationPlace}
 use Rattle.site_desk.specs.Roster.{IsNamed}
 use Rattle.site_desk.proofs.Ends.{known_not}
 use Rattle.site_desk.proofs.Operators.{totals_named}
@@ -8,11 +8,11 @@ use Rattle.site_desk.proofs.desk.Desk.station_totals.Goals as goal
 
 pub returns-clause-unknown : goal.returns-clause-unknown
 returns-clause-unknown g c =
-    known_not _ _ _ (λ e. cc) (c.in-Some.ensures.known ∙ ap (list_any (λ (p : Place). bytes_eq c.args.name.now p.name)) (c.deref.ensures.value ∙ ap (λ r. r.stations) c.self.view_is))
+    known_not _ _ _ (λ e. cc) (c.in-Some.ensures.known ∙ ap (list_any (λ (p : StationPlace). bytes_eq c.args.name.now p.name)) (c.deref.ensures.value ∙ ap (λ r. r.stations) c.self.view_is))
 
 pub returns-then-not-stands_at-clause-unknown : goal.returns-then-not-stands_at-clause-unknown
 returns-then-not-stands_at-clause-unknown g c =
-    known_not _ _ _ (λ e. cc) (c.in-Some.ensures.known ∙ ap (list_any (λ (p : Place). bytes_eq c.args.name.now p.name)) (c.deref.ensures.value ∙ ap (λ r. r.stations) c.self.view_is))
+    known_not _ _ _ (λ e. cc) (c.in-Some.ensures.known ∙ ap (list_any (λ (p : StationPlace). bytes_eq c.args.name.now p.name)) (c.deref.ensures.value ∙ ap (λ r. r.stations) c.self.view_is))
 
 pub returns-clause-totals : goal.returns-clause-totals
 returns-clause-totals g c =

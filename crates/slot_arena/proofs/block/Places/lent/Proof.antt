@@ -40,7 +40,7 @@ use Rattle.slot_arena.specs.Place.{Holds}
 use Rattle.slot_arena.specs.Owned.{place_at, places_at, owned_places}
 use Rattle.slot_arena.specs.Lent.{with_row}
 use Rattle.slot_arena.specs.contracts.block.Places.lent as f
-use Rattle.slot_arena.proofs.Rooms.{Row, First, Mark, Place, step_of, word_told, holding_within, others, taken_out, put_back}
+use Rattle.slot_arena.proofs.Rooms.{Row, First, Mark, PlaceValue, step_of, word_told, holding_within, others, taken_out, put_back}
 use Rattle.slot_arena.proofs.block.Places.lent.Statement.{statement}
 use Rattle.slot_arena.proofs.block.Places.lent.Code as code
 
@@ -93,7 +93,7 @@ lent_spec 𝓤 𝓛 𝓜 𝓡 wired T laws =
     first ! $ blocks ! $ sets ! (bin ! (get ! refl) (size_lit ! (record { fits = size_fits })) (record { fits = far_fits })) refl (tt, record { fits = far_fits }) $
     sets ! (bin ! (get_in ! (fld ! refl (stop !)) (sub ! 0 refl (whole !))) (get ! refl) tt) refl (tt, tt) $
     use1 𝓛 (‵ (place_at (R E) b place (get_or p.row index None)) ⊛ ‵ (others E b o p.row index)) (taken_out E 𝓛 b p.row index o within) $ split ! $
-    rewrite ! 0 (λ (held : Place E). ‵ (place_at (R E) b place held)) asked.1.1 refl $
+    rewrite ! 0 (λ (held : PlaceValue E). ‵ (place_at (R E) b place held)) asked.1.1 refl $
     sets_last ! (addr ! (through ! refl (stop !))) refl (tt, tt) $ exec ! C Λ (env fn.locals l) (after 1 fn.body) (at_ret (env fn.locals l) Post) $ sets ! (of_opd ! (get ! refl)) refl (tt, tt) $
     -- [the value; the other places; the mark; its cell; the open borrow, in three entries; the other tokens]
     let new = changed E p index rb ro vs b o in let rest = kept E p index rb ro vs b o in let way = way_back E p index rb ro vs b o 𝓛 at_block within row_fits in

@@ -36,7 +36,7 @@ use Rattle.std_alloc.proofs.VecSteps.Shapes.{after}
 use Rattle.slot_arena.specs.Place.{Holds}
 use Rattle.slot_arena.specs.Owned.{place_at, places_at, owned_places}
 use Rattle.slot_arena.specs.contracts.block.Places.pull as f
-use Rattle.slot_arena.proofs.Rooms.{Row, First, Place, step_of, word_told, holding_within, others, taken_out, put_back}
+use Rattle.slot_arena.proofs.Rooms.{Row, First, PlaceValue, step_of, word_told, holding_within, others, taken_out, put_back}
 use Rattle.slot_arena.proofs.block.Places.pull.Statement.{statement}
 use Rattle.slot_arena.proofs.block.Places.pull.Code as code
 
@@ -70,7 +70,7 @@ pull_spec 𝓤 𝓛 𝓜 𝓡 wired T laws =
     first ! $ blocks ! $ sets ! (bin ! (get ! refl) (size_lit ! (record { fits = size_fits })) (record { fits = far_fits })) refl (tt, record { fits = far_fits }) $
     sets ! (bin ! (get_in ! (fld ! refl (stop !)) (sub ! 0 refl (whole !))) (get ! refl) tt) refl (tt, tt) $
     use1 𝓛 (‵ (place_at (R E) b place (get_or p.row index None)) ⊛ ‵ (others E b o p.row index)) (taken_out E 𝓛 b p.row index o within) $ split ! $
-    rewrite ! 0 (λ (held : Place E). ‵ (place_at (R E) b place held)) asked.1.1 refl $
+    rewrite ! 0 (λ (held : PlaceValue E). ‵ (place_at (R E) b place held)) asked.1.1 refl $
     use1 𝓛 (some (λ (v : Val). given (Good (elτ E) v) (‵ (fat full_share (elτ E) b place v) ⊛ ‵ (T.own_val x (v ∷ []))))) (rows.el_out (record { row = T; laws = laws }) 𝓛 full_share x b place) $
     pick ! (λ v. learn ! (λ good. split ! $
     -- [the value's cell; what it owns; the other places; the mark; its cell; the open borrow, in three entries]

@@ -35,7 +35,7 @@ use Rattle.std_alloc.proofs.RcSteps.{word, word-Good}
 use Rattle.std_alloc.proofs.VecSteps.Shapes.{after}
 use Rattle.slot_arena.specs.Owned.{place_at, places_at, owned_places}
 use Rattle.slot_arena.specs.contracts.block.Places.put as f
-use Rattle.slot_arena.proofs.Rooms.{Row, First, Place, step_of, word_told, value_told, others, taken_out, put_back}
+use Rattle.slot_arena.proofs.Rooms.{Row, First, PlaceValue, step_of, word_told, value_told, others, taken_out, put_back}
 use Rattle.slot_arena.proofs.block.Places.put.Statement.{statement}
 use Rattle.slot_arena.proofs.block.Places.put.Code as code
 
@@ -79,7 +79,7 @@ put_spec 𝓤 𝓛 𝓜 𝓡 wired T laws =
     first ! $ blocks ! $ sets ! (bin ! (get ! refl) (size_lit ! (record { fits = size_fits })) (record { fits = far_fits })) refl (tt, record { fits = far_fits }) $
     sets ! (bin ! (get_in ! (fld ! refl (stop !)) (sub ! 0 refl (whole !))) (get ! refl) tt) refl (tt, tt) $
     use1 𝓛 (‵ (place_at (R E) b place (get_or p.row index None)) ⊛ ‵ (others E b o p.row index)) (taken_out E 𝓛 b p.row index o within) $ split ! $
-    rewrite ! 0 (λ (held : Place E). ‵ (place_at (R E) b place held)) asked.2 refl $ as_written ! (elτ E) b place $
+    rewrite ! 0 (λ (held : PlaceValue E). ‵ (place_at (R E) b place held)) asked.2 refl $ as_written ! (elτ E) b place $
     -- [the room; the other places; the mark; its cell; the open borrow, in three entries; what the value owns]
     sets ! (of_opd ! (get ! refl)) refl good $ assigns_last ! (of_opd ! (get ! refl)) (through ! refl (stop !)) (init ! 0 refl good) $
     exec ! C Λ (env fn.locals l) (after 1 fn.body) (at_ret (env fn.locals l) Post) $ sets ! (of_opd ! (unit_lit !)) refl (tt, tt) $

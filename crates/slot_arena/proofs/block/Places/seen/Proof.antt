@@ -35,7 +35,7 @@ use Rattle.std_alloc.proofs.VecSteps.Shapes.{after}
 use Rattle.slot_arena.specs.Place.{Holds}
 use Rattle.slot_arena.specs.Owned.{place_lent, lent_places}
 use Rattle.slot_arena.specs.contracts.block.Places.seen as f
-use Rattle.slot_arena.proofs.Rooms.{Row, First, Place, step_of, word_told, holding_within, place_shown}
+use Rattle.slot_arena.proofs.Rooms.{Row, First, PlaceValue, step_of, word_told, holding_within, place_shown}
 use Rattle.slot_arena.proofs.block.Places.seen.Statement.{statement}
 use Rattle.slot_arena.proofs.block.Places.seen.Code as code
 
@@ -67,7 +67,7 @@ seen_spec 𝓤 𝓛 𝓜 𝓡 wired T laws =
     first ! $ blocks ! $ sets ! (bin ! (get ! refl) (size_lit ! (record { fits = size_fits })) (record { fits = far_fits })) refl (tt, record { fits = far_fits }) $
     sets ! (bin ! (get_in ! (fld ! refl (stop !)) (sub ! 0 refl (whole !))) (get ! refl) tt) refl (tt, tt) $
     use1 𝓛 (‵ (place_lent (R E) b place (get_or p.row index None) κ)) (place_shown E 𝓛 b κ p.row index o within) $
-    rewrite ! 0 (λ (held : Place E). ‵ (place_lent (R E) b place held κ)) asked.1.1 refl $ hide ! $
+    rewrite ! 0 (λ (held : PlaceValue E). ‵ (place_lent (R E) b place held κ)) asked.1.1 refl $ hide ! $
     sets_last ! (addr ! (through ! refl (stop !))) refl (tt, tt) $ exec ! C Λ (env fn.locals l) (after 1 fn.body) (at_ret (env fn.locals l) Post) $ sets ! (of_opd ! (get ! refl)) refl (tt, tt) $
     feq_i ! (List Val) (vptr b place ∷ []) (vptr b place ∷ []) refl $ fjoin ! $ returns ! (look_at ! 0 refl) $ free_all ! refl $
     -- [the value's own; the borrow's token; the other tokens]
