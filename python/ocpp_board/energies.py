@@ -1,0 +1,63 @@
+"""Energies in whole milliwatt-hours: what registers rose and fell by, and how that is written in kWh."""
+
+from collections.abc import Iterable, Mapping
+from typing import Any, NamedTuple
+
+# The names of a flow's numbers, in the order in which a board has them.
+FLOW = ("up", "down", "export_up", "export_down")
+MWH_OF_A_KWH = 1_000_000
+
+
+class Flow(NamedTuple):
+    """What the import register rose and fell by, and what the export register did, in mWh."""
+
+    up: int = 0
+    down: int = 0
+    export_up: int = 0
+    export_down: int = 0
+
+    @property
+    def above(self) -> int:
+        """How far bars go up: what was imported, and what the export register fell by."""
+        return self.up + self.export_down
+
+    @property
+    def below(self) -> int:
+        """How far bars go down: what the import register fell by, and what was fed back."""
+        return self.down + self.export_up
+
+    @property
+    def net(self) -> int:
+        """What was imported less what was exported."""
+        return self.above - self.below
+
+    def plus(self, other: "Flow") -> "Flow":
+        """Both together."""
+        return Flow(*(a + b for a, b in zip(self, other)))
+
+    def minus(self, other: "Flow") -> "Flow":
+        """By how much this is more than another one."""
+        return Flow(*(a - b for a, b in zip(self, other)))
+
+
+def flow_of(numbers: Mapping[str, Any]) -> Flow:
+    """The flow among numbers by name. A program that knows no exported energy has none of it."""
+    return Flow(*(int(numbers.get(name, 0)) for name in FLOW))
+
+
+def sum_of(flows: Iterable[Flow]) -> Flow:
+    """All these together."""
+    return Flow(*map(sum, zip(*flows)))
+
+
+def kwh_of(mwh: int) -> str:
+    """An energy of so many mWh in kWh, exactly, for a machine. It is not negative."""
+    whole, part = divmod(mwh, MWH_OF_A_KWH)
+    return f"{whole}.{part:06}".rstrip("0").rstrip(".")
+
+
+def kwh(mwh: int) -> str:
+    """An energy of so many mWh in kWh, exactly, for a reader."""
+    whole, part = divmod(abs(mwh), MWH_OF_A_KWH)
+    sign = "\N{MINUS SIGN}" if mwh < 0 else ""
+    return f"{sign}{whole:,}" + f".{part:06}".rstrip("0").rstrip(".")

@@ -1,0 +1,318 @@
+"""Runs a script with `ocpp_board replay` and says what is wrong with it.
+
+    ocpp-board explain SCRIPT
+
+tells each fault and each refusal with the number of its line, the line, the cause in words and the remedy; of
+a message that was refused also which member broke which check. What the program answers decides: the causes
+are looked for in the line afterwards.
+
+    line 7: msg CS_01 [2,"1","Heartbeat",{}]
+      fault UnknownStation: no station CS_01 is declared
+      remedy: the nearest declared name is CS-01
+
+Between the script's lines that may write nothing it puts lines of its own, which are faults and change nothing,
+to tell the answers apart. Of a kind of mistake the first are told, and the others counted.
+"""
+
+import argparse
+import difflib
+import re
+import subprocess
+import threading
+from collections import deque
+from collections.abc import Iterable, Iterator, Sequence
+from typing import IO, NamedTuple
+
+from ocpp_board.escapes import shown
+from ocpp_board.limits import (
+    DEFAULT_READINGS,
+    GREATEST_LIMITS,
+    LONGEST_LINE,
+    MOST_SITES,
+    MOST_STATIONS,
+)
+from ocpp_board.line_faults import Said, bad_line, words_of
+from ocpp_board.message_faults import REMEDIES, message_fault
+from ocpp_board.progress import Progress
+from ocpp_board.sources import is_gzip, opened
+from ocpp_board.statuses import Status, ended
+from ocpp_board.words import add_program, parsed, parser_of
+
+ENDING = """\
+Exit status: 0 when there is nothing to tell; 1 when something was told; 2 when the words are wrong, the program is not
+there, or a file can't be read or written."""
+# Mistakes of a kind that are told one by one, and characters of a line that are shown.
+MOST_TOLD = 10
+SHOWN = 200
+# Lines that may write nothing.
+SILENT = (b"limits", b"station", b"period", b"now")
+# A line that is always BadLine, and a declaration that is always refused: by their two faults in a row the text of
+# the line before them ends, since no line writes two faults.
+MARK = b"-\nlimits 0 0 0 0\n"
+MARKED = ("fault PlanLimit", "fault DeclaredLate")
+
+
+class Plan:
+    """What the script has declared so far, as far as the program took it."""
+
+    def __init__(self) -> None:
+        self.sites: dict[str, int] = {}
+        self.stations: dict[str, tuple[str, int]] = {}
+        self.readings, self.limit = 0, DEFAULT_READINGS
+        self.opened: tuple[int, str] | None = None
+
+    def take(self, number: int, words: list[str]) -> None:
+        """A line that was no fault."""
+        if words[0] == "limits":
+            self.limit = int(words[3])
+        elif words[0] == "station":
+            self.sites.setdefault(words[1], number)
+            self.stations[words[2]] = words[1], number
+            self.readings += self.limit
+        elif words[0] not in ("now", "period") and self.opened is None:
+            self.opened = number, " ".join(words[:2])
+
+    def over(self, words: list[str]) -> Said:
+        """Why a declaration is past the plan's limits."""
+        if words[0] == "limits":
+            limits = zip(GREATEST_LIMITS.items(), words[1:])
+            told = [
+                f"the number of {what} is {text}, and not 1 to {most}"
+                for (what, most), text in limits
+                if not 1 <= int(text) <= most
+            ]
+            return "; ".join(told), "numbers in range"
+        if words[0] == "period":
+            return f"{words[2]} seconds are no settlement period", "300, 900, 1800 or 3600"
+        if len(self.stations) >= MOST_STATIONS:
+            return (
+                "it would be the 65th station",
+                "at most 64 stations; run the others in a script of their own",
+            )
+        if words[1] not in self.sites and len(self.sites) >= MOST_SITES:
+            return (
+                "its site would be the 17th",
+                "at most 16 sites; run the others in a script of their own",
+            )
+        return (
+            f"with it the stations' limits of readings would add up to {self.readings + self.limit:,}, more than "
+            "1,048,576",
+            "a `limits` line with fewer readings before the stations",
+        )
+
+    def near(self, what: str, name: str, names: Iterable[str]) -> str:
+        """The remedy for a name that is not declared."""
+        known = {each.lower(): each for each in names}
+        if not known:
+            return f"declare it before line {self.opened_at()}; the script declares no {what}"
+        near = difflib.get_close_matches(name.lower(), known, 1, 0.5)
+        if near:
+            return f"the nearest declared name is {known[near[0]]}"
+        return f"declare it before line {self.opened_at()}; declared are {', '.join(list(known.values())[:5])}"
+
+    def opened_at(self) -> int:
+        """The line that needed the ledgers first."""
+        return self.opened[0] if self.opened else 1
+
+
+class Line(NamedTuple):
+    """A line that was sent, and how its text ends."""
+
+    number: int
+    line: bytes
+    is_marked: bool
+
+
+class Run:
+    """A replay that runs over a script, whose answers are taken apart."""
+
+    def __init__(self, program: str, script: IO[bytes]) -> None:
+        self.script, self.plan = script, Plan()
+        pipe = subprocess.PIPE
+        self.process = subprocess.Popen([program, "replay"], stdin=pipe, stdout=pipe, stderr=pipe)
+        assert self.process.stdin and self.process.stdout and self.process.stderr
+        self.input, self.output = self.process.stdin, self.process.stdout
+        self.errors = self.process.stderr
+        self.sent: deque[Line] = deque()
+        self.progress = Progress(script)
+        self.told: dict[str, int] = {}
+        self.lines = 0
+        self.fault: OSError | None = None
+        self.feeder = threading.Thread(target=self.feed, daemon=True)
+        self.feeder.start()
+
+    def feed(self) -> None:
+        """Sends the script, with marks after lines that may write nothing."""
+        try:
+            with self.input as out:
+                for number, line in enumerate(iter(self.script.readline, b""), 1):
+                    self.lines = number
+                    out.write(self.sendable(number, line))
+        except BrokenPipeError:
+            pass
+        except OSError as fault:
+            self.fault = fault
+            self.process.kill()
+
+    def sendable(self, number: int, line: bytes) -> bytes:
+        """The line as it is sent: with marks where it may write nothing. One that is answered is remembered."""
+        bare = line[:-1].removesuffix(b"\r") if line.endswith(b"\n") else line
+        is_long = len(line.removesuffix(b"\n")) > LONGEST_LINE
+        if not is_long and (not bare or bare.startswith(b"#")):
+            return line
+        is_marked = bare.split(b" ", 1)[0] in SILENT
+        self.sent.append(Line(number, bare[: LONGEST_LINE + 1], is_marked))
+        if not is_marked:
+            return line
+        # A last line without a line feed is a line of its own; before a mark it gets one.
+        end = b"" if line.endswith(b"\n") else b"\r\n" if line.endswith(b"\r") else b"\n"
+        return line + end + MARK
+
+    def answer(self) -> str:
+        """The next line that the replay writes; empty at its end."""
+        return self.output.readline().decode("utf-8", "replace").rstrip("\n")
+
+    def texts(self) -> Iterator[tuple[Line, str]]:
+        """Each line that was answered, and the first line of its text, which is empty where it wrote nothing."""
+        while text := self.answer():
+            line = self.sent.popleft()
+            self.progress.tell(line.number, len(line.line) + 1)
+            if line.is_marked:
+                texts = self.up_to_mark(text)
+                if not texts[-1]:
+                    return
+                yield line, texts[0] if len(texts) > 2 else ""
+            else:
+                is_board = text.startswith("board ")
+                while is_board and text != "end" and text:
+                    text = self.answer()
+                yield line, "" if is_board else text
+
+    def up_to_mark(self, text: str) -> list[str]:
+        """The answers from this one on up to a mark's; the last is empty where the replay ended before it."""
+        texts = [text]
+        while not (len(texts) > 1 and texts[-1] in MARKED and texts[-2] == "fault BadLine"):
+            texts.append(self.answer())
+            if not texts[-1]:
+                break
+        return texts
+
+    def explain(self, line: Line, text: str) -> None:
+        """Tells what is wrong with a line, where something is."""
+        words = words_of(line.line.decode("utf-8", "replace"))
+        if text.startswith("fault "):
+            name = text.removeprefix("fault ")
+            if name in ("UnknownStation", "UnknownSite"):
+                self.plan.take(line.number, words)
+            cause, remedy = self.line_fault(name, line, words)
+        elif text.startswith("refused "):
+            self.plan.take(line.number, words)
+            cause, remedy = REMEDIES.get(
+                text.removeprefix("refused "), ("the command was refused", "see docs/rules.md")
+            )
+        elif text.startswith("[4,"):
+            self.plan.take(line.number, words)
+            told = re.search(r',"([A-Za-z]+)",\{\}\]$', text)
+            cause, remedy = message_fault(words[2], told[1] if told else "")
+        else:
+            self.plan.take(line.number, words)
+            return
+        self.tell(line, text, cause, remedy)
+
+    def line_fault(self, name: str, line: Line, words: list[str]) -> Said:
+        """Why a line is a fault of this name."""
+        plan = self.plan
+        if name == "LineTooLong":
+            return f"the line has more than {LONGEST_LINE:,} bytes", "a shorter line"
+        if name == "BadLine":
+            return bad_line(line.line, line.number)
+        if name == "DeclaredLate" and plan.opened:
+            return (
+                f"line {plan.opened[0]} ({shown(plan.opened[1])}) needed the ledgers, and what they keep is fixed "
+                "from then on",
+                f"put it before line {plan.opened[0]}",
+            )
+        if name == "PlanLimit":
+            return plan.over(words)
+        if name == "StationTwice":
+            site, at = plan.stations[words[2]]
+            return (
+                f"station {words[2]} is declared on site {site} by line {at}",
+                "leave one of them out",
+            )
+        if name == "UnknownStation":
+            return f"no station {words[1]} is declared", plan.near(
+                "station", words[1], plan.stations
+            )
+        if name == "UnknownSite" and words[0] == "period":
+            return (
+                f"no station of site {words[1]} is declared yet",
+                "put it behind a `station` line of the site",
+            )
+        if name == "UnknownSite":
+            return f"no site {words[1]} is declared", plan.near("site", words[1], plan.sites)
+        return "it was refused", "see docs/formats.md"
+
+    def tell(self, line: Line, text: str, cause: str, remedy: str) -> None:
+        """Tells a mistake; of a kind the first ones."""
+        kind = (
+            re.sub(r'^\[4,"(?:[^"\\]|\\.)*",', "", text)
+            .removesuffix(",{}]")
+            .replace('"', "")
+            .replace(",", " ")
+        )
+        self.told[kind] = self.told.get(kind, 0) + 1
+        if self.told[kind] <= MOST_TOLD:
+            self.progress.end()
+            print(
+                f"line {line.number}: {shown(line.line.decode('utf-8', 'replace'), SHOWN)[1:-1]}\n"
+                f"  {kind}: {cause}\n  remedy: {remedy}"
+            )
+
+    def run(self) -> int:
+        """Tells all that is wrong, and gives the exit status. Raises OSError."""
+        for line, text in self.texts():
+            self.explain(line, text)
+        self.progress.end()
+        self.feeder.join()
+        if self.fault:
+            raise self.fault
+        told = self.errors.read().decode("utf-8", "replace").strip()
+        status = self.process.wait()
+        for kind, count in self.told.items():
+            if count > MOST_TOLD:
+                print(f"and {count - MOST_TOLD:,} more lines: {kind}")
+        if status:
+            print(f"the replay ended with status {status}: {told}")
+        print(f"lines: {self.lines:,}, told: {sum(self.told.values()):,}")
+        return Status.TOLD if self.told or status else Status.DONE
+
+
+def arguments(argv: Sequence[str], prog: str) -> argparse.Namespace:
+    """The words. Wrong ones end the program with status 2."""
+    parser = parser_of(prog, __doc__, ENDING)
+    parser.add_argument(
+        "script",
+        nargs="?",
+        default="-",
+        metavar="SCRIPT",
+        help="the script, standard input if absent or -",
+    )
+    add_program(parser)
+    return parsed(parser, argv)
+
+
+def explain(words: argparse.Namespace) -> int:
+    """Tells what is wrong with the script that the words name, and gives the exit status."""
+    with opened(words.script) as script:
+        if is_gzip(script):
+            print("line 1: the script is compressed by gzip")
+            print("  remedy: gunzip -c SCRIPT | ocpp-board explain")
+            return Status.TOLD
+        return Run(words.program, script).run()
+
+
+def main(argv: Sequence[str], prog: str) -> int:
+    """Runs the tool with these words; gives its exit status."""
+    words = arguments(argv, prog)
+    return ended(lambda: explain(words))

@@ -1,0 +1,423 @@
+"""Closes a site's settlement day: its energy becomes rows, and transactions that ended before it leave the log.
+
+    PGPASSWORD=.. ocpp-board close-day --db postgresql://OWNER@HOST:PORT/DATABASE --site north --archive FOLDER
+
+Days are those of the site's zone (`zone` of own_site). All periods up to the end of the day become rows of
+closed_period. Where a later closing finds that a period which was settled before is another one, by a late event or
+an operator's void, it adds a row with the difference; settled_period has the sums. So a day may be closed again at
+any time, and a day that was left out is settled with the next one.
+
+Transactions that are complete, and of which every moment lies before the day, leave the log for a file in FOLDER: a
+script, which any `replay` reads, with what was refused as comments. A line that comes later for one of them is told
+here, and replayed behind its archived ones; the file of this closing has it whole again. Repeats are removed, as
+`ocpp-board compact` does. Before anything is taken from the log, the file and the lines that are left are replayed,
+and their figures together have to be those of the log.
+
+It may end at any time: call it again. Lines of a transaction with a time that Python can't read stay in the log.
+"""
+
+import argparse
+import asyncio
+import json
+import os
+from collections.abc import Sequence
+from datetime import date, datetime, time, timedelta
+from pathlib import Path
+from typing import Any, NamedTuple
+from zoneinfo import ZoneInfo
+
+from ocpp_board.energies import Flow, flow_of
+from ocpp_board.fleet import parts
+from ocpp_board.fleet.compact import READ, answered, boards, is_repeat
+from ocpp_board.fleet.database import Fault, connect
+from ocpp_board.fleet.figures import Figures, Flows, added, figures, periods
+from ocpp_board.fleet.plans import Plan, knows_period
+from ocpp_board.limits import GREATEST_LIMITS
+from ocpp_board.words import add_program, parser_of
+
+NAME = "ocpp-board close-day"
+# A station and the id of a transaction, in small letters as boards have it.
+Transaction = tuple[str, str]
+REMOVE = """
+delete from own_log l using unnest($2::text[], $3::bigint[]) as g (xid, id)
+where l.shard = $1 and l.xid = g.xid::xid8 and l.id = g.id
+"""
+# Its worker begins a replay anew from what is left; the plan that lines were replayed under is still that.
+REPLAN = "update own_shard set plan = plan + 1 where shard = $1 and plan = $2 and moving_to is null"
+COMMANDS = ("msg ", "void ", "restore ", "erase ")
+BEFORE = "select day, period from own_closing where shard = $1 and site = $2 order by closing"
+FILES = """
+select station, transaction, archive from own_archived_transaction join own_closing using (shard, site, closing)
+where shard = $1 and site = $2
+"""
+KEPT = """
+select station, starts, sum(up)::bigint as up, sum(down)::bigint as down, sum(export_up)::bigint as export_up,
+    sum(export_down)::bigint as export_down from own_archived_period
+where shard = $1 and site = $2 group by station, starts
+"""
+SETTLED = """
+select station, starts, sum(up)::bigint as up, sum(down)::bigint as down, sum(export_up)::bigint as export_up,
+    sum(export_down)::bigint as export_down from own_closed_period
+where shard = $1 and site = $2 group by station, starts
+"""
+CLOSING = """
+insert into own_closing (shard, site, closing, day, period, xid, id, archive)
+values ($1, $2, $3, $4, $5, $6::text::xid8, $7, $8)
+"""
+CLOSED = """
+insert into own_closed_period (shard, site, closing, station, starts, day, up, down, export_up, export_down)
+values ($1, $2, $3, $4, $5, $6, $7, $8, $9, $10)
+"""
+ARCHIVED = """
+insert into own_archived_period (shard, site, closing, station, starts, up, down, export_up, export_down)
+values ($1, $2, $3, $4, $5, $6, $7, $8, $9)
+"""
+TRANSACTION = """
+insert into own_archived_transaction (shard, site, closing, station, transaction, complete, missing, up, down,
+    export_up, export_down)
+values ($1, $2, $3, $4, $5, $6, $7, $8, $9, $10, $11)
+on conflict (shard, site, station, transaction) do update set closing = excluded.closing, complete = excluded.complete,
+    missing = excluded.missing, up = excluded.up, down = excluded.down, export_up = excluded.export_up,
+    export_down = excluded.export_down
+"""
+
+
+class Line(NamedTuple):
+    """A line of the log, and what the replay made of it."""
+
+    row: Any
+    text: str
+    transaction: Transaction | None
+    answer: bytes
+    is_change: bool
+
+
+def transaction_of(text: str) -> Transaction | None:
+    """Which transaction a line of the log speaks of."""
+    command, station, rest = (text.split(" ", 2) + [""])[:3]
+    if command != "msg":
+        return station, rest.split(" ")[0].lower()
+    try:
+        name = json.loads(rest)[3]["transactionInfo"]["transactionId"]
+    except (ValueError, LookupError, TypeError, RecursionError):
+        return None
+    return (station, name.lower()) if isinstance(name, str) else None
+
+
+def is_before(text: str, moment: datetime) -> bool:
+    """Whether all moments of a line lie before this one; False where one can't be read."""
+    if not text.startswith("msg "):
+        return True
+    payload = json.loads(text.split(" ", 2)[2])[3]
+    texts = [
+        payload["timestamp"],
+        *(value["timestamp"] for value in payload.get("meterValue") or []),
+    ]
+    try:
+        moments = [datetime.fromisoformat(one) for one in texts]
+    except ValueError:
+        return False
+    return all(one.tzinfo is not None and one < moment for one in moments)
+
+
+class Closing:
+    """The closing of one shard's stations of the site."""
+
+    def __init__(self, words: argparse.Namespace, session: Any, site: Any) -> None:
+        self.words, self.session, self.shard, self.site = (
+            words,
+            session,
+            site["shard"],
+            site["site"],
+        )
+        self.zone, self.period = ZoneInfo(site["zone"]), site["period"]
+        self.stations: list[dict[str, Any]] = []
+
+    async def fetch(self, query: str, *values: Any) -> Any:
+        """The rows of a query about the shard."""
+        return await self.session.fetch(query, self.shard, *values)
+
+    async def read(self) -> tuple[Any, list[Any]]:
+        """Up to where answers were told, and the lines of the site's stations up to there."""
+        if not await self.session.fetchval("select reserve_shard($1)", self.shard):
+            raise Fault(
+                f"shard {self.shard} is being moved, compacted or closed by another program"
+            )
+        mark = (await self.fetch("select plan, xid::text, id from own_shard where shard = $1"))[0]
+        query = "select * from own_station where shard = $1 and site = $2 order by place"
+        self.stations = [dict(row) for row in await self.fetch(query, self.site)]
+        names = {row["station"] for row in self.stations}
+        rows = [
+            row
+            for row in await self.fetch(READ, mark["xid"], mark["id"])
+            if row["line"].split(" ", 2)[1] in names
+        ]
+        return mark, rows
+
+    def plan(self, lines: list[str]) -> Plan:
+        """The plan of the site's stations, with limits that take these lines whatever they were."""
+        needs: dict[str, list[int]] = {row["station"]: [0, 0] for row in self.stations}
+        for line in lines:
+            need = needs[line.split(" ", 2)[1]]
+            need[0] += 1
+            need[1] += line.count('"value"')
+        rows = []
+        for row in self.stations:
+            events, readings = needs[row["station"]]
+            wide = {
+                "transactions": min(events, GREATEST_LIMITS["transactions"]),
+                "events": events,
+                "readings": readings,
+            }
+            rows.append(row | {name: max(row[name], number) for name, number in wide.items()})
+        return Plan(rows, {self.site: self.period}, self.words.with_period)
+
+    async def replayed(self, lines: list[str]) -> Figures:
+        """The figures of the site's stations after these lines."""
+        made = await boards(self.words.program, self.plan(lines), lines)
+        return figures(made[0].decode()) if made else {}
+
+    async def sorted_out(self, rows: list[Any], front: list[str]) -> list[Line]:
+        """What these lines do behind those in front, which all have to change something."""
+        lines = front + [row["line"] for row in rows]
+        plan = self.plan(lines if front else [])
+        answers = await answered(self.words.program, plan, lines)
+        if not all(is_change for _, is_change in answers[: len(front)]):
+            raise Fault(f"site {self.site}: what is in {self.words.archive} is not taken again")
+        return [
+            Line(row, row["line"], transaction_of(row["line"]), answer, is_change)
+            for row, (answer, is_change) in zip(rows, answers[len(front) :])
+        ]
+
+    def finished(self, changes: list[Line], whole: Figures, day: date) -> set[Transaction]:
+        """The transactions that are complete, and all moments of which lie before the day."""
+        begin = datetime.combine(day, time(), self.zone)
+        open_ones = {line.transaction for line in changes if not is_before(line.text, begin)}
+        complete = {
+            (station, name)
+            for (station, kind, name), numbers in whole.items()
+            if kind == "tx" and numbers["complete"]
+        }
+        return complete - open_ones
+
+    def archived_lines(self, files: dict[Transaction, str]) -> list[str]:
+        """What archives have of these transactions."""
+        lines = []
+        for name in sorted(set(files.values())):
+            for line in (self.words.archive / name).read_bytes().decode().split("\n"):
+                if (
+                    line.startswith(COMMANDS)
+                    and files.get(transaction_of(line) or ("", "")) == name
+                ):
+                    lines.append(line)
+        return lines
+
+    async def archive(self, name: str, lines: list[str], refused: list[Line]) -> Figures:
+        """Writes an archive, and gives its figures as they are read again from the disk."""
+        comments = [
+            f"# {line.row['at']:%Y-%m-%dT%H:%M:%SZ} {line.answer.decode()}\n#{line.text}"
+            for line in refused
+        ]
+        script = self.plan(lines).lines + "".join(line + "\n" for line in lines + comments).encode()
+        path, fresh = self.words.archive / name, self.words.archive / f"{name}.part"
+        with open(fresh, "wb") as file:
+            file.write(script)
+            file.flush()
+            os.fsync(file.fileno())
+        os.replace(fresh, path)
+        folder = os.open(self.words.archive, os.O_RDONLY)
+        try:
+            os.fsync(folder)
+        finally:
+            os.close(folder)
+        replay = await asyncio.create_subprocess_exec(
+            self.words.program,
+            "replay",
+            stdin=asyncio.subprocess.PIPE,
+            stdout=asyncio.subprocess.PIPE,
+        )
+        text, _ = await replay.communicate(path.read_bytes() + f"board {self.site}\n".encode())
+        return figures(text[text.rindex(b"\nboard ") if b"\nboard " in text else 0 :].decode())
+
+    async def run(self, day: date) -> str:
+        """Closes the day, and says in one line what that was."""
+        mark, rows = await self.read()
+        before = await self.fetch(BEFORE, self.site)
+        if before and before[-1]["period"] != self.period:
+            raise Fault(
+                f"site {self.site} was closed by periods of {before[-1]['period']} seconds, and its plan has "
+                f"{self.period}: give its stations to a site of another name"
+            )
+        day = max([day, *(row["day"] for row in before)])
+        files = {
+            (row["station"], row["transaction"]): row["archive"]
+            for row in await self.fetch(FILES, self.site)
+        }
+        # What came for transactions that are archived, and what the others' lines do without that.
+        late_rows = [row for row in rows if transaction_of(row["line"]) in files]
+        live = await self.sorted_out(
+            [row for row in rows if transaction_of(row["line"]) not in files], []
+        )
+        changes = [line for line in live if line.is_change]
+        whole = await self.replayed([line.text for line in changes])
+        gone = self.finished(changes, whole, day)
+        rest = await self.replayed([line.text for line in changes if line.transaction not in gone])
+        late_files = {
+            one: files[one] for row in late_rows if (one := transaction_of(row["line"])) in files
+        }
+        old = self.archived_lines(late_files)
+        late = await self.sorted_out(late_rows, old)
+        again = old + [line.text for line in late if line.is_change]
+        was, now = (await self.replayed(old), await self.replayed(again)) if late else ({}, {})
+        # The archive of this closing: what leaves the log, and what is archived with what came for it.
+        refused = [
+            line for line in live + late if not line.is_change and not is_repeat(line.answer, False)
+        ]
+        leaving = [line.text for line in changes if line.transaction in gone]
+        number = len(before) + 1
+        name = (
+            f"{self.site}.shard-{self.shard}.{number}.script"
+            if leaving or late or refused
+            else None
+        )
+        in_file = await self.archive(name, leaving + again, refused) if name else {}
+        try:
+            is_same = added([rest, in_file]) == added([whole, now])
+        except ValueError as fault:
+            raise Fault(f"site {self.site}: {fault}; nothing was taken from the log") from None
+        if not is_same:
+            raise Fault(
+                f"site {self.site}: the archive and what is left differ from the log; nothing was taken from it"
+            )
+        moved = differences(periods(in_file), periods(was))
+        settled = await self.unsettled(day, rest, moved)
+        removed = [
+            line.row for line in live if line.transaction in gone or not line.is_change
+        ] + late_rows
+        if not (settled or removed) and before and before[-1]["day"] == day:
+            return (
+                f"{self.site}, shard {self.shard}: {day} is closed already, and nothing came since"
+            )
+        async with self.session.transaction():
+            head = (self.shard, self.site, number)
+            await self.session.execute(
+                CLOSING, *head, day, self.period, mark["xid"], mark["id"], name
+            )
+            await self.session.executemany(CLOSED, [(*head, *row) for row in settled])
+            await self.session.executemany(
+                ARCHIVED, [(*head, *key, *flow) for key, flow in moved.items()]
+            )
+            await self.session.executemany(
+                TRANSACTION, [(*head, *row) for row in transactions(in_file)]
+            )
+            xids, ids = [row["xid"] for row in removed], [row["id"] for row in removed]
+            done = [
+                await self.session.execute(REMOVE, self.shard, xids, ids),
+                await self.session.execute(REPLAN, self.shard, mark["plan"]),
+            ]
+            if done != [f"DELETE {len(removed)}", "UPDATE 1"]:
+                raise Fault(
+                    f"shard {self.shard}: its plan or its log was changed meanwhile; nothing was taken from it"
+                )
+            await self.session.execute("select pg_notify('plan', $1)", str(self.shard))
+        self.tell_late(late)
+        corrections = (
+            sum(row[2] <= max(one["day"] for one in before) for row in settled) if before else 0
+        )
+        return (
+            f"{self.site}, shard {self.shard}: settled up to {day}, {len(settled)} rows, {corrections} of them "
+            f"corrections; {len(gone)} transactions archived, {len(late)} late lines, {len(refused)} refused ones, "
+            f"{sum(is_repeat(line.answer, line.is_change) for line in live)} repeats; {name or 'no archive needed'}"
+        )
+
+    async def unsettled(self, day: date, rest: Figures, moved: Flows) -> list[tuple[Any, ...]]:
+        """The rows by which what is settled comes to be what log and archives say, up to this day."""
+        actual = dict(periods(rest))
+        kept = await self.fetch(KEPT, self.site)
+        for key, flow in [((row["station"], row["starts"]), flow_of(row)) for row in kept] + [
+            *moved.items()
+        ]:
+            actual[key] = actual.get(key, Flow()).plus(flow)
+        settled = {
+            (row["station"], row["starts"]): flow_of(row)
+            for row in await self.fetch(SETTLED, self.site)
+        }
+        rows = list[tuple[Any, ...]]()
+        for (station, starts), flow in sorted(differences(actual, settled).items()):
+            if (local := starts.astimezone(self.zone).date()) <= day:
+                rows.append((station, starts, local, *flow))
+        return rows
+
+    def tell_late(self, late: list[Line]) -> None:
+        """Tells of each archived transaction which lines came late for it."""
+        for station, name in sorted({line.transaction for line in late if line.transaction}):
+            lines = [line for line in late if line.transaction == (station, name)]
+            taken = sum(line.is_change for line in lines)
+            print(
+                f"{self.site}: {len(lines)} late lines for {name} of {station}, which was archived; {taken} taken"
+            )
+
+
+def differences(new: Flows, old: Flows) -> Flows:
+    """By which periods differ; one that is only in the one is there even where it has no energy."""
+    found = {}
+    for key in new.keys() | old.keys():
+        flow, had = new.get(key, Flow()), old.get(key, Flow())
+        if flow != had or key not in old:
+            found[key] = flow.minus(had)
+    return found
+
+
+def transactions(part: Figures) -> list[tuple[Any, ...]]:
+    """The rows of archived transactions."""
+    return [
+        (station, name, bool(numbers["complete"]), numbers["missing"], *flow_of(numbers))
+        for (station, kind, name), numbers in part.items()
+        if kind == "tx"
+    ]
+
+
+async def run(words: argparse.Namespace) -> None:
+    """Closes the day in each shard that has stations of the site. Raises Fault where that can't be."""
+    words.with_period = knows_period(words.program)
+    if not words.archive.is_dir():
+        raise Fault(f"{words.archive}: no folder for archives")
+    session = await connect(words.db, application_name=NAME)
+    sites = await session.fetch(
+        "select shard, site, period, zone from own_site where site = $1 order by 1", words.site
+    )
+    if not sites:
+        raise Fault(f"no site {words.site} in this cell")
+    for site in sites:
+        today = datetime.now(ZoneInfo(site["zone"])).date()
+        if words.day and words.day >= today:
+            raise Fault(f"{words.day} is not over in {site['zone']}")
+        print(
+            await Closing(words, session, site).run(words.day or today - timedelta(days=1)),
+            flush=True,
+        )
+    await session.close()
+
+
+def day_of(text: str) -> date:
+    """A day of the command line."""
+    try:
+        return date.fromisoformat(text)
+    except ValueError:
+        raise argparse.ArgumentTypeError(f"not a day such as 2026-03-01: {text!r}") from None
+
+
+def main(argv: Sequence[str], prog: str) -> int:
+    """Runs the program with these words; gives its exit status."""
+    parser = parser_of(prog, __doc__)
+    parts.add_cell(parser, "the cell's database, as its owner")
+    add_program(parser)
+    parser.add_argument("--site", required=True, help="which site")
+    parser.add_argument(
+        "--day", type=day_of, help="such as 2026-03-01 (default: yesterday, in the site's zone)"
+    )
+    parser.add_argument(
+        "--archive", required=True, type=Path, metavar="FOLDER", help="where archives are kept"
+    )
+    words = parts.parsed(parser, argv)
+    return parts.done(lambda: run(words))

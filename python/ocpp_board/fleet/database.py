@@ -1,0 +1,174 @@
+"""Sessions with PostgreSQL: the host of several that takes writes, an end to waiting, and how a lost one looks."""
+
+import asyncio
+import os
+from collections.abc import Iterable, Iterator
+from typing import Any
+from urllib.parse import unquote, urlsplit
+
+import asyncpg
+
+# Each session: no compiling of small queries, no open transaction that stalls readers, and an end of what is cut off.
+SETTINGS = {
+    "jit": "off",
+    "idle_in_transaction_session_timeout": "10s",
+    "tcp_keepalives_idle": "5",
+    "tcp_keepalives_interval": "2",
+    "tcp_keepalives_count": "3",
+    "tcp_user_timeout": "10000",
+}
+# Besides, for gateways and workers: a statement that was planned while a table was empty uses its index as that grows.
+BY_INDEX = {"enable_seqscan": "off", "enable_bitmapscan": "off"}
+LOST = (
+    OSError,
+    asyncio.TimeoutError,
+    asyncpg.PostgresConnectionError,
+    asyncpg.InterfaceError,
+    asyncpg.OperatorInterventionError,
+    asyncpg.InternalClientError,
+)
+# Seconds in which a host has to let a session in.
+ADMISSION = 5.0
+# Bytes of a notification, which PostgreSQL ends at 7,999.
+PAYLOAD = 7_900
+# A wake tells nothing that the log does not, so it waits for no disk.
+WAKE = "select set_config('synchronous_commit', 'off', true), pg_notify('wake', $1)"
+
+
+class Fault(Exception):
+    """What whoever called the program is told, in one sentence."""
+
+
+class Unreachable(Exception):
+    """No host of a cell takes writes at the moment."""
+
+
+def places(dsn: str) -> tuple[list[tuple[str, int]], str, str]:
+    """The hosts with their ports, the user and the database of postgresql://user@host:port,host:port/database.
+
+    Raises Fault where it is of another form.
+    """
+    parts = urlsplit(dsn)
+    if (
+        parts.scheme not in ("postgresql", "postgres")
+        or "@" not in parts.netloc
+        or not parts.path.strip("/")
+    ):
+        raise Fault(f"{dsn}: not of the form postgresql://USER@HOST:PORT,HOST:PORT/DATABASE")
+    user, _, hosts = parts.netloc.rpartition("@")
+    if ":" in user:
+        raise Fault(
+            "a password in --db shows in the list of processes: put it into the environment as PGPASSWORD"
+        )
+    pairs = []
+    for host in hosts.split(","):
+        name, _, port = host.partition(":")
+        if port and not port.isdigit():
+            raise Fault(f"{dsn}: the port {port} is no number")
+        pairs.append((name, int(port or 5432)))
+    return pairs, unquote(user), parts.path.strip("/")
+
+
+async def enter(host: str, port: int, user: str, database: str, settings: dict[str, str]) -> Any:
+    """A session with this host, where it takes writes. TLS with it is as PGSSLMODE says.
+
+    Raises Fault where it lets nobody in, and Unreachable where it does not answer or is a standby.
+    """
+    try:
+        session = await asyncpg.connect(
+            host=host,
+            port=port,
+            user=user,
+            database=database,
+            timeout=ADMISSION,
+            server_settings=settings,
+        )
+    except (asyncpg.InvalidPasswordError, asyncpg.InvalidAuthorizationSpecificationError) as fault:
+        raise Fault(
+            f"{host}:{port} does not let {user} in: {fault} (the password comes from PGPASSWORD)"
+        ) from None
+    except asyncpg.InvalidCatalogNameError as fault:
+        raise Fault(f"{host}:{port}: {fault}") from None
+    except (*LOST, asyncpg.PostgresError) as fault:
+        raise Unreachable(f"{host}:{port}: {said(fault)}") from None
+    try:
+        if not await session.fetchval("select pg_is_in_recovery()", timeout=ADMISSION):
+            return session
+    except (*LOST, asyncpg.PostgresError) as fault:
+        session.terminate()
+        raise Unreachable(f"{host}:{port}: {said(fault)}") from None
+    except asyncio.CancelledError:
+        session.terminate()
+        raise
+    session.terminate()
+    raise Unreachable(f"{host}:{port}: a standby")
+
+
+async def connect(dsn: str, **settings: str) -> Any:
+    """A session with the host that takes writes. All are asked at once, so that one that hangs costs no time.
+
+    Raises Fault or Unreachable.
+    """
+    pairs, user, database = places(dsn)
+    tries = [
+        asyncio.ensure_future(enter(host, port, user, database, SETTINGS | settings))
+        for host, port in pairs
+    ]
+    waited, session, reasons = set(tries), None, list[str]()
+    try:
+        while waited and session is None:
+            done, waited = await asyncio.wait(waited, return_when=asyncio.FIRST_COMPLETED)
+            for one in done:
+                try:
+                    if session is None:
+                        session = await one
+                    else:
+                        (await one).terminate()
+                except Unreachable as fault:
+                    reasons.append(str(fault))
+    finally:
+        for one in waited:
+            one.cancel()
+    if session is None:
+        raise Unreachable("; ".join(reasons))
+    return session
+
+
+def said(fault: BaseException) -> str:
+    """What a fault says; the name of its kind where it says nothing."""
+    return str(fault) or type(fault).__name__
+
+
+def seen(job: "asyncio.Future[Any]") -> None:
+    """Takes the fault of a statement that nobody waits for any longer."""
+    if not job.cancelled():
+        job.exception()
+
+
+async def within(seconds: float, session: Any, call: str, *values: Any) -> Any:
+    """A statement with an end to waiting, after which the session is ended. Raises what LOST has, or PostgresError.
+
+    It is never cancelled: a commit whose wait for the standby is cancelled shows rows that the standby does not have.
+    """
+    job = asyncio.ensure_future(getattr(session, call)(*values))
+    job.add_done_callback(seen)
+    done, _ = await asyncio.wait([job], timeout=seconds)
+    if not done:
+        session.terminate()
+        raise asyncio.TimeoutError(f"no answer in {seconds:g} seconds")
+    return job.result()
+
+
+def wakes(shards: Iterable[int]) -> Iterator[str]:
+    """The payloads of notifications that wake these shards."""
+    text = " ".join(map(str, sorted(shards)))
+    while text:
+        end = len(text) if len(text) < PAYLOAD else text.rindex(" ", 0, PAYLOAD)
+        yield text[:end]
+        text = text[end + 1 :]
+
+
+def password_or_fault() -> None:
+    """Raises Fault where the environment has no password of the database."""
+    if "PGPASSWORD" not in os.environ:
+        raise Fault("PGPASSWORD is not set: the database's password comes from the environment")

@@ -1,0 +1,146 @@
+"""Appends the TransactionEvents of a CSMS that is there already to the log: from a file, from RabbitMQ or by MQTT.
+
+    PGPASSWORD=.. ocpp-board feed --db postgresql://ledger_feed@a:5432,b:5432/ledger file csms.log --form ocpp --follow
+    SOURCE_PASSWORD=.. PGPASSWORD=.. ocpp-board feed --db .. rabbitmq amqp://USER@HOST:5672/ --queue ledger
+    SOURCE_PASSWORD=.. PGPASSWORD=.. ocpp-board feed --db .. mqtt mqtt://USER@HOST --topic 'cs/in/ocpp2.0.1/+' --name f1
+
+`--db` is given once for each cell. What came while the last batch went to disk is the next batch; a message is
+acknowledged to its broker once it is committed, and how far a file was taken is committed with its lines. So it may
+be killed at any time: nothing is missing, and what is appended twice is harmless. Nobody is answered: the CSMS does
+that. A file that is followed may be rotated: it is taken to its end, and then the new one of its name from its
+start.
+
+What is no TransactionEvent of OCPP 2.0.1 is counted and left; of what can't be read the first of each kind is told.
+Events of stations that no plan has are kept as rows of `stray`, and appended once one has them.
+
+Where a message is an object in place of a frame (CitrineOS by RabbitMQ, MaEVe by MQTT, as far as known) the frame
+is made of its parts as they are written there. A frame's station is the message's header `stationId`, or else what
+the routing key ends with behind its last point; by MQTT what the topic ends with behind its last slash.
+
+Standard error tells once a minute, and at the end, what became of the messages. The status is 0, 1 where some of a
+file that is not followed could not be taken, and 2 where the words, a password or a file is wrong. A database or a
+broker that goes away is told once, and tried again and again.
+"""
+
+import argparse
+import asyncio
+import importlib
+import os
+import signal
+import time
+from collections.abc import Sequence
+
+from ocpp_board import logforms
+from ocpp_board.fleet import parts
+from ocpp_board.fleet.database import Fault
+from ocpp_board.fleet.feed_log import Counts, Log
+from ocpp_board.fleet.feed_sources import FileSource, MqttSource, RabbitSource, Source
+from ocpp_board.words import parser_of
+
+# Seconds between reports, and to end in.
+REPORT, LAST = 60, 5
+# The Python packages of brokers: their modules, and Debian's packages that have them.
+CLIENTS = {
+    "rabbitmq": ("aio_pika", "python3-aio-pika"),
+    "mqtt": ("paho.mqtt.client", "python3-paho-mqtt"),
+}
+SOURCES = {"file": FileSource, "rabbitmq": RabbitSource, "mqtt": MqttSource}
+
+
+async def run(words: argparse.Namespace) -> int:
+    """Appends what the source has until that or a signal ends it, and gives the exit status. Raises Fault."""
+    counts = Counts()
+    ledger = Log(words.db, words.name, counts)
+    source: Source = SOURCES[words.source](words, counts, ledger)
+
+    def end() -> None:
+        """Ends with what came so far; where a database does not answer, without it: it comes again."""
+        source.is_ending.set()
+        asyncio.get_running_loop().call_later(LAST, os._exit, 0)
+
+    if words.source != "file" or words.path != "-":
+        for number in (signal.SIGTERM, signal.SIGINT):
+            asyncio.get_running_loop().add_signal_handler(number, end)
+    await ledger.open()
+    print("ready", flush=True)
+    await ledger.adopt()
+    reported = time.monotonic()
+    async for batch in source.batches():
+        if batch:
+            await ledger.append(batch)
+        await ledger.adopt()
+        if time.monotonic() > reported + REPORT:
+            counts.report()
+            reported = time.monotonic()
+    counts.told = ()
+    counts.report()
+    return 1 if counts.wrong and words.source == "file" and not words.follow else 0
+
+
+def add_file(parser: argparse.ArgumentParser) -> None:
+    """The words of a source that is a file."""
+    parser.add_argument("path", help="the file; - is standard input")
+    parser.add_argument(
+        "--form",
+        default="json",
+        choices=[*logforms.NAMES, "script"],
+        help="the log's shape, as `ocpp-board log-to-script --help` has it, or msg lines of a "
+        "script (default: json)",
+    )
+    parser.add_argument("--follow", action="store_true", help="wait for more at the end")
+    parser.add_argument(
+        "--copied",
+        action="store_true",
+        help="the lines are of PostgreSQL's COPY in its text format, which writes a backslash twice",
+    )
+    parser.add_argument("--name", help="under which name its progress is kept (default: its path)")
+    logforms.add_options(parser, ("station", "time", "message"))
+
+
+def arguments(argv: Sequence[str], prog: str) -> argparse.Namespace:
+    """The words. Wrong ones end the program with status 2."""
+    parser = parser_of(prog, __doc__)
+    parts.add_cells(parser)
+    sources = parser.add_subparsers(dest="source", required=True, metavar="file|rabbitmq|mqtt")
+    add_file(sources.add_parser("file", help="a log of messages, one a line"))
+    rabbit = sources.add_parser("rabbitmq", help="a queue of RabbitMQ (needs python3-aio-pika)")
+    rabbit.add_argument(
+        "url", help="amqp://USER@HOST:PORT/VHOST, the virtual host without its slash in front"
+    )
+    rabbit.add_argument(
+        "--queue", required=True, help="a queue that is there and durable, and nobody else's"
+    )
+    mqtt = sources.add_parser("mqtt", help="a topic of an MQTT broker (needs python3-paho-mqtt)")
+    mqtt.add_argument("url", help="mqtt://USER@HOST:PORT")
+    mqtt.add_argument("--topic", required=True, help="such as 'cs/in/ocpp2.0.1/+'")
+    mqtt.add_argument(
+        "--name",
+        required=True,
+        help="the client's name, by which the broker keeps what was not taken",
+    )
+    words = parts.parsed(parser, argv)
+    if words.source == "file":
+        words.name = words.name or os.path.abspath(words.path)
+    elif words.source == "rabbitmq":
+        words.name = words.queue
+    return words
+
+
+def client_or_fault(source: str) -> None:
+    """Raises Fault where there is no Python package for a source's broker."""
+    module, package = CLIENTS.get(source, ("os", ""))
+    try:
+        importlib.import_module(module)
+    except ImportError:
+        raise Fault(f"there is no package for this: apt-get install {package}") from None
+
+
+def main(argv: Sequence[str], prog: str) -> int:
+    """Runs the program with these words; gives its exit status."""
+    words = arguments(argv, prog)
+
+    async def feed() -> int:
+        client_or_fault(words.source)
+        return await run(words)
+
+    return parts.done(feed)

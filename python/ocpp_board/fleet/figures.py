@@ -1,0 +1,163 @@
+"""The texts of boards as numbers: each line of a station by what it is of."""
+
+import json
+from collections.abc import Iterable, Mapping
+from datetime import datetime
+from typing import Any
+
+from ocpp_board.boards import TOTAL, Numbers, numbers_of
+from ocpp_board.energies import FLOW, Flow, flow_of
+
+# A station's line: its station, its kind (total, evse, period, tx or gap), and which one of that kind.
+Key = tuple[str, str, str]
+Figures = dict[Key, Numbers]
+# What rose and fell in the periods of stations.
+Flows = dict[tuple[str, datetime], Flow]
+
+
+def figures(text: str) -> Figures:
+    """What a board says of each station; its lines of the site, which are sums of these, are left out.
+
+    A board whose periods are quarters of an hour calls them `quarter`, and one of a program that knows others `period`.
+    """
+    found: Figures = {}
+    station = tx = ""
+    for line in text.splitlines():
+        kind, _, rest = line.partition(" ")
+        words = rest.split(" ")
+        if kind == "station":
+            station, tx = rest, ""
+        elif not station or kind == "end":
+            continue
+        elif kind == "gap":
+            found[station, kind, f"{tx} {rest}"] = {}
+        else:
+            kind = "period" if kind == "quarter" else kind
+            name = "" if kind == "total" else words.pop(0)
+            tx = name if kind == "tx" else tx
+            found[station, kind, name] = numbers_of(words)
+    return found
+
+
+def added(parts: Iterable[Figures]) -> Figures:
+    """The figures of several logs together. Raises ValueError where one has a transaction of another one."""
+    whole: Figures = {}
+    for part in parts:
+        for key, numbers in part.items():
+            if key[1] in ("tx", "gap") and key in whole:
+                raise ValueError(f"the transaction {key[2]} of {key[0]} is in two logs")
+            before = whole.get(key, {})
+            whole[key] = {name: number + before.get(name, 0) for name, number in numbers.items()}
+    return whole
+
+
+def periods(part: Figures) -> Flows:
+    """What rose and fell in each period of each station."""
+    return {
+        (station, datetime.fromisoformat(start)): flow_of(numbers)
+        for (station, kind, start), numbers in part.items()
+        if kind == "period"
+    }
+
+
+def blocks(text: str) -> dict[str, str]:
+    """The lines of each station, with gaps on the line of their transaction."""
+    parts = text.removesuffix("end\n").replace("\ngap ", " gap ").split("\nstation ")[1:]
+    return dict(part.rstrip("\n").split("\n", 1) for part in parts)
+
+
+def new_rows(text: str, base: str) -> str:
+    """The rows by which a board differs from an earlier one of the same stations, for show_board."""
+    parts: dict[str, list[dict[str, Any]]] = {
+        name: []
+        for name in (
+            "stations",
+            "periods",
+            "transactions",
+            "gaps",
+            "gone_periods",
+            "gone_transactions",
+        )
+    }
+    old = blocks(base)
+    for station, block in blocks(text).items():
+        if old.get(station) == block:
+            continue
+        before, after = set(old.get(station, "").split("\n")), set(block.split("\n"))
+        fresh = set[tuple[str, str]]()
+        for line in after - before:
+            front, *gaps = line.split(" gap ")
+            kind, name, *words = front.split(" ")
+            if kind == "total":
+                parts["stations"].append({"station": station} | numbers_of([name, *words]))
+            elif kind in ("quarter", "period"):
+                parts["periods"].append({"station": station, "starts": name} | numbers_of(words))
+                fresh.add(("periods", name))
+            elif kind == "tx":
+                parts["transactions"].append(
+                    {"station": station, "transaction": name} | numbers_of(words)
+                )
+                fresh.add(("transactions", name))
+                for gap in gaps:
+                    first, last = map(int, gap.split(".."))
+                    parts["gaps"].append(
+                        {"station": station, "transaction": name, "first": first, "last": last}
+                    )
+        for line in before - after:
+            kind, name = (line.split(" ") + [""])[:2]
+            if kind in ("quarter", "period") and ("periods", name) not in fresh:
+                parts["gone_periods"].append({"station": station, "starts": name})
+            elif kind == "tx" and ("transactions", name) not in fresh:
+                parts["gone_transactions"].append({"station": station, "transaction": name})
+    return json.dumps({name: part for name, part in parts.items() if part})
+
+
+def words_of(names: Iterable[str], numbers: Mapping[str, int]) -> str:
+    """The words of a line that has these numbers."""
+    return " ".join(f"{name}={numbers.get(name, 0)}" for name in names)
+
+
+def summed(parts: Iterable[Mapping[str, int]]) -> Numbers:
+    """The numbers of these together, by name."""
+    whole: Numbers = {}
+    for part in parts:
+        for name, number in part.items():
+            whole[name] = whole.get(name, 0) + number
+    return whole
+
+
+def joined(
+    site: str, seconds: int, texts: Iterable[str], totals: Mapping[str, Numbers], flows: Figures
+) -> str:
+    """One board of a site's stations that several shards have, with what archives have of them besides: numbers of a
+    station's total line by `totals`, and periods by `flows`."""
+    found: dict[str, str] = {}
+    for text in texts:
+        found |= blocks(text)
+    archived: dict[str, list[tuple[str, Numbers]]] = {}
+    for (station, _, start), numbers in flows.items():
+        archived.setdefault(station, []).append((start, numbers))
+    lines, whole, sums = list[str](), list[Numbers](), dict[str, Numbers]()
+    for station in [*found, *sorted((archived.keys() | totals.keys()) - found.keys())]:
+        own = found.get(station, "total").split("\n")
+        kinds = {
+            kind: [line for line in own if line.startswith(f"{kind} ")]
+            for kind in ("evse", "period", "tx")
+        }
+        more = archived.get(station, [])
+        periods: dict[str, Numbers] = {}
+        for start, numbers in [
+            *((line.split(" ")[1], numbers_of(line.split(" ")[2:])) for line in kinds["period"]),
+            *more,
+        ]:
+            periods[start] = summed([periods.get(start, {}), numbers])
+        for start, numbers in periods.items():
+            sums[start] = summed([sums.get(start, {}), numbers])
+        live = numbers_of(own[0].split(" ")[1:])
+        whole.append(summed([live, totals.get(station, {}), *(numbers for _, numbers in more)]))
+        lines += [f"station {station}", f"total {words_of(TOTAL, whole[-1])}", *kinds["evse"]]
+        lines += [f"period {start} {words_of(FLOW, periods[start])}" for start in sorted(periods)]
+        lines += [line.replace(" gap ", "\ngap ") for line in kinds["tx"]]
+    front = [f"board {site} period={seconds}", f"total {words_of(TOTAL, summed(whole))}"]
+    front += [f"period {start} {words_of(FLOW, sums[start])}" for start in sorted(sums)]
+    return "\n".join([*front, *lines, "end\n"])

@@ -1,0 +1,539 @@
+"""Takes charging stations' WebSocket connections, and appends their events to the log of their shard's cell.
+
+    PGPASSWORD=.. ocpp-board gateway --db postgresql://ledger_gateway@a:5432,b:5432/ledger --port 9100
+
+`--db` is given once for each cell. What came while the last batch went to disk is the next batch: one insert, one
+commit. An event's answer is the worker's, who sees committed rows alone, so an answer implies that the row is on
+disk. What surely is no event is answered by a `replay` of the gateway's own and not kept. It keeps nothing:
+stations send again what has no answer.
+"""
+
+import argparse
+import asyncio
+import http
+import json
+import logging
+import secrets
+import time
+from collections import deque
+from collections.abc import Sequence
+from typing import Any, NamedTuple
+from urllib.parse import unquote, urlsplit
+
+import asyncpg
+from websockets.http11 import Request, Response
+from websockets.server import ServerConnection
+
+from ocpp_board.fleet import parts
+from ocpp_board.fleet.database import (
+    BY_INDEX,
+    LOST,
+    WAKE,
+    Unreachable,
+    connect,
+    said,
+    wakes,
+    within,
+)
+from ocpp_board.fleet.plans import knows_period
+from ocpp_board.fleet.replays import Replay, ReplayEnded
+from ocpp_board.fleet.websocket import MOST, SUBPROTOCOL, Link
+from ocpp_board.limits import LONGEST_MESSAGE
+from ocpp_board.messages import HEAD, one_line, parsed
+from ocpp_board.words import add_program, parser_of
+
+log = logging.getLogger(__name__)
+# What `websockets` logs of a connection is not told.
+SILENT = logging.getLogger("ocpp_board.fleet.gateway.websockets")
+SILENT.setLevel(logging.CRITICAL)
+
+# Messages of OCPP 2.0.1 Part 2 that a station sends unasked and whose response is empty, by block.
+NOTIFICATIONS = {
+    "SecurityEventNotification": "A",
+    "NotifyReport": "B",
+    "ReservationStatusUpdate": "H",
+    "ClearedChargingLimit": "K",
+    "NotifyChargingLimit": "K",
+    "ReportChargingProfiles": "K",
+    "FirmwareStatusNotification": "L",
+    "PublishFirmwareStatusNotification": "L",
+    "LogStatusNotification": "N",
+    "NotifyCustomerInformation": "N",
+    "NotifyEvent": "N",
+    "NotifyMonitoringReport": "N",
+    "NotifyDisplayMessages": "O",
+}
+# Messages of one connection that may wait for answers before no more are read, which OCPP has at one.
+UNANSWERED = 16
+# Characters of the id of a message.
+LONGEST_ID = 36
+# A batch has so many lines and bytes at most.
+BATCH, BATCH_BYTES = 1000, 4_000_000
+# Seconds: for the database to answer, for a handshake, and without a byte from a station, twice its heartbeat interval.
+ANSWER, HANDSHAKE, SILENCE = 10, 10, 600
+APPEND = """
+insert into own_log (shard, gateway, token, line)
+select w.shard, $1, w.token, w.line
+from unnest($2::int[], $3::bigint[], $4::text[]) with ordinality as w (shard, token, line, place)
+join own_shard s on s.shard = w.shard where s.moving_to is null order by w.place
+"""
+STATIONS = """
+select t.shard, t.station from own_station t join own_shard s using (shard)
+where s.moving_to is null and ($1::int[] is null or s.shard = any($1))
+"""
+STATION = """
+select t.shard from own_station t join own_shard s using (shard) where t.station = $1 and s.moving_to is null
+"""
+
+
+def empty_answer(text: str) -> str | None:
+    """The answer to a notification whose response is empty."""
+    try:
+        call = parsed(text)
+    except (ValueError, RecursionError):
+        return None
+    kinds = [type(part) for part in call] if isinstance(call, list) else []
+    if kinds != [str, str, str, dict] or call[0] != "2":
+        return None
+    _, number, action, _ = call
+    if action not in NOTIFICATIONS or len(number) > LONGEST_ID:
+        return None
+    return json.dumps([3, number, {}], separators=(",", ":"))
+
+
+class Wait(NamedTuple):
+    """What waits for its answer: whose it is, its line, and since when."""
+
+    link: "StationLink"
+    line: str
+    since: float
+
+
+class Cell:
+    """A cell's database, and the lines that wait for it."""
+
+    def __init__(self, gateway: "Gateway", dsn: str) -> None:
+        self.gateway, self.dsn = gateway, dsn
+        self.queue: deque[int] = deque()
+        self.filled, self.woken = asyncio.Event(), asyncio.Event()
+        self.shards: set[int] = set()
+        self.second: Any = None
+        self.is_up = False
+        self.asking = asyncio.Lock()
+        self.last_told = ""
+
+    async def run(self) -> None:
+        """Keeps two sessions with the database, one after the other pair."""
+        while True:
+            sessions: list[Any] = []
+            try:
+                sessions = list(
+                    await asyncio.gather(
+                        *(
+                            connect(self.dsn, application_name=self.gateway.name, **BY_INDEX)
+                            for _ in range(2)
+                        )
+                    )
+                )
+                await self.open(sessions[1])
+                jobs = [asyncio.create_task(job) for job in (self.append(sessions[0]), self.wake())]
+                try:
+                    done, _ = await asyncio.wait(jobs, return_when=asyncio.FIRST_EXCEPTION)
+                    for job in done:
+                        job.result()
+                finally:
+                    for job in jobs:
+                        job.cancel()
+            except (*LOST, Unreachable, asyncpg.PostgresError) as fault:
+                self.tell_once(f"{self.dsn}: {said(fault)}; tried again and again")
+            finally:
+                self.is_up = False
+                for session in sessions:
+                    session.terminate()
+            await asyncio.sleep(0.2)
+
+    def tell_once(self, text: str) -> None:
+        """Tells of the cell, but not the same twice in a row."""
+        if text != self.last_told:
+            log.warning("%s", text)
+        self.last_told = text
+
+    async def open(self, second: Any) -> None:
+        """Listens, reads the plan, and appends again what still waits: of what was appended the outcome is unknown."""
+        self.second = second
+        await second.add_listener(self.gateway.name, self.gateway.answered)
+        await second.add_listener(
+            "plan", lambda *words: asyncio.ensure_future(self.replan([int(words[3])]))
+        )
+        await self.load(None)
+        if self.last_told:
+            self.tell_once(f"{self.dsn}: connected")
+        self.is_up, self.last_told = True, ""
+        self.queue = deque(
+            token for token, wait in self.gateway.waiting.items() if self.is_home(wait.link.name)
+        )
+        self.filled.set()
+
+    def is_home(self, station: str) -> bool:
+        """Whether the station's events go to this cell."""
+        home = self.gateway.homes.get(station)
+        return home is not None and home[0] is self
+
+    async def ask(self, call: str, *values: Any) -> Any:
+        """A statement of the second session."""
+        async with self.asking:
+            return await within(ANSWER, self.second, call, *values)
+
+    async def load(self, shards: list[int] | None) -> None:
+        """Reads which stations of these shards (None: of all) are here."""
+        rows = await self.ask("fetch", STATIONS, shards)
+        found = {row["station"]: row["shard"] for row in rows}
+        self.gateway.move_in(self, found, None if shards is None else set(shards))
+
+    async def replan(self, shards: list[int]) -> None:
+        """The plan of these shards changed."""
+        try:
+            await self.load(shards)
+        except (*LOST, asyncpg.PostgresError):
+            pass  # The session is lost, and the next one reads all.
+
+    async def find(self, station: str) -> None:
+        """Looks for one station, which may be new."""
+        row = await self.ask("fetchrow", STATION, station)
+        if row:
+            self.gateway.move_in(self, {station: row["shard"]}, set())
+
+    async def append(self, session: Any) -> None:
+        """Appends what waits, batch by batch."""
+        while True:
+            try:
+                await asyncio.wait_for(self.filled.wait(), 5)
+            except asyncio.TimeoutError:
+                await asyncio.gather(
+                    within(ANSWER, session, "execute", "select 1"), self.ask("execute", "select 1")
+                )
+                continue
+            self.filled.clear()
+            while self.queue:
+                await self.append_batch(session)
+
+    async def append_batch(self, session: Any) -> None:
+        """One insert of what waits, up to the limits of a batch."""
+        tokens, shards, lines, size = list[int](), list[int](), list[str](), 0
+        while self.queue and len(tokens) < BATCH and size < BATCH_BYTES:
+            token = self.queue.popleft()
+            wait = self.gateway.waiting.get(token)
+            if wait and self.is_home(wait.link.name):
+                tokens.append(token)
+                shards.append(self.gateway.homes[wait.link.name][1])
+                lines.append(wait.line)
+                size += len(wait.line)
+        if not tokens:
+            return
+        done = await within(
+            ANSWER, session, "execute", APPEND, self.gateway.name, shards, tokens, lines
+        )
+        self.shards.update(shards)
+        self.woken.set()
+        if done != f"INSERT 0 {len(tokens)}":
+            # A shard is moving. What was appended may be so again.
+            await self.load(sorted(set(shards)))
+            self.gateway.queue_again(tokens)
+
+    async def wake(self) -> None:
+        """Wakes the shards that were appended to; while it does, the next batch is under way."""
+        while True:
+            await self.woken.wait()
+            self.woken.clear()
+            shards, self.shards = self.shards, set()
+            for text in wakes(shards):
+                await self.ask("execute", WAKE, text)
+
+
+class StationLink(Link):
+    """A station's connection."""
+
+    name: str = ""
+
+    def __init__(self, gateway: "Gateway") -> None:
+        self.server = ServerConnection(subprotocols=[SUBPROTOCOL], max_size=MOST, logger=SILENT)
+        super().__init__(self.server)
+        self.gateway = gateway
+        self.seen = time.monotonic()
+        self.unanswered = 0
+        self.is_slow = False
+
+    def connection_made(self, transport: asyncio.BaseTransport) -> None:
+        super().connection_made(transport)
+        self.gateway.links.add(self)
+
+    def connection_lost(self, fault: Exception | None) -> None:
+        super().connection_lost(fault)
+        self.gateway.links.discard(self)
+
+    def data_received(self, data: bytes) -> None:
+        self.seen = time.monotonic()
+        super().data_received(data)
+
+    def handshake(self, event: Request | Response) -> None:
+        assert isinstance(event, Request)
+        parts = [unquote(part) for part in urlsplit(event.path).path.split("/")]
+        self.name = parts[2] if len(parts) == 3 and parts[1] == "ocpp" else ""
+        if self.name in self.gateway.homes:
+            self.admit(event)
+        else:
+            self.gateway.spawn(self.look_for(event))
+
+    async def look_for(self, event: Request) -> None:
+        """Lets a station in that is not known yet, where a cell has it."""
+        are_all_up = await self.gateway.find(self.name) if self.name else True
+        if self.is_lost:
+            return
+        if self.name in self.gateway.homes:
+            self.admit(event)
+        elif are_all_up:
+            self.reject(http.HTTPStatus.NOT_FOUND, f"no station {self.name!r} in the plan\n")
+        else:
+            self.reject(
+                http.HTTPStatus.SERVICE_UNAVAILABLE,
+                "a cell does not answer: the station may be one of its\n",
+            )
+
+    def reject(self, status: http.HTTPStatus, text: str) -> None:
+        """Sends a station away."""
+        response = self.server.reject(status, text)
+        if status is http.HTTPStatus.SERVICE_UNAVAILABLE:
+            response.headers["Retry-After"] = "5"
+        self.server.send_response(response)
+        self.flush()
+
+    def admit(self, event: Request) -> None:
+        """Lets a station in that offers the subprotocol."""
+        response = self.server.accept(event)
+        self.server.send_response(response)
+        self.flush()
+        if response.status_code == 101 and self.connection.subprotocol is None:
+            self.close(1002, f"the subprotocol {SUBPROTOCOL} is not offered")
+
+    def text(self, data: bytes) -> None:
+        try:
+            text = data.decode()
+        except UnicodeDecodeError:
+            return self.close(1007, "a text that is no UTF-8")
+        self.unanswered += 1
+        if self.unanswered >= UNANSWERED:
+            self.transport.pause_reading()
+        if len(data) > LONGEST_MESSAGE:
+            # Of a text that is too long the front is too long as well, and gets the same answer.
+            self.gateway.own.ask(
+                self, data[: LONGEST_MESSAGE + 4].decode("utf-8", "ignore").replace("\n", " ")
+            )
+            return None
+        head = HEAD.match(text)
+        if head[1] == "TransactionEvent" if head else "TransactionEvent" in text or "\\" in text:
+            self.gateway.keep(self, one_line(text))
+        elif head and head[1] in NOTIFICATIONS and (answer := empty_answer(text)):
+            self.answer(answer.encode())
+        else:
+            self.gateway.own.ask(self, one_line(text))
+        return None
+
+    def answer(self, answer: bytes) -> None:
+        """Sends what the ledger answered."""
+        if self.unanswered == UNANSWERED and not self.is_slow and not self.is_lost:
+            self.transport.resume_reading()
+        self.unanswered -= 1
+        if answer.startswith(b"fault "):
+            answer = b'[4,"-1","InternalError","' + answer[6:] + b'",{}]'
+        if answer != b"silent":
+            self.send(answer)
+
+    def pause_writing(self) -> None:
+        """The station reads too slowly."""
+        self.is_slow = True
+        self.transport.pause_reading()
+
+    def resume_writing(self) -> None:
+        """The station reads again."""
+        self.is_slow = False
+        if self.unanswered < UNANSWERED:
+            self.transport.resume_reading()
+
+
+class OwnReplay:
+    """A replay of the gateway's own, which answers what is no event, in the order in which it was asked."""
+
+    def __init__(self, program: str) -> None:
+        self.program = program
+        self.asked: deque[tuple[StationLink, str]] = deque()
+        self.replay: Replay | None = None
+        self.second = 0
+
+    async def run(self) -> None:
+        """Keeps a replay running, and hands its answers on."""
+        while True:
+            try:
+                replay = await Replay.start(self.program)
+                replay.write(b"limits 1 1 1 1\nstation - -\n")
+                self.replay, self.second = replay, 0
+                for _, text in self.asked:
+                    self.write(text)
+                while True:
+                    answer = (await replay.answers(1))[0]
+                    self.asked.popleft()[0].answer(answer)
+            except (ReplayEnded, OSError) as fault:
+                self.replay = None
+                log.warning("%s, and begins anew", fault)
+                await asyncio.sleep(0.1)
+
+    def ask(self, link: StationLink, text: str) -> None:
+        """Asks for the answer to a text, which goes to the link."""
+        self.asked.append((link, text))
+        try:
+            self.write(text)
+        except (ReplayEnded, OSError):
+            pass  # `run` is told so too, begins anew, and asks again.
+
+    def write(self, text: str) -> None:
+        """Hands a text to the replay, where that runs."""
+        if self.replay is None:
+            return
+        now = int(time.time())
+        clock = (
+            time.strftime("now %Y-%m-%dT%H:%M:%SZ\n", time.gmtime(now))
+            if now != self.second
+            else ""
+        )
+        self.second = now
+        self.replay.write(f"{clock}msg - {text}\n".encode())
+
+
+class Gateway:
+    """Stations' connections, and where their events go."""
+
+    def __init__(self, words: argparse.Namespace) -> None:
+        self.words = words
+        self.name = f"gateway_{secrets.token_hex(6)}"
+        self.cells = [Cell(self, dsn) for dsn in words.db]
+        self.own = OwnReplay(words.program)
+        # Where each station's events go: its cell and its shard.
+        self.homes: dict[str, tuple[Cell, int]] = {}
+        self.waiting: dict[int, Wait] = {}
+        self.links: set[StationLink] = set()
+        self.jobs: set[asyncio.Task[None]] = set()
+        self.token = 0
+
+    def spawn(self, job: Any) -> None:
+        """Begins a job that nobody waits for."""
+        task = asyncio.create_task(job)
+        self.jobs.add(task)
+        task.add_done_callback(self.jobs.discard)
+
+    def keep(self, link: StationLink, text: str) -> None:
+        """Takes an event, which waits for its answer."""
+        self.token += 1
+        self.waiting[self.token] = Wait(link, f"msg {link.name} {text}", time.monotonic())
+        self.queue(self.token)
+
+    def queue(self, token: int) -> None:
+        """Has what waits under this token appended."""
+        home = self.homes.get(self.waiting[token].link.name)
+        if home and home[0].is_up:
+            home[0].queue.append(token)
+            home[0].filled.set()
+
+    def queue_again(self, tokens: list[int]) -> None:
+        """Has what still waits under these tokens appended once more."""
+        for token in tokens:
+            if token in self.waiting:
+                self.queue(token)
+
+    def move_in(self, cell: Cell, found: dict[str, int], shards: set[int] | None) -> None:
+        """Takes these stations as those of the cell's shards (None: of all its shards; empty: of no whole shard), and
+        appends what waits of those that are new there."""
+        if shards != set():
+            for station, (home, shard) in list(self.homes.items()):
+                if (
+                    home is cell
+                    and (shards is None or shard in shards)
+                    and found.get(station) != shard
+                ):
+                    del self.homes[station]
+        new = {
+            station for station, shard in found.items() if self.homes.get(station) != (cell, shard)
+        }
+        self.homes.update((station, (cell, found[station])) for station in new)
+        if new and cell.is_up:
+            self.queue_again(
+                [token for token, wait in self.waiting.items() if wait.link.name in new]
+            )
+
+    async def find(self, station: str) -> bool:
+        """Looks for a station in all cells. Whether all answered."""
+        up = [cell for cell in self.cells if cell.is_up]
+        found = await asyncio.gather(*(cell.find(station) for cell in up), return_exceptions=True)
+        return len(up) == len(self.cells) and all(one is None for one in found)
+
+    def answered(self, _session: Any, _pid: int, _channel: str, payload: str) -> None:
+        """A worker told answers."""
+        for line in payload.split("\n"):
+            token, _, answer = line.partition(" ")
+            if wait := self.waiting.pop(int(token), None):
+                wait.link.answer(answer.encode())
+
+    async def give_up(self) -> None:
+        """Closes the connections of stations that wait for too long, which come again and send again, and of those
+        that are silent."""
+        while True:
+            await asyncio.sleep(1)
+            now = time.monotonic()
+            for token, wait in list(self.waiting.items()):
+                if wait.link.is_lost or wait.since < now - self.words.wait:
+                    del self.waiting[token]
+                    wait.link.close(1013, "no answer yet, try again")
+            for link in list(self.links):
+                if link.seen < now - (SILENCE if link.name else HANDSHAKE):
+                    link.close(1000, f"nothing came for {SILENCE} seconds")
+                    link.cut_later()
+
+    async def run(self) -> None:
+        """Listens, once a cell is up, until a job fails."""
+        jobs = [
+            asyncio.create_task(job)
+            for job in (*(cell.run() for cell in self.cells), self.own.run(), self.give_up())
+        ]
+        # Stations that are let in before the plan is read would be sent away as unknown.
+        while not any(cell.is_up for cell in self.cells):
+            await asyncio.sleep(0.02)
+            for job in jobs:
+                if job.done():
+                    job.result()
+        server = await asyncio.get_running_loop().create_server(
+            lambda: StationLink(self), self.words.host, self.words.port, backlog=4096
+        )
+        print(f"listening {self.words.host}:{server.sockets[0].getsockname()[1]}", flush=True)
+        done, _ = await asyncio.wait(jobs, return_when=asyncio.FIRST_EXCEPTION)
+        for job in done:
+            job.result()
+
+
+def main(argv: Sequence[str], prog: str) -> int:
+    """Runs the program with these words; gives its exit status."""
+    parser = parser_of(prog, __doc__)
+    parts.add_cells(parser)
+    add_program(parser)
+    parts.add_place(parser, 9100)
+    parser.add_argument(
+        "--wait",
+        type=float,
+        default=25,
+        help="seconds until a station is sent away (default: 25)",
+    )
+    words = parts.parsed(parser, argv)
+
+    async def run() -> None:
+        knows_period(words.program)  # A program that is not there is told before anything begins.
+        await Gateway(words).run()
+
+    parts.use_uvloop()
+    return parts.done(run)

@@ -1,0 +1,72 @@
+"""What the programs of the fleet have in common: their words, what they tell, and how they end."""
+
+import argparse
+import asyncio
+import logging
+from collections.abc import Callable, Coroutine, Sequence
+from typing import Any
+
+import asyncpg
+
+from ocpp_board import words
+from ocpp_board.fleet.database import LOST, Fault, Unreachable, password_or_fault, said
+from ocpp_board.fleet.replays import ReplayEnded
+from ocpp_board.statuses import Mistaken, Status
+
+log = logging.getLogger(__name__)
+
+ADDRESS = "postgresql://USER@HOST:PORT,HOST:PORT/DATABASE"
+
+
+def add_cells(parser: argparse.ArgumentParser) -> None:
+    """The option that names the database of each cell."""
+    parser.add_argument(
+        "--db", required=True, action="append", help=f"a cell's database: {ADDRESS}"
+    )
+
+
+def add_cell(parser: argparse.ArgumentParser, help_text: str) -> None:
+    """The option that names the database of one cell."""
+    parser.add_argument("--db", required=True, help=help_text)
+
+
+def add_place(parser: argparse.ArgumentParser, port: int) -> None:
+    """The options that say where to listen."""
+    parser.add_argument("--host", default="127.0.0.1", help="where to listen (default: 127.0.0.1)")
+    parser.add_argument(
+        "--port",
+        type=int,
+        default=port,
+        help=f"where to listen; 0 lets the system choose (default: {port})",
+    )
+
+
+def parsed(parser: argparse.ArgumentParser, argv: Sequence[str]) -> argparse.Namespace:
+    """The words. All that is told has the program's name in front."""
+    return words.parsed(parser, argv, logging.DEBUG)
+
+
+def use_uvloop() -> None:
+    """A faster event loop where Debian's python3-uvloop is there."""
+    try:
+        import uvloop
+    except ImportError:
+        return
+    uvloop.install()
+
+
+def ended(work: Callable[[], int | None]) -> int:
+    """Does a program's work and gives its exit status; a fault is told in one line."""
+    try:
+        password_or_fault()
+        return work() or Status.DONE
+    except (Fault, Mistaken, ReplayEnded, Unreachable, *LOST, asyncpg.PostgresError) as fault:
+        log.error("%s", said(fault))
+        return Status.MISTAKEN
+    except KeyboardInterrupt:
+        return Status.DONE
+
+
+def done(job: Callable[[], Coroutine[Any, Any, int | None]]) -> int:
+    """The same for work that is a coroutine."""
+    return ended(lambda: asyncio.run(job()))

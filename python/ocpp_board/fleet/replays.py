@@ -1,0 +1,87 @@
+"""An `ocpp_board replay` that runs beside asyncio."""
+
+import asyncio
+
+from ocpp_board.fleet.database import Fault
+from ocpp_board.fleet.plans import Plan
+
+# Bytes that are read at once.
+CHUNK = 1 << 18
+
+
+class ReplayEnded(Exception):
+    """A replay ended before its input did."""
+
+
+class Replay:
+    """An `ocpp_board replay` that runs: lines go in, and their answers come out."""
+
+    def __init__(self, process: asyncio.subprocess.Process) -> None:
+        self.process = process
+        self.rest = b""
+
+    @classmethod
+    async def start(cls, program: str) -> "Replay":
+        """A replay that begins. Raises OSError where the program can't be started."""
+        pipe = asyncio.subprocess.PIPE
+        return cls(
+            await asyncio.create_subprocess_exec(
+                program, "replay", stdin=pipe, stdout=pipe, start_new_session=True
+            )
+        )
+
+    def write(self, data: bytes) -> None:
+        """Hands lines to the replay, without waiting for it."""
+        assert self.process.stdin
+        try:
+            self.process.stdin.write(data)
+        except RuntimeError:  # What uvloop says of a pipe that is closed.
+            raise ReplayEnded(f"the replay {self.process.pid} ended") from None
+
+    async def more(self) -> bytes:
+        """What it wrote meanwhile. Raises ReplayEnded."""
+        assert self.process.stdout
+        data = await self.process.stdout.read(CHUNK)
+        if not data:
+            raise ReplayEnded(f"the replay {self.process.pid} ended")
+        return data
+
+    async def answers(self, count: int) -> list[bytes]:
+        """The next so many lines. Raises ReplayEnded."""
+        chunks, lines = [self.rest], self.rest.count(b"\n")
+        while lines < count:
+            chunks.append(await self.more())
+            lines += chunks[-1].count(b"\n")
+        parts = b"".join(chunks).split(b"\n", count)
+        self.rest = parts.pop()
+        return parts
+
+    async def open(self, plan: Plan) -> None:
+        """Declares the plan. Were one of its lines refused, that would shift all answers, so a total is asked for."""
+        self.write(plan.lines + f"total {plan.stations[0] if plan.stations else '-'}\n".encode())
+        answer = (await self.answers(1))[0]
+        if (
+            answer != b"fault UnknownStation"
+            if not plan.stations
+            else not answer.startswith(b"total ")
+        ):
+            raise Fault(f"the program does not take the plan: {answer.decode()}")
+
+    async def board(self, site: str) -> bytes:
+        """A site's board, which ends with the line `end`."""
+        self.write(f"board {site}\n".encode())
+        chunks = [self.rest]
+        while not (text := b"".join(chunks[-2:])).endswith(b"\nend\n") and not text.startswith(
+            b"fault "
+        ):
+            chunks.append(await self.more())
+        self.rest = b""
+        return b"".join(chunks)
+
+    def kill(self) -> None:
+        """Ends it, whether it runs or not."""
+        if self.process.returncode is None:
+            try:
+                self.process.kill()
+            except ProcessLookupError:
+                pass

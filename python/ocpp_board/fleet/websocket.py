@@ -1,0 +1,121 @@
+"""One end of a WebSocket connection: what `websockets` knows of the protocol, on a transport of asyncio."""
+
+import asyncio
+from typing import cast
+
+from websockets.client import ClientConnection
+from websockets.connection import Connection, State
+from websockets.frames import OP_BINARY, OP_CONT, OP_TEXT, Frame
+from websockets.http11 import Request, Response
+from websockets.typing import Subprotocol
+from websockets.uri import parse_uri
+
+from ocpp_board.logforms import PROTOCOL
+
+SUBPROTOCOL = Subprotocol(PROTOCOL)
+# A text of more bytes ends its connection with close code 1009.
+MOST = 524_288
+# Seconds until a connection that was closed from this side is cut.
+CLOSING = 5.0
+
+
+class Link(asyncio.Protocol):
+    """What is common to a gateway's and a station's end; `handshake` and `text` are theirs."""
+
+    transport: asyncio.Transport
+
+    def __init__(self, connection: Connection) -> None:
+        self.connection = connection
+        self.opcode, self.parts = OP_TEXT, list[bytes]()
+        self.is_lost = False
+
+    def handshake(self, event: Request | Response) -> None:
+        """The other end asks to be let in, or answers that."""
+        raise NotImplementedError
+
+    def text(self, data: bytes) -> None:
+        """A whole text came."""
+        raise NotImplementedError
+
+    def connection_made(self, transport: asyncio.BaseTransport) -> None:
+        """The connection is there."""
+        self.transport = cast(asyncio.Transport, transport)
+
+    def data_received(self, data: bytes) -> None:
+        """Bytes came."""
+        if self.is_lost:
+            return
+        self.connection.receive_data(data)
+        for event in self.connection.events_received():
+            if not isinstance(event, Frame):
+                self.handshake(event)
+            elif event.opcode in (OP_TEXT, OP_BINARY, OP_CONT):
+                self.frame(event)
+        self.flush()
+
+    def frame(self, frame: Frame) -> None:
+        """A whole message, or a part of one; those that are too long were refused before."""
+        if frame.opcode is not OP_CONT:
+            self.opcode = frame.opcode
+        self.parts.append(frame.data)
+        if not frame.fin:
+            return
+        data = self.parts[0] if len(self.parts) == 1 else b"".join(self.parts)
+        self.parts.clear()
+        if self.opcode is OP_TEXT:
+            self.text(data)
+        else:
+            self.close(1003, "a binary message")
+
+    def send(self, data: bytes) -> None:
+        """Sends a text, where the connection is open."""
+        if self.connection.state is State.OPEN:
+            self.connection.send_text(data)
+            self.flush()
+
+    def close(self, code: int, reason: str) -> None:
+        """Closes the connection with a code of RFC 6455."""
+        if self.connection.state is State.OPEN:
+            self.connection.send_close(code, reason)
+            self.flush()
+            self.cut_later()
+
+    def cut_later(self) -> None:
+        """Cuts the connection where the other end does not close it."""
+        asyncio.get_running_loop().call_later(CLOSING, self.transport.abort)
+
+    def flush(self) -> None:
+        """Writes what the protocol has to send."""
+        for data in self.connection.data_to_send():
+            if self.is_lost or self.transport.is_closing():
+                return
+            if data:
+                self.transport.write(data)
+            else:
+                self.transport.write_eof()
+                self.cut_later()
+
+    def eof_received(self) -> bool:
+        """The other end sends no more."""
+        if not self.is_lost:
+            self.connection.receive_eof()
+            self.flush()
+        return False
+
+    def connection_lost(self, fault: Exception | None) -> None:
+        """The connection is gone."""
+        self.is_lost = True
+
+
+class ClientLink(Link):
+    """A station's end: it asks to be let in as soon as it is connected."""
+
+    def __init__(self, url: str) -> None:
+        self.client = ClientConnection(parse_uri(url), subprotocols=[SUBPROTOCOL])
+        super().__init__(self.client)
+
+    def connection_made(self, transport: asyncio.BaseTransport) -> None:
+        """Asks to be let in."""
+        super().connection_made(transport)
+        self.client.send_request(self.client.connect())
+        self.flush()

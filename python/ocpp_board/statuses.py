@@ -1,0 +1,45 @@
+"""How a tool ends: its exit statuses, the fault that ends it, and the one place where faults become statuses."""
+
+import logging
+import os
+import sys
+from collections.abc import Callable
+from enum import IntEnum
+
+log = logging.getLogger(__name__)
+
+
+class Status(IntEnum):
+    """The exit statuses of all tools."""
+
+    DONE = 0
+    # Something was told: a line that was not taken, a board that is not whole, a mistake of a script.
+    TOLD = 1
+    # Words are wrong, or a file, a program or a database can't be used.
+    MISTAKEN = 2
+    INTERRUPTED = 130
+
+
+class Mistaken(Exception):
+    """What is wrong with the words or with a file that they name, in one sentence."""
+
+
+def drop_output() -> None:
+    """Gives up what standard output did not take, which would be tried again when the program ends."""
+    os.dup2(os.open(os.devnull, os.O_WRONLY), sys.stdout.fileno())
+
+
+def ended(work: Callable[[], int]) -> int:
+    """Does a tool's work and gives its status; a fault of files or words is told, a reader who left is not."""
+    try:
+        status = work()
+        sys.stdout.flush()
+        return status
+    except KeyboardInterrupt:
+        return Status.INTERRUPTED
+    except BrokenPipeError:
+        drop_output()
+    except (OSError, UnicodeDecodeError, Mistaken) as fault:
+        log.error("%s", fault)
+        drop_output()
+    return Status.MISTAKEN

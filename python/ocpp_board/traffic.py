@@ -1,0 +1,120 @@
+"""Writes a script of N transaction events for `ocpp_board replay`, for measuring.
+
+    ocpp-board traffic 1000000 | ocpp_board replay | tail -n 16
+
+Stations take turns, event by event. Each charges in sessions of 48 events, five minutes and 250 Wh apart,
+with one reading each, the first Started and the last Ended. There are as many stations as N events need, or
+those of --stations, and a `limits` line that has room for all of them, so that none is refused: up to 65,536
+events a station and 1,048,576 in all.
+
+With `unchanging` four events of one station are followed by N heartbeats and repeats of these events, in turn.
+
+The script ends with an `energy` line for each station, and what these must print can be told without the
+program: 250,000 mWh for each of its events but the first of each session.
+"""
+
+import argparse
+from collections.abc import Iterator, Sequence
+from datetime import datetime, timedelta, timezone
+
+from ocpp_board.limits import GREATEST_LIMITS, MOMENT, MOST_READINGS, MOST_STATIONS
+from ocpp_board.statuses import Status, ended
+from ocpp_board.words import parsed, parser_of
+
+# Events of a session, seconds from one to the next, and what the register reads first and rises by each time, in Wh.
+SESSION, STEP, START, RISE = 48, 300, 1000, 250
+FIRST = datetime(2026, 3, 1, tzinfo=timezone.utc)
+
+
+def name(station: int) -> str:
+    """The name of the station of this number, from 0 on."""
+    return f"CS-{station + 1:02}"
+
+
+def event(number: int, stations: int) -> str:
+    """The message of the event of this number, counted over all stations."""
+    own, station = divmod(number, stations)
+    session, seq = divmod(own, SESSION)
+    kind = "Started" if seq == 0 else "Ended" if seq == SESSION - 1 else "Updated"
+    time = (FIRST + timedelta(seconds=STEP * own)).strftime(MOMENT)
+    return (
+        f'msg {name(station)} [2,"{number}","TransactionEvent",{{"eventType":"{kind}","timestamp":"{time}",'
+        f'"triggerReason":"MeterValuePeriodic","seqNo":{seq},'
+        f'"transactionInfo":{{"transactionId":"S-{session}"}},'
+        f'"meterValue":[{{"timestamp":"{time}","sampledValue":[{{"value":{START + RISE * own}}}]}}]}}]'
+    )
+
+
+def script(count: int, stations: int) -> Iterator[str]:
+    """The lines of a script of so many events of so many stations."""
+    most = max(1, -(-count // stations))
+    yield f"limits {-(-most // SESSION)} {most} {most} {most}"
+    for station in range(stations):
+        yield f"station north {name(station)}"
+    for number in range(count):
+        yield event(number, stations)
+    for station in range(stations):
+        yield f"energy {name(station)}"
+
+
+def unchanging(count: int) -> Iterator[str]:
+    """The lines of a script of four events, and so many messages that change nothing."""
+    yield f"station north {name(0)}"
+    for number in range(4):
+        yield event(number, 1)
+    for number in range(count):
+        yield event(
+            number % 4, 1
+        ) if number % 2 else f'msg {name(0)} [2,"{number}","Heartbeat",{{}}]'
+    yield f"energy {name(0)}"
+
+
+def arguments(argv: Sequence[str], prog: str) -> argparse.Namespace:
+    """The words. Wrong ones end the program with status 2."""
+    parser = parser_of(prog, __doc__)
+    parser.add_argument(
+        "count",
+        type=int,
+        metavar="N",
+        help="how many events, or messages that change nothing",
+    )
+    parser.add_argument(
+        "unchanging",
+        nargs="?",
+        choices=["unchanging"],
+        metavar="unchanging",
+        help="messages that change nothing",
+    )
+    parser.add_argument(
+        "--stations",
+        type=int,
+        metavar="COUNT",
+        help="how many stations take turns, up to 64 (default: as few as have room)",
+    )
+    words = parsed(parser, argv)
+    if words.count < 0 or not words.unchanging and words.count > MOST_READINGS:
+        parser.error(f"N is from 0 to {MOST_READINGS:,}")
+    fewest = max(1, -(-words.count // GREATEST_LIMITS["events"]))
+    words.stations = fewest if words.stations is None else words.stations
+    if not words.unchanging and not fewest <= words.stations <= MOST_STATIONS:
+        parser.error(f"{words.count:,} events need {fewest} to {MOST_STATIONS} stations")
+    if not words.unchanging and -(-words.count // words.stations) * words.stations > MOST_READINGS:
+        parser.error(
+            f"{words.stations} stations with room for the same number each have none for "
+            f"{words.count:,}"
+        )
+    return words
+
+
+def write(words: argparse.Namespace) -> int:
+    """Writes the script to standard output, and gives the exit status."""
+    count = words.count
+    for line in unchanging(count) if words.unchanging else script(count, words.stations):
+        print(line)
+    return Status.DONE
+
+
+def main(argv: Sequence[str], prog: str) -> int:
+    """Runs the tool with these words; gives its exit status."""
+    words = arguments(argv, prog)
+    return ended(lambda: write(words))

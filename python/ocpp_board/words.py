@@ -1,0 +1,49 @@
+"""Words of the command line that several tools take."""
+
+import argparse
+import logging
+from collections.abc import Sequence
+from zoneinfo import ZoneInfo
+
+from ocpp_board import telling
+
+
+def parser_of(prog: str, about: str | None, ending: str = "") -> argparse.ArgumentParser:
+    """A parser whose help has these texts as they are laid out, with the options of all tools."""
+    parser = argparse.ArgumentParser(
+        prog=prog,
+        description=about,
+        epilog=ending,
+        formatter_class=argparse.RawDescriptionHelpFormatter,
+    )
+    telling.add_option(parser)
+    return parser
+
+
+def parsed(
+    parser: argparse.ArgumentParser, argv: Sequence[str], named_from: int = logging.ERROR
+) -> argparse.Namespace:
+    """The words, after which what is told goes where they say. Wrong words end the program with status 2."""
+    words = parser.parse_args(argv)
+    telling.set_up(parser.prog, words.log_json, named_from)
+    return words
+
+
+def add_program(parser: argparse.ArgumentParser) -> None:
+    """The option that names the program that replays."""
+    parser.add_argument(
+        "--program",
+        metavar="PATH",
+        default="ocpp_board",
+        help="the program (default: ocpp_board)",
+    )
+
+
+def zone(name: str) -> ZoneInfo:
+    """A time zone by its name, such as Europe/Berlin. Raises ArgumentTypeError where this system has none such."""
+    try:
+        return ZoneInfo(name)
+    except (KeyError, ValueError, OSError):
+        raise argparse.ArgumentTypeError(
+            f"no time zone of this system: {name!r} (Debian: package tzdata)"
+        ) from None

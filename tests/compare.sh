@@ -1,0 +1,222 @@
+#!/usr/bin/env bash
+# Compares what the program and the tools make of the rows, the words, the scenes and the days of traffic with the texts
+# that are stored here and in examples/. The last line counts what differs; the status is 1 where something does.
+#     tests/compare.sh                    builds the program that replays without its proofs, which takes a minute, and
+#                                         leaves out what needs a built one: the words, the scenes, explain and live
+#     tests/compare.sh PROGRAM            takes a built one, such as crates/ocpp_board/out/ocpp_board
+#     tests/compare.sh PROGRAM REPLAY     and beside it one that only replays, such as crates/ocpp_replay/out/ocpp_replay
+set -u
+program=${1:+$(realpath "$1")}
+replay=${2:+$(realpath "$2")}
+top=$(cd "$(dirname "$0")/.." && pwd) && cd "$top/tests/tools" || exit
+# What is compared lies in this folder, and the days of traffic in:
+export days=../../examples
+export board=$top/python/ocpp-board
+one=$top/tests/one
+made=$(mktemp -d) || exit
+trap 'rm -r "$made"' EXIT
+different=0
+
+# differs NAME: tells that it is not as stored.
+differs() {
+    echo "$1: differs"
+    different=$((different + 1))
+}
+
+# made_by COMMAND..: runs it; what it tells on standard error is shown where it fails.
+made_by() {
+    "$@" 2> "$made/told" || { cat "$made/told" >&2; differs "$1"; }
+}
+
+# as_stored NAME FILE: FILE is the stored text NAME.
+as_stored() {
+    diff --label stored --label made -u "$1" "$2" && echo "$1: as stored" || differs "$1"
+}
+
+# gives STATUS NAME COMMAND..: the command ends with this status, writes the stored text NAME and tells NAME.told, where
+# one of them may not be stored; else what it tells is shown where its status is another. A NAME of - stands for neither.
+gives() {
+    local status=$1 name=$2
+    shift 2
+    "$@" > "$made/given" 2> "$made/told"
+    local ended=$?
+    [ "$name" = - ] || [ -e "$name" ] || [ -e "$name.told" ] || differs "$name, which is not stored,"
+    [ ! -e "$name" ] || as_stored "$name" "$made/given"
+    [ ! -e "$name.told" ] || as_stored "$name.told" "$made/told"
+    [ $ended = "$status" ] || { cat "$made/told"; differs "the status of $*: $ended, not $status,"; }
+}
+
+# tells STATUS LINE COMMAND..: the command ends with this status, and LINE stands in what it tells.
+tells() {
+    local status=$1 line=$2
+    shift 2
+    "$@" > "$made/given" 2> "$made/told"
+    local ended=$?
+    if [ $ended = "$status" ] && grep -qF -- "$line" "$made/told"; then
+        echo "told: $line"
+    else
+        cat "$made/told"
+        differs "what $* tells (status $ended, not $status with '$line')"
+    fi
+}
+
+# holds LIST: each line of LIST, a file that was made, a tab and a text, tells a text that stands in that file.
+holds() {
+    while IFS=$'\t' read -r name text; do
+        grep -qF -- "$text" "$made/$name" || differs "$1, where $name has no '$text',"
+    done < "$1"
+    echo "$1: $(wc -l < "$1") texts looked for"
+}
+
+# replays COMMAND..: of each script, its stored text.
+replays() {
+    for text in "$made"/cases/*.stdout; do
+        "$@" < "${text%.stdout}" > "$made/written" 2>&1 || echo "status $?" >> "$made/written"
+        diff --label stored --label written -u "$text" "$made/written" || differs "$(basename "$text" .stdout), by $*,"
+    done
+    echo "scripts: $(ls "$made"/cases/*.stdout | wc -l) compared, by $(basename "$1")"
+}
+
+# What explain, live and traffic give, which run the program or write for it.
+with_program() {
+    gives 1 explain/mistakes.told "$board" explain --program "$program" explain/mistakes.script
+    gives 0 explain/nothing.told "$board" explain --program "$program" forms/ocpp.script
+    gives 1 explain/mark.told "$board" explain --program "$program" explain/mark.script
+    gzip -c "$days/day.script" > "$made/day.script.gz"
+    gives 1 explain/gzip.told "$board" explain --program "$program" "$made/day.script.gz"
+    tells 2 "No such file or directory" "$board" explain --program "$program" nowhere.script
+    tells 2 "No such file or directory" "$board" explain --program ./nowhere "$days/day.script"
+    tells 2 "No space left on device" bash -c '"$board" explain --program "$1" explain/mistakes.script > /dev/full' _ "$program"
+
+    # The ledgers stand by the time that the operator's lines come.
+    gives 0 live/answers bash -c '{ sleep 2; cat live/operator; } | "$board" live --program "$1" --out "$2" --every 0.2 \
+        --tz Europe/Berlin <(cat forms/ocpp.script; sleep 4)' _ "$program" "$made/live"
+    as_stored live/north.transactions.csv "$made/live/north.transactions.csv"
+    tells 1 "there is no board" "$board" live --program "$program" --out "$made/live" /dev/null < /dev/null
+    tells 2 "No such file or directory" "$board" live --program "$program" --out "$made/live" nowhere.script
+    tells 2 "the script is compressed by gzip" "$board" live --program "$program" --out "$made/live" "$made/day.script.gz" < /dev/null
+    tells 2 "No such file or directory" "$board" live --program ./nowhere --out "$made/live" forms/ocpp.script
+
+    # 50 events of each of two stations: a session of 48 and one of 2, in each of which all but the first rise by 250 Wh.
+    gives 0 forms/traffic.text bash -c '"$board" traffic 100 --stations 2 | "$1" replay | grep -v "^.3,"' _ "$program"
+}
+
+# The logs become scripts. That of the first day has other fields, and its messages are JSON.
+day_of_log=("$board" log-to-script --site-field location --station-field chargePoint --time-field at --message-field frame
+    --json-message --direction-field from --incoming station)
+gives 0 "$days/day.jsonl.script" "${day_of_log[@]}" "$days/day.jsonl"
+gives 0 "$days/site_day.jsonl.script" "$board" log-to-script "$days/site_day.jsonl"
+gives 0 forms/ocpp.script "$board" log-to-script --form ocpp --site north --utc forms/ocpp.log
+gives 0 forms/maeve.script "$board" log-to-script --form maeve --stations forms/stations.txt --no-boards forms/maeve.mqtt
+citrineos=(--site north --site-map forms/sites.txt --limits 100 1000 2000 1000000)
+gives 0 forms/citrineos.script "$board" log-to-script --form citrineos "${citrineos[@]}" forms/citrineos.jsonl
+gives 0 forms/periods.script "$board" log-to-script --form citrineos --site north --site-map forms/sites.txt --period 1800 \
+    --period north=300 forms/citrineos.jsonl
+gives 0 forms/citrineos.script "$board" log-to-script --form citrineos-csv "${citrineos[@]}" forms/citrineos.csv
+
+# Logs that were compressed, one of which is cut short, and words and lines that can't be taken.
+gzip -c "$days/day.jsonl" > "$made/day.jsonl.gz"
+gives 0 "$days/day.jsonl.script" "${day_of_log[@]}" "$made/day.jsonl.gz"
+head -c -100 "$made/day.jsonl.gz" > "$made/cut.gz"
+tells 1 "the gzip is cut short" "${day_of_log[@]}" "$made/cut.gz"
+gives 1 forms/mistakes.script "$board" log-to-script forms/mistakes.jsonl
+tells 1 "a time has no offset from UTC (--utc takes such times as UTC)" \
+    "$board" log-to-script --form ocpp --site north forms/ocpp.log
+tells 1 "neither this line nor one before it is of the form ocpp" "$board" log-to-script --form ocpp --site n "$days/day.jsonl"
+tells 1 "not a topic cs/in/ocpp2.0.1/STATION" "$board" log-to-script --form maeve --site north forms/ocpp.log
+tells 2 "line 1 names no column message, origin, stationId, timestamp" \
+    "$board" log-to-script --form citrineos-csv --site north forms/ocpp.log
+tells 2 "has no sites: --site, --site-map or --stations names them" "$board" log-to-script --form ocpp forms/ocpp.log
+tells 2 "forms/ocpp.log line 2: not two names" "$board" log-to-script --stations forms/ocpp.log "$days/day.jsonl"
+tells 2 "not 300, 900, 1800 or 3600 seconds: 'north=600'" "$board" log-to-script --period north=600 "$days/day.jsonl"
+tells 2 "no name of a site: 'no/name=300'" "$board" log-to-script --period no/name=300 "$days/day.jsonl"
+tells 2 "No such file or directory" "$board" log-to-script nowhere.jsonl
+tells 2 "No space left on device" bash -c '"$board" log-to-script "$days/site_day.jsonl" > /dev/full'
+tells 2 "No space left on device" bash -c '"$board" log-to-script --form maeve --stations forms/stations.txt forms/maeve.mqtt > /dev/full'
+
+# With --stations a line goes out before the next is there.
+coproc "$board" log-to-script --form maeve --stations forms/stations.txt 2> /dev/null
+if read -r -t 20 -u "${COPROC[0]}" first && read -r -t 20 -u "${COPROC[0]}" second &&
+    echo 'cs/in/ocpp2.0.1/CS-02 {"type":"call","action":"Heartbeat","id":"h1","request":{}}' >&"${COPROC[1]}" &&
+    read -r -t 20 -u "${COPROC[0]}" third && [ "$third" = 'msg CS-02 [2,"h1","Heartbeat",{}]' ]; then
+    echo "a line of a log that grows: at once"
+else
+    differs "a line of a log that grows"
+fi
+exec {COPROC[1]}>&-
+wait "$COPROC_PID"
+
+# The rows, and the scripts of days, those by hand and those of the logs, become replies and boards.
+mkdir "$made/cases"
+made_by "$one" rows.rows "$made/cases" ../rows/*.rows
+for script in "$days"/*.script; do
+    name=$(basename "$script" .script)
+    cp "$script" "$made/cases/$name"
+    cp "$days/$name.expected" "$made/cases/$name.stdout"
+done
+if [ -n "$program" ]; then
+    replays "$program" replay
+    "$one" words.words "$program" ../words/words.txt || differs words.txt
+    for scenes in sessions serving living journalling; do
+        "$one" "scenes.$scenes" "$program" || differs "$scenes"
+    done
+    with_program
+else
+    (cd "$top/crates/ocpp_replay" && rt try --steps 1 --seconds 300 --cases "$made/cases") 2>&1 |
+        grep -v ' output=expected '
+    [ "${PIPESTATUS[0]}" = 0 ] || differs "scripts"
+    echo "not run, since they need a built program: the words, the scenes, explain and live"
+fi
+
+# The program that only replays, with a word and without, and by a tool that starts it.
+if [ -n "$replay" ]; then
+    replays "$replay"
+    replays "$replay" replay
+    "$one" words.words "$replay" ../words/replay.txt || differs replay.txt
+    gives 1 explain/mistakes.told "$board" explain --program "$replay" explain/mistakes.script
+fi
+
+# The boards become tables and pages, in UTC and in a zone whose days have 23 and 25 hours.
+for day in day site_day; do
+    made_by "$board" tables --out "$made/$day" "$days/$day.expected"
+    for stored in "$days/$day".*.csv "$days/$day.html" "$days/$day".*.html; do
+        as_stored "$stored" "$made/$(basename "$stored")"
+    done
+done
+made_by "$board" tables --tz Europe/Berlin --from 2026-03-29 --to 2026-10-25 --out "$made/berlin" tables/berlin.text
+made_by "$board" tables --out "$made/states" tables/states.text
+made_by "$board" tables --out "$made/exports" tables/exports.text
+for name in berlin.periods berlin.transactions states.transactions exports.periods exports.transactions; do
+    as_stored "tables/$name.csv" "$made/$name.csv"
+done
+holds tables/berlin.said
+holds tables/exports.said
+made_by "$board" tables --tz Europe/Berlin --day 2026-03-29 --out "$made/one" tables/berlin.text
+grep -E '^board|:00Z,2026-03-29T' tables/berlin.periods.csv > "$made/one.rows"
+diff "$made/one.rows" "$made/one.periods.csv" || differs "a day of tables/berlin.periods.csv"
+gives 1 tables/broken "$board" tables --out "$made/broken" tables/broken.text
+tells 1 "the text ends, and no board began in it" "$board" tables --out "$made/noise" "$days/day.jsonl"
+tells 2 "the text is compressed by gzip" "$board" tables --out "$made/noise" "$made/day.jsonl.gz"
+tells 2 "No such file or directory" "$board" tables --out "$made/nowhere/x" "$days/day.expected"
+tells 2 "no time zone of this system: 'Mars'" "$board" tables --tz Mars --out "$made/x" "$days/day.expected"
+tells 2 "--from is after --to" "$board" tables --from 2026-03-02 --to 2026-03-01 --out "$made/x" "$days/day.expected"
+tells 2 "File too large" bash -c 'ulimit -f 8; "$board" tables --out "$1" "$days/day.expected"' _ "$made/full"
+# Traffic for measuring, and the clients' words.
+gives 0 forms/traffic.script "$board" traffic 3
+tells 2 "N is from 0 to 1,048,576" "$board" traffic 1048577
+tells 2 "200,000 events need 4 to 64 stations" "$board" traffic 200000 --stations 3
+tells 2 "No space left on device" bash -c '"$board" traffic 10 > /dev/full'
+gives 0 - "$days/clients/station.py" --help
+tells 1 "Debian: apt-get install python3-websockets" python3 -c 'import runpy, sys
+sys.modules["websockets"] = None
+sys.argv = ["station.py", "ws://127.0.0.1:1/ocpp", "CS-01"]
+runpy.run_path("../../examples/clients/station.py", run_name="__main__")'
+if node=$(command -v node); then
+    gives 0 - "$days/clients/station.js" --help
+    mkdir "$made/alone"
+    cp "$days/clients/station.js" "$made/alone"
+    tells 1 "Debian: apt-get install node-ws" env NODE_PATH= "$node" "$made/alone/station.js" ws://127.0.0.1:1/ocpp CS-01
+    tells 2 "a URL and a station are needed" "$days/clients/station.js"
+fi
+echo "different: $different"
+[ $different = 0 ]

@@ -1,0 +1,40 @@
+#!/usr/bin/env bash
+# Installs what is missing and runs demo.py here: a fleet on a database of its own, with faults, and each board compared.
+#     tests/fleet/check.sh PROGRAM [WORD..]      such as crates/ocpp_board/out/ocpp_board; further words are demo.py's
+# Status: 0 where all is right, 1 where something is wrong, 2 for wrong words, and 77 where packages are missing and can't
+# be installed, so that nothing was tried. Packages that it installs stay; the database and all processes do not.
+set -u
+[ "${1-}" != --help ] && [ "${1-}" != -h ] || { sed -n '2,5s/^# \?//p' "$0"; exit 0; }
+[ $# -ge 1 ] && [ -x "$1" ] && [ -f "$1" ] || { echo "check.sh: the built program is its first word" >&2; exit 2; }
+here=$(cd "$(dirname "$0")" && pwd)
+
+# skip REASON: nothing was tried.
+skip() {
+    echo "check.sh: skipped, nothing was tried: $1" >&2
+    exit 77
+}
+
+missing=()
+for package in postgresql-15 postgresql-client-15 python3 python3-asyncpg python3-websockets python3-uvloop; do
+    [ "$(dpkg-query -W -f '${db:Status-Status}' "$package" 2> /dev/null)" = installed ] || missing+=("$package")
+done
+if [ ${#missing[@]} != 0 ]; then
+    command -v apt-get > /dev/null || skip "no ${missing[*]}, and there is no apt-get"
+    [ "$(id -u)" = 0 ] || skip "no ${missing[*]}, which root can install: apt-get install ${missing[*]}"
+    echo "check.sh: installs ${missing[*]}" >&2
+    told=$(mktemp) || exit 1
+    # While this file stands Debian's package makes no cluster; one that is there is left alone.
+    settings=/etc/postgresql-common/createcluster.d
+    leave() {
+        rm -f "$told" "$settings/ocpp_board.conf"
+        rmdir "$settings" "${settings%/*}" 2> /dev/null
+    }
+    trap leave EXIT
+    mkdir -p "$settings" && echo "create_main_cluster = false" > "$settings/ocpp_board.conf" || exit 1
+    options=(-o Acquire::http::Timeout=10 -o Acquire::Retries=0 -o DPkg::Lock::Timeout=60)
+    { apt-get "${options[@]}" update && DEBIAN_FRONTEND=noninteractive \
+        apt-get "${options[@]}" install -y --no-install-recommends "${missing[@]}"; } > "$told" 2>&1 < /dev/null ||
+        skip "no ${missing[*]}, and apt-get can't install them: $(grep '^E:' "$told" | head -n 1)"
+    leave
+fi
+exec "$here/../one" fleet.demo "$@"

@@ -1,0 +1,356 @@
+"""Closes days of a fleet of its own, with what makes that hard, and compares it with a replay of all that came.
+
+    tests/one fleet.close_demo ocpp_board
+
+It starts PostgreSQL 15 in a temporary folder and a worker, and plays a site in Europe/Berlin: repeats, conflicts, a
+transaction over midnight, a day closed twice, a late event before and after its transaction was archived, a void
+and a restoration of one that was, a station that was offline for three days, days of 23 and of 25 hours, an
+`ocpp-board close-day` that is killed at each of its steps, and bad input. After each closing the live boards and
+the archives together have to be the boards of a replay from scratch, and what is settled the periods of that, up to
+the closed day. The status is 1 where something is not as it must be.
+"""
+
+import argparse
+import asyncio
+import subprocess
+import sys
+import time
+from datetime import date, datetime, timedelta, timezone
+from pathlib import Path
+from typing import Any
+from zoneinfo import ZoneInfo
+
+import asyncpg
+
+from tests.fleet.fleet import ended
+from tests.fleet.trials import Trial, event, parsed, parser_of, tried
+
+ZONE = ZoneInfo("Europe/Berlin")
+WAITING = "select count(*) from own_log l join own_shard s using (shard) where (l.xid, l.id) > (s.xid, s.id)"
+
+
+def local(text: str) -> datetime:
+    """A time of the site's zone, such as 2026-03-01 08:00."""
+    return datetime.fromisoformat(text).replace(tzinfo=ZONE)
+
+
+def line(station: str, name: str, number: int, kind: str, at: datetime, value: int) -> str:
+    """The line of an event with one reading, in Wh."""
+    moment = f"{at.astimezone(timezone.utc):%Y-%m-%dT%H:%M:%SZ}"
+    return f"msg {station} {event(name, number, kind, moment, value)}"
+
+
+def session(
+    station: str, name: str, at: datetime, count: int, step: timedelta = timedelta(minutes=15)
+) -> list[str]:
+    """A whole transaction, with so many events."""
+    kinds = ["Started"] + ["Updated"] * (count - 2) + ["Ended"]
+    begin = at.astimezone(timezone.utc)
+    return [
+        line(station, name, number, kind, begin + number * step, 1000 + 250 * number)
+        for number, kind in enumerate(kinds)
+    ]
+
+
+class Demo(Trial):
+    def __init__(self, words: argparse.Namespace) -> None:
+        super().__init__(words)
+        self.archives = self.fleet.folder / "archives"
+        self.worker: Any = None
+        # All that came, of each shard.
+        self.lines: dict[int, list[str]] = {}
+        self.homes: dict[str, int] = {}
+
+    async def open(self) -> None:
+        self.archives.mkdir()
+        await self.one_cell()
+        for shard, site, station in (
+            (0, "north", "A"),
+            (0, "north", "B"),
+            (0, "south", "C"),
+            (1, "north", "D"),
+        ):
+            await self.owner.execute("select add_station($1, $2, $3)", shard, site, station)
+            self.homes[station] = shard
+        await self.owner.execute("update own_site set zone = 'Europe/Berlin' where site = 'north'")
+        self.worker = self.fleet.worker("--boards", 0.2)
+
+    async def came(self, *lines: str) -> None:
+        """Appends lines, and waits until they are answered."""
+        for line in lines:
+            shard = self.homes[line.split(" ", 2)[1]]
+            self.lines.setdefault(shard, []).append(line)
+            await self.owner.execute(
+                "insert into own_log (shard, line) values ($1, $2)", shard, line
+            )
+        await self.owner.execute("select pg_notify('wake', '0 1')")
+        end = time.monotonic() + 20
+        while await self.owner.fetchval(WAITING) and time.monotonic() < end:
+            await asyncio.sleep(0.02)
+
+    def command(self, day: str, site: str = "north", archive: Path | None = None) -> list[str]:
+        """The command that closes a day."""
+        return self.fleet.closing(site, archive or self.archives, day)
+
+    async def close_day(self, day: str, **more: Any) -> tuple[int, str]:
+        return await ended(
+            self.fleet.start(*self.command(day, **more), stdout=-1, stderr=subprocess.STDOUT)
+        )
+
+    async def same(self, text: str, day: str) -> None:
+        """Whether boards and archives together are the whole, and what is settled its periods up to the day."""
+        end, differ = time.monotonic() + 10, ["not compared"]
+        while differ and time.monotonic() < end:
+            differ = []
+            for shard in sorted(set(self.homes.values())):
+                lines = [
+                    line for line in self.lines.get(shard, []) if not line.startswith("msg C ")
+                ]
+                differ += await self.fleet.compare_closed(
+                    self.owner, self.archives, shard, "north", lines, day
+                )
+            if differ:
+                await asyncio.sleep(0.1)
+        self.check(
+            not differ,
+            f"{text}: boards with archives, and what is settled, are as a replay says {differ or ''}",
+        )
+
+    async def closed(self, text: str, day: str, *wanted: str) -> None:
+        """Closes the day, which has to tell what is wanted, and compares."""
+        status, said = await self.close_day(day)
+        missing = [part for part in wanted if part not in said]
+        self.check(
+            status == 0 and not missing,
+            f"{text}: {said}" + (f", and not {missing}" if missing else ""),
+        )
+        await self.same(text, day)
+
+    # What is tried ----------------------------------------------------------------------------------------------------
+
+    async def days(self) -> None:
+        # An event and its void, the transactions of which are not in the order of their numbers' texts.
+        await self.came(*session("B", "Early", local("2026-03-01 06:00"), 3))
+        while int(await self.owner.fetchval("select pg_current_xact_id()::text")) < 1000:
+            pass
+        await self.came("void B Early 1")
+        first = session("A", "TX-1", local("2026-03-01 08:00"), 5)
+        night = session("A", "Night", local("2026-03-01 23:20"), 6)
+        open_one = session("B", "TX-1", local("2026-03-01 10:00"), 5)
+        conflict = line("A", "TX-1", 2, "Updated", local("2026-03-01 08:30"), 9999)
+        await self.came(
+            *first, first[1], conflict, *night[:3], *open_one[:1], *open_one[2:4], "msg A no JSON"
+        )
+        await self.came(*session("C", "TX-1", local("2026-03-01 08:00"), 4))
+        await self.closed(
+            "a first day", "2026-03-01", "0 transactions archived", "2 refused ones, 1 repeats"
+        )
+        await self.closed(
+            "the same day again", "2026-03-01", "is closed already, and nothing came since"
+        )
+        await self.came(*night[3:], open_one[1])
+        await self.closed(
+            "a late event of an open transaction", "2026-03-01", "2 rows, 2 of them corrections"
+        )
+        await self.came(open_one[4])
+        await self.closed("a transaction over midnight", "2026-03-02", "2 transactions archived")
+        count = await self.owner.fetchval(
+            "select count(*) from own_log where line like 'msg A %TX-1%'"
+        )
+        self.check(count == 0, f"lines of an archived transaction in the log: {count}")
+        await self.closed("the day after that", "2026-03-03", "1 transactions archived")
+        days = [session("D", f"TX-{day}", local(f"2026-03-0{day} 12:00"), 6) for day in (1, 2, 3)]
+        await self.came(*[line for lines in days for line in lines])
+        await self.closed(
+            "a station that was offline for three days",
+            "2026-03-03",
+            "15 rows, 15 of them corrections",
+        )
+        self.first = first
+
+    async def corrections(self) -> None:
+        first = self.first
+        last = line("A", "tx-1", 5, "Updated", local("2026-03-01 09:15"), 5000)
+        await self.came(first[2])
+        await self.closed(
+            "an archived event again", "2026-03-03", "1 late lines for tx-1 of A", "; 0 taken"
+        )
+        await self.came(line("A", "TX-1", 3, "Updated", local("2026-03-01 08:45"), 7777))
+        await self.closed(
+            "a conflict with an archived event", "2026-03-03", "; 0 taken", "1 refused ones"
+        )
+        text = "".join(path.read_text() for path in self.archives.iterdir())
+        self.check(
+            "ConflictingEvent" in text and "7777" in text,
+            "a refused line is a comment of an archive",
+        )
+        await self.came("void A TX-1 2")
+        await self.closed(
+            "an archived event voided", "2026-03-03", "1 late lines for tx-1 of A", "; 1 taken"
+        )
+        rows = await self.owner.fetch(
+            "select up, down from own_closed_period where closing > 6 and shard = 0"
+        )
+        self.check(
+            any(row["up"] < 0 for row in rows),
+            f"a correction has the difference: {[tuple(r) for r in rows]}",
+        )
+        await self.closed(
+            "that again", "2026-03-03", "0: 2026-03-03 is closed already, and nothing came since"
+        )
+        await self.came("restore A TX-1 2")
+        await self.closed("and restored", "2026-03-03", "; 1 taken")
+        await self.came(last)
+        await self.closed("an event behind the end of an archived one", "2026-03-03", "; 1 taken")
+        row = await self.owner.fetchrow(
+            "select complete, missing from own_archived_transaction where station = 'A' and transaction = 'tx-1'"
+        )
+        self.check(tuple(row) == (False, 0), f"which is no longer complete: {tuple(row)}")
+
+    async def long_days(self) -> None:
+        for day, hours in (("2026-03-29", 23), ("2026-10-25", 25)):
+            begin = local(f"{day} 00:00")
+            after = local(f"{date.fromisoformat(day) + timedelta(days=1)} 00:00")
+            count = (
+                int((after - begin).total_seconds()) // 900
+                if begin.utcoffset() == after.utcoffset()
+                else 4 * hours
+            )
+            await self.came(
+                *session("B", f"Long-{hours}", begin - timedelta(minutes=15), count + 3)
+            )
+            await self.closed(f"a day of {hours} hours", day)
+            found = await self.owner.fetchval(
+                "select count(*) from settled_period where station = 'B' and day = $1",
+                date.fromisoformat(day),
+            )
+            self.check(
+                found == 4 * hours, f"a day of {hours} hours has {found} quarters of an hour"
+            )
+
+    async def kills(self) -> None:
+        """Killed before it read, before it wrote rows, and after it did."""
+        for step, table in (("reading", "own_log"), ("writing rows", "own_closing")):
+            await self.came(*session("A", f"Kill-{step[0]}", local("2026-11-02 08:00"), 4))
+            lock = await self.fleet.owner()
+            transaction = lock.transaction()
+            await transaction.start()
+            mode = "exclusive" if table == "own_closing" else "access exclusive"
+            await lock.execute(
+                f"set idle_in_transaction_session_timeout = 0; lock table {table} in {mode} mode"
+            )
+            process = self.fleet.start(
+                *self.command("2026-11-03"), stdout=-1, stderr=subprocess.STDOUT
+            )
+            end, blocked = time.monotonic() + 15, 0
+            while not blocked and time.monotonic() < end:
+                await asyncio.sleep(0.05)
+                blocked = await self.owner.fetchval(
+                    "select count(*) from pg_stat_activity where wait_event_type = 'Lock' and application_name = "
+                    "'ocpp-board close-day'"
+                )
+            process.kill()
+            process.wait()
+            await transaction.rollback()
+            await lock.close()
+            gone = await self.owner.fetchval(
+                "select count(*) from own_closing where day = '2026-11-03'"
+            )
+            self.check(
+                blocked == 1 and gone == 0,
+                f"ocpp-board close-day is killed while {step}, and closed nothing",
+            )
+        await self.closed("closing after it was killed", "2026-11-03", "3 transactions archived")
+        await self.came(*session("A", "Kill-after", local("2026-11-04 08:00"), 4))
+        process = self.fleet.start(*self.command("2026-11-05"), stdout=-1, stderr=subprocess.STDOUT)
+        end = time.monotonic() + 15
+        query = "select count(*) from own_closing where day = '2026-11-05'"
+        while not await self.owner.fetchval(query) and time.monotonic() < end:
+            await asyncio.sleep(0.002)
+        process.kill()
+        process.wait()
+        await self.closed("closing after it was killed behind its rows", "2026-11-05")
+
+    async def bad_input(self) -> None:
+        tomorrow = str(datetime.now(ZONE).date() + timedelta(days=1))
+        missing = self.archives / "missing"
+        for text, wanted, arguments in (
+            ("a day in the future", f"{tomorrow} is not over in Europe/Berlin", {"day": tomorrow}),
+            (
+                "a day that is none",
+                "not a day such as 2026-03-01: 'yesterday'",
+                {"day": "yesterday"},
+            ),
+            ("an unknown site", "no site west in this cell", {"day": "2026-03-01", "site": "west"}),
+            (
+                "no folder",
+                "missing: no folder for archives",
+                {"day": "2026-03-01", "archive": missing},
+            ),
+        ):
+            status, said = await self.close_day(**arguments)  # type: ignore[arg-type]
+            self.check(status == 2 and wanted in said, f"{text}: {said.splitlines()[-1]}")
+        for query, wanted in (
+            (
+                "update own_site set zone = 'Mars/Olympus'",
+                'time zone "Mars/Olympus" not recognized',
+            ),
+            ("update own_site set zone = ''", 'time zone "" not recognized'),
+        ):
+            try:
+                await self.owner.execute(query)
+                self.check(False, f"taken: {query}")
+            except asyncpg.PostgresError as fault:
+                self.check(wanted in str(fault), f"{query}: {fault}")
+        path = max(self.archives.glob("north.shard-0.*"))
+        moved = path.rename(self.archives / "elsewhere")
+        name = path.name
+        row = await self.owner.fetchrow(
+            "select station, transaction from own_archived_transaction join own_closing using (shard, site, closing) "
+            "where archive = $1 limit 1",
+            name,
+        )
+        if row:
+            await self.came(f"void {row['station']} {row['transaction']} 1")
+            status, said = await self.close_day("2026-11-05")
+            self.check(status == 2 and name in said, f"an archive that is not there: {said}")
+        moved.rename(path)
+        await self.closed("with the archive back", "2026-11-05")
+        await self.full_disk()
+
+    async def full_disk(self) -> None:
+        small = self.fleet.folder / "small"
+        small.mkdir()
+        command = ["mount", "-t", "tmpfs", "-o", "size=4k", "tmpfs", str(small)]
+        if subprocess.run(command, stderr=subprocess.DEVNULL, check=False).returncode:
+            print("not tried: a full disk, which needs root")
+            return
+        try:
+            await self.came(
+                *session("A", "Full", local("2026-11-06 08:00"), 40, timedelta(minutes=1))
+            )
+            status, said = await self.close_day("2026-11-07", archive=small)
+            self.check(status == 2 and "No space left" in said, f"a full disk: {said}")
+        finally:
+            subprocess.run(["umount", str(small)], check=False)
+        await self.closed("where there is room", "2026-11-07", "1 transactions archived")
+
+    async def run(self) -> None:
+        await self.open()
+        await self.days()
+        await self.corrections()
+        await self.long_days()
+        await self.kills()
+        await self.bad_input()
+        await self.owner.close()
+
+
+def main() -> int:
+    """Tries it, and gives the exit status."""
+    parser = parser_of(__doc__)
+    words = parsed(parser)
+    return tried("closing days", lambda: Demo(words))
+
+
+if __name__ == "__main__":
+    sys.exit(main())

@@ -1,0 +1,555 @@
+"""Runs a fleet of its own on this machine, lets parts of it fail, and compares every board with a replay from scratch.
+
+    tests/one fleet.demo P                           the faults that take no root and no second server
+    tests/one fleet.demo P --faults primary disk     these alone
+
+It starts PostgreSQL 15 in a temporary folder as a user that is not root, 3 workers, 3 gateways and simulated
+stations. Each fault comes while stations send; afterwards every answered message must be in the log, and every
+site's board that of a replay of what stations sent. Then it compacts and compares again; tries bad input; and
+removes a row by hand, after which the comparison must fail. It ends what it started. The status is 1 where one of
+these is not as it must be.
+
+    worker       a worker is killed with -9
+    gateway      a gateway is killed with -9
+    replay       a worker's replay is killed with -9
+    hang         a worker is stopped, fenced by another one, and woken
+    two-workers  all workers are made to believe that they hold all shards
+    network      what is between the gateways and the database is stopped and goes on, then ends and is there again
+    plan         stations, also of a shard that is new, are added while all runs
+    primary      the primary and all its processes are killed with -9, and its synchronous standby is promoted
+    disk         the database's file system is full (a tmpfs, which needs root), and has room again
+"""
+
+import argparse
+import asyncio
+import os
+import re
+import signal
+import subprocess
+import sys
+import time
+from collections.abc import Awaitable, Callable
+
+import asyncpg
+from websockets.http11 import Request, Response
+from websockets.uri import parse_uri
+
+from ocpp_board.fleet.database import Fault, connect
+from tests.fleet.fleet import BIN, SCHEMA, children, ended, free_port, part, tool
+from tests.fleet.trials import MISTAKEN, RIGHT, Trial, parsed, parser_of, tried
+from ocpp_board.fleet.websocket import ClientLink
+
+# Faults of one fleet, and the two that need one of their own.
+COMMON = ["worker", "gateway", "replay", "hang", "two-workers", "network", "plan"]
+OWN = ["primary", "disk"]
+# Waits in seconds that are not passed while a part is killed, besides ten times the run's median, which is long
+# where the machine is busy: less than it takes to see that a worker hangs, so no time ran out.
+LONGEST = {"worker": 2.5, "gateway": 2.5, "replay": 2.5}
+EACH = 20
+
+
+class Client(ClientLink):
+    """A station that sends what it is told to."""
+
+    def __init__(self, url: str) -> None:
+        super().__init__(url)
+        self.heard: asyncio.Queue[str] = asyncio.Queue()
+
+    def handshake(self, event: Request | Response) -> None:
+        assert isinstance(event, Response)
+        self.heard.put_nowait(f"{event.status_code} {(event.body or b'').decode().strip()}".strip())
+
+    def text(self, data: bytes) -> None:
+        self.heard.put_nowait(data.decode())
+
+    def connection_lost(self, fault: Exception | None) -> None:
+        super().connection_lost(fault)
+        self.heard.put_nowait(f"closed {self.connection.close_code}")
+
+    @classmethod
+    async def open(cls, url: str, station: str) -> "Client":
+        loop, whole = asyncio.get_running_loop(), parse_uri(f"{url}/{station}")
+        _, link = await loop.create_connection(
+            lambda: cls(f"{url}/{station}"), whole.host, whole.port
+        )
+        return link
+
+
+class Demo(Trial):
+    def __init__(self, words: argparse.Namespace) -> None:
+        super().__init__(words)
+        self.workers: list[subprocess.Popen[bytes]] = []
+        self.gateways: list[tuple[subprocess.Popen[bytes], str]] = []
+        self.shards = 0
+
+    async def open(self, workers: int = 3, gateways: int = 3) -> None:
+        self.owner = self.owner or await self.fleet.owner()
+        self.workers += [self.fleet.worker("--hang", 3, "--boards", 0.5) for _ in range(workers)]
+        self.gateways += await asyncio.gather(
+            *(asyncio.to_thread(self.fleet.gateway) for _ in range(gateways))
+        )
+
+    async def more_stations(self, count: int, each: int = EACH) -> int:
+        first = await self.fleet.add(self.owner, count, each, self.shards)
+        self.shards += -(-count // each)
+        return first
+
+    async def under_load(
+        self,
+        name: str,
+        fault: Callable[[], Awaitable[None]],
+        urls: list[str] | None = None,
+        longest: float = 0,
+    ) -> None:
+        """A fault while new stations send, and whether each message was answered and each board is right."""
+        shard, first = self.shards, await self.more_stations(self.words.stations)
+        load = self.fleet.load(
+            urls or [url for process, url in self.gateways if process.poll() is None],
+            *(
+                first,
+                self.words.stations,
+                "--events",
+                self.words.events,
+                "--rate",
+                self.words.rate,
+                "--seconds",
+                90,
+            ),
+        )
+        await asyncio.sleep(1)
+        await fault()
+        status, text = await ended(load)
+        if self.owner.is_closed():
+            self.owner = await self.fleet.owner()
+        found = re.search(r"longest (\d+) / \d+ / (\d+) ms", text)
+        median, took = (int(found[1]) / 1000, int(found[2]) / 1000) if found else (0.0, 0.0)
+        self.check(status == 0 and bool(found), f"{name}: {text}")
+        if longest:
+            longest += 10 * median
+            self.check(
+                took < longest, f"{name}: the longest wait, {took:.2f} s, is under {longest:.2f} s"
+            )
+        differ = await self.fleet.compared(self.owner, shard)
+        self.check(
+            not differ,
+            f"{name}: every answered message is in the log, every board equals a replay {differ or ''}",
+        )
+
+    # Faults -----------------------------------------------------------------------------------------------------------
+
+    async def worker(self) -> None:
+        self.workers.pop(0).kill()
+        self.workers.append(self.fleet.worker("--hang", 3, "--boards", 0.5))
+
+    async def gateway(self) -> None:
+        self.gateways.pop(0)[0].kill()
+        self.gateways.append(await asyncio.to_thread(self.fleet.gateway))
+
+    async def replay(self) -> None:
+        os.kill(children(self.workers[0].pid)[0], signal.SIGKILL)
+
+    async def hang(self) -> None:
+        self.workers[0].send_signal(signal.SIGSTOP)
+        await asyncio.sleep(4.5)
+        self.workers[0].send_signal(signal.SIGCONT)
+
+    async def two_workers(self) -> None:
+        await self.owner.execute(
+            "create or replace function hold_shard(shard_number integer) returns boolean language sql as 'select true';"
+            "create or replace function living_workers() returns bigint language sql as 'select 1::bigint'"
+        )
+        for _ in range(150):
+            await asyncio.sleep(0.1)
+            all_held = await self.owner.fetchval(
+                "select count(*) from worker where shards = $1", self.shards
+            )
+            if all_held >= 2:
+                break
+        self.check(all_held >= 2, f"two-workers: {all_held} workers hold all {self.shards} shards")
+
+    async def network(self) -> None:
+        """Cut between two gateways and the database."""
+        port = free_port()
+        command = (*part("proxy"), "--listen", port, "--to", self.fleet.databases[0].port)
+
+        def proxy() -> subprocess.Popen[bytes]:
+            process = self.fleet.start(*command, stdout=subprocess.PIPE)
+            assert process.stdout and process.stdout.readline() == b"ready\n"
+            return process
+
+        first = proxy()
+        dsn = self.fleet.dsn("ledger_gateway", port)
+        gateways = await asyncio.gather(
+            *(asyncio.to_thread(self.fleet.gateway, dsn) for _ in range(2))
+        )
+
+        async def cut() -> None:
+            first.send_signal(signal.SIGSTOP)
+            await asyncio.sleep(self.words.cut)
+            first.send_signal(signal.SIGCONT)
+            await asyncio.sleep(1)
+            first.kill()
+            await asyncio.sleep(1)
+            await asyncio.to_thread(proxy)
+
+        await self.under_load("network", cut, [url for _, url in gateways])
+
+    async def plan(self) -> None:
+        """Stations of a shard that others use, and of a new one."""
+        old = await self.fleet.add(self.owner, 5, 5, self.shards - 1)
+        new = await self.more_stations(5, 5)
+        loads = [
+            self.fleet.load(
+                [url for _, url in self.gateways], first, 5, "--events", 8, "--seconds", 30
+            )
+            for first in (old, new)
+        ]
+        for load in loads:
+            status, text = await ended(load)
+            self.check(status == 0, f"plan: stations that were added while all runs: {text}")
+        await self.period(self.shards - 1)
+
+    async def period(self, shard: int) -> None:
+        """Another settlement period for a shard's site; a program that knows none is not given the shard."""
+        begin = "update own_site set period = $2 where shard = $1"
+        await self.owner.execute(begin, shard, 300)
+        if not self.fleet.with_period:
+            log, fault = (
+                self.fleet.folder / "parts.log",
+                f"shard {shard}: the program knows no periods",
+            )
+            end = time.monotonic() + 5
+            while fault not in log.read_text() and time.monotonic() < end:
+                await asyncio.sleep(0.1)
+            self.check(
+                fault in log.read_text(),
+                f"plan: a period of 300 seconds, of which this program knows none, is told: {fault}",
+            )
+            await self.owner.execute(begin, shard, 900)
+            return
+        differ = await self.fleet.compared(self.owner, shard)
+        text = await self.owner.fetchval("select text from own_board where shard = $1", shard)
+        head = (text or "").split("\n")[0]
+        # Stations' readings are 300 seconds from one another.
+        query = """
+            select distinct extract(epoch from starts)::integer % 900 as place from own_board_period
+            where shard = $1
+        """
+        places = sorted(row["place"] for row in await self.owner.fetch(query, shard))
+        self.check(
+            not differ and head.endswith(" period=300") and places == [0, 300, 600],
+            f"plan: a period of 300 seconds: {head}, whose rows begin {places} seconds in a quarter {differ or ''}",
+        )
+
+    async def common(self) -> None:
+        """The faults that share a fleet, and what is tried after them."""
+        await self.one_cell()
+        database = self.fleet.databases[0]
+        await self.open()
+        for name in [name for name in COMMON if name in self.words.faults]:
+            if name == "network":
+                await self.network()
+            else:
+                await self.under_load(
+                    name, getattr(self, name.replace("-", "_")), longest=LONGEST.get(name, 0)
+                )
+            if name == "two-workers":
+                for process in self.workers:
+                    process.kill()
+                database.psql("ledger", "-f", "-", input=own_functions())
+                self.workers = [self.fleet.worker("--hang", 3, "--boards", 0.5) for _ in range(3)]
+        await self.compaction()
+        await self.bad_input(self.gateways[-1][1])
+        differ = await self.fleet.compared(self.owner)
+        self.check(
+            not differ, f"every board equals a replay from scratch after bad input {differ or ''}"
+        )
+        await self.deleted_row()
+
+    async def compaction(self) -> None:
+        before = await self.owner.fetchval("select count(*) from own_log")
+        command = [
+            *tool("compact"),
+            "--db",
+            self.fleet.dsn("owner"),
+            "--program",
+            self.fleet.program,
+            "--shard",
+        ]
+        for number in range(min(self.shards, 4)):
+            status, text = await ended(self.fleet.start(*command, number, stdout=subprocess.PIPE))
+            if status:
+                self.check(False, f"ocpp-board compact --shard {number}: {text}")
+        after = await self.owner.fetchval("select count(*) from own_log")
+        for process in self.workers:
+            process.kill()
+        self.workers = [self.fleet.worker("--hang", 3, "--boards", 0.5) for _ in range(3)]
+        await self.owner.execute("delete from own_board")
+        differ = await self.fleet.compared(self.owner)
+        # What was removed is repeats, so each answered line is still there once.
+        self.check(
+            after < before and not differ,
+            f"compaction: {before - after} of {before} lines removed, boards by new workers as before {differ or ''}",
+        )
+
+    async def deleted_row(self) -> None:
+        lines = set(self.fleet.sent())
+        row = next(
+            row
+            for row in await self.owner.fetch(
+                "select line from own_log where shard = 0 order by xid, id"
+            )
+            if row["line"] in lines
+        )
+        await self.owner.execute("delete from own_log where shard = 0 and line = $1", row["line"])
+        for process in self.workers:
+            process.kill()
+        await self.owner.execute("delete from own_board")
+        self.workers = [self.fleet.worker("--boards", 0.5)]
+        end = time.monotonic() + 15
+        while (
+            await self.owner.fetchval("select count(*) from own_board") < self.shards
+            and time.monotonic() < end
+        ):
+            await asyncio.sleep(0.2)
+        differ = await self.fleet.compare(self.owner)
+        self.check(len(differ) == 2, f"a row deleted by hand makes the comparison fail: {differ}")
+
+    # Bad input --------------------------------------------------------------------------------------------------------
+
+    async def bad_input(self, url: str) -> None:
+        async def heard(link: Client) -> str:
+            return await asyncio.wait_for(link.heard.get(), 10)
+
+        answer = await heard(await Client.open(url, "NOBODY"))
+        self.check(answer.startswith("404 no station 'NOBODY'"), f"an unknown station: {answer}")
+        station = f"CS-{await self.more_stations(1):05}"
+        link = await Client.open(url, station)
+        self.check(await heard(link) == "101", "a station that was just added is let in")
+        for text, wanted in (
+            ('[2,"1","Heartbeat",\n{}]', '[3,"1",{"currentTime":'),
+            ("TransactionEvent {", '[4,"-1","RpcFrameworkError","NotJson"'),
+            ("no JSON", '[4,"-1","RpcFrameworkError","NotJson"'),
+            ("", '[4,"-1","RpcFrameworkError","NotJson"'),
+            ("\0\n", '[4,"-1","RpcFrameworkError","NotJson"'),
+            ('[2,"TransactionEvent\n","x",{}]', '[4,"-1","RpcFrameworkError","NotJson"'),
+            (
+                '[2,"2","TransactionEvent",{"x":"' + 300_000 * "x" + '"}]',
+                '[4,"-1","RpcFrameworkError","TextTooLong"',
+            ),
+            ('[2,"3","NotifyReport",{"x":"TransactionEvent"}]', '[3,"3",{}]'),
+            ('[2.0,"3","NotifyReport",{}]', '[4,"3","MessageTypeNotSupported"'),
+            ('[2,"4","Authorize",{}]', '[4,"4","NotImplemented"'),
+            ('[2,"5","DataTransfer",{}]', '[4,"5","NotImplemented"'),
+            ('[2,"6",\n"TransactionEvent",{}]', '[4,"6","OccurrenceConstraintViolation","Missing"'),
+        ):
+            link.send(text.encode())
+            answer = await heard(link)
+            self.check(answer.startswith(wanted), f"{text[:40]!r}: {answer[:70]}")
+        link.send(b'"' + 600_000 * b"x" + b'"')
+        answer = await heard(link)
+        self.check(answer == "closed 1009", f"a message of 600,000 bytes: {answer}")
+        await self.wrong_words()
+        await self.names()
+
+    async def names(self) -> None:
+        """A station's name is in one cell only; the second cell is another database of the same server."""
+        database, station = self.fleet.databases[0], "CS-00000"
+        database.fill(2, "second")
+        second = await connect(self.fleet.dsn("owner").replace("/ledger", "/second"))
+        see = f"call see_cell(1::smallint, '127.0.0.1', '{database.port}', 'ledger', '{self.fleet.password}')"
+
+        async def refused(query: str) -> str:
+            try:
+                await second.execute(query)
+            except asyncpg.PostgresError as fault:
+                return str(fault)
+            return "not refused"
+
+        add = f"select add_station(0, 'north', '{station}')"
+        await second.execute(see)
+        text = await refused(add)
+        self.check(
+            text == f"station {station} is in shard 0 of cell_1 already",
+            f"a name of another cell: {text}",
+        )
+        await second.execute("select add_station(0, 'north', 'CS-NEW')")
+        self.check(
+            await second.fetchval("select count(*) from station_twice") == 0,
+            "no station is in two cells",
+        )
+        await second.execute(add.replace(")", ", unasked => true)"))
+        twice = [
+            tuple(row) for row in await second.fetch("select station, cells from station_twice")
+        ]
+        self.check(twice == [(station, [1, 2])], f"a name that is in two cells: {twice}")
+        await second.execute("alter server cell_1 options (set port '1')")
+        text = await refused("select add_station(0, 'north', 'CS-NEWER')")
+        self.check(
+            text.startswith("cell_1 does not answer"),
+            f"a name while the other cell is down: {text}",
+        )
+        await second.close()
+
+    async def wrong_words(self) -> None:
+        made = subprocess.run(
+            [
+                *tool("worker"),
+                "--db",
+                self.fleet.dsn("ledger_worker"),
+                "--program",
+                self.fleet.program,
+            ],
+            env=os.environ | {"PGPASSWORD": "wrong"},
+            stderr=subprocess.PIPE,
+            check=False,
+            timeout=20,
+        )
+        text = made.stderr.decode().strip()
+        self.check(
+            made.returncode == 2 and "does not let ledger_worker in" in text,
+            f"a wrong password: {text}",
+        )
+        gateway = await connect(self.fleet.dsn("ledger_gateway"))
+        for query in (
+            "insert into own_log (shard, line) values (0, 'void CS-00000 TX-0 1')",
+            "insert into own_log (shard, line) values (0, E'msg CS-00000 1\\nvoid CS-00000 TX-0 1')",
+            "select line from own_log",
+            "delete from own_log",
+            "update own_shard set moving_to = 2",
+        ):
+            try:
+                await gateway.execute(query)
+                self.check(False, f"a gateway may: {query}")
+            except asyncpg.PostgresError as fault:
+                self.check(True, f"a gateway may not {query[:40]}..: {str(fault)[:60]}")
+        await gateway.close()
+
+    # Faults of databases ----------------------------------------------------------------------------------------------
+
+    async def primary(self) -> None:
+        """A primary with a synchronous standby, which is promoted."""
+        first, second = self.fleet.database("primary"), self.fleet.database("standby")
+        first.make()
+        first.start(synchronous_standby_names="*")
+        first.psql(
+            "postgres", "-c", "set synchronous_commit = local", "-c", "create database ledger"
+        )
+        second.copy(first)
+        second.start(synchronous_standby_names="")
+        first.psql("ledger", "-f", SCHEMA, env=os.environ | self.fleet.roles())
+        await self.open()
+
+        async def promoted() -> None:
+            sync = await self.owner.fetchval("select sync_state from pg_stat_replication")
+            self.check(sync == "sync", f"primary: its standby is synchronous ({sync})")
+            first.kill()
+            second.run(BIN / "pg_ctl", "-D", second.folder, "promote")
+
+        await self.under_load("primary", promoted)
+
+    async def disk(self) -> None:
+        """A database whose file system is full for some seconds."""
+        small = self.fleet.folder / "small"
+        small.mkdir()
+        made = subprocess.run(
+            ["mount", "-t", "tmpfs", "-o", "size=200m", "tmpfs", small],
+            stderr=subprocess.PIPE,
+            check=False,
+        )
+        if made.returncode:
+            raise Fault(f"a small file system can't be made: {made.stderr.decode().strip()}")
+        database = self.fleet.database("small/data")
+        try:
+            if self.fleet.user:
+                os.chown(small, self.fleet.user["user"], self.fleet.user["group"])
+            database.make("--wal-segsize=1")
+            settings = {"min_wal_size": "2MB", "max_wal_size": "16MB"}
+            database.start(**settings)
+            database.fill(1)
+            await self.open()
+
+            async def full() -> None:
+                ballast = small / "ballast"
+                with open(ballast, "wb") as file:
+                    try:
+                        while True:
+                            file.write(bytes(1 << 16))
+                            file.flush()
+                    except OSError as fault:
+                        self.check("No space left" in str(fault), f"disk: {fault}")
+                answered = len(self.fleet.sent())
+                await asyncio.sleep(4)
+                refused = len(self.fleet.sent()) - answered
+                log = (self.fleet.folder / "database.log").read_text()
+                self.check(
+                    "No space left on device" in log,
+                    f"disk: the database found none ({refused} answered in 4 s)",
+                )
+                ballast.unlink()
+                assert database.process
+                if database.process.poll() is not None:
+                    print("disk: the database ended, and is started again", flush=True)
+                    database.start(**settings)
+
+            await self.under_load("disk", full)
+        finally:
+            for process in self.fleet.processes:
+                process.kill()
+            database.stop()
+            subprocess.run(["umount", small], check=False)
+
+    async def run(self) -> None:
+        if "primary" in self.words.faults:
+            await self.primary()
+        elif "disk" in self.words.faults:
+            await self.disk()
+        else:
+            await self.common()
+        await self.owner.close()
+
+
+def own_functions() -> bytes:
+    """The schema's own functions of holding, in place of those that were put there."""
+    text = SCHEMA.read_text()
+    parts = re.findall(
+        r"create (function (?:living_workers|hold_shard)\(.*?\$\$;\n)", text, re.DOTALL
+    )
+    return "".join(f"create or replace {part}" for part in parts).encode()
+
+
+def main() -> int:
+    """Tries it, and gives the exit status."""
+    parser = parser_of(__doc__)
+    parser.add_argument(
+        "--faults",
+        nargs="+",
+        choices=COMMON + OWN,
+        default=COMMON,
+        help="which (default: the first seven)",
+    )
+    parser.add_argument(
+        "--stations", type=int, default=120, help="how many for each fault (default: 120)"
+    )
+    parser.add_argument(
+        "--rate", type=float, default=600, help="messages a second in all (default: 600)"
+    )
+    parser.add_argument(
+        "--events", type=int, default=10, help="of each station, before repeats (default: 10)"
+    )
+    parser.add_argument(
+        "--cut", type=float, default=2, help="seconds for which the network is stopped (default: 2)"
+    )
+    words = parsed(parser)
+    shared = [name for name in words.faults if name in COMMON]
+    status = RIGHT
+    for faults in [shared] * bool(shared) + [[name] for name in words.faults if name in OWN]:
+        some = argparse.Namespace(**vars(words) | {"faults": faults})
+        status = max(status, tried(" ".join(faults), lambda: Demo(some)))
+        if status == MISTAKEN:
+            break
+    return status
+
+
+if __name__ == "__main__":
+    sys.exit(main())

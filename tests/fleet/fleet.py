@@ -1,0 +1,451 @@
+"""A fleet of one's own on this machine, for trying and measuring: its database, its parts, what its boards must be."""
+
+import asyncio
+import os
+import pwd
+import secrets
+import shutil
+import signal
+import socket
+import subprocess
+import sys
+import tempfile
+import time
+from datetime import date
+from pathlib import Path
+from typing import Any
+from zoneinfo import ZoneInfo
+
+from ocpp_board.boards import TOTAL
+from ocpp_board.energies import FLOW, Flow, flow_of
+from ocpp_board.fleet.figures import Figures, added, figures, periods
+from ocpp_board.fleet.close_day import COMMANDS, transaction_of
+from ocpp_board.fleet.database import Fault, connect
+from ocpp_board.fleet.plans import Plan, knows_period
+
+TOP = Path(__file__).resolve().parent.parent.parent
+SCHEMA = TOP / "python/ocpp_board/fleet/schema.sql"
+BIN = Path("/usr/lib/postgresql/15/bin")
+
+
+def tool(name: str) -> list[str]:
+    """The command of a tool, by the Python that runs this."""
+    return [sys.executable, str(TOP / "python/ocpp-board"), name]
+
+
+def part(name: str) -> list[str]:
+    """The command of a program beside this module."""
+    return [sys.executable, "-m", f"tests.fleet.{name}"]
+
+
+def free_port() -> int:
+    with socket.socket() as one:
+        one.bind(("127.0.0.1", 0))
+        return int(one.getsockname()[1])
+
+
+def children(pid: int) -> list[int]:
+    """The processes that this one started, and those that they started."""
+    try:
+        own = [int(word) for word in Path(f"/proc/{pid}/task/{pid}/children").read_text().split()]
+    except OSError:
+        return []
+    return own + [one for child in own for one in children(child)]
+
+
+class Database:
+    """A server of PostgreSQL in a folder of its own, run by a user that is not root."""
+
+    def __init__(self, fleet: "Fleet", folder: Path) -> None:
+        self.fleet, self.folder, self.port = fleet, folder, free_port()
+        self.process: subprocess.Popen[bytes] | None = None
+
+    def run(self, *command: object) -> None:
+        made = subprocess.run(
+            list(map(str, command)),
+            stdout=subprocess.PIPE,
+            stderr=subprocess.STDOUT,
+            cwd="/",
+            check=False,
+            **self.fleet.user,
+        )
+        if made.returncode:
+            raise Fault(f"{command[0]}: {made.stdout.decode().strip().splitlines()[-1:]}")
+
+    def make(self, *more: str) -> None:
+        secret = self.fleet.folder / "password"
+        secret.write_text(self.fleet.password)
+        secret.chmod(0o644)
+        self.run(
+            BIN / "initdb",
+            "-D",
+            self.folder,
+            "-U",
+            "owner",
+            "-A",
+            "scram-sha-256",
+            "--pwfile",
+            secret,
+            *more,
+        )
+        secret.unlink()
+
+    def copy(self, other: "Database") -> None:
+        """Makes this one a standby of another one."""
+        login = f"host=127.0.0.1 port={other.port} user=owner password={self.fleet.password}"
+        self.run(BIN / "pg_basebackup", "-D", self.folder, "-R", "-c", "fast", "-d", login)
+
+    def start(self, **settings: str) -> None:
+        words = [f"--{name}={value}" for name, value in settings.items()]
+        with open(self.fleet.folder / "database.log", "ab") as log:
+            process = self.process = subprocess.Popen(
+                [
+                    str(BIN / "postgres"),
+                    "-D",
+                    str(self.folder),
+                    "-p",
+                    str(self.port),
+                    "-k",
+                    str(self.fleet.folder),
+                ]
+                + ["-c", "listen_addresses=127.0.0.1", *words],
+                stdin=subprocess.DEVNULL,
+                stdout=log,
+                stderr=log,
+                cwd="/",
+                **self.fleet.user,
+            )
+        end = time.monotonic() + 20
+        while subprocess.run(
+            [BIN / "pg_isready", "-q", "-h127.0.0.1", f"-p{self.port}", "-Uowner", "-dpostgres"],
+            check=False,
+        ).returncode:
+            if process.poll() is not None or time.monotonic() > end:
+                raise Fault(f"the database does not start: {self.fleet.folder / 'database.log'}")
+            time.sleep(0.05)
+
+    def psql(self, database: str, *words: object, **more: Any) -> None:
+        command = [
+            "psql",
+            "-h",
+            "127.0.0.1",
+            "-p",
+            self.port,
+            "-U",
+            "owner",
+            "-qX",
+            "-d",
+            database,
+            *words,
+        ]
+        subprocess.run(list(map(str, command)), check=True, **more)
+
+    def fill(self, cell: int, name: str = "ledger") -> None:
+        self.psql("postgres", "-c", f"create database {name}")
+        self.psql(name, "-v", f"cell={cell}", "-f", SCHEMA, env=os.environ | self.fleet.roles())
+
+    def kill(self) -> None:
+        """Ends the server and all its processes at once, as a machine that fails."""
+        if self.process and self.process.poll() is None:
+            for pid in [self.process.pid, *children(self.process.pid)]:
+                try:
+                    os.kill(pid, signal.SIGKILL)
+                except ProcessLookupError:
+                    pass
+            self.process.wait()
+
+    def stop(self) -> None:
+        if self.process and self.process.poll() is None:
+            self.process.send_signal(signal.SIGQUIT)
+            self.process.wait()
+
+
+# The numbers of a station's lines, which are columns.
+NUMBERS = {
+    "total": set(TOTAL),
+    "period": set(FLOW),
+    "tx": {"evse", "events", "first", "last", "complete", "missing", *FLOW},
+    "gap": set[str](),
+}
+
+
+def is_of(line: str, kept: set[tuple[str, str]]) -> bool:
+    """Whether a line of an archive declares, or is of one of these transactions."""
+    return line.startswith(("limits ", "station ", "period ")) or (
+        line.startswith(COMMANDS) and transaction_of(line) in kept
+    )
+
+
+def without_evses(part: Figures) -> Figures:
+    return {key: numbers for key, numbers in part.items() if key[1] != "evse"}
+
+
+class Fleet:
+    """What was started, and what stations sent."""
+
+    def __init__(self, program: str, user: str) -> None:
+        self.program, self.folder = os.path.abspath(program), Path(
+            tempfile.mkdtemp(prefix="ocpp-fleet.")
+        )
+        self.with_period = knows_period(self.program)
+        self.processes: list[subprocess.Popen[bytes]] = []
+        self.databases: list[Database] = []
+        self.password = secrets.token_hex(12)
+        self.user: dict[str, Any] = {}
+        self.folder.chmod(0o755)
+        if os.geteuid() == 0:
+            one = pwd.getpwnam(user)
+            self.user = {"user": one.pw_uid, "group": one.pw_gid, "extra_groups": []}
+            os.chown(self.folder, one.pw_uid, one.pw_gid)
+        os.environ["PGPASSWORD"] = self.password
+        self.log = open(self.folder / "parts.log", "ab")
+        self.records: list[Path] = []
+        self.stations = 0
+
+    def database(self, name: str = "data") -> Database:
+        self.databases.append(Database(self, self.folder / name))
+        return self.databases[-1]
+
+    def dsn(self, user: str, *ports: int) -> str:
+        hosts = ",".join(
+            f"127.0.0.1:{port}" for port in ports or [one.port for one in self.databases]
+        )
+        return f"postgresql://{user}@{hosts}/ledger"
+
+    def roles(self) -> dict[str, str]:
+        """The passwords that schema.sql takes from the environment."""
+        return {
+            f"{role}_PASSWORD": self.password
+            for role in ("GATEWAY", "FEED", "WORKER", "READER", "OPERATOR")
+        }
+
+    def start(self, *command: object, **more: Any) -> subprocess.Popen[bytes]:
+        more = dict[str, Any](stdin=subprocess.DEVNULL, stdout=self.log, stderr=self.log) | more
+        self.processes.append(subprocess.Popen(list(map(str, command)), **more))
+        return self.processes[-1]
+
+    def worker(self, *more: object, dsn: str = "") -> subprocess.Popen[bytes]:
+        login = dsn or self.dsn("ledger_worker")
+        return self.start(*tool("worker"), "--db", login, "--program", self.program, *more)
+
+    def gateway(self, *dsns: str, port: int = 0) -> tuple[subprocess.Popen[bytes], str]:
+        logins = [word for dsn in dsns or [self.dsn("ledger_gateway")] for word in ("--db", dsn)]
+        process = self.start(
+            *tool("gateway"),
+            *logins,
+            "--program",
+            self.program,
+            "--port",
+            port,
+            stdout=subprocess.PIPE,
+        )
+        assert process.stdout
+        words = process.stdout.readline().decode().split()
+        if len(words) != 2:
+            raise Fault(f"a gateway does not start: {self.folder / 'parts.log'}")
+        return process, f"ws://{words[1]}/ocpp"
+
+    async def add(
+        self,
+        owner: Any,
+        count: int,
+        each: int,
+        shard: int,
+        limits: tuple[int, int, int] | None = None,
+    ) -> int:
+        """Adds so many stations, `each` to a shard, from this shard on. Gives the number of the first."""
+        first = self.stations
+        self.stations += count
+        async with owner.transaction():
+            for number in range(count):
+                place = shard + number // each
+                await owner.execute(
+                    "select add_station($1, $2, $3)",
+                    place,
+                    f"site-{place}",
+                    f"CS-{first + number:05}",
+                )
+            if limits:
+                await owner.execute(
+                    "update own_station set transactions = $2, events = $3, readings = $4 where shard >= $1",
+                    shard,
+                    *limits,
+                )
+        return first
+
+    def closing(self, site: str, archives: Path, day: object) -> list[str]:
+        """The command that closes a day of a site."""
+        owner = ("--db", self.dsn("owner"), "--program", self.program)
+        days = ("--site", site, "--archive", str(archives), "--day", str(day))
+        return [*tool("close-day"), *owner, *days]
+
+    def load(
+        self, urls: list[str], first: int, stations: int, *more: object
+    ) -> subprocess.Popen[bytes]:
+        self.records.append(self.folder / f"sent.{first}.script")
+        return self.start(
+            *part("load"),
+            *("--first", first, "--stations", stations, "--record", self.records[-1]),
+            *more,
+            *urls,
+            stdout=subprocess.PIPE,
+        )
+
+    def sent(self) -> list[str]:
+        """All lines that were answered."""
+        return [line for record in self.records for line in record.read_text().splitlines()]
+
+    async def compare(self, owner: Any, shard: int = 0) -> list[str]:
+        """What differs: answered lines that the log lacks, and boards, of this shard and those behind it, that are not
+        those of a replay from scratch."""
+        differ, sent = [], self.sent()
+        in_log = {row["line"] for row in await owner.fetch("select line from own_log")}
+        if missing := sum(line not in in_log for line in sent):
+            differ.append(f"{missing} answered lines are not in the log")
+        shards = {
+            row["station"]: row["shard"]
+            for row in await owner.fetch("select station, shard from own_station")
+        }
+        texts: dict[int, list[str]] = {}
+        for line in sent:
+            if (home := shards.get(line.split(" ", 2)[1])) is not None:
+                texts.setdefault(home, []).append(line)
+        for number in sorted(number for number in set(shards.values()) if number >= shard):
+            plan = await Plan.of(owner.fetch, number, self.with_period)
+            lines = [*texts.get(number, ()), *(f"board {site}" for site in plan.sites)]
+            script = plan.lines + "".join(line + "\n" for line in lines).encode()
+            made = subprocess.run(
+                [self.program, "replay"], input=script, stdout=subprocess.PIPE, check=True
+            ).stdout
+            rows = await owner.fetch("select site, text from own_board where shard = $1", number)
+            boards = {row["site"]: row["text"] for row in rows}
+            wanted = made[made.index(b"board ") :].decode()
+            if "".join(boards.get(site, "") for site in plan.sites) != wanted:
+                differ.append(f"shard {number}: the boards differ")
+            elif await self.rows(owner, number) != without_evses(figures(wanted)):
+                differ.append(f"shard {number}: the boards' rows differ from their texts")
+        return differ
+
+    async def rows(self, owner: Any, shard: int) -> Figures:
+        """The figures of a shard's stations as rows have them."""
+        found: Figures = {}
+        for kind, table in (
+            ("total", "station"),
+            ("period", "period"),
+            ("tx", "transaction"),
+            ("gap", "gap"),
+        ):
+            for row in await owner.fetch(
+                f"select * from own_board_{table} where shard = $1", shard
+            ):
+                name = ""
+                if kind == "period":
+                    name = f"{row['starts']:%Y-%m-%dT%H:%M:%SZ}"
+                elif kind == "tx":
+                    name = row["transaction"]
+                elif kind == "gap":
+                    name = f"{row['transaction']} {row['first']}..{row['last']}"
+                numbers = {key: int(value) for key, value in row.items() if key in NUMBERS[kind]}
+                found[row["station"], kind, name] = numbers
+        return found
+
+    async def compared(self, owner: Any, shard: int = 0, seconds: float = 15) -> list[str]:
+        """What differs, once boards have had the time to be written."""
+        end = time.monotonic() + seconds
+        while (differ := await self.compare(owner, shard)) and time.monotonic() < end:
+            await asyncio.sleep(0.3)
+        return differ
+
+    async def whole(self, owner: Any, shard: int, site: str, lines: list[str]) -> Figures:
+        """The figures of a site's stations in a shard by a replay from scratch of what came."""
+        plan = await Plan.of(owner.fetch, shard, self.with_period)
+        return self.replayed(plan.lines, lines, site)
+
+    def replayed(self, declared: bytes, lines: list[str], site: str) -> Figures:
+        script = declared + "".join(line + "\n" for line in [*lines, f"board {site}"]).encode()
+        made = subprocess.run(
+            [self.program, "replay"], input=script, stdout=subprocess.PIPE, check=True
+        ).stdout
+        return figures(made[made.index(b"board ") :].decode())
+
+    async def parts(self, owner: Any, archives: Path, shard: int, site: str) -> Figures:
+        """What the live board says, and each archive of the transactions that it has as they are now."""
+        text = await owner.fetchval(
+            "select text from own_board where shard = $1 and site = $2", shard, site
+        )
+        rows = await owner.fetch(
+            "select station, transaction, archive from own_archived_transaction join own_closing "
+            "using (shard, site, closing) where shard = $1 and site = $2",
+            shard,
+            site,
+        )
+        parts = [figures(text or "")]
+        for name in {row["archive"] for row in rows}:
+            kept = {(row["station"], row["transaction"]) for row in rows if row["archive"] == name}
+            lines = [
+                line
+                for line in (archives / name).read_bytes().decode().split("\n")
+                if is_of(line, kept)
+            ]
+            parts.append(self.replayed(b"", lines, site))
+        return added(parts)
+
+    async def compare_closed(
+        self, owner: Any, archives: Path, shard: int, site: str, lines: list[str], day: str
+    ) -> list[str]:
+        """What differs between a replay from scratch and boards with archives, and what is settled up to the day."""
+        differ, whole = [], await self.whole(owner, shard, site, lines)
+        try:
+            if await self.parts(owner, archives, shard, site) != whole:
+                differ.append(f"shard {shard}: boards and archives are not those of all that came")
+        except ValueError as fault:
+            differ.append(f"shard {shard}: {fault}")
+        rows = await owner.fetch(
+            "select station, starts, sum(up)::bigint as up, sum(down)::bigint as down, "
+            "sum(export_up)::bigint as export_up, sum(export_down)::bigint as export_down from own_closed_period "
+            "where shard = $1 and site = $2 group by station, starts",
+            shard,
+            site,
+        )
+        settled = {(row["station"], row["starts"]): flow_of(row) for row in rows}
+        zone = ZoneInfo(
+            await owner.fetchval(
+                "select zone from own_site where shard = $1 and site = $2", shard, site
+            )
+        )
+        last = date.fromisoformat(day)
+        wanted = {
+            key: flow
+            for key, flow in periods(whole).items()
+            if key[1].astimezone(zone).date() <= last
+        }
+        # A period that was settled and has no reading any more has no energy.
+        if settled != wanted | {key: Flow() for key in settled.keys() - wanted.keys()}:
+            differ.append(f"shard {shard}: what is settled is not the periods of all that came")
+        return differ
+
+    async def owner(self, *ports: int) -> Any:
+        return await connect(self.dsn("owner", *ports))
+
+    def close(self) -> None:
+        """Ends what was started, by its ids."""
+        for process in reversed(self.processes):
+            if process.poll() is None:
+                process.send_signal(signal.SIGCONT)
+                process.kill()
+                process.wait()
+        for database in self.databases:
+            database.stop()
+        self.log.close()
+        # A process that is just ending may still write into the folder.
+        for _ in range(50):
+            if not self.folder.exists():
+                break
+            shutil.rmtree(self.folder, ignore_errors=True)
+            time.sleep(0.1)
+
+
+async def ended(process: subprocess.Popen[bytes]) -> tuple[int, str]:
+    """The status of a process, once it ended, and what it wrote."""
+    data, _ = await asyncio.to_thread(process.communicate)
+    return process.returncode, (data or b"").decode().strip()

@@ -1,0 +1,221 @@
+"""Plays charging stations against gateways, and records what was answered.
+
+    tests/one fleet.load --stations 300 --record sent.script ws://127.0.0.1:9100/ocpp ws://127.0.0.1:9101/ocpp
+
+Station k is CS-0000k; its events come in sessions of eight, shuffled, one in five sent twice. It sends the next
+message after the answer to the last one; where its connection ends it connects to the next gateway and sends again.
+Each message is recorded once its answer is there, as a line of a script. A message's wait is from when it was first
+sent to its answer, whatever happened in between. The status is 1 where an answer was not the one of an event that
+is taken, or where not all were answered in time.
+"""
+
+import argparse
+import asyncio
+import json
+import logging
+import random
+import sys
+import time
+from typing import TextIO
+from urllib.parse import urlsplit
+
+from websockets.http11 import Request, Response
+
+from ocpp_board import telling
+from ocpp_board.fleet.parts import use_uvloop
+from ocpp_board.fleet.websocket import ClientLink
+from tests.fleet.trials import messages
+
+log = logging.getLogger(__name__)
+
+# Seconds until a station that got no answer connects anew, and after which one whose connection ended does so.
+PATIENCE, PAUSE = 40.0, 0.1
+
+
+class Load:
+    """All stations, and what was seen."""
+
+    def __init__(self, words: argparse.Namespace, record: TextIO) -> None:
+        self.words, self.record = words, record
+        self.waits: list[float] = []
+        self.moments: list[float] = []
+        self.worst = ("", 0.0, 0.0)
+        self.again = self.odd = 0
+        self.began = time.monotonic()
+        self.left = words.stations
+        self.done = asyncio.Event()
+
+    def answered(self, station: "Station", answer: str) -> None:
+        now = time.monotonic()
+        wait = now - station.first
+        self.waits.append(wait)
+        self.moments.append(now)
+        if wait > self.worst[1]:
+            self.worst = (station.name, wait, now - self.began)
+        if answer != station.wanted:
+            self.odd += 1
+            log.warning(
+                "%s sent %s.. and was answered %s", station.name, station.rest[0][:60], answer[:80]
+            )
+        self.record.write(f"msg {station.name} {station.rest[0]}\n")
+
+    def report(self) -> None:
+        took, count = time.monotonic() - self.began, len(self.moments)
+        # Without those who are first and last: stations begin one by one, and some have more to send than others.
+        middle = self.moments[count // 10 : max(count // 10 + 1, count * 7 // 10)]
+        steady = len(middle) / max(0.001, middle[-1] - middle[0]) if middle else 0
+        waits = sorted(self.waits)
+        parts = [
+            f"{1000 * waits[min(len(waits) - 1, int(part * len(waits)))]:.0f}"
+            for part in (0.5, 0.99, 1)
+            if waits
+        ]
+        print(
+            f"{count} answered in {took:.1f} s, {steady:.0f} a second in the middle, "
+            f"median / 99th / longest {' / '.join(parts)} ms "
+            f"(the longest ended at {self.worst[2]:.1f} s), {self.again} sent again, {self.odd} other answers, "
+            f"{self.left} stations not done",
+            flush=True,
+        )
+
+
+class Station:
+    """One station: its messages, and its connection of the moment."""
+
+    def __init__(self, load: Load, number: int) -> None:
+        words = load.words
+        self.load, self.name, self.turn = load, f"CS-{number:05}", number
+        self.rest, self.wanted = messages(number, words.events, words.step, words.near), ""
+        self.pause = words.stations / words.rate if words.rate else 0.0
+        self.first = 0.0
+        self.link: StationEnd | None = None
+        self.next: asyncio.TimerHandle | None = None
+
+    async def play(self) -> None:
+        """Keeps a connection until all is answered."""
+        await asyncio.sleep(random.random() * (self.pause or 1.0))
+        loop = asyncio.get_running_loop()
+        while self.rest:
+            url = self.load.words.urls[self.turn % len(self.load.words.urls)]
+            self.turn += 1
+            parts = urlsplit(url)
+            ended: asyncio.Future[None] = loop.create_future()
+            try:
+                _, self.link = await asyncio.wait_for(
+                    loop.create_connection(
+                        lambda: StationEnd(self, f"{url}/{self.name}", ended),
+                        parts.hostname,
+                        parts.port,
+                    ),
+                    10,
+                )
+                await ended
+            except (OSError, asyncio.TimeoutError):
+                pass
+            if self.next:
+                self.next.cancel()
+            if self.rest:
+                await asyncio.sleep(PAUSE)
+        self.load.left -= 1
+        if not self.load.left:
+            self.load.done.set()
+
+    def send(self) -> None:
+        assert self.link
+        self.load.again += self.first > 0
+        self.first = self.first or time.monotonic()
+        self.wanted = f'[3,"{json.loads(self.rest[0])[1]}",{{}}]'
+        self.link.send(self.rest[0].encode())
+        self.next = asyncio.get_running_loop().call_later(PATIENCE, self.link.transport.abort)
+
+    def answered(self, answer: str) -> None:
+        assert self.link and self.next
+        self.next.cancel()
+        self.load.answered(self, answer)
+        wait = time.monotonic() - self.first
+        self.first = 0.0
+        del self.rest[0]
+        if not self.rest:
+            self.link.close(1000, "")
+        elif self.pause:
+            self.next = asyncio.get_running_loop().call_later(
+                max(0.0, self.pause - wait), self.send
+            )
+        else:
+            self.send()
+
+
+class StationEnd(ClientLink):
+    def __init__(self, station: Station, url: str, ended: "asyncio.Future[None]") -> None:
+        super().__init__(url)
+        self.station, self.ended = station, ended
+
+    def handshake(self, event: Request | Response) -> None:
+        if self.client.handshake_exc:
+            log.error("%s: %s", self.station.name, self.client.handshake_exc)
+            self.transport.abort()
+        else:
+            self.station.link = self
+            self.station.send()
+
+    def text(self, data: bytes) -> None:
+        self.station.answered(data.decode())
+
+    def connection_lost(self, fault: Exception | None) -> None:
+        super().connection_lost(fault)
+        if not self.ended.done():
+            self.ended.set_result(None)
+
+
+async def run(words: argparse.Namespace) -> int:
+    with open(words.record, "w", encoding="utf-8") as record:
+        load = Load(words, record)
+        stations = [Station(load, words.first + number) for number in range(words.stations)]
+        load.began = time.monotonic()
+        jobs = [asyncio.create_task(station.play()) for station in stations]
+        try:
+            await asyncio.wait_for(load.done.wait(), words.seconds)
+        except asyncio.TimeoutError:
+            pass
+        for job in jobs:
+            if job.done():
+                job.result()
+        load.report()
+    return 1 if load.left or load.odd or not load.waits else 0
+
+
+def main() -> int:
+    parser = argparse.ArgumentParser(
+        description=__doc__, formatter_class=argparse.RawDescriptionHelpFormatter
+    )
+    parser.add_argument(
+        "urls", nargs="+", metavar="URL", help="a gateway, such as ws://127.0.0.1:9100/ocpp"
+    )
+    parser.add_argument("--stations", type=int, default=100, help="how many (default: 100)")
+    parser.add_argument(
+        "--first", type=int, default=0, help="the number of the first one (default: 0)"
+    )
+    parser.add_argument("--events", type=int, default=16, help="how many each (default: 16)")
+    parser.add_argument(
+        "--step", type=int, default=300, help="seconds from one's time to the next's (default: 300)"
+    )
+    parser.add_argument(
+        "--near", type=int, default=0, help="how many are shuffled at a time (default: all)"
+    )
+    parser.add_argument(
+        "--rate", type=float, default=0, help="messages a second in all (default: all they can)"
+    )
+    parser.add_argument("--seconds", type=float, default=60, help="until it gives up (default: 60)")
+    parser.add_argument("--record", required=True, help="the file of what was answered")
+    words = parser.parse_args()
+    telling.set_up(parser.prog, named_from=logging.DEBUG)
+    use_uvloop()
+    try:
+        return asyncio.run(run(words))
+    except OSError as fault:
+        log.error("%s", fault)
+        return 2
+
+
+if __name__ == "__main__":
+    sys.exit(main())

@@ -1,0 +1,221 @@
+"""Measures a fleet of its own on this machine.
+
+    tests/one fleet.measure ocpp_board load --stations 1000 --shards 16 --rate 1500 --kill
+    tests/one fleet.measure ocpp_board recovery --lines 200000 --shards 4
+    tests/one fleet.measure ocpp_board memory
+
+`load` gives messages a second, waits (median, 99th, longest) and processor time a message by part, and compares
+every board at the end; with --kill a worker, a gateway and a replay are killed on the way. `recovery` fills the log
+of some shards and times a worker that takes them. `memory` gives what a replay of 64 stations takes, empty, by its
+limits.
+"""
+
+import argparse
+import asyncio
+import logging
+import os
+import resource
+import signal
+import sys
+import time
+from pathlib import Path
+from typing import Any
+
+from ocpp_board.fleet.database import Fault, said
+from ocpp_board.fleet.plans import Plan
+from ocpp_board.fleet.replays import Replay
+from tests.fleet.fleet import Fleet, children, ended
+from tests.fleet.trials import FAULTS, MISTAKEN, messages, parsed, parser_of
+
+log = logging.getLogger(__name__)
+
+TICKS = os.sysconf("SC_CLK_TCK")
+
+
+def spent(pids: list[int]) -> float:
+    """The processor time of these processes so far, in seconds; of those that ended none."""
+    total = 0.0
+    for pid in pids:
+        try:
+            words = Path(f"/proc/{pid}/stat").read_text().rpartition(")")[2].split()
+        except OSError:
+            continue
+        total += (int(words[11]) + int(words[12])) / TICKS
+    return total
+
+
+async def made(fleet: Fleet, synchronous: bool) -> Any:
+    """The database of a fleet, with a synchronous standby where one is wanted."""
+    database = fleet.database()
+    database.make()
+    database.start()
+    database.fill(1)
+    if synchronous:
+        standby = fleet.database("standby")
+        standby.copy(database)
+        standby.start()
+        database.psql("postgres", "-c", "alter system set synchronous_standby_names = '*'")
+        database.psql("postgres", "-c", "select pg_reload_conf()", stdout=fleet.log)
+    return await fleet.owner()
+
+
+async def load(fleet: Fleet, words: argparse.Namespace) -> int:
+    owner = await made(fleet, words.standby)
+    each = -(-words.stations // words.shards)
+    transactions, events, readings = words.limits
+    await fleet.add(owner, words.stations, each, 0, (transactions, events, readings))
+    workers = [fleet.worker() for _ in range(words.workers)]
+    gateways = [await asyncio.to_thread(fleet.gateway) for _ in range(words.gateways)]
+    while await owner.fetchval("select coalesce(sum(shards), 0) from worker") < words.shards:
+        await asyncio.sleep(0.2)
+    await asyncio.sleep(1)
+    urls = [url for _, url in gateways]
+    assert fleet.databases[0].process
+    parts = {
+        "gateway": [process.pid for process, _ in gateways],
+        "worker": [process.pid for process in workers],
+        "replay": [child for process in workers for child in children(process.pid)],
+        "PostgreSQL": [
+            pid
+            for one in fleet.databases
+            if one.process
+            for pid in [one.process.pid, *children(one.process.pid)]
+        ],
+    }
+    before = {name: spent(pids) for name, pids in parts.items()}
+    rate = ("--rate", words.rate) if words.rate else ()
+    run = fleet.load(
+        urls, 0, words.stations, "--events", words.events, "--seconds", words.seconds, *rate
+    )
+    if words.kill:
+        await asyncio.sleep(4)
+        workers[0].kill()
+        await asyncio.sleep(2)
+        gateways[0][0].kill()
+        await asyncio.sleep(2)
+        os.kill(children(workers[1].pid)[0], signal.SIGKILL)
+    status, text = await ended(run)
+    print(text)
+    if not words.kill:
+        used = {name: spent(pids) - before[name] for name, pids in parts.items()}
+        count = int(text.split()[0])
+        own = ", ".join(f"{name} {1e6 * seconds / count:.0f}" for name, seconds in used.items())
+        batches = await owner.fetchval("select count(distinct xid) from own_log")
+        rows = await owner.fetchval("select count(*) from own_log")
+        print(f"processor time a message in us: {own}; {rows / max(1, batches):.1f} lines a commit")
+    differ = await fleet.compared(owner, seconds=30)
+    print(
+        f"{words.shards} shards: {'every board equals a replay from scratch' if not differ else differ}"
+    )
+    await owner.close()
+    return 1 if status or differ else 0
+
+
+async def recovery(fleet: Fleet, words: argparse.Namespace) -> int:
+    owner = await made(fleet, False)
+    each, events = 60, -(-words.lines // words.shards // 60)
+    await fleet.add(owner, each * words.shards, each, 0, (events, events, events))
+    for shard in range(words.shards):
+        lines = [
+            f"msg CS-{station:05} {text}"
+            for station in range(shard * each, shard * each + each)
+            for text in dict.fromkeys(messages(station, events))
+        ]
+        await owner.execute(
+            "insert into own_log (shard, line) select $1, line from unnest($2::text[]) with ordinality "
+            "as l (line, place) order by place",
+            shard,
+            lines,
+        )
+    count = await owner.fetchval("select count(*) from own_log")
+    size = await owner.fetchval("select pg_total_relation_size('own_log')")
+    began = time.monotonic()
+    worker = fleet.worker("--boards", 3600)
+    while (text := (fleet.folder / "parts.log").read_text()).count(
+        f"{count // words.shards} lines replayed"
+    ) < words.shards:
+        if worker.poll() is not None or time.monotonic() > began + words.seconds:
+            raise Fault(f"the worker did not take them: {text[-300:]}")
+        await asyncio.sleep(0.05)
+    took = time.monotonic() - began
+    replays = spent(children(worker.pid))
+    print(
+        f"{words.shards} shards, {count} lines: {took:.1f} s from the worker's start, {count / took:.0f} a second; "
+        f"processor time worker {spent([worker.pid]):.1f} s, replays {replays:.1f} s; "
+        f"{size / count:.0f} bytes a line on disk with its key"
+    )
+    await owner.close()
+    return 0
+
+
+async def memory(fleet: Fleet, words: argparse.Namespace) -> int:
+    """Memory that is the process's own, of which pages that it never touched take none."""
+    print("transactions events readings   MB of 64 stations")
+    for limits in ((1024, 16384, 16384), (256, 2048, 2048), (64, 512, 512), (32, 256, 256)):
+        row = dict(zip(("transactions", "events", "readings"), limits)) | {
+            "changes": 1000000000,
+            "site": "north",
+        }
+        plan = Plan(
+            [row | {"station": f"CS-{number:02}"} for number in range(64)],
+            {"north": 900},
+            fleet.with_period,
+        )
+        replay = await Replay.start(fleet.program)
+        await replay.open(plan)
+        text = Path(f"/proc/{replay.process.pid}/status").read_text()
+        kilobytes = int(text.split("VmRSS:")[1].split()[0])
+        replay.kill()
+        await replay.process.wait()
+        print(f"{limits[0]:>12} {limits[1]:>6} {limits[2]:>8}   {kilobytes / 1024:.1f}")
+    return 0
+
+
+def main() -> int:
+    parser = parser_of(__doc__)
+    parser.add_argument("what", choices=["load", "recovery", "memory"], help="what is measured")
+    parser.add_argument("--stations", type=int, default=100, help="how many (default: 100)")
+    parser.add_argument("--shards", type=int, default=2, help="how many (default: 2)")
+    parser.add_argument(
+        "--events", type=int, default=24, help="of each station, before repeats (default: 24)"
+    )
+    parser.add_argument(
+        "--rate", type=float, default=0, help="messages a second in all (default: all they can)"
+    )
+    parser.add_argument("--workers", type=int, default=2, help="how many (default: 2)")
+    parser.add_argument("--gateways", type=int, default=1, help="how many (default: 1)")
+    parser.add_argument(
+        "--limits",
+        type=int,
+        nargs=3,
+        default=[64, 512, 512],
+        help="of a station (default: 64 512 512)",
+    )
+    parser.add_argument("--standby", action="store_true", help="with a synchronous standby")
+    parser.add_argument("--kill", action="store_true", help="kill a worker, a gateway and a replay")
+    parser.add_argument(
+        "--lines", type=int, default=200_000, help="of the log to recover (default: 200000)"
+    )
+    parser.add_argument(
+        "--seconds", type=float, default=120, help="until it gives up (default: 120)"
+    )
+    parser.add_argument("--processors", help="run on these alone, such as 0,1 (default: all)")
+    words = parsed(parser)
+    resource.setrlimit(resource.RLIMIT_NOFILE, (resource.getrlimit(resource.RLIMIT_NOFILE)[1],) * 2)
+    if words.processors:
+        os.sched_setaffinity(0, {int(word) for word in words.processors.split(",")})
+    measures = {"load": load, "recovery": recovery, "memory": memory}
+    fleet = None
+    try:
+        fleet = Fleet(words.program, words.user)
+        return asyncio.run(measures[words.what](fleet, words))
+    except FAULTS as fault:
+        log.error("%s", said(fault))
+        return MISTAKEN
+    finally:
+        if fleet:
+            fleet.close()
+
+
+if __name__ == "__main__":
+    sys.exit(main())

@@ -1,0 +1,250 @@
+"""A fleet of its own for some minutes: stations send, parts are killed at random, events voided, days closed.
+
+    tests/one fleet.soak ocpp_board                                              two minutes
+    tests/one fleet.soak ocpp_board --seconds 3600 --stations 1000 --rate 500 --each-close 600
+
+Each 6 seconds a worker, a gateway or a replay is killed with -9; each second an answered event is voided; each 20
+seconds the next day of each site is closed, and one `ocpp-board close-day` in four is killed. Stations' clocks run
+fast, so that days pass. At the end the day is closed once more, and boards with archives have to be those of a
+replay from scratch of all that was answered and voided, and what is settled that replay's periods. It tells the
+memory of each part at the quarters of the run. The status is 1 where something is not as it must be.
+"""
+
+import argparse
+import asyncio
+import json
+import os
+import random
+import signal
+import subprocess
+import sys
+import time
+from datetime import date, timedelta
+from pathlib import Path
+
+from tests.fleet.fleet import children, ended, free_port
+from tests.fleet.trials import Trial, parsed, parser_of, tried
+
+FIRST = date(2026, 3, 1)
+EACH = 50
+# Bytes of the record from which events to void are chosen.
+RECENT = 1 << 17
+
+
+def memory(pids: list[int]) -> float:
+    """The memory of these processes that is their own, in MB."""
+    total = 0
+    for pid in pids:
+        try:
+            text = Path(f"/proc/{pid}/status").read_text()
+        except OSError:
+            continue
+        if "RssAnon:" in text:
+            total += int(text.split("RssAnon:")[1].split()[0])
+    return total / 1024
+
+
+def recent(record: Path) -> list[str]:
+    """Some of the lines that were answered last; what is not written whole yet is left out."""
+    if not record.exists():
+        return []
+    with open(record, "rb") as file:
+        file.seek(max(0, record.stat().st_size - RECENT))
+        return file.read().decode("utf-8", "replace").split("\n")[1:-1]
+
+
+class Soak(Trial):
+    def __init__(self, words: argparse.Namespace) -> None:
+        super().__init__(words)
+        self.chance = random.Random(words.seed)
+        self.archives = self.fleet.folder / "archives"
+        self.archives.mkdir()
+        self.voids: list[str] = []
+        self.kills: dict[str, int] = dict.fromkeys(("worker", "gateway", "replay", "close_day"), 0)
+        self.day, self.closings = FIRST, 0
+        self.sizes: list[dict[str, float]] = []
+        self.workers: list[subprocess.Popen[bytes]] = []
+        self.gateways: list[subprocess.Popen[bytes]] = []
+
+    async def open(self) -> None:
+        await self.one_cell()
+        limits = (256, self.words.events + 64, self.words.events + 64)
+        await self.fleet.add(self.owner, self.words.stations, EACH, 0, limits)
+        self.ports = [free_port() for _ in range(3)]
+        self.workers = [self.fleet.worker("--hang", 3) for _ in range(3)]
+        self.gateways = [(await asyncio.to_thread(self.start_gateway, port)) for port in self.ports]
+
+    def start_gateway(self, port: int) -> subprocess.Popen[bytes]:
+        return self.fleet.gateway(port=port)[0]
+
+    # What goes on while stations send ---------------------------------------------------------------------------------
+
+    async def kill(self) -> None:
+        while True:
+            await asyncio.sleep(self.words.each_kill)
+            what = self.chance.choice(("worker", "gateway", "replay"))
+            place = self.chance.randrange(3)
+            if what == "worker":
+                self.workers[place].kill()
+                self.workers[place] = self.fleet.worker("--hang", 3)
+            elif what == "gateway":
+                self.gateways[place].kill()
+                self.gateways[place].wait()
+                self.gateways[place] = await asyncio.to_thread(
+                    self.start_gateway, self.ports[place]
+                )
+            elif replays := children(self.workers[place].pid):
+                os.kill(self.chance.choice(replays), signal.SIGKILL)
+            self.kills[what] += 1
+
+    async def void(self) -> None:
+        """Voids an event that was answered, each at most once."""
+        voided = set[str]()
+        while True:
+            await asyncio.sleep(1)
+            if not (lines := recent(self.fleet.records[0])):
+                continue
+            _, station, text = self.chance.choice(lines).split(" ", 2)
+            payload = json.loads(text)[3]
+            words = (station, payload["transactionInfo"]["transactionId"], payload["seqNo"])
+            if str(words) not in voided:
+                voided.add(str(words))
+                await self.owner.execute("select operate('void', $1, $2, $3)", *words)
+                self.voids.append(f"void {words[0]} {words[1]} {words[2]}")
+
+    async def close_all(self, may_kill: bool) -> None:
+        for site in range(-(-self.words.stations // EACH)):
+            command = self.fleet.closing(f"site-{site}", self.archives, self.day)
+            process = self.fleet.start(*command, stdout=subprocess.PIPE, stderr=subprocess.STDOUT)
+            if may_kill and self.chance.random() < 0.25:
+                await asyncio.sleep(self.chance.random())
+                if process.poll() is None:
+                    process.kill()
+                    self.kills["close_day"] += 1
+            status, text = await ended(process)
+            # Where the plan or a worker's place changed in between it closed nothing, and is called again next time.
+            if status not in (0, -9) and "changed meanwhile" not in text:
+                self.check(False, f"ocpp-board close-day: {text}")
+            self.closings += status == 0
+
+    async def finish(self, began: float) -> None:
+        """Closes the day before the one that stations' clocks have now."""
+        while True:
+            await asyncio.sleep(self.words.each_close)
+            passed = (
+                (time.monotonic() - began) * self.words.rate / self.words.stations * self.words.step
+            )
+            self.day = FIRST + timedelta(days=max(0, int(passed // 86_400) - 1))
+            await self.close_all(True)
+
+    async def weigh(self) -> None:
+        while True:
+            await asyncio.sleep(self.words.seconds / 4.2)
+            database = self.fleet.databases[0].process
+            assert database
+            self.sizes.append(
+                {
+                    "gateways": memory([one.pid for one in self.gateways]),
+                    "workers": memory([one.pid for one in self.workers]),
+                    "replays": memory([pid for one in self.workers for pid in children(one.pid)]),
+                    "PostgreSQL": memory([database.pid, *children(database.pid)]),
+                }
+            )
+
+    async def run(self) -> None:
+        await self.open()
+        load = self.fleet.load(
+            [f"ws://127.0.0.1:{port}/ocpp" for port in self.ports],
+            *(
+                0,
+                self.words.stations,
+                "--events",
+                self.words.events,
+                "--rate",
+                self.words.rate,
+                "--near",
+                16,
+            ),
+            *("--step", self.words.step, "--seconds", self.words.seconds * 2),
+        )
+        began = time.monotonic()
+        jobs = [
+            asyncio.create_task(job)
+            for job in (self.kill(), self.void(), self.finish(began), self.weigh())
+        ]
+        waiting = asyncio.create_task(ended(load))
+        await asyncio.wait([waiting, *jobs], return_when=asyncio.FIRST_COMPLETED)
+        for job in jobs:
+            if job.done():
+                job.result()
+        status, text = await waiting
+        for job in jobs:
+            job.cancel()
+        await asyncio.gather(*jobs, return_exceptions=True)
+        self.check(status == 0, text)
+        print(
+            f"killed: {self.kills}; voided: {len(self.voids)}; closings: {self.closings}, the last of {self.day}"
+        )
+        for part in self.sizes[0] if self.sizes else ():
+            print(
+                f"memory of {part} in MB: {', '.join(f'{size[part]:.0f}' for size in self.sizes)}"
+            )
+        await self.compare()
+
+    async def compare(self) -> None:
+        lines: dict[int, list[str]] = {}
+        for line in [*self.fleet.sent(), *self.voids]:
+            lines.setdefault(int(line.split(" ", 2)[1][3:]) // EACH, []).append(line)
+        end, differ = time.monotonic() + 60, ["not compared"]
+        while differ and time.monotonic() < end:
+            await self.close_all(False)
+            await asyncio.sleep(3)
+            differ = []
+            for shard in range(-(-self.words.stations // EACH)):
+                differ += await self.fleet.compare_closed(
+                    self.owner,
+                    self.archives,
+                    shard,
+                    f"site-{shard}",
+                    lines.get(shard, []),
+                    str(self.day),
+                )
+        archived = await self.owner.fetchval("select count(*) from own_archived_transaction")
+        left = await self.owner.fetchval("select count(*) from own_log")
+        self.check(
+            not differ,
+            f"{archived} transactions archived, {left} lines left in the log; boards with archives, and what is "
+            f"settled, are as a replay of all that was answered and voided says {differ or ''}",
+        )
+
+
+def main() -> int:
+    """Tries it, and gives the exit status."""
+    parser = parser_of(__doc__)
+    parser.add_argument(
+        "--seconds", type=float, default=120, help="for which stations send (default: 120)"
+    )
+    parser.add_argument("--stations", type=int, default=200, help="how many (default: 200)")
+    parser.add_argument(
+        "--rate", type=float, default=200, help="messages a second in all (default: 200)"
+    )
+    parser.add_argument(
+        "--step", type=int, default=3600, help="seconds between a station's events (default: 3600)"
+    )
+    parser.add_argument(
+        "--each-kill", type=float, default=6, help="seconds between kills (default: 6)"
+    )
+    parser.add_argument(
+        "--each-close", type=float, default=20, help="seconds between closings (default: 20)"
+    )
+    parser.add_argument(
+        "--seed", type=int, default=1, help="of what is chosen at random (default: 1)"
+    )
+    words = parsed(parser)
+    # One message in six is sent twice.
+    words.events = max(8, int(words.seconds * words.rate / words.stations / 1.2))
+    return tried("soak", lambda: Soak(words))
+
+
+if __name__ == "__main__":
+    sys.exit(main())

@@ -1,0 +1,145 @@
+"""What programs that try a fleet have in common: what they check, how they end, and the events that they make."""
+
+import argparse
+import asyncio
+import json
+import logging
+import random
+import signal
+import subprocess
+import sys
+import time
+from collections.abc import Callable
+from typing import Any
+
+import asyncpg
+
+from ocpp_board import telling
+from ocpp_board.fleet.database import LOST, Fault, Unreachable, said
+from ocpp_board.limits import MOMENT
+from tests.fleet.fleet import Fleet
+
+log = logging.getLogger(__name__)
+
+# Exit statuses: all is right, something is wrong, nothing could begin, packages are missing.
+RIGHT, WRONG, MISTAKEN, SKIPPED = 0, 1, 2, 77
+FAULTS = (Fault, Unreachable, *LOST, asyncpg.PostgresError, subprocess.SubprocessError)
+# Lines of a log that are shown where something was wrong.
+SHOWN = 30
+# 2026-03-01T00:00:00Z in seconds since 1970, and events of a transaction.
+BEGIN, EACH = 1_772_323_200, 8
+
+
+def event(
+    name: str, number: int, kind: str, moment: str, wh: int, message_id: str | None = None
+) -> str:
+    """The message of an event of the transaction `name`, with one reading in Wh."""
+    payload = {
+        "eventType": kind,
+        "timestamp": moment,
+        "triggerReason": "MeterValuePeriodic",
+        "seqNo": number,
+        "transactionInfo": {"transactionId": name},
+        "meterValue": [{"timestamp": moment, "sampledValue": [{"value": wh}]}],
+    }
+    frame = [2, message_id or f"{name[:20]}-{number}", "TransactionEvent", payload]
+    return json.dumps(frame, separators=(",", ":"))
+
+
+def messages(station: int, events: int, step: int = 300, near: int = 0) -> list[str]:
+    """The station's messages, in the order in which it sends them: `step` seconds apart, and shuffled among `near` that
+    follow one another, or among all."""
+    made, chance = [], random.Random(station)
+    for number in range(events):
+        session, seq = divmod(number, EACH)
+        last = seq == EACH - 1 or number == events - 1
+        kind = "Started" if seq == 0 else "Ended" if last else "Updated"
+        moment = time.strftime(MOMENT, time.gmtime(BEGIN + step * number))
+        made.append(event(f"TX-{session}", seq, kind, moment, 1000 + 250 * number, f"{number}"))
+    parts = [made[front : front + (near or events)] for front in range(0, events, near or events)]
+    for part in parts:
+        chance.shuffle(part)
+    made = [text for part in parts for text in part]
+    return [text for one in made for text in [one] * (2 if chance.random() < 0.2 else 1)]
+
+
+class Trial:
+    """What is tried on a fleet of its own, and what of it was wrong."""
+
+    def __init__(self, words: argparse.Namespace) -> None:
+        self.words, self.fleet = words, Fleet(words.program, words.user)
+        self.wrong: list[str] = []
+        self.owner: Any = None
+
+    def check(self, is_right: object, text: str) -> None:
+        """Tells what was tried, and remembers it where it is wrong."""
+        print(("ok    " if is_right else "WRONG ") + text, flush=True)
+        if not is_right:
+            self.wrong.append(text)
+
+    async def run(self) -> None:
+        """Tries all of it."""
+        raise NotImplementedError
+
+    async def one_cell(self) -> None:
+        """Starts a database with one cell, and a session of its owner."""
+        database = self.fleet.database()
+        database.make()
+        database.start()
+        database.fill(1)
+        self.owner = await self.fleet.owner()
+
+    def close(self) -> None:
+        """Ends what was started. Where something was wrong the ends of logs are shown before."""
+        if self.wrong:
+            for name in ("parts.log", "database.log"):
+                if (path := self.fleet.folder / name).exists():
+                    lines = path.read_text().splitlines()[-SHOWN:]
+                    print(f"the end of {name}:", *lines, sep="\n", file=sys.stderr)
+        self.fleet.close()
+
+
+def parser_of(about: str | None) -> argparse.ArgumentParser:
+    """The words that these programs have in common."""
+    parser = argparse.ArgumentParser(
+        description=about, formatter_class=argparse.RawDescriptionHelpFormatter
+    )
+    parser.add_argument("program", help="the built program")
+    parser.add_argument(
+        "--user",
+        default="postgres",
+        help="who runs the database where root calls (default: postgres)",
+    )
+    return parser
+
+
+def parsed(parser: argparse.ArgumentParser) -> argparse.Namespace:
+    """The words; from here on faults are told, and a signal ends all that was started."""
+    words = parser.parse_args()
+    telling.set_up(parser.prog, named_from=logging.DEBUG)
+    signal.signal(signal.SIGTERM, lambda *_: sys.exit(143))
+    return words
+
+
+def skipped(packages: str) -> int:
+    """The exit status where packages are missing, which are told."""
+    log.error("nothing was tried: apt-get install %s", packages)
+    return SKIPPED
+
+
+def tried(name: str, begin: Callable[[], Trial]) -> int:
+    """Tries it to its end, and gives the exit status."""
+    trial, began = None, time.monotonic()
+    try:
+        trial = begin()
+        asyncio.run(trial.run())
+    except (*FAULTS, AssertionError) as fault:
+        log.error("%s", said(fault))
+        if trial is None:
+            return MISTAKEN
+        trial.wrong.append(said(fault))
+    finally:
+        if trial:
+            trial.close()
+    print(f"{name}: {time.monotonic() - began:.0f} s, wrong: {len(trial.wrong)}", flush=True)
+    return WRONG if trial.wrong else RIGHT

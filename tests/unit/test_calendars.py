@@ -1,0 +1,66 @@
+"""Days and hours of time zones."""
+
+from argparse import ArgumentTypeError
+from datetime import date, datetime, timezone
+from zoneinfo import ZoneInfo
+
+import pytest
+
+from ocpp_board.boards import Period
+from ocpp_board.calendars import Calendar
+from ocpp_board.energies import Flow
+from ocpp_board.words import zone
+
+BERLIN = ZoneInfo("Europe/Berlin")
+
+
+def utc(text: str) -> datetime:
+    return datetime.fromisoformat(text).replace(tzinfo=timezone.utc)
+
+
+@pytest.mark.parametrize(
+    ("day", "hours"), [("2026-03-28", 24), ("2026-03-29", 23), ("2026-10-25", 25)]
+)
+def test_days_of_a_zone_with_summer_time(day: str, hours: int) -> None:
+    assert Calendar(BERLIN).seconds(date.fromisoformat(day)) == hours * 3600
+
+
+def test_a_day_begins_at_the_zones_midnight() -> None:
+    calendar = Calendar(BERLIN)
+    assert calendar.begin(date(2026, 7, 1)) == utc("2026-06-30T22:00:00")
+    assert calendar.day(utc("2026-06-30T22:00:00")) == date(2026, 7, 1)
+    assert calendar.day(utc("2026-06-30T21:59:59")) == date(2026, 6, 30)
+
+
+def test_the_end_of_a_day_is_24_00() -> None:
+    assert Calendar().times(utc("2026-03-01T23:45:00"), 900) == "23:45 to 24:00"
+    assert Calendar(BERLIN).times(utc("2026-03-01T22:30:00"), 1800) == "23:30 to 24:00<td>22:30"
+
+
+def test_the_hour_that_comes_twice_has_two_offsets() -> None:
+    calendar = Calendar(BERLIN)
+    first, second = utc("2026-10-25T00:30:00"), utc("2026-10-25T01:30:00")
+    assert calendar.time(first) == calendar.time(second) == "02:30"
+    assert calendar.cells(first) == ["2026-10-25T00:30:00Z", "2026-10-25T02:30:00+02:00"]
+    assert calendar.cells(second)[1] == "2026-10-25T02:30:00+01:00"
+    assert Calendar().cells(first) == ["2026-10-25T00:30:00Z"]
+
+
+def test_days_that_are_shown() -> None:
+    calendar = Calendar(BERLIN, date(2026, 3, 2), date(2026, 3, 2))
+    starts = ["2026-03-01T22:45:00", "2026-03-01T23:00:00", "2026-03-02T22:45:00"]
+    periods = [Period(utc(start), 900, Flow()) for start in [*starts, "2026-03-02T23:00:00"]]
+    assert calendar.shown(periods) == periods[1:3]
+    assert not calendar.is_all() and Calendar().is_all()
+
+
+def test_what_is_said_of_a_zone() -> None:
+    assert Calendar().said() == "Times are UTC"
+    assert Calendar(ZoneInfo("UTC")).said() == "Times are UTC"
+    assert Calendar(BERLIN).said() == "Times are those of Europe/Berlin"
+
+
+@pytest.mark.parametrize("name", ["Mars", "", "../etc/passwd", "/etc/passwd", "Europe"])
+def test_a_zone_that_is_none(name: str) -> None:
+    with pytest.raises(ArgumentTypeError, match="no time zone of this system"):
+        zone(name)

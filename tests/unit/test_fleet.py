@@ -1,0 +1,206 @@
+"""The fleet's plans, figures, payloads and closings, without a database."""
+
+from datetime import datetime, timezone
+
+import pytest
+
+pytest.importorskip("asyncpg")
+pytest.importorskip("websockets")
+
+from ocpp_board.energies import Flow  # noqa: E402
+from ocpp_board.fleet.close_day import differences, is_before, transaction_of  # noqa: E402
+from ocpp_board.fleet.compact import is_repeat  # noqa: E402
+from ocpp_board.fleet.database import Fault, places, said, wakes  # noqa: E402
+from ocpp_board.fleet.events import citrine_event, event_of, maeve_event  # noqa: E402
+from ocpp_board.fleet.figures import added, figures, joined, new_rows, periods  # noqa: E402
+from ocpp_board.fleet.gateway import empty_answer  # noqa: E402
+from ocpp_board.fleet.page import fields_of  # noqa: E402
+from ocpp_board.fleet.page_texts import Words, Wrong  # noqa: E402
+from ocpp_board.fleet.plans import Plan  # noqa: E402
+from ocpp_board.fleet.worker import order, payloads_of  # noqa: E402
+from ocpp_board.messages import Refused  # noqa: E402
+
+FLOW = "up=1 down=0 export_up=0 export_down=0"
+TOTAL = f"total events=2 voided=0 transactions=1 complete=1 missing=0 {FLOW}"
+PERIOD = f"period 2026-03-01T10:15:00Z {FLOW}"
+TX = f"tx t1 evse=1 events=2 first=0 last=5 complete=no missing=3 {FLOW}\ngap 1..3"
+BOARD = (
+    f"board north period=900\n{TOTAL}\n{PERIOD}\nstation A\n{TOTAL}\nevse 1 {FLOW}\n{PERIOD}\n"
+    f"{TX}\nend\n"
+)
+STARTS = datetime(2026, 3, 1, 10, 15, tzinfo=timezone.utc)
+
+
+def station(name: str, site: str = "north", readings: int = 4) -> dict[str, object]:
+    limits = {"transactions": 1, "events": 2, "readings": readings, "changes": 9}
+    return {"site": site, "station": name, **limits}
+
+
+def test_places_of_an_address() -> None:
+    assert places("postgresql://u%40x@a:1,b/ledger") == ([("a", 1), ("b", 5432)], "u@x", "ledger")
+    for wrong in ("ledger", "postgresql://a/ledger", "postgresql://u@a:x/l", "mysql://u@a/l"):
+        with pytest.raises(Fault):
+            places(wrong)
+    with pytest.raises(Fault, match="a password in --db"):
+        places("postgresql://u:secret@a/ledger")
+
+
+def test_payloads_of_wakes_fit() -> None:
+    texts = list(wakes(range(4_000)))
+    assert all(len(text) < 8_000 for text in texts) and len(texts) > 1
+    assert [int(word) for text in texts for word in text.split()] == list(range(4_000))
+    assert list(wakes([])) == []
+
+
+def test_what_a_fault_says() -> None:
+    assert said(OSError("no file")) == "no file" and said(TimeoutError()) == "TimeoutError"
+
+
+def test_a_plan_declares_limits_where_they_change() -> None:
+    rows = [station("A"), station("B"), station("C", "south", 5)]
+    plan = Plan(rows, {"north": 900, "south": 300}, True)
+    assert plan.sites == ["north", "south"] and plan.stations == ["A", "B", "C"]
+    assert plan.lines == (
+        b"limits 1 2 4 9\nstation north A\nstation north B\nlimits 1 2 5 9\nstation south C\n"
+        b"period south 300\n"
+    )
+    with pytest.raises(Fault, match="knows no periods"):
+        Plan(rows, {"north": 900, "south": 300}, False)
+
+
+def test_figures_of_a_board() -> None:
+    found = figures(BOARD)
+    assert found["A", "gap", "t1 1..3"] == {}
+    assert found["A", "tx", "t1"]["missing"] == 3
+    assert found["A", "total", ""]["complete"] == 1
+    assert periods(found) == {("A", STARTS): Flow(up=1)}
+    assert ("north", "total", "") not in found
+
+
+def test_figures_of_an_older_board() -> None:
+    old = "station A\ntotal events=1 up=5 down=0\nquarter 2026-03-01T10:15:00Z up=5 down=0\nend\n"
+    assert periods(figures(old)) == {("A", STARTS): Flow(up=5)}
+
+
+def test_figures_of_two_logs_are_added() -> None:
+    one = figures(BOARD)
+    with pytest.raises(ValueError, match="the transaction t1 of A is in two logs"):
+        added([one, one])
+    other = {key: numbers for key, numbers in one.items() if key[1] in ("total", "period")}
+    both = added([one, other])
+    assert both["A", "total", ""]["events"] == 4 and both["A", "tx", "t1"]["events"] == 2
+
+
+def test_a_board_joined_of_one_is_that_one() -> None:
+    assert joined("north", 900, [BOARD], {}, {}) == BOARD
+
+
+def test_a_board_joined_with_archives_has_their_energy() -> None:
+    archived = {("A", "period", "2026-03-01T10:15:00Z"): {"up": 4}}
+    text = joined("north", 900, [BOARD], {"A": {"transactions": 1, "complete": 1}}, archived)
+    assert f"period 2026-03-01T10:15:00Z {FLOW.replace('up=1', 'up=5', 1)}" in text
+    assert "transactions=2 complete=2" in text
+
+
+def test_rows_of_what_changed_alone() -> None:
+    assert new_rows(BOARD, BOARD) == "{}"
+    assert '"periods"' not in new_rows(BOARD.replace("events=2", "events=3"), BOARD)
+    gone = new_rows(f"board north period=900\n{TOTAL}\nstation A\n{TOTAL}\nend\n", BOARD)
+    assert '"gone_periods"' in gone and '"gone_transactions"' in gone
+
+
+def test_answers_are_told_in_notifications_that_fit() -> None:
+    answers = [("g1", "x" * 3_000)] * 5 + [("g2", "y")]
+    channels, payloads = payloads_of(answers)
+    assert all(len(payload) <= 7_900 for payload in payloads)
+    assert channels == ["g1", "g1", "g1", "g2"]
+    assert "\n".join(payloads[:3]).count("x" * 3_000) == 5
+
+
+def test_places_of_the_log_are_ordered_by_numbers() -> None:
+    assert order(("999", 5)) < order(("1000", 1)) < order(("1000", 2))
+
+
+def test_repeats() -> None:
+    assert is_repeat(b'[3,"1",{}]', False)
+    assert not is_repeat(b'[3,"1",{}]', True) and not is_repeat(b'[4,"1"', False)
+
+
+EVENT = (
+    '[2,"1","TransactionEvent",{"timestamp":"2026-03-01T10:00:00Z",'
+    '"transactionInfo":{"transactionId":"T1"},"meterValue":[{"timestamp":"%s"}]}]'
+)
+
+
+def test_transactions_of_lines() -> None:
+    assert transaction_of("msg A " + EVENT % "x") == ("A", "t1")
+    assert transaction_of("void A T1 3") == ("A", "t1")
+    assert transaction_of("msg A no JSON") is None
+
+
+def test_a_line_lies_before_a_day_with_all_its_moments() -> None:
+    day = datetime(2026, 3, 2, tzinfo=timezone.utc)
+    assert is_before("msg A " + EVENT % "2026-03-01T23:59:59Z", day)
+    assert not is_before("msg A " + EVENT % "2026-03-02T00:00:00Z", day)
+    assert not is_before("msg A " + EVENT % "2026-03-01T23:59:59", day)
+    assert not is_before("msg A " + EVENT % "yesterday", day)
+    assert is_before("void A T1 3", day)
+
+
+def test_differences_of_periods() -> None:
+    key, other = ("A", STARTS), ("B", STARTS)
+    assert differences({key: Flow(5)}, {key: Flow(3)}) == {key: Flow(2)}
+    assert differences({key: Flow(5)}, {key: Flow(5)}) == {}
+    assert differences({}, {key: Flow(5)}) == {key: Flow(-5)}
+    assert differences({other: Flow()}, {}) == {other: Flow()}
+
+
+def test_notifications_are_answered_empty() -> None:
+    assert empty_answer('[2,"7","NotifyReport",{"x":1}]') == '[3,"7",{}]'
+    for text in ('[2,"7","Heartbeat",{}]', '[2.0,"7","NotifyReport",{}]', "x", '[2,"7"]'):
+        assert empty_answer(text) is None
+
+
+def test_events_among_messages() -> None:
+    event = event_of("A", EVENT % "x")
+    assert event and event.line == "msg A " + EVENT % "x"
+    assert event_of("A", '[2,"1","Heartbeat",{}]') is None
+    for name, text, why in (("A", "x", "no JSON"), ("a/b", EVENT, "no name"), ("A", "{}", "frame")):
+        with pytest.raises(Refused, match=why):
+            event_of(name, text)
+
+
+def test_objects_of_other_systems_become_frames() -> None:
+    text = (
+        '{"origin":"cs","action":"TransactionEvent","context":{"stationId":"A",'
+        '"correlationId":"9"},"payload":{"seqNo":1.0}}'
+    )
+    event = citrine_event(text)
+    assert event and event.line == 'msg A [2,"9","TransactionEvent",{"seqNo":1.0}]'
+    assert citrine_event(text.replace('"cs"', '"csms"')) is None
+    maeve = '{"type":"call","action":"TransactionEvent","id":"9","request":{"seqNo":1}}'
+    event = maeve_event("A", maeve)
+    assert event and event.line == 'msg A [2,"9","TransactionEvent",{"seqNo":1}]'
+
+
+@pytest.mark.parametrize(
+    "words",
+    [
+        Words("drop", "A", "T1", "1"),
+        Words("void", "a/b", "T1", "1"),
+        Words("void", "A", "T 1", "1"),
+        Words("void", "A", "T1\nvoid A T1 2", "1"),
+        Words("void", "A", "T1", "2147483648"),
+        Words("void", "A", "T1", "-1"),
+    ],
+)
+def test_an_operators_words_that_mean_nothing(words: Words) -> None:
+    Words("void", "A", "T1", "2147483647").check()
+    with pytest.raises(Wrong):
+        words.check()
+
+
+def test_fields_of_a_form() -> None:
+    assert fields_of("a=1&b=+x+&a=2") == {"a": "2", "b": "x"}
+    with pytest.raises(Wrong):
+        fields_of("&".join(f"a{n}=1" for n in range(17)))

@@ -1,0 +1,217 @@
+"""Forms of logs, and how they become scripts."""
+
+import io
+import json
+from pathlib import Path
+from typing import Any
+
+import pytest
+
+from ocpp_board.log_to_script import (
+    Conversion,
+    arguments,
+    lines,
+    moment_of,
+    pairs_of,
+)
+from ocpp_board.logforms import (
+    CitrineCsvForm,
+    CitrineForm,
+    Entry,
+    JsonFields,
+    JsonForm,
+    MaeveForm,
+    OcppForm,
+)
+from ocpp_board.messages import Refused
+from ocpp_board.progress import Progress
+from ocpp_board.statuses import Mistaken
+
+HEARTBEAT = '[2,"1","Heartbeat",{}]'
+
+
+def row(**fields: Any) -> str:
+    return json.dumps(
+        {"site": "north", "station": "A", "time": "2026-03-01T08:00:00Z", "message": HEARTBEAT}
+        | fields
+    )
+
+
+def test_json_fields_by_name() -> None:
+    fields = JsonFields(site="s", station="c", time="t", message="m", direction="d", incoming="up")
+    text = '{"s":"north","c":"A","t":"x","m":"[]","d":"down"}'
+    assert JsonForm(fields).read(text) == Entry("north", "A", "x", "[]", False)
+    assert JsonForm(fields._replace(has_site=False)).read(text) == Entry(
+        None, "A", "x", "[]", False
+    )
+
+
+def test_a_json_message_is_cut_out() -> None:
+    form = JsonForm(JsonFields(is_json_message=True, has_site=False))
+    entry = form.read('{"station":"A","time":"x","message":[2,  1.0]}')
+    assert entry and entry.message == "[2,  1.0]"
+    with pytest.raises(Refused, match="'message' is no array or object"):
+        form.read('{"station":"A","time":"x","message":"[]"}')
+
+
+@pytest.mark.parametrize(
+    ("text", "entry"),
+    [
+        (f"INFO:ocpp:A: receive message {HEARTBEAT}\n", Entry(None, "A", None, HEARTBEAT)),
+        (
+            f"2026-03-01 08:00:00,123 INFO ocpp A: receive message {HEARTBEAT}",
+            Entry(None, "A", "2026-03-01 08:00:00,123", HEARTBEAT),
+        ),
+        ('INFO:ocpp:A: send [3,"1",{}]\n', Entry(None, "A", None, '[3,"1",{}]', False)),
+        ("INFO:other: started\n", None),
+    ],
+)
+def test_lines_of_the_package_ocpp(text: str, entry: Entry | None) -> None:
+    assert OcppForm().read(text) == entry
+
+
+def test_rows_of_citrineos() -> None:
+    text = (
+        '{"stationId":"A","origin":"cs","timestamp":"t","message":[2, "1"],"protocol":"ocpp2.0.1"}'
+    )
+    assert CitrineForm().read(text) == Entry(None, "A", "t", '[2, "1"]', True)
+    with pytest.raises(Refused, match="'protocol' is not ocpp2.0.1: 'ocpp1.6'"):
+        CitrineForm().read(text.replace("ocpp2.0.1", "ocpp1.6"))
+    with pytest.raises(Refused, match="neither cs nor csms"):
+        CitrineForm().read(text.replace('"cs"', '"x"'))
+
+
+def test_rows_of_citrineos_as_csv() -> None:
+    form = CitrineCsvForm()
+    assert form.read("timestamp,stationId,origin,message\n") is None
+    assert form.read('t,A,csms,"[2,""1""]"\n') == Entry(None, "A", "t", '[2,"1"]', False)
+    with pytest.raises(Refused, match="not as many cells"):
+        form.read("t,A\n")
+    with pytest.raises(Mistaken, match="names no column message, timestamp"):
+        CitrineCsvForm().read("stationId,origin\n")
+
+
+def test_messages_of_maeve() -> None:
+    text = 'x/cs/in/ocpp2.0.1/A {"type":"call","action":"Heartbeat","id":"1","request":{ }}'
+    assert MaeveForm().read(text) == Entry(None, "A", None, '[2,"1","Heartbeat",{ }]', True)
+    answer = 'cs/out/ocpp2.0.1/A {"type":"call-result"}'
+    assert MaeveForm().read(answer) == Entry(None, "A", None, "[3]", False)
+    with pytest.raises(Refused, match="'request' is missing"):
+        MaeveForm().read(text.replace("request", "response"))
+
+
+@pytest.mark.parametrize(
+    ("text", "is_utc", "moment"),
+    [
+        ("2026-03-01T08:00:00Z", False, "2026-03-01T08:00:00Z"),
+        ("2026-03-01T09:00:00.999+01:00", False, "2026-03-01T08:00:00Z"),
+        ("2026-03-01 08:00:00", True, "2026-03-01T08:00:00Z"),
+        ("1999-12-31T23:00:00-01:00", False, "2000-01-01T00:00:00Z"),
+    ],
+)
+def test_moments(text: str, is_utc: bool, moment: str) -> None:
+    assert moment_of(text, is_utc) == moment
+
+
+@pytest.mark.parametrize(
+    ("text", "why"),
+    [
+        ("2026-03-01T08:00:00", "a time has no offset"),
+        ("2100-01-01T00:00:00Z", "a time is not from 2000 to 2099"),
+        ("1999-12-31T23:59:59Z", "a time is not from 2000 to 2099"),
+        ("0001-01-01T00:00:00+01:00", "a time is none"),
+        ("yesterday", "a time is none"),
+    ],
+)
+def test_times_that_are_refused(text: str, why: str) -> None:
+    with pytest.raises(Refused, match=why):
+        moment_of(text, False)
+
+
+def test_pairs_of_names(tmp_path: Path) -> None:
+    (tmp_path / "pairs").write_text("# sites\n\nnorth  A\nsouth\tB\n")
+    assert pairs_of(str(tmp_path / "pairs")) == [("north", "A"), ("south", "B")]
+    (tmp_path / "pairs").write_text("north A x\n")
+    with pytest.raises(Mistaken, match="line 1: not two names"):
+        pairs_of(str(tmp_path / "pairs"))
+
+
+def test_lines_of_a_log() -> None:
+    log = io.BytesIO(b"\xef\xbb\xbfa\n" + b"x" * 4_194_305 + b"\nb")
+    assert list(lines(log)) == [(1, b"a\n"), (2, None), (3, b"b")]
+
+
+def script_of(log: list[str], folder: Path, *words: str) -> tuple[str, dict[str, int]]:
+    """The script of a log, and the counts."""
+    (folder / "log").write_text("".join(line + "\n" for line in log))
+    out = io.BytesIO()
+    with open(folder / "log", "rb") as file:
+        conversion = Conversion(arguments(words, "log-to-script"), out)
+        conversion.run(file, Progress(file))
+        conversion.script.write()
+    return out.getvalue().decode(), conversion.counts
+
+
+def test_stations_are_declared_before_messages(tmp_path: Path) -> None:
+    log = [row(), row(station="B", site="south"), row(message='[3,"1",{}]'), "", "no JSON"]
+    script, counts = script_of(log, tmp_path, "--period", "south=300", "--limits", *"1234")
+    assert script == (
+        "limits 1 2 3 4\nstation north A\nstation south B\nperiod south 300\n"
+        f"now 2026-03-01T08:00:00Z\nmsg A {HEARTBEAT}\nmsg B {HEARTBEAT}\n"
+        "board north\nboard south\n"
+    )
+    assert counts == {
+        "lines": 5,
+        "messages": 2,
+        "answers": 1,
+        "sent": 0,
+        "other": 0,
+        "blank": 1,
+        "refused": 1,
+    }
+
+
+def test_a_plan_has_at_most_so_many_stations(tmp_path: Path) -> None:
+    script, counts = script_of([row(station=f"S{n}") for n in range(66)], tmp_path, "--no-boards")
+    assert script.count("station ") == 64
+    assert (counts["messages"], counts["refused"]) == (64, 2)
+
+
+def test_a_plan_has_at_most_so_many_sites_and_readings(tmp_path: Path) -> None:
+    log = [row(station=f"S{n}", site=f"site-{n}") for n in range(17)]
+    assert script_of(log, tmp_path)[1]["refused"] == 1
+    log = [row(station=f"S{n}") for n in range(17)]
+    _, counts = script_of(log, tmp_path, "--limits", "1", "1", "65536", "1")
+    assert (counts["messages"], counts["refused"]) == (16, 1)
+
+
+def test_a_station_stands_on_one_site(tmp_path: Path) -> None:
+    _, counts = script_of([row(), row(site="south")], tmp_path)
+    assert (counts["messages"], counts["refused"]) == (1, 1)
+
+
+def test_a_site_map_names_sites(tmp_path: Path) -> None:
+    (tmp_path / "map").write_text("A west\n")
+    words = ("--site-map", str(tmp_path / "map"))
+    script, counts = script_of([row(), row(station="B")], tmp_path, *words)
+    assert script.startswith("station west A\n") and counts["refused"] == 1
+    script, _ = script_of([row(), row(station="B")], tmp_path, *words, "--site", "east")
+    assert script.startswith("station west A\nstation east B\n")
+
+
+@pytest.mark.parametrize(
+    "words",
+    [
+        ("--period", "600"),
+        ("--period", "a/b=300"),
+        ("--limits", "1", "1", "65537", "1"),
+        ("--limits", "0", "1", "1", "1"),
+        ("--site", "a b"),
+        ("--form", "ocpp"),
+        ("--form", "xml"),
+    ],
+)
+def test_wrong_words_end_with_2(words: tuple[str, ...]) -> None:
+    with pytest.raises(SystemExit) as ended:
+        arguments(words, "log-to-script")
+    assert ended.value.code == 2

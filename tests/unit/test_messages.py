@@ -1,0 +1,101 @@
+"""Messages of OCPP-J as texts."""
+
+import pytest
+
+from ocpp_board.messages import (
+    HEAD,
+    Refused,
+    is_answer,
+    members_of,
+    msg_line,
+    object_of,
+    one_line,
+    parsed,
+    tells_moment,
+)
+
+
+def test_members_are_cut_out_as_they_are_written() -> None:
+    values, texts = members_of(' { "a" : [1.50,  2] , "b":"\\u0041" }\n')
+    assert texts == {"a": "[1.50,  2]", "b": '"\\u0041"'}
+    assert values["b"] == "A"
+
+
+def test_of_two_members_of_one_name_the_last_counts() -> None:
+    assert members_of('{"a":1,"a":{}}').texts == {"a": "{}"}
+
+
+@pytest.mark.parametrize(
+    ("text", "why"),
+    [
+        ("", "not JSON: Expecting value at character 1"),
+        ("[1]", "not a JSON object"),
+        ('{"a":1', "not JSON: Expecting ',' or '}' at character 7"),
+        ('{"a" 1}', "not JSON: Expecting ':' at character 6"),
+        ('{"a":1,}', "not JSON: Expecting a member at character 8"),
+        ('{"a":1} x', "not JSON: Extra data at character 8"),
+        ('{"a":NaN}', "not JSON: NaN"),
+    ],
+)
+def test_what_is_no_object_is_refused(text: str, why: str) -> None:
+    with pytest.raises(Refused) as refused:
+        members_of(text)
+    assert str(refused.value) == why
+    assert refused.value.kind == why.partition(":")[0]
+
+
+def test_deep_nesting_is_refused() -> None:
+    for reader in (members_of, object_of):
+        with pytest.raises(Refused, match="nested too deep"):
+            reader('{"a":' * 100_000)
+
+
+def test_numbers_stay_as_they_are_written() -> None:
+    assert parsed("[1e2, 0.50]") == ["1e2", "0.50"]
+    with pytest.raises(ValueError):
+        parsed("[Infinity]")
+
+
+@pytest.mark.parametrize(
+    ("message", "is_one"),
+    [('[3,"1",{}]', True), (" [ 4 ,", True), ("[3]", True), ('[2,"1"]', False), ("[33]", False)],
+)
+def test_answers(message: str, is_one: bool) -> None:
+    assert is_answer(message) is is_one
+
+
+@pytest.mark.parametrize(
+    ("message", "tells"),
+    [
+        ('[2,"1","Heartbeat",{}]', True),
+        ('[2,"\\"","BootNotification",{}]', True),
+        ('[2,"1","Heart\\u0062eat",{}]', True),
+        ('[2,"Heartbeat","StatusNotification",{}]', False),
+        ('[3,"1",{"x":"Heartbeat"}]', False),
+    ],
+)
+def test_replies_that_tell_the_moment(message: str, tells: bool) -> None:
+    assert tells_moment(message) is tells
+
+
+def test_line_feeds_become_blanks_where_it_is_json() -> None:
+    assert one_line('[2,\n"1"]') == '[2, "1"]'
+    assert one_line("no\nJSON\0") == "no\x01JSON\x01"
+    assert one_line("[]") == "[]"
+
+
+def test_the_line_of_a_message() -> None:
+    assert msg_line("A", "[2,\n]") == b"msg A [2, ]\n"
+    assert msg_line("A", "[]\r") == b"msg A []\r\r\n"
+    with pytest.raises(Refused, match="half a surrogate pair"):
+        msg_line("A", '"\ud800"')
+    longest = 262_400 - len("msg A ")
+    assert len(msg_line("A", "x" * longest)) == 262_401
+    with pytest.raises(Refused, match="more than 262,400 bytes: 262,401"):
+        msg_line("A", "x" * (longest + 1))
+
+
+def test_the_head_of_a_call() -> None:
+    head = HEAD.match(' [2, "1" ,"Heartbeat", ')
+    assert head and head[1] == "Heartbeat"
+    assert HEAD.match('[2,"\\"","Heartbeat",{}]') is None

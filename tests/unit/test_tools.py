@@ -1,0 +1,180 @@
+"""The command, what tools tell, and the tools that write or explain scripts."""
+
+import json
+import logging
+import sys
+from pathlib import Path
+
+import pytest
+
+from ocpp_board import cli, statuses
+from ocpp_board.escapes import csv_cell, from_copy, shown
+from ocpp_board.explain import Plan
+from ocpp_board.line_faults import bad_line, time_fault
+from ocpp_board.message_faults import message_fault
+from ocpp_board.statuses import Mistaken, Status
+from ocpp_board.telling import JsonFormatter, PlainFormatter
+from ocpp_board.traffic import arguments, event, script, unchanging
+from ocpp_board.version import version
+
+
+def record(level: int, text: str, **more: object) -> logging.LogRecord:
+    made = logging.LogRecord("ocpp_board.tables", level, "", 0, text, None, None)
+    vars(made).update(more)
+    return made
+
+
+def test_the_programs_name_stands_before_faults() -> None:
+    plain = PlainFormatter("ocpp-board tables", logging.ERROR)
+    assert plain.format(record(logging.WARNING, "line 1: not read")) == "line 1: not read"
+    assert plain.format(record(logging.ERROR, "no file")) == "ocpp-board tables: no file"
+
+
+def test_json_lines_have_time_level_and_line() -> None:
+    line = JsonFormatter("worker").format(
+        record(logging.WARNING, 'a "text"', line=7, created=1_772_323_200.25, msecs=250)
+    )
+    assert json.loads(line) == {
+        "time": "2026-03-01T00:00:00.250Z",
+        "level": "warning",
+        "program": "worker",
+        "module": "ocpp_board.tables",
+        "message": 'a "text"',
+        "line": 7,
+    }
+
+
+@pytest.mark.parametrize(
+    ("fault", "status"),
+    [
+        (None, Status.TOLD),
+        (KeyboardInterrupt(), Status.INTERRUPTED),
+        (OSError("no file"), Status.MISTAKEN),
+        (Mistaken("no names"), Status.MISTAKEN),
+        (BrokenPipeError(), Status.MISTAKEN),
+    ],
+)
+def test_faults_become_statuses(
+    fault: BaseException | None, status: Status, monkeypatch: pytest.MonkeyPatch
+) -> None:
+    monkeypatch.setattr(statuses, "drop_output", lambda: None)
+
+    def work() -> int:
+        if fault:
+            raise fault
+        return Status.TOLD
+
+    assert statuses.ended(work) == status
+
+
+def test_the_tool_is_the_first_word_or_the_name(monkeypatch: pytest.MonkeyPatch) -> None:
+    runs: list[tuple[str, list[str], str]] = []
+
+    def run(name: str, words: list[str], prog: str) -> int:
+        runs.append((name, list(words), prog))
+        return 0
+
+    monkeypatch.setattr(cli, "run", run)
+    cli.main(["tables", "--help"])
+    monkeypatch.setattr(sys, "argv", ["/usr/bin/ocpp-board-log-to-script", "x"])
+    cli.main()
+    monkeypatch.setattr(sys, "argv", ["/usr/bin/ocpp-board", "live", "y"])
+    cli.main()
+    assert runs == [
+        ("tables", ["--help"], "ocpp-board tables"),
+        ("log-to-script", ["x"], "ocpp-board-log-to-script"),
+        ("live", ["y"], "ocpp-board live"),
+    ]
+
+
+def test_the_version_is_that_of_the_program() -> None:
+    arguments_of_the_program = Path(__file__).parents[2] / "crates/ocpp_board/src/arguments.rt"
+    assert f'const VERSION: &str = "{version()}";' in arguments_of_the_program.read_text()
+    words_of_the_replay = Path(__file__).parents[2] / "crates/ocpp_replay/src/words.rt"
+    assert f'"ocpp_replay {version()}"' in words_of_the_replay.read_text()
+
+
+def test_escapes() -> None:
+    assert shown("a\x1b[0m") == "'a\\x1b[0m'"
+    assert shown("x" * 70) == "'" + "x" * 60 + "..'"
+    assert csv_cell("=1+1") == "'=1+1" and csv_cell("CS-01") == "CS-01"
+    assert from_copy(r"a\\n\n\q") == "a\\n\nq"
+
+
+def test_traffic_takes_turns_and_has_room() -> None:
+    lines = list(script(5, 2))
+    assert lines[:3] == ["limits 1 3 3 3", "station north CS-01", "station north CS-02"]
+    assert [line.split()[1] for line in lines[3:8]] == ["CS-01", "CS-02"] * 2 + ["CS-01"]
+    assert lines[8:] == ["energy CS-01", "energy CS-02"]
+    assert '"eventType":"Ended"' in event(47, 1) and '"transactionId":"S-1"' in event(48, 1)
+    assert '"seqNo":0' in event(48, 1)
+
+
+def test_messages_that_change_nothing() -> None:
+    lines = list(unchanging(3))
+    assert len(lines) == 1 + 4 + 3 + 1
+    assert "Heartbeat" in lines[5] and "TransactionEvent" in lines[6]
+
+
+@pytest.mark.parametrize("words", [["-1"], ["1048577"], ["200000", "--stations", "3"], ["x"]])
+def test_traffic_that_has_no_room(words: list[str]) -> None:
+    with pytest.raises(SystemExit):
+        arguments(words, "traffic")
+
+
+@pytest.mark.parametrize(
+    ("line", "cause", "remedy"),
+    [
+        (b"Station north A", "the word 'Station' is not in lower case", "write station"),
+        (b"statoin north A", "no line begins with 'statoin'", "write station"),
+        (b"station north", "2 words, and not 3", "station <site> <station>"),
+        (b"station  north A", "two blanks stand at character 8", "one blank between words"),
+        (b"board north ", "a blank stands at the end", "no blank after the last word"),
+        (b"\xef\xbb\xbfboard x", "a byte order mark stands in front", "save the file as UTF-8"),
+        (b"board \xff", "byte 7 is not UTF-8", "save the file as UTF-8"),
+        (b"board\tx", "a tab stands at character 6", "one blank between words"),
+        (b"void A T1 x", "the sequence number 'x' is no number", "digits alone"),
+        (b"void A T1 2147483648", "is above 2147483647", "a number in range"),
+        (b"now 2026-03-01T10:00:00", "has no offset from UTC", "a time such as"),
+        (b"station north a/b", "has '/', which no name has", "names have 1 to 48"),
+    ],
+)
+def test_why_a_line_is_none(line: bytes, cause: str, remedy: str) -> None:
+    said = bad_line(line, 2)
+    assert cause in said[0] and said[1].startswith(remedy)
+
+
+def test_why_a_time_is_none() -> None:
+    assert time_fault("2026-03-01T10:00:00Z") is None
+    assert time_fault("2026-03-01") == "has no offset from UTC, such as Z"
+    assert time_fault("1999-12-31T23:59:59Z") == "is not from 2000 to 2099"
+    assert time_fault("x") == "is no time"
+
+
+@pytest.mark.parametrize(
+    ("text", "told", "cause"),
+    [
+        ("", "NotJson", "the message is empty"),
+        ("{", "NotJson", "the message is no JSON: Expecting property name"),
+        ("{}", "NotACall", "the message is an object and no array"),
+        ('[2,"1","Heartbeat"]', "NotACall", "there are 3 elements, and not 4"),
+        ('[5,"1","Heartbeat",{}]', "MessageType", "the message's type is '5'"),
+        ('[2,"1","Heartbeet",{}]', "UnknownAction", "the action 'Heartbeet' is none"),
+        ('[2,"1","TransactionEvent",[]]', "Format", "the payload is an array and not an object"),
+        ('[2,"1","TransactionEvent",{}]', "Missing", "eventType is missing"),
+        ('[2,"1","TransactionEvent",{"seqNo":1.5}]', "WrongType", "seqNo is '1.5'"),
+        ('[2,"1","TransactionEvent",{"evse":{"id":65}}]', "Range", "evse.id is '65'"),
+    ],
+)
+def test_why_a_message_is_refused(text: str, told: str, cause: str) -> None:
+    assert message_fault(text, told)[0].startswith(cause)
+
+
+def test_why_a_plan_has_no_room() -> None:
+    plan = Plan()
+    for number in range(64):
+        plan.take(number + 1, ["station", "north", f"S{number}"])
+    assert plan.over(["station", "north", "S64"])[0] == "it would be the 65th station"
+    assert "transactions is 5000" in plan.over(["limits", "5000", "1", "1", "1"])[0]
+    assert plan.over(["period", "north", "600"])[1] == "300, 900, 1800 or 3600"
+    assert plan.near("station", "s1", plan.stations) == "the nearest declared name is S1"
