@@ -72,7 +72,7 @@ impl<J: Naming> Viewer<J> {
     }
 
     /// The site's totals after posts that begin with all that this viewer saw or learnt: one try to
-    /// read the version, the totals and the version again, at most nine loads. Where a post came
+    /// read the version, the totals and the version again, at most eleven loads. Where a post came
     /// between, the totals that this viewer last saw or learnt.
     pub fn glance(&mut self) -> Figures
         ensures totals { result ≡ totals_after self.new.posts }

@@ -8,3 +8,4 @@ pub mod Submits
 pub mod Comparisons
 pub mod Ends
 pub mod Operators
+pub mod Posted

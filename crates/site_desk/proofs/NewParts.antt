@@ -1,6 +1,6 @@
 -- Cells, books and viewers of a plan that was just opened.
 use Rattle.std.proofs.Common.{◌≡◌, ◌≢◌, ℕ, zero, suc, ◌+◌, ◌<◌, ◌≤◌, Bool, true, false, not, cond, eqb, leb, ltb, ◌&&◌, List, [], ◌∷◌, ◌++◌, length, map, take, drop, replicate, get_or, Some, None, refl, ap, sym, ◌∙◌, subst, ⊎_elim, inl, inr, ◌⊎◌, arith, append_assoc}
-use Rattle.std.specs.Prelude.{filter, slice_get, sum_by, count_by, Option}
+use Rattle.std.specs.Prelude.{filter, slice_get, sum_by, count_by, Option, unwrap_or}
 use Rattle.std.specs.List.{list_all}
 use Rattle.std.proofs.lemmas.Bool.{cases_eq, leb-true, ltb-true}
 use Rattle.std.proofs.lemmas.List.{take_more, drop_more, length_push, take-append-le, take_all}
@@ -15,7 +15,7 @@ use Rattle.site_desk.specs.declared.fault.DeskFault.{DeskFault}
 use Rattle.site_desk.specs.declared.fault.DeskFault.TheVariants.{PlanLimit, StationTwice}
 use Rattle.station_cell.specs.Cell.{Cell, new_cell}
 use Rattle.site_desk.specs.Plan.{has_twice, is_within_limits, period_at, plan_fault, most_viewers}
-use Rattle.site_desk.specs.Parts.{AreNewBooks, AreNewCells, limits_at, new_book, new_viewers, row_at}
+use Rattle.site_desk.specs.Parts.{AreNewBooks, AreNewCells, limits_at, new_book, new_viewers, row_at, viewed_by}
 
 -- an element of a list with one more is one of the list's, or the last
 get_push : {A : Type 0} (xs : List A) (y x : A) (k : ℕ) → slice_get (xs ++ y ∷ []) k ≡ Some x → ((slice_get xs k ≡ Some x) × (k < length xs)) ⊎ ((k ≡ length xs) × (y ≡ x))
@@ -92,6 +92,19 @@ viewers_more sites n d before after all seats less old made added =
     ap (λ vs. vs ++ new_viewers (n + 1) (drop (n + 1) sites)) (added ∙ ap (λ ws. before ++ ws) these)
     ∙ append_assoc before (replicate count (n, known n [])) (new_viewers (n + 1) (drop (n + 1) sites))
     ∙ ap (λ ws. before ++ ws) (sym left) ∙ old
+
+-- as many sites, whatever viewers they have
+pub length_viewed : (each : Option ℕ) (sites : List SitePlan) → length (viewed_by each sites) ≡ length sites
+length_viewed None sites = refl
+length_viewed (Some viewers) [] = refl
+length_viewed (Some viewers) (s ∷ sites) = ap suc (length_viewed (Some viewers) sites)
+
+-- how many viewers a site has
+pub seats_by : (each : Option ℕ) (sites : List SitePlan) (n : ℕ) (d : SitePlan) → n < length sites → (get_or (viewed_by each sites) n d).viewers ≡ unwrap_or each (get_or sites n d).viewers
+seats_by None sites n d less = refl
+seats_by (Some viewers) [] n d less = absurd (omega (arith, less))
+seats_by (Some viewers) (s ∷ sites) zero d less = refl
+seats_by (Some viewers) (s ∷ sites) (suc n) d less = seats_by (Some viewers) sites n d (omega (arith, less))
 
 -- the limits of a site's stations are some of all
 few_at : (stations : List StationPlan) (site : ℕ) → length (limits_at stations site) ≤ length stations

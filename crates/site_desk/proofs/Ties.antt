@@ -29,7 +29,7 @@ row_here : (x : StationPlan) (site n : ℕ) → x.site ≡ site → cond (eqb x.
 row_here x site n e = let one : ◌≡◌ {A = ℕ} (cond (eqb x.site site) 1 0) 1 = ap (λ (b : Bool). let n : ℕ = cond b 1 0 in n) (eq-eqb x.site site e) in omega (arith, one)
 
 -- a station's limits are those of its row
-limits_row : (xs : List StationPlan) (k : ℕ) (s : StationPlan) → slice_get xs k ≡ Some s → slice_get (limits_at xs s.site) (row_at xs s.site k) ≡ Some s.limits
+pub limits_row : (xs : List StationPlan) (k : ℕ) (s : StationPlan) → slice_get xs k ≡ Some s → slice_get (limits_at xs s.site) (row_at xs s.site k) ≡ Some s.limits
 limits_row [] k s at = absurd (cc (at))
 limits_row (x ∷ xs) zero s at =
     let e : x ≡ s = cc in
@@ -47,7 +47,7 @@ limits_row (x ∷ xs) (suc k) s at =
     cases (eqb x.site s.site) (row_at (x ∷ xs) s.site (suc k)) row
 
 -- two stations of a site have two rows
-rows_apart : (xs : List StationPlan) (site j k : ℕ) (s t : StationPlan) → slice_get xs j ≡ Some s → slice_get xs k ≡ Some t → s.site ≡ site → t.site ≡ site → row_at xs site j ≡ row_at xs site k → j ≡ k
+pub rows_apart : (xs : List StationPlan) (site j k : ℕ) (s t : StationPlan) → slice_get xs j ≡ Some s → slice_get xs k ≡ Some t → s.site ≡ site → t.site ≡ site → row_at xs site j ≡ row_at xs site k → j ≡ k
 rows_apart [] site j k s t at as_ here there same = absurd (cc (at))
 rows_apart (x ∷ xs) site zero zero s t at as_ here there same = refl
 rows_apart (x ∷ xs) site zero (suc k) s t at as_ here there same =

@@ -1,4 +1,4 @@
-use Rattle.std.specs.Prelude.{◌≡◌, ℕ, suc, ◌<◌, ◌==◌, List, [], ◌∷◌, ◌++◌, filter, map, length, replicate, count_by, take, Some, slice_get}
+use Rattle.std.specs.Prelude.{◌≡◌, ℕ, suc, ◌<◌, ◌≤◌, ◌==◌, List, [], ◌∷◌, ◌++◌, filter, map, length, replicate, count_by, take, Option, None, Some, slice_get}
 use Rattle.ledger_model.specs.Limits.{Bounds}
 use Rattle.site_book.specs.Book.{Book, Known, known}
 use Rattle.site_desk.specs.declared.plan.SitePlan.{SitePlan}
@@ -33,6 +33,41 @@ pub record AreNewBooks (stations : List StationPlan) (sites : ℕ) (books : List
 abbrev pub new_viewers : ℕ → List SitePlan → List (ℕ × Known)
 new_viewers site [] = []
 new_viewers site (s ∷ sites) = replicate s.viewers (site, known site []) ++ new_viewers (suc site) sites
+
+-- These sites, each with so many viewers where a number is given.
+abbrev pub viewed_by : Option ℕ → List SitePlan → List SitePlan
+viewed_by None sites = sites
+viewed_by (Some viewers) sites = map {A = SitePlan} (λ s. record s { viewers = viewers }) sites
+
+-- The books of a plan: one for each site, in the plan's order, with a row for each of its stations, opened with that station's limits.
+pub record AreBooksOf (stations : List StationPlan) (sites : ℕ) (books : List Book) : Type 0 where
+  pub count : length books ≡ sites
+  pub each : (site : ℕ) (b : Book) → slice_get books site ≡ Some b → (b.site ≡ site) × (b.limits ≡ limits_at stations site)
+
+-- The cell's row stands in its site's book, opened with the cell's limits.
+pub record IsHeld (books : List Book) (c : Cell) : Type 0 where
+  pub book : Book
+  pub there : slice_get books c.site ≡ Some book
+  pub held : Holds c book
+
+-- Each cell's row stands in its site's book.
+abbrev pub AreHeld : List Cell → List Book → Type 0
+AreHeld cells books = (k : ℕ) (c : Cell) → slice_get cells k ≡ Some c → IsHeld books c
+
+-- A book has the site and the rows of the one that stood in its place.
+pub record KeepsRows (first : List Book) (site : ℕ) (b : Book) : Type 0 where
+  pub book : Book
+  pub there : slice_get first site ≡ Some book
+  pub number : b.site ≡ book.site
+  pub limits : b.limits ≡ book.limits
+
+-- Each book has the site and the rows of the one that stood in its place.
+abbrev pub AreRowsKept : List Book → List Book → Type 0
+AreRowsKept first books = (site : ℕ) (b : Book) → slice_get books site ≡ Some b → KeepsRows first site b
+
+-- No book has more than so many posts.
+abbrev pub HaveFewPosts : List Book → ℕ → Type 0
+HaveFewPosts books most = (site : ℕ) (b : Book) → slice_get books site ≡ Some b → length b.posts ≤ most
 
 -- The cell's row stands in its site's book, opened with the cell's limits, and shows the figures of its content.
 pub record IsTied (books : List Book) (c : Cell) : Type 0 where

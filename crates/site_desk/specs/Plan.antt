@@ -23,6 +23,11 @@ abbrev pub has_twice : List (List ℕ) → Bool
 has_twice [] = false
 has_twice (name ∷ names) = list_any (bytes_eq name) names || has_twice names
 
+-- The first text of the list that stands again behind it.
+abbrev pub first_twice : List (List ℕ) → Option (List ℕ)
+first_twice [] = None
+first_twice (name ∷ names) = if list_any (bytes_eq name) names then Some name else first_twice names
+
 -- The stations keep no more readings than a plan may, no site has too many viewers, each station is at one of the sites, and no two sites have one name.
 abbrev pub is_within_limits : List SitePlan → List StationPlan → Bool
 is_within_limits sites stations =

@@ -1,4 +1,4 @@
-ghost use Rattle.std.specs.Prelude.{◌≡◌, ◌≢◌, ◌↔◌, ℕ, ◌<◌, All, length, map, IfOk, IfErr, IfSome, OnOk, None, Some, false, is_some, slice_get, vec_len};
+ghost use Rattle.std.specs.Prelude.{◌≡◌, ◌≢◌, ◌↔◌, ℕ, ◌<◌, All, length, map, IfOk, IfErr, IfSome, OnOk, None, Some, false, is_some, nat_lt, slice_get, vec_len};
 ghost use Rattle.std.specs.List.{list_any};
 ghost use Rattle.std.specs.Str.{bytes_eq};
 ghost use Rattle.ledger_model.specs.declared.answer.Answer.{Answer};
@@ -109,7 +109,8 @@ impl<J: Naming> Desk<J, StationCell> {
         ensures settled { (at : StationPlace) → slice_get self.now.stations pass.old.station ≡ Some at → Submitted at pass.old command result.0 pass.new result.1 }
         ensures stranger { slice_get self.now.stations pass.old.station ≡ None → (result.0 ≡ Answer.Refused Refusal.ChangesExhausted) × IsUnchanged pass.old pass.new result.1 }
     {
-        self.submit_by(rt, pass, command, gate, &AtCell)
+        let (answer, told, _none) = self.submit_by(rt, pass, command, gate, &AtCell);
+        (answer, told)
     }
 
     /// Closes the desk. All values are moved out of their locks and compared, and only then is anything
@@ -199,24 +200,26 @@ impl<J: Naming, C: HasCell> Desk<J, C> {
     }
 
     /// Takes a command of a pass and answers it as [`Desk::submit`] does, by this way to settle it, under
-    /// the station's lock.
+    /// the station's lock. What the way gives comes with the answer.
     ///
     /// Condition: what the way asks of the command on the pass's station, where the desk has it.
-    pub fn submit_by<G: Gate, S: Settles<J, C>, R: Wait + Clock>(
+    pub fn submit_by<G: Gate, S: Settles<J, C, N>, N, R: Wait + Clock>(
         &self,
         rt: &R,
         pass: &mut Pass,
         command: Command,
         gate: &G,
         way: &S,
-    ) -> (Answer, Option<Told<J>>)
+    ) -> (Answer, Option<Told<J>>, Option<N>)
         requires { (at : StationPlace) → slice_get self.now.stations pass.old.station ≡ Some at → S.asks way.now pass.old.station command }
         ensures settled { (at : StationPlace) → slice_get self.now.stations pass.old.station ≡ Some at → Submitted at pass.old command result.0 pass.new result.1 }
+        ensures given { (at : StationPlace) → slice_get self.now.stations pass.old.station ≡ Some at → S.gives way.now pass.old.station command result.0 result.2 }
         ensures stranger { slice_get self.now.stations pass.old.station ≡ None → (result.0 ≡ Answer.Refused Refusal.ChangesExhausted) × IsUnchanged pass.old pass.new result.1 }
+        ensures nothing { slice_get self.now.stations pass.old.station ≡ None → result.2 ≡ None }
     {
         let number = pass.station() as usize;
         let Some(place) = self.places.get(number) else {
-            return (Answer::Refused(Refusal::ChangesExhausted), None);
+            return (Answer::Refused(Refusal::ChangesExhausted), None, None);
         };
         let lock: &Mutex<C> = &self.cells[number];
         let mut held = lock.lock(rt);
@@ -264,7 +267,8 @@ impl<J: Naming, C: HasCell> Desk<J, C> {
 
     /// The name of the station of this number in the plan, if there is the station.
     pub fn name_of(&self, station: u16) -> Option<&Name>
-        ensures { IfSome result (λ name. IsNamed self.now.stations name.now station) }
+        ensures known { is_some result ≡ nat_lt station (length self.now.stations) }
+        ensures named { IfSome result (λ name. IsNamed self.now.stations name.now station) }
     {
         match self.places.get(station as usize) {
             Some(place) => Some(&place.name),

@@ -1,10 +1,13 @@
-ghost use Rattle.std.specs.Prelude.{◌≡◌, ◌↔◌, ℕ, ◌<◌, ◌≤◌, ◌++◌, length, map, IfOk, OnOk, None, Some};
+ghost use Rattle.std.specs.Prelude.{◌≡◌, ◌↔◌, ℕ, ◌<◌, ◌≤◌, ◌^◌, [], ◌∷◌, ◌++◌, length, map, IfOk, OnOk, None, Some};
+ghost use Rattle.ledger_model.specs.Board.{figures};
+ghost use Rattle.ledger_model.specs.Content.{entries};
 ghost use Rattle.site_book.specs.Book.{ArePlanned, known};
 ghost use Rattle.site_book.specs.Tables.{HasTable, NamedBy};
 ghost use Rattle.site_desk.specs.declared.fault.DeskFault.{DeskFault};
-ghost use Rattle.site_desk.specs.Parts.{AreApart, AreNewBooks, AreNewCells, AreTied, limits_at, new_viewers, row_at};
+ghost use Rattle.site_desk.specs.Parts.{AreApart, AreBooksOf, AreHeld, AreNewBooks, AreNewCells, AreRowsKept, AreTied, HaveFewPosts, limits_at, new_viewers, row_at, viewed_by};
 ghost use Rattle.site_desk.specs.Plan.{plan_fault};
 ghost use Rattle.site_desk.specs.Roster.{AreCellsOf};
+ghost use Rattle.station_cell.specs.Settle.{Holds};
 
 use crate::fault::DeskFault;
 use crate::plan::{Plan, SitePlan, StationPlan, period_of};
@@ -68,6 +71,9 @@ impl<J: Naming> Parts<J> {
         requires cells { AreCellsOf plan.now.sites.items plan.now.stations.items cells.items }
         ensures cells { IfOk result (λ p. p.cells ≡ cells.items) }
         ensures books { IfOk result (λ p. length p.books ≡ length plan.now.sites.items) }
+        ensures rows { IfOk result (λ p. AreBooksOf plan.now.stations.items (length plan.now.sites.items) p.books) }
+        ensures tied { IfOk result (λ p. AreTied p.cells p.books) }
+        ensures viewers { IfOk result (λ p. p.viewers ≡ new_viewers 0 (viewed_by (Some viewers) plan.now.sites.items)) }
     {
         let (sites, stations) = (plan.sites.as_slice(), plan.stations.as_slice());
         let (mut books, viewers) = open_books(alloc, tables, sites, stations, Some(viewers))?;
@@ -80,22 +86,28 @@ impl<J: Naming> Parts<J> {
     }
 }
 
-// Posts the figures of each cell in the book of its site.
+// Posts the figures of each cell in the book of its site, which has no posts.
 fn post_all<J: Naming>(cells: &[StationCell], books: &mut [SiteBook<J>])
-    ensures { length books.new ≡ length books.old }
+    requires few { length cells.now ≤ 64 }
+    requires held { AreHeld cells.now books.old }
+    requires apart { AreApart cells.now }
+    requires none { HaveFewPosts books.old 0 }
+    ensures tied { AreTied cells.now books.new }
+    ensures rows { AreRowsKept books.old books.new }
+    ensures count { length books.new ≡ length books.old }
 {
     for cell in cells {
-        if let Some(book) = books.get_mut(cell.site() as usize) {
-            post_first(cell, book);
-        }
+        post_figures(cell, &mut books[cell.site() as usize]);
     }
 }
 
-// Posts the figures of a cell in its row of a book without posts, where it is there.
-fn post_first<J: Naming>(cell: &StationCell, book: &mut SiteBook<J>) {
-    if book.holds(cell.row(), cell.ledger().limits()) && book.can_post() {
-        book.post(cell.row(), cell.ledger().figures());
-    }
+// Posts the figures of a cell in its row.
+fn post_figures<J: Naming>(cell: &StationCell, book: &mut SiteBook<J>)
+    requires held { Holds cell.now book.old }
+    requires room { length book.old.posts < 2 ^ 62 }
+    ensures { book.new ≡ record book.old { posts = book.old.posts ++ (cell.now.row, figures (entries cell.now.content)) ∷ [] } }
+{
+    book.post(cell.row(), cell.ledger().figures());
 }
 
 // The parts of a plan that has no fault.
@@ -181,7 +193,7 @@ fn open_books<J: Naming>(
     requires few { (length sites.now ≤ 16) × (length stations.now ≤ 64) }
     requires faultless { plan_fault sites.now stations.now ≡ None }
     ensures books { IfOk result (λ r. AreNewBooks stations.now (length sites.now) r.0.items) }
-    ensures viewers { viewers_each ≡ None → IfOk result (λ r. r.1.items ≡ new_viewers 0 sites.now) }
+    ensures viewers { IfOk result (λ r. r.1.items ≡ new_viewers 0 (viewed_by viewers_each sites.now)) }
 {
     let mut books = Vec::with_capacity(alloc, sites.len())?;
     let mut viewers = Vec::new(alloc);

@@ -1,9 +1,9 @@
-ghost use Rattle.std.specs.Prelude.{◌≡◌, ◌≤◌, ◌<◌, ◌*◌, IfSome, ◌++◌, ◌∷◌, [], false, None, map, sum_by, length, nat_le, nat_lt};
+ghost use Rattle.std.specs.Prelude.{◌≡◌, ◌≤◌, ◌<◌, ◌*◌, IfSome, ◌++◌, ◌∷◌, [], false, None, Some, map, sum_by, length, nat_le, nat_lt};
 ghost use Rattle.std.specs.List.{list_all, list_any, position};
 ghost use Rattle.std.specs.Option.{is_some};
 ghost use Rattle.std.specs.Str.{bytes_eq};
 ghost use Rattle.ledger_model.specs.Ranges.{most_sites};
-ghost use Rattle.site_desk.specs.Plan.{blank_name, has_twice, is_past, is_within_limits, most_viewers, period_at, plan_fault, site_number, sites_by, sites_with};
+ghost use Rattle.site_desk.specs.Plan.{blank_name, first_twice, has_twice, is_past, is_within_limits, most_viewers, period_at, plan_fault, site_number, sites_by, sites_with};
 
 use crate::fault::DeskFault;
 use arrayvec::ArrayVec;
@@ -140,7 +140,8 @@ impl Plan {
 
     /// The first of the plan's stations whose name stands again behind it.
     pub fn station_twice(&self) -> Option<&Name>
-        ensures { is_some result ≡ has_twice (map (λ s. s.name) self.now.stations.items) }
+        ensures stands { is_some result ≡ has_twice (map (λ s. s.name) self.now.stations.items) }
+        ensures first { IfSome result (λ name. first_twice (map (λ s. s.name) self.now.stations.items) ≡ Some name.now) }
     {
         first_twice(self.stations.as_slice())
     }
@@ -280,7 +281,8 @@ fn are_sites_twice(sites: &[SitePlan]) -> bool
 
 // The name of the first station that has the name of one behind it.
 fn first_twice(stations: &[StationPlan]) -> Option<&Name>
-    ensures { is_some result ≡ has_twice (map (λ s. s.name) stations.now) }
+    ensures stands { is_some result ≡ has_twice (map (λ s. s.name) stations.now) }
+    ensures first { IfSome result (λ name. first_twice (map (λ s. s.name) stations.now) ≡ Some name.now) }
 {
     for k in 0..stations.len() {
         if has_station(&stations[k + 1..], &stations[k].name) {

@@ -8,11 +8,16 @@ use station_cell::{Pass, StationCell};
 use std::sync::{Mutex, Wait};
 
 /// How a command is taken once a desk holds the station's lock ([`Desk::submit_by`](crate::Desk::submit_by)).
-pub trait Settles<J: Naming, C> {
-    ghost use Rattle.std.specs.Prelude.{ℕ};
+/// With the answer it may give a receipt (N); `gives` says what that tells of the command on the station of
+/// this number.
+pub trait Settles<J: Naming, C, N> {
+    ghost use Rattle.std.specs.Prelude.{ℕ, Option};
+    ghost use Rattle.ledger_model.specs.declared.answer.Answer.{Answer};
     ghost use Rattle.ledger_model.specs.declared.command.Command.{Command};
 
     ghost asks: { Self → ℕ → Command → Type 0 };
+
+    ghost gives: { Self → ℕ → Command → Answer → Option N → Type 0 };
 
     /// Takes a command of a pass at what is behind the lock of the station of this number, and answers
     /// it as [`Desk::submit`](crate::Desk::submit) does. The lock of the site's book is taken where it has to be.
@@ -27,16 +32,19 @@ pub trait Settles<J: Naming, C> {
         place: &StationPlace,
         pass: &mut Pass,
         command: Command,
-    ) -> (Answer, Option<Told<J>>)
+    ) -> (Answer, Option<Told<J>>, Option<N>)
         requires { asks self.now number command }
-        ensures { Submitted place.now pass.old command result.0 pass.new result.1 };
+        ensures submitted { Submitted place.now pass.old command result.0 pass.new result.1 }
+        ensures given { gives self.now number command result.0 result.2 };
 }
 
-// At the cell itself, and nowhere else.
+// At the cell itself, and nowhere else; it gives no receipt.
 pub(crate) struct AtCell;
 
-impl<J: Naming> Settles<J, StationCell> for AtCell {
+impl<J: Naming> Settles<J, StationCell, ()> for AtCell {
     ghost asks = { λ _ _ _. Unit {0} };
+
+    ghost gives = { λ _ _ _ _ _. Unit {0} };
 
     fn settle<R: Wait>(
         &self,
@@ -47,8 +55,9 @@ impl<J: Naming> Settles<J, StationCell> for AtCell {
         place: &StationPlace,
         pass: &mut Pass,
         command: Command,
-    ) -> (Answer, Option<Told<J>>) {
+    ) -> (Answer, Option<Told<J>>, Option<()>) {
         let mut book = book.lock(rt);
-        try_settle(held, &mut book, number, place, pass, command)
+        let (answer, told) = try_settle(held, &mut book, number, place, pass, command);
+        (answer, told, None)
     }
 }

@@ -60,7 +60,7 @@ const OTHERS: [Asked; 5] = [
     },
 ];
 
-// What a replay of the same commands writes for `board north` (`examples/rows/three_threads.rows`).
+// What a replay of the same commands writes for `board north` (`tests/rows/three_threads.rows`).
 const BOARD: &str = "board north period=900
 total events=6 voided=0 transactions=2 complete=0 missing=0 up=650000 down=1500000 export_up=0 export_down=0
 period 2026-03-01T10:00:00Z up=250000 down=1500000 export_up=0 export_down=0
