@@ -1,5 +1,5 @@
 -- Each step keeps the rule of a journal's table.
-use Rattle.std.proofs.Common.{◌≡◌, ◌≢◌, ℕ, zero, suc, ◌+◌, ◌<◌, ◌≤◌, eqb, true, false, true≢false, List, [], ◌∷◌, ◌++◌, length, set, refl, ap, sym, ◌∙◌, subst, ◌⊎◌, inl, inr, ⊎_elim, arith, append-nil, length-set, eq-eqb, ne_eqb, cond}
+use Rattle.std.proofs.Common.{◌≡◌, ◌≢◌, ℕ, zero, suc, ◌+◌, ◌<◌, ◌≤◌, eqb, true, false, true≢false, List, [], ◌∷◌, ◌++◌, length, set, refl, ap, sym, ◌∙◌, subst, ◌⊎◌, inl, inr, ⊎_elim, arith, append-nil, append_assoc, length-set, eq-eqb, ne_eqb, cond}
 use Rattle.std.proofs.lemmas.List.Elements.{filter-append}
 use mathlib.Core.Option.{some, some-ne-none, some-injective}
 use lib.ListN.{get_elem?}
@@ -8,7 +8,8 @@ use Rattle.atomic_table.proofs.Lists.{at_set}
 use Rattle.kept_desk.specs.declared.entry.Entry.{Entry}
 use Rattle.kept_desk.specs.declared.table.View.{View}
 use Rattle.kept_desk.specs.Entries.{of_station}
-use Rattle.kept_desk.specs.Rule.{Fits, Kept, Tied, keeping, holding, joined, nobody}
+use Rattle.kept_desk.specs.Rule.{Fits, Kept, Tied, keeping, holding, joined, nobody, knowing, reading}
+use Rattle.site_book.specs.Prefix.{IsPrefix}
 
 off : false ≡ true → ⊥
 off e = true≢false (sym e)
@@ -66,18 +67,18 @@ module _ {C : Type 0} where
         (at_new (set views id left) right v by at)
 
   fits_nobody : (log : List (Entry C)) (made : ℕ) (claimant : ℕ → ℕ) (id : ℕ) → Fits log made claimant id nobody
-  fits_nobody log made claimant id = record { journal = λ e. absurd (off e); hand = λ e. absurd (off e) }
+  fits_nobody log made claimant id = record { journal = λ e. absurd (off e); hand = λ e. absurd (off e); receipt = λ e. absurd (off e) }
 
   fits_keeping : (log : List (Entry C)) (made : ℕ) (claimant : ℕ → ℕ) (id : ℕ) (l : List (Entry C)) (m : ℕ) → (id ≡ 0) × (l ≡ log) × (m ≡ made) → Fits log made claimant id (keeping l m)
-  fits_keeping log made claimant id l m is = record { journal = λ e. is; hand = λ e. absurd (off e) }
+  fits_keeping log made claimant id l m is = record { journal = λ e. is; hand = λ e. absurd (off e); receipt = λ e. absurd (off e) }
 
   fits_holding : (log : List (Entry C)) (made : ℕ) (claimant : ℕ → ℕ) (id station : ℕ) (mine : List (Entry C))
       → (station < made) × (id ≡ claimant station) × (mine ≡ of_station station log) → Fits log made claimant id (holding station mine)
-  fits_holding log made claimant id station mine is = record { journal = λ e. absurd (off e); hand = λ e. is }
+  fits_holding log made claimant id station mine is = record { journal = λ e. absurd (off e); hand = λ e. is; receipt = λ e. absurd (off e) }
 
   fits_joined : (log : List (Entry C)) (made : ℕ) (claimant : ℕ → ℕ) (id : ℕ) (l : List (Entry C)) (m station : ℕ) (mine : List (Entry C))
       → (id ≡ 0) × (l ≡ log) × (m ≡ made) → (station < made) × (id ≡ claimant station) × (mine ≡ of_station station log) → Fits log made claimant id (joined l m station mine)
-  fits_joined log made claimant id l m station mine is has = record { journal = λ e. is; hand = λ e. has }
+  fits_joined log made claimant id l m station mine is has = record { journal = λ e. is; hand = λ e. has; receipt = λ e. absurd (off e) }
 
   -- a seat that is not the hand of the station fits where that hand goes to another seat
   beside : (log : List (Entry C)) (made : ℕ) (claimant : ℕ → ℕ) (station holder seat : ℕ) → holder ≡ claimant station
@@ -87,7 +88,19 @@ module _ {C : Type 0} where
     hand = λ e.
         let h = f.hand e in
         (h.0, h.1 ∙ sym (placed_else station seat claimant v.station (λ same. apart (h.1 ∙ ap claimant same ∙ sym is))), h.2);
+    receipt = f.receipt;
   }
+
+  fits_knowing : (log : List (Entry C)) (made : ℕ) (claimant : ℕ → ℕ) (id : ℕ) (seen : List (Entry C)) → IsPrefix seen log → Fits log made claimant id (knowing seen)
+  fits_knowing log made claimant id seen first = record { journal = λ e. absurd (off e); hand = λ e. absurd (off e); receipt = λ e. first }
+
+  fits_reading : (log : List (Entry C)) (made : ℕ) (claimant : ℕ → ℕ) (id : ℕ) (l : List (Entry C)) (m : ℕ) (seen : List (Entry C))
+      → (id ≡ 0) × (l ≡ log) × (m ≡ made) → IsPrefix seen log → Fits log made claimant id (reading l m seen)
+  fits_reading log made claimant id l m seen is first = record { journal = λ e. is; hand = λ e. absurd (off e); receipt = λ e. first }
+
+  -- entries that begin a list begin one with more
+  begins_more : (seen log : List (Entry C)) (e : Entry C) → IsPrefix seen log → IsPrefix seen (log ++ e ∷ [])
+  begins_more seen log e first = record { rest = first.rest ++ e ∷ []; is = sym (append_assoc seen first.rest (e ∷ [])) ∙ ap (λ l. l ++ e ∷ []) first.is }
 
   -- the table as it is made
   pub begins : Kept {C = C} (keeping [] 0 ∷ [])
@@ -153,6 +166,7 @@ module _ {C : Type 0} where
                   let below : u.station < k.made = h.0 in
                   let same : v.made ≡ k.made = j.2 in
                   (omega (arith, below, same, fresh), h.1 ∙ sym (placed_else station n k.claimant u.station (λ one. absurd (omega (arith, below, same, fresh, one)))), h.2);
+              receipt = f.receipt;
             })
             k.seats;
       }
@@ -208,6 +222,7 @@ module _ {C : Type 0} where
                 hand = λ a.
                     let t = g.hand a in
                     (t.0, t.1, t.2 ∙ sym (other_last u.station k.log e (λ same. apart (t.1 ∙ ap k.claimant (sym same ∙ own) ∙ sym h.1))));
+                receipt = λ a. begins_more u.seen k.log e (g.receipt a);
               })
               k.seats;
         },
@@ -232,3 +247,75 @@ module _ {C : Type 0} where
         },
         (refl, h.2 ∙ ap (of_station me.0.station) (sym j.1)),
       )
+
+  -- the journal gives a receipt of all its entries
+  pub receives : (id : ℕ) (v : View C) → v.is_journal ≡ true → Splits {S = Unit {0}} Tied id v (keeping v.log v.made) (knowing v.log)
+  receives id v is s k at =
+      let j = (k.seats id v at).journal is in
+      let n = length s.views in
+      let F : ℕ → View C → Type 0 = Fits k.log k.made k.claimant in
+      record {
+        log = k.log;
+        made = k.made;
+        claimant = k.claimant;
+        seats = new_fits F F s.views id (keeping v.log v.made) (knowing v.log)
+            (fits_keeping k.log k.made k.claimant id v.log v.made j)
+            (fits_knowing k.log k.made k.claimant n v.log (record { rest = []; is = append-nil v.log ∙ j.1 }))
+            (λ by u apart f. f)
+            k.seats;
+      }
+
+  -- the journal takes in a receipt
+  pub reads_receipt : (id other : ℕ) (v w : View C) → v.is_journal ≡ true → w.is_receipt ≡ true → Joins {S = Unit {0}} Tied id v other w (reading v.log v.made w.seen) nobody
+  reads_receipt id other v w is knows s k at apart there =
+      let both = reading v.log v.made w.seen in
+      let theirs : Fits k.log k.made k.claimant other w = ⊎_elim
+      (λ (t : (other ≡ id) × (both ≡ w)). absurd (apart t.0))
+      (λ (t : (other ≢ id) × (get_elem? s.views other ≡ some w)). k.seats other w t.1)
+      (at_set s.views id other both w there) in
+      let j = (k.seats id v at).journal is in
+      let F : ℕ → View C → Type 0 = Fits k.log k.made k.claimant in
+      record {
+        log = k.log;
+        made = k.made;
+        claimant = k.claimant;
+        seats = set_fits F F (set s.views id both) other nobody (fits_nobody k.log k.made k.claimant other) (λ by u ne f. f)
+            (set_fits F F s.views id both
+            (fits_reading k.log k.made k.claimant id v.log v.made w.seen j (theirs.receipt knows))
+            (λ by u _ f. f)
+            k.seats);
+      }
+
+  -- a receipt's entries begin the journal's
+  pub confirms : (slots id : ℕ) (me : Me (Unit {0}) (View C)) → me.0.is_journal ≡ true → me.0.is_receipt ≡ true
+      → Allows Tied slots id me 0 (λ n. n) (λ _ w. (w ≡ me) × IsPrefix me.0.seen me.0.log)
+  confirms slots id me is knows s k deep at small =
+      let f = k.seats id me.0 at in
+      let j = f.journal is in (
+        me.0,
+        keeps,
+        tt,
+        record {
+          log = k.log;
+          made = k.made;
+          claimant = k.claimant;
+          seats = set_fits (Fits k.log k.made k.claimant) (Fits k.log k.made k.claimant) s.views id me.0 f (λ by u apart g. g) k.seats;
+        },
+        (refl, subst (IsPrefix me.0.seen) (sym j.1) (f.receipt knows)),
+      )
+
+  -- the journal parts with a receipt
+  pub parts_with_receipt : (id : ℕ) (v : View C) → v.is_journal ≡ true → Splits {S = Unit {0}} Tied id v (keeping v.log v.made) nobody
+  parts_with_receipt id v is s k at =
+      let j = (k.seats id v at).journal is in
+      let F : ℕ → View C → Type 0 = Fits k.log k.made k.claimant in
+      record {
+        log = k.log;
+        made = k.made;
+        claimant = k.claimant;
+        seats = new_fits F F s.views id (keeping v.log v.made) nobody
+            (fits_keeping k.log k.made k.claimant id v.log v.made j)
+            (fits_nobody k.log k.made k.claimant (length s.views))
+            (λ by u apart f. f)
+            k.seats;
+      }

@@ -3,7 +3,7 @@ use Rattle.atomic_table.specs.Table.{Me}
 use Rattle.atomic_table.specs.Seated.{TableId}
 use Rattle.kept_desk.specs.declared.table.View.{View}
 use Rattle.kept_desk.specs.Journal.{IsWritten}
-use Rattle.kept_desk.specs.Rule.{keeping, holding}
+use Rattle.kept_desk.specs.Rule.{keeping, holding, knowing}
 
 -- What a seat knows, and the slots that it holds: a journal's table has none.
 abbrev pub Seated : Type 0 → Type 0
@@ -19,17 +19,22 @@ pub record IsUnused {C : Type 0} (table seat : TableId) (me : Seated C) : Type 0
   pub sits : Sits table seat
   pub me_is : me ≡ (keeping [] 0, [])
 
--- What a journal keeps beside its table: the number of hands, whether a write failed, and what its writer holds.
-pub record IsJournal {C : Type 0} (named : TableId) (before : Option (List ℕ)) (hands : ℕ) (broken : Bool) (now : Option (List ℕ)) (table seat : TableId) (me : Seated C) : Type 0 where
+-- What a journal keeps beside its table: the number of hands, whether a write failed, and what its writer took, of which the buffer holds some back.
+pub record IsJournal {C : Type 0} (named : TableId) (before : Option (List ℕ)) (hands : ℕ) (broken : Bool) (now : Option (List ℕ)) (buffer : List ℕ) (table seat : TableId) (me : Seated C) : Type 0 where
   pub is_named : table ≡ named
   pub sits : Sits table seat
   pub me_is : me ≡ (keeping me.0.log hands, [])
-  pub written : IsWritten broken before now me.0.log
+  pub written : IsWritten broken before now buffer me.0.log
 
 -- What a hand is: a seat of this station at the table.
 pub record IsHand {C : Type 0} (named : TableId) (station : ℕ) (seat : TableId) (me : Seated C) : Type 0 where
   pub is_named : seat ≡ named
   pub me_is : me ≡ (holding station me.0.mine, [])
+
+-- What a receipt is: a seat at the table.
+pub record IsReceipt {C : Type 0} (named : TableId) (seat : TableId) (me : Seated C) : Type 0 where
+  pub is_named : seat ≡ named
+  pub me_is : me ≡ (knowing me.0.seen, [])
 
 -- The name of no table.
 abbrev pub no_table : TableId

@@ -1,5 +1,5 @@
 use Rattle.std.specs.Prelude.{◌≡◌, ℕ, Bool, false, List, [], ◌++◌, Option, All}
-use Rattle.std.specs.Io.KnownBytes.{Appends}
+use Rattle.std.specs.Io.KnownBytes.{Appends, append_known}
 use Rattle.kept_desk.specs.declared.entry.Entry.{Entry}
 use Rattle.kept_desk.specs.Entries.{HasNoFeed, line_text, text_of}
 
@@ -21,10 +21,11 @@ pub record BeginsLine (front : List ℕ) : Type 0 where
   pub no_feed : HasNoFeed line
   pub is : line_text line ≡ front ++ rest
 
--- What a writer took: the text of the entries, whose lines have no line feeds, and behind it, where a write failed, the front of one line more.
-pub record IsWritten {C : Type 0} (broken : Bool) (before now : Option (List ℕ)) (entries : List (Entry C)) : Type 0 where
+-- What was written behind `before`: the text of the entries, whose lines have no line feeds, and behind it, where a write or a flush failed, the front of one line more, which may be all of it. Of this `now` is what the writer behind the buffer took, and the buffer holds the rest; where none failed, it holds nothing.
+pub record IsWritten {C : Type 0} (broken : Bool) (before now : Option (List ℕ)) (buffer : List ℕ) (entries : List (Entry C)) : Type 0 where
   pub front : List ℕ
   pub begins : BeginsLine front
   pub lines : All (λ e. HasNoFeed e.line) entries
   pub whole : broken ≡ false → front ≡ []
-  pub appended : Appends before now (text_of entries ++ front)
+  pub handed_on : broken ≡ false → buffer ≡ []
+  pub appended : Appends before (append_known now buffer) (text_of entries ++ front)

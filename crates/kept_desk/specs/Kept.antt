@@ -1,8 +1,11 @@
-use Rattle.std.specs.Prelude.{◌≡◌, ℕ, ◌+◌, ◌≤◌, Bool, List, Option, All, map, length, Some, slice_get}
+use Rattle.std.specs.Prelude.{◌≡◌, ℕ, ◌+◌, ◌≤◌, Bool, List, [], ◌∷◌, ◌++◌, Option, All, map, length, None, Some, slice_get}
 use Rattle.kept_desk.specs.declared.entry.Entry.{Entry}
 use Rattle.kept_desk.specs.Entries.{of_station}
 use Rattle.kept_desk.specs.Journal.{IsWritten, Share}
+use Rattle.ledger_model.specs.declared.answer.Answer.{Answer}
+use Rattle.ledger_model.specs.declared.answer.Answer.TheVariants.{Accepted, Repeat, Refused}
 use Rattle.ledger_model.specs.declared.command.Command.{Command}
+use Rattle.site_book.specs.Prefix.{IsPrefix}
 use Rattle.ledger_model.specs.Admissible.{IsAdmissible}
 use Rattle.ledger_model.specs.Content.{Content}
 use Rattle.ledger_model.specs.Laws.{AreAccepted, left_by}
@@ -41,9 +44,22 @@ pub record IsKeptDesk (name : ℕ → List ℕ) (places : List StationPlace) (ce
   pub room_for_all : length places ≤ room
   pub few : length places ≤ 64
 
--- What is known of a desk with a journal once it is closed: there is one list of entries, of which the writer took the text, whose lines speak for their commands, and of which just each station's own leave its content.
-pub record IsWrittenDown (speaks : List ℕ → List ℕ → Command → Type 0) (name : ℕ → List ℕ) (first : ℕ → Content) (before : Option (List ℕ)) (broken : Bool) (now : Option (List ℕ)) (cells : List Cell) : Type 0 where
+-- What is known of a desk with a journal once it is closed: there is one list of entries, of which the writer took the text, whose lines speak for their commands, of which just each station's own leave its content, and which begins with the entries of each receipt.
+pub record IsWrittenDown (speaks : List ℕ → List ℕ → Command → Type 0) (name : ℕ → List ℕ) (first : ℕ → Content) (before : Option (List ℕ)) (broken : Bool) (now : Option (List ℕ)) (buffer : List ℕ) (cells : List Cell) (receipts : List (List (Entry Command))) : Type 0 where
   pub log : List (Entry Command)
-  pub written : IsWritten broken before now log
+  pub written : IsWritten broken before now buffer log
   pub spoken : AreSpoken speaks name log
   pub left : (k : ℕ) (c : Cell) → slice_get cells k ≡ Some c → IsLeftFrom c.limits (first k) c.content (commands_of (of_station k log))
+  pub received : All (λ r. IsPrefix r log) receipts
+
+-- With an accepted answer comes the receipt of this entry, which was the last one then, and with any other none.
+abbrev pub IsReceived : Answer → Entry Command → Option (List (Entry Command)) → Type 0
+IsReceived (Accepted n) e receipt = (log : List (Entry Command)) × (receipt ≡ Some (log ++ e ∷ []))
+IsReceived Repeat e receipt = receipt ≡ None
+IsReceived (Refused why) e receipt = receipt ≡ None
+
+-- The receipt with this answer, where it is accepted.
+abbrev pub given_with : Answer → List (Entry Command) → Option (List (Entry Command))
+given_with (Accepted n) receipt = Some receipt
+given_with Repeat receipt = None
+given_with (Refused why) receipt = None

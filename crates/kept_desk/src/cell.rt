@@ -1,15 +1,16 @@
-ghost use Rattle.std.specs.Prelude.{◌≡◌, [], length, IfOk};
-ghost use Rattle.kept_desk.specs.Entries.{HasNoFeed, of_station};
+ghost use Rattle.std.specs.Prelude.{◌≡◌, List, [], ◌∷◌, ◌++◌, length, IfOk};
+ghost use Rattle.kept_desk.specs.Entries.{HasNoFeed, entry, of_station};
 ghost use Rattle.ledger_model.specs.Laws.{IsAccepted};
 ghost use Rattle.ledger_model.specs.Step.{answer};
 ghost use Rattle.station_cell.specs.Cell.{IsInService};
 ghost use Rattle.station_cell.specs.Settle.{cell_after};
 ghost use Rattle.site_desk.specs.Submit.{CanJudge, Submitted};
-ghost use Rattle.kept_desk.specs.Kept.{KeepsCell};
+ghost use Rattle.kept_desk.specs.Kept.{IsReceived, KeepsCell, given_with};
 
 use crate::broken::Broken;
 use crate::hand::Hand;
 use crate::opening::{Opening, Speaks};
+use crate::receipt::Receipt;
 use crate::ties::Ties;
 use crate::way::Journalled;
 use ledger_model::{Answer, Command, Refusal};
@@ -87,18 +88,19 @@ impl<K: Ties + Opening> KeptCell<K> {
         pass: &mut Pass,
         command: Command,
         way: &Journalled<'_, K, L, W>,
-    ) -> (Answer, Option<Told<J>>)
+    ) -> (Answer, Option<Told<J>>, Option<Receipt<K, Command>>)
         requires can { CanJudge number place.now self.old pass.old }
         requires line { HasNoFeed way.now.line.now }
         requires speaks { L.speaks (K.name number) way.now.line.now command }
-        ensures { Submitted place.now pass.old command result.0 pass.new result.1 }
+        ensures submitted { Submitted place.now pass.old command result.0 pass.new result.1 }
+        ensures received { IsReceived result.0 (entry number way.now.line.now command) result.2 }
     {
         match self.cell.ledger().judge(&command) {
             Answer::Accepted(_) => {
                 self.take_written(rt, book, number, place, pass, command, way)
             }
-            Answer::Repeat => (Answer::Repeat, None),
-            Answer::Refused(why) => (Answer::Refused(why), None),
+            Answer::Repeat => (Answer::Repeat, None, None),
+            Answer::Refused(why) => (Answer::Refused(why), None, None),
         }
     }
 
@@ -112,18 +114,39 @@ impl<K: Ties + Opening> KeptCell<K> {
         pass: &mut Pass,
         command: Command,
         way: &Journalled<'_, K, L, W>,
-    ) -> (Answer, Option<Told<J>>)
+    ) -> (Answer, Option<Told<J>>, Option<Receipt<K, Command>>)
         requires can { CanJudge number place.now self.old pass.old }
         requires accepted { IsAccepted (answer self.old.limits self.old.content command) }
         requires line { HasNoFeed way.now.line.now }
         requires speaks { L.speaks (K.name number) way.now.line.now command }
-        ensures { Submitted place.now pass.old command result.0 pass.new result.1 }
+        ensures submitted { Submitted place.now pass.old command result.0 pass.new result.1 }
+        ensures received { IsReceived result.0 (entry number way.now.line.now command) result.2 }
     {
         command.keeps_ranges();
         match way.write(rt, &mut self.hand, &command) {
-            Ok(()) => settle_written(rt, &mut self.cell, book, number, place, pass, command),
-            Err(Broken) => (Answer::Refused(Refusal::ChangesExhausted), None),
+            Ok(receipt) => with_receipt(
+                settle_written(rt, &mut self.cell, book, number, place, pass, command),
+                receipt,
+            ),
+            Err(Broken) => (Answer::Refused(Refusal::ChangesExhausted), None, None),
         }
+    }
+}
+
+// The answer with what the book told, and with the receipt where the command was accepted.
+fn with_receipt<J: Naming, K: Ties>(
+    settled: (Answer, Option<Told<J>>),
+    receipt: Receipt<K, Command>,
+) -> (Answer, Option<Told<J>>, Option<Receipt<K, Command>>)
+    ensures answer { result.0 ≡ settled.0 }
+    ensures told { result.1 ≡ settled.1 }
+    ensures receipt { result.2 ≡ given_with settled.0 receipt }
+{
+    let (answer, told) = settled;
+    match answer {
+        Answer::Accepted(n) => (Answer::Accepted(n), told, Some(receipt)),
+        Answer::Repeat => (Answer::Repeat, told, None),
+        Answer::Refused(why) => (Answer::Refused(why), told, None),
     }
 }
 

@@ -4,11 +4,14 @@ ghost use Rattle.kept_desk.specs.Entries.{of_station};
 ghost use Rattle.station_cell.specs.Cell.{Cell, IsInService};
 ghost use Rattle.kept_desk.specs.Kept.{IsLeftFrom, commands_of};
 ghost use Rattle.kept_desk.specs.Opened.{AreFirst};
+ghost use Rattle.site_book.specs.Prefix.{IsPrefix};
 
 use crate::cell::KeptCell;
 use crate::log::Log;
 use crate::opening::{Opening, Speaks};
+use crate::receipt::Receipt;
 use crate::ties::Ties;
+use ledger_model::Command;
 use site_desk::StationCell;
 use std::alloc::{AllocError, Global};
 use std::io::Write;
@@ -46,6 +49,19 @@ pub(crate) fn free_cells<K: Ties + Opening, L: Speaks, W: Write + Drop>(
     for each in kept {
         let cell = free_cell(each, log);
         cells.push_reserved(cell);
+    }
+}
+
+// Compares each receipt with the journal.
+pub(crate) fn confirm_all<K: Ties + Opening, L: Speaks, W: Write + Drop>(
+    receipts: Vec<Receipt<K, Command>>,
+    log: &mut Log<K, L, W>,
+)
+    ensures log { log.new ≡ log.old }
+    ensures first { All (λ r. IsPrefix r log.old.entries) receipts.items }
+{
+    for receipt in receipts {
+        log.confirm(receipt);
     }
 }
 

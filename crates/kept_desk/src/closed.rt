@@ -1,10 +1,11 @@
 use crate::desk::KeptDesk;
 use crate::opening::{Opening, Speaks};
+use crate::receipt::Receipt;
 use crate::ties::Ties;
-use ledger_model::Listed;
+use ledger_model::{Command, Listed};
 use site_book::{Naming, Viewer};
 use site_desk::{CloseFault, Closed, Pass};
-use std::io::Write;
+use std::io::{BufWriter, Write};
 
 /// A desk with a journal that was closed.
 #[derive(Drop)]
@@ -12,12 +13,12 @@ pub struct KeptClosed<J: Naming, W: Write + Drop> {
     /// All ledgers, rows and totals.
     pub closed: Closed<J>,
     /// The journal's writer.
-    pub writer: W,
+    pub writer: BufWriter<W>,
     /// A write or a flush failed.
     pub is_broken: bool,
 }
 
-/// A desk that was not closed, with the passes and viewers that were handed in, all as they were.
+/// A desk that was not closed, with the passes, viewers and receipts that were handed in, all as they were.
 #[derive(Drop)]
 pub struct KeptRefused<J: Naming, K: Ties + Opening, L: Speaks, W: Write + Drop> {
     /// The desk.
@@ -26,6 +27,8 @@ pub struct KeptRefused<J: Naming, K: Ties + Opening, L: Speaks, W: Write + Drop>
     pub passes: Listed<Pass>,
     /// The viewers.
     pub viewers: Listed<Viewer<J>>,
+    /// The receipts.
+    pub receipts: Vec<Receipt<K, Command>>,
     /// Why it was not closed.
     pub fault: CloseFault,
 }

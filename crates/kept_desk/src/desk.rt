@@ -1,5 +1,6 @@
-ghost use Rattle.std.specs.Prelude.{◌≡◌, ◌≢◌, ℕ, All, length, IfOk, IfErr, None, Some, slice_get};
-ghost use Rattle.kept_desk.specs.Entries.{HasNoFeed};
+ghost use Rattle.std.specs.Prelude.{◌≡◌, ◌≢◌, ℕ, [], All, length, IfOk, IfErr, None, Some, slice_get};
+ghost use Rattle.std.specs.Io.Buffered.{writer_buffer, writer_inner};
+ghost use Rattle.kept_desk.specs.Entries.{HasNoFeed, entry};
 ghost use Rattle.ledger_model.specs.declared.answer.Answer.{Answer};
 ghost use Rattle.ledger_model.specs.declared.answer.Refusal.{Refusal};
 ghost use Rattle.site_desk.specs.declared.fault.CloseFault.{CloseFault};
@@ -8,22 +9,23 @@ ghost use Rattle.site_desk.specs.Close.{IsClosable, Saw};
 ghost use Rattle.site_desk.specs.Plan.{plan_fault};
 ghost use Rattle.site_desk.specs.Roster.{AreNewPlaces};
 ghost use Rattle.site_desk.specs.Submit.{IsUnchanged, Submitted};
-ghost use Rattle.kept_desk.specs.Kept.{IsWrittenDown};
+ghost use Rattle.kept_desk.specs.Kept.{IsReceived, IsWrittenDown};
 ghost use Rattle.kept_desk.specs.Opened.{AreFirst, AreNames};
 
 use crate::blank::Blank;
 use crate::cell::KeptCell;
-use crate::cells::{free_cells, keep_cells};
+use crate::cells::{confirm_all, free_cells, keep_cells};
 use crate::closed::{KeptClosed, KeptRefused};
 use crate::log::Log;
 use crate::opening::{Opening, Speaks};
+use crate::receipt::Receipt;
 use crate::ties::Ties;
 use crate::way::Journalled;
 use ledger_model::{Answer, Command};
 use site_book::{Naming, Told, Viewer};
 use site_desk::{CloseRefused, Closed, Desk, Gate, Parts, Pass, Plan, StationCell};
 use std::alloc::{AllocError, Global};
-use std::io::Write;
+use std::io::{BufWriter, Write};
 use std::marker::Model;
 use std::sync::{Mutex, Wait};
 use std::time::Clock;
@@ -55,8 +57,8 @@ impl<J: Naming, K: Ties + Opening, L: Speaks, W: Write + Drop> KeptDesk<J, K, L,
     /// The desk of a plan over these parts, with a journal of no entries that writes behind what the writer
     /// holds, and the viewers, each with its site's number.
     ///
-    /// Conditions: K names this table, what the writer holds, what the stations hold and what they are
-    /// called; the plan has no fault ([`Plan::fault`] tells), and the parts are a cell for each of its
+    /// Conditions: K names this table, what the writer behind the buffer holds, what the stations hold and what
+    /// they are called; nothing is left in the buffer; the plan has no fault ([`Plan::fault`] tells), and the parts are a cell for each of its
     /// stations and a book for each of its sites, as [`Parts::open`] gives them, whatever commands they
     /// took since.
     pub fn open(
@@ -64,10 +66,11 @@ impl<J: Naming, K: Ties + Opening, L: Speaks, W: Write + Drop> KeptDesk<J, K, L,
         plan: &Plan,
         parts: Parts<J>,
         blank: Blank<Command>,
-        writer: W,
+        writer: BufWriter<W>,
     ) -> Result<(Self, Vec<(u16, Viewer<J>)>), AllocError>
         requires table { blank ≡ K.table }
-        requires before { W.contents writer ≡ K.before }
+        requires before { W.contents (writer_inner writer) ≡ K.before }
+        requires empty { writer_buffer writer ≡ [] }
         requires first { AreFirst K.first parts.cells }
         requires names { AreNames K.name plan.now.stations.items }
         requires faultless { plan_fault plan.now.sites.items plan.now.stations.items ≡ None }
@@ -117,7 +120,7 @@ impl<J: Naming, K: Ties + Opening, L: Speaks, W: Write + Drop> KeptDesk<J, K, L,
     /// station's and then its site's. `ChangesExhausted` also answers where the line can't be written, then
     /// and from then on; and where the site's book is not as it should be behind a line that was written,
     /// which no run of fewer than 2^62 accepted changes a site meets: the station's cell then leaves service,
-    /// and the desk doesn't close over it.
+    /// and the desk doesn't close over it. With an accepted answer comes the receipt of the line's entry.
     ///
     /// Conditions: the line has no line feed ([`is_line`](crate::is_line) tells), and it speaks for
     /// the command on the pass's station.
@@ -128,10 +131,11 @@ impl<J: Naming, K: Ties + Opening, L: Speaks, W: Write + Drop> KeptDesk<J, K, L,
         command: Command,
         line: &[u8],
         gate: &G,
-    ) -> (Answer, Option<Told<J>>)
+    ) -> (Answer, Option<Told<J>>, Option<Receipt<K, Command>>)
         requires line { HasNoFeed line.now }
         requires speaks { (at : StationPlace) → slice_get self.now.stations pass.old.station ≡ Some at → L.speaks at.name line.now command }
         ensures settled { (at : StationPlace) → slice_get self.now.stations pass.old.station ≡ Some at → Submitted at pass.old command result.0 pass.new result.1 }
+        ensures received { (at : StationPlace) → slice_get self.now.stations pass.old.station ≡ Some at → IsReceived result.0 (entry pass.old.station line.now command) result.2 }
         ensures stranger { slice_get self.now.stations pass.old.station ≡ None → (result.0 ≡ Answer.Refused Refusal.ChangesExhausted) × IsUnchanged pass.old pass.new result.1 }
     {
         let way = Journalled {
@@ -141,14 +145,15 @@ impl<J: Naming, K: Ties + Opening, L: Speaks, W: Write + Drop> KeptDesk<J, K, L,
         self.desk.submit_by(rt, pass, command, gate, &way)
     }
 
-    /// Closes the desk as [`Desk::close`] does, and then compares each station's side with the journal. It
-    /// takes no memory.
+    /// Closes the desk as [`Desk::close`] does, and then compares each station's side, and each receipt that is
+    /// handed in, with the journal. It takes no memory.
     pub fn close(
         self,
         passes: Vec<Pass>,
         viewers: Vec<Viewer<J>>,
+        receipts: Vec<Receipt<K, Command>>,
     ) -> Result<KeptClosed<J, W>, KeptRefused<J, K, L, W>>
-        ensures kept { IfOk result (λ s. IsWrittenDown L.speaks K.name K.first K.before s.is_broken (W.contents s.writer) s.closed.cells) }
+        ensures kept { IfOk result (λ s. IsWrittenDown L.speaks K.name K.first K.before s.is_broken (W.contents (writer_inner s.writer)) (writer_buffer s.writer) s.closed.cells receipts.items) }
         ensures stations { IfOk result (λ s. length s.closed.cells ≡ length self.stations) }
         ensures sites { IfOk result (λ s. length s.closed.books ≡ self.sites) }
         ensures whole { IfOk result (λ s. IsClosable self.stations self.viewers s.closed.cells s.closed.books passes.items viewers.items) }
@@ -157,12 +162,14 @@ impl<J: Naming, K: Ties + Opening, L: Speaks, W: Write + Drop> KeptDesk<J, K, L,
         ensures desk { IfErr result (λ r. r.desk ≡ self) }
         ensures passes { IfErr result (λ r. r.passes ≡ passes.items) }
         ensures viewers { IfErr result (λ r. r.viewers ≡ viewers.items) }
+        ensures receipts { IfErr result (λ r. r.receipts.items ≡ receipts.items) }
     {
         let KeptDesk { desk, log, spare } = self;
         match desk.take_apart(passes, viewers) {
             Ok((kept, books)) => {
                 let (mut log, mut cells) = (log.into_inner(), spare);
                 free_cells(kept, &mut log, &mut cells);
+                confirm_all(receipts, &mut log);
                 let (writer, is_broken) = log.into_writer();
                 Ok(KeptClosed {
                     closed: Closed::of(cells, books),
@@ -181,6 +188,7 @@ impl<J: Naming, K: Ties + Opening, L: Speaks, W: Write + Drop> KeptDesk<J, K, L,
                     desk: KeptDesk { desk, log, spare },
                     passes,
                     viewers,
+                    receipts,
                     fault,
                 })
             }

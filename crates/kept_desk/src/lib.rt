@@ -15,12 +15,15 @@
 //! all stations at once: there is one list of entries, of which the writer took the text, and each
 //! station's ledger holds what just its own entries leave; each entry's line speaks for its command on the
 //! station of its name, in the words of the caller ([`Speaks`]). The contract of `submit` is that of
-//! [`Desk::submit`](site_desk::Desk::submit), word for word.
+//! [`Desk::submit`](site_desk::Desk::submit), word for word, and that an accepted answer comes with a
+//! [`Receipt`]: the entries that the journal had then, the last of them just this line's. The entries of each
+//! receipt begin those that `close` speaks of.
 //!
 //! Below the desk stands the journal itself, which knows nothing of ledgers. A [`Journal`] writes lines for
 //! stations: [`Journal::add`] writes and flushes one line, and then notes it as an [`Entry`], with the command
 //! that it is, in the journal and in the [`Hand`] of the line's station. Notes take no memory and have no
-//! bytes: a hand is its station's number. What was written is the text of one list of entries, and each
+//! bytes: a hand is its station's number. While nothing has failed, nothing is left in the buffer of the
+//! journal's writer, so the writer behind it took each entry's line before the entry was noted. What was written is the text of one list of entries, and each
 //! station's hand has just the entries of its own station in that list, in their order. So what a station
 //! holds beside its hand, and was proved to come of the hand's entries, comes of its own entries in what was
 //! written ([`Journal::compare`], [`Journal::into_writer`]). A write or a flush that fails breaks the journal
@@ -30,13 +33,13 @@
 //! The type parameters: J names the tables of the sites, K the journal ([`Ties`], B of a journal by itself), so
 //! that a hand reaches no other, and what the stations held and were called when the desk was opened
 //! ([`Opening`]); L says which lines speak for which commands, C is what a line means, of which no value is
-//! kept, and W is the writer.
+//! kept, and W is the writer behind the journal's buffer.
 //!
 //! ```text
 //! let (desk, viewers) = KeptDesk::open(alloc, &plan, parts, blank, writer)?;
 //! let mut pass = desk.desk().enlist(rt, &name)?;
-//! desk.submit(rt, &mut pass, Command::Void(key), b"void A T1 3", &NoGate);   // (Accepted(1), Some(told))
-//! let closed = desk.close(passes, viewers)?;                                 // closed.writer took the line
+//! desk.submit(rt, &mut pass, Command::Void(key), b"void A T1 3", &NoGate);   // (Accepted(1), Some(told), Some(receipt))
+//! let closed = desk.close(passes, viewers, receipts)?;                       // closed.writer took the line
 //! ```
 #![tactic(auto)]
 
@@ -51,6 +54,7 @@ mod hand;
 mod journal;
 mod log;
 mod opening;
+mod receipt;
 mod steps;
 mod table;
 mod ties;
@@ -66,5 +70,6 @@ pub use entry::Entry;
 pub use hand::Hand;
 pub use journal::Journal;
 pub use opening::{Opening, Speaks};
+pub use receipt::Receipt;
 pub use ties::Ties;
 pub use write::is_line;

@@ -1,5 +1,9 @@
 //! The journal of a desk, whose lines speak for their commands.
-ghost use Rattle.std.specs.Prelude.{◌≡◌, ◌+◌, ◌≤◌, false, true, [], ◌∷◌, ◌++◌, OnOk, OnErr};
+ghost use Rattle.std.specs.Prelude.{◌≡◌, ◌+◌, ◌≤◌, List, false, true, [], ◌∷◌, ◌++◌, IfOk, OnOk, OnErr};
+ghost use Rattle.std.specs.Io.Buffered.{writer_buffer, writer_inner};
+ghost use Rattle.kept_desk.specs.declared.entry.Entry.{Entry};
+ghost use Rattle.ledger_model.specs.declared.command.Command.{Command};
+ghost use Rattle.site_book.specs.Prefix.{IsPrefix};
 ghost use Rattle.kept_desk.specs.Entries.{HasNoFeed, entry, of_station};
 ghost use Rattle.kept_desk.specs.Journal.{IsWritten};
 ghost use Rattle.kept_desk.specs.Kept.{AreSpoken};
@@ -9,9 +13,10 @@ use crate::broken::Broken;
 use crate::hand::Hand;
 use crate::journal::Journal;
 use crate::opening::{Opening, Speaks};
+use crate::receipt::Receipt;
 use crate::ties::Ties;
 use ledger_model::Command;
-use std::io::Write;
+use std::io::{BufWriter, Write};
 use std::marker::{Model, PhantomData};
 
 // The journal of a desk.
@@ -35,9 +40,10 @@ impl<K: Ties + Opening, L: Speaks, W: Write + Drop> Model for Log<K, L, W> {
 
 impl<K: Ties + Opening, L: Speaks, W: Write + Drop> Log<K, L, W> {
     // A journal of no entries.
-    pub(crate) fn open(blank: Blank<Command>, writer: W) -> Self
+    pub(crate) fn open(blank: Blank<Command>, writer: BufWriter<W>) -> Self
         requires table { blank ≡ K.table }
-        requires before { W.contents writer ≡ K.before }
+        requires before { W.contents (writer_inner writer) ≡ K.before }
+        requires empty { writer_buffer writer ≡ [] }
         ensures { result ≡ record { entries = []; hands = 0; broken = false } }
     {
         Log {
@@ -62,16 +68,17 @@ impl<K: Ties + Opening, L: Speaks, W: Write + Drop> Log<K, L, W> {
         self.journal.is_broken()
     }
 
-    // Writes the line, and notes it with its command here and in the hand.
+    // Writes the line, notes it with its command here and in the hand, and gives the receipt.
     pub(crate) fn add(
         &mut self,
         hand: &mut Hand<K, Command>,
         line: &[u8],
         command: &Command,
-    ) -> Result<(), Broken>
+    ) -> Result<Receipt<K, Command>, Broken>
         requires line { HasNoFeed line.now }
         requires speaks { L.speaks (K.name hand.old.station) line.now command.now }
         ensures known { OnOk result (hand.new ≡ record hand.old { entries = hand.old.entries ++ entry hand.old.station line.now command.now ∷ [] }) }
+        ensures receipt { IfOk result (λ r. (log : List (Entry Command)) × (r ≡ log ++ entry hand.old.station line.now command.now ∷ [])) }
         ensures same { OnErr result (hand.new ≡ hand.old) }
     {
         self.journal.add(hand, line, command)
@@ -85,10 +92,18 @@ impl<K: Ties + Opening, L: Speaks, W: Write + Drop> Log<K, L, W> {
         self.journal.compare(hand);
     }
 
+    // The receipt's entries begin the journal's.
+    pub(crate) fn confirm(&mut self, receipt: Receipt<K, Command>)
+        ensures first { IsPrefix receipt self.old.entries }
+        ensures same { self.new ≡ self.old }
+    {
+        self.journal.confirm(receipt);
+    }
+
     // The writer, and whether it failed.
-    pub(crate) fn into_writer(self) -> (W, bool)
+    pub(crate) fn into_writer(self) -> (BufWriter<W>, bool)
         ensures broken { result.1 ≡ self.broken }
-        ensures written { IsWritten self.broken K.before (W.contents result.0) self.entries }
+        ensures written { IsWritten self.broken K.before (W.contents (writer_inner result.0)) (writer_buffer result.0) self.entries }
         ensures spoken { AreSpoken L.speaks K.name self.entries }
     {
         let Log { journal, speech: _ } = self;

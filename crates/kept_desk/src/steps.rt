@@ -2,10 +2,12 @@
 ghost use Rattle.std.specs.Prelude.{◌≡◌, ◌+◌, ◌≤◌, [], ◌∷◌, ◌++◌};
 ghost use Rattle.kept_desk.specs.Entries.{entry, of_station};
 ghost use Rattle.kept_desk.specs.Held.{Sits};
-ghost use Rattle.kept_desk.specs.Rule.{keeping, holding, joined};
+ghost use Rattle.kept_desk.specs.Rule.{keeping, holding, joined, knowing, reading};
+ghost use Rattle.site_book.specs.Prefix.{IsPrefix};
 
 use crate::table::{
-    Adds, Compares, Enlists, Gives, Leaves, TableSeat, TakesIn, TheEntries, TheStation, Words,
+    Adds, Compares, Confirms, Enlists, Gives, Leaves, PartsWithReceipt, ReadsReceipt, Receives,
+    TableSeat, TakesIn, TheEntries, TheStation, Words,
 };
 
 // A hand leaves all that it knows to a new seat: it can't be joined and kept.
@@ -121,4 +123,61 @@ pub(crate) fn agree<C>(words: &Words<C>, seat: &mut TableSeat<C>, hand: &mut Tab
     take_in(words, seat, left);
     compare(words, seat);
     *hand = give(words, seat);
+}
+
+// The journal gives a receipt of all its entries.
+pub(crate) fn receive<C>(words: &Words<C>, seat: &mut TableSeat<C>) -> TableSeat<C>
+    requires sits { Sits words.now.table_id seat.old.table_id }
+    requires keeps { seat.old.me ≡ (keeping seat.old.me.0.log seat.old.me.0.made, []) }
+    ensures sits { Sits words.now.table_id seat.new.table_id × Sits words.now.table_id result.table_id }
+    ensures keeps { seat.new.me ≡ (keeping seat.old.me.0.log seat.old.me.0.made, []) }
+    ensures knows { result.me ≡ (knowing seat.old.me.0.log, []) }
+{
+    words.split_seat::<Receives>(seat)
+}
+
+// The journal takes in a receipt.
+pub(crate) fn read_receipt<C>(words: &Words<C>, seat: &mut TableSeat<C>, receipt: TableSeat<C>)
+    requires sits { Sits words.now.table_id seat.old.table_id × Sits words.now.table_id receipt.table_id }
+    requires keeps { seat.old.me ≡ (keeping seat.old.me.0.log seat.old.me.0.made, []) }
+    requires knows { receipt.me ≡ (knowing receipt.me.0.seen, []) }
+    ensures sits { Sits words.now.table_id seat.new.table_id }
+    ensures reads { seat.new.me ≡ (reading seat.old.me.0.log seat.old.me.0.made receipt.me.0.seen, []) }
+{
+    words.join_seat::<ReadsReceipt>(seat, receipt);
+}
+
+// The receipt's entries begin the journal's.
+pub(crate) fn compare_receipt<C>(words: &Words<C>, seat: &mut TableSeat<C>)
+    requires sits { Sits words.now.table_id seat.old.table_id }
+    requires reads { seat.old.me ≡ (reading seat.old.me.0.log seat.old.me.0.made seat.old.me.0.seen, []) }
+    ensures sits { Sits words.now.table_id seat.new.table_id }
+    ensures same { seat.new.me ≡ seat.old.me }
+    ensures first { IsPrefix seat.old.me.0.seen seat.old.me.0.log }
+{
+    words.load::<Confirms>(seat, 0);
+}
+
+// The journal parts with the receipt that it read.
+pub(crate) fn part<C>(words: &Words<C>, seat: &mut TableSeat<C>)
+    requires sits { Sits words.now.table_id seat.old.table_id }
+    requires reads { seat.old.me ≡ (reading seat.old.me.0.log seat.old.me.0.made seat.old.me.0.seen, []) }
+    ensures sits { Sits words.now.table_id seat.new.table_id }
+    ensures keeps { seat.new.me ≡ (keeping seat.old.me.0.log seat.old.me.0.made, []) }
+{
+    let _spent = words.split_seat::<PartsWithReceipt>(seat);
+}
+
+// The journal and a receipt are compared.
+pub(crate) fn confirm<C>(words: &Words<C>, seat: &mut TableSeat<C>, receipt: TableSeat<C>)
+    requires sits { Sits words.now.table_id seat.old.table_id × Sits words.now.table_id receipt.table_id }
+    requires keeps { seat.old.me ≡ (keeping seat.old.me.0.log seat.old.me.0.made, []) }
+    requires knows { receipt.me ≡ (knowing receipt.me.0.seen, []) }
+    ensures sits { Sits words.now.table_id seat.new.table_id }
+    ensures same { seat.new.me ≡ seat.old.me }
+    ensures first { IsPrefix receipt.me.0.seen seat.old.me.0.log }
+{
+    read_receipt(words, seat, receipt);
+    compare_receipt(words, seat);
+    part(words, seat);
 }

@@ -19,6 +19,10 @@ pub(crate) struct View<C> {
     pub(crate) station: u16,
     // The entries of that station.
     pub(crate) mine: LinkedList<Entry<C>>,
+    // It is a receipt.
+    pub(crate) is_receipt: bool,
+    // The entries up to the one that it was given for.
+    pub(crate) seen: LinkedList<Entry<C>>,
 }
 
 // The rule of a journal's table.
@@ -130,4 +134,46 @@ impl<C, K: TheStation> Split<View<C>> for Enlists<K> {
     ghost left = { λ v. keeping v.log (K.station + 1) };
 
     ghost right = { λ v. holding K.station (of_station K.station v.log) };
+}
+
+// The journal gives a receipt of all its entries.
+pub(crate) struct Receives;
+
+impl<C> Split<View<C>> for Receives {
+    ghost use Rattle.kept_desk.specs.Rule.{keeping, knowing};
+
+    ghost left = { λ v. keeping v.log v.made };
+
+    ghost right = { λ v. knowing v.log };
+}
+
+// The journal takes in a receipt.
+pub(crate) struct ReadsReceipt;
+
+impl<C> Join<View<C>> for ReadsReceipt {
+    ghost use Rattle.kept_desk.specs.Rule.{nobody, reading};
+
+    ghost both = { λ v w. reading v.log v.made w.seen };
+
+    ghost spent = { nobody };
+}
+
+// The receipt's entries are compared with the journal's.
+pub(crate) struct Confirms;
+
+impl<C> Play<(), View<C>> for Confirms {
+    ghost use Rattle.kept_desk.specs.Rule.{Confirmed};
+
+    ghost then = { Confirmed };
+}
+
+// The journal parts with the receipt.
+pub(crate) struct PartsWithReceipt;
+
+impl<C> Split<View<C>> for PartsWithReceipt {
+    ghost use Rattle.kept_desk.specs.Rule.{keeping, nobody};
+
+    ghost left = { λ v. keeping v.log v.made };
+
+    ghost right = { λ _. nobody };
 }

@@ -1,12 +1,15 @@
 //! How a desk with a journal takes a command.
-ghost use Rattle.std.specs.Prelude.{◌≡◌, ◌++◌, ◌∷◌, [], OnOk, OnErr};
+ghost use Rattle.std.specs.Prelude.{◌≡◌, List, ◌++◌, ◌∷◌, [], IfOk, OnOk, OnErr};
+ghost use Rattle.kept_desk.specs.declared.entry.Entry.{Entry};
 ghost use Rattle.kept_desk.specs.Entries.{HasNoFeed, entry};
+ghost use Rattle.ledger_model.specs.declared.command.Command.{Command};
 
 use crate::broken::Broken;
 use crate::cell::KeptCell;
 use crate::hand::Hand;
 use crate::log::Log;
 use crate::opening::{Opening, Speaks};
+use crate::receipt::Receipt;
 use crate::ties::Ties;
 use ledger_model::{Answer, Command, Refusal};
 use site_book::{Naming, SiteBook, Told};
@@ -23,16 +26,17 @@ pub(crate) struct Journalled<'a, K: Ties + Opening, L: Speaks, W: Write + Drop> 
 }
 
 impl<'a, K: Ties + Opening, L: Speaks, W: Write + Drop> Journalled<'a, K, L, W> {
-    // Writes the line under the journal's lock, and notes it with its command.
+    // Writes the line under the journal's lock, notes it with its command, and gives the receipt.
     pub(crate) fn write<R: Wait>(
         &self,
         rt: &R,
         hand: &mut Hand<K, Command>,
         command: &Command,
-    ) -> Result<(), Broken>
+    ) -> Result<Receipt<K, Command>, Broken>
         requires line { HasNoFeed self.now.line.now }
         requires speaks { L.speaks (K.name hand.old.station) self.now.line.now command.now }
         ensures known { OnOk result (hand.new ≡ record hand.old { entries = hand.old.entries ++ entry hand.old.station self.now.line.now command.now ∷ [] }) }
+        ensures receipt { IfOk result (λ r. (log : List (Entry Command)) × (r ≡ log ++ entry hand.old.station self.now.line.now command.now ∷ [])) }
         ensures same { OnErr result (hand.new ≡ hand.old) }
     {
         let mut log = hold(rt, self.log);
@@ -40,11 +44,17 @@ impl<'a, K: Ties + Opening, L: Speaks, W: Write + Drop> Journalled<'a, K, L, W> 
     }
 }
 
-impl<'a, J: Naming, K: Ties + Opening, L: Speaks, W: Write + Drop> Settles<J, KeptCell<K>>
-    for Journalled<'a, K, L, W> {
-    ghost use Rattle.kept_desk.specs.Entries.{HasNoFeed};
+impl<'a, J: Naming, K: Ties + Opening, L: Speaks, W: Write + Drop> Settles<
+    J,
+    KeptCell<K>,
+    Receipt<K, Command>,
+> for Journalled<'a, K, L, W> {
+    ghost use Rattle.kept_desk.specs.Entries.{HasNoFeed, entry};
+    ghost use Rattle.kept_desk.specs.Kept.{IsReceived};
 
     ghost asks = { λ w number command. HasNoFeed w.line.now × L.speaks (K.name number) w.line.now command };
+
+    ghost gives = { λ w number command answer receipt. IsReceived answer (entry number w.line.now command) receipt };
 
     fn settle<R: Wait>(
         &self,
@@ -55,11 +65,11 @@ impl<'a, J: Naming, K: Ties + Opening, L: Speaks, W: Write + Drop> Settles<J, Ke
         place: &StationPlace,
         pass: &mut Pass,
         command: Command,
-    ) -> (Answer, Option<Told<J>>) {
+    ) -> (Answer, Option<Told<J>>, Option<Receipt<K, Command>>) {
         if can_judge(held.cell(), number, place, pass) {
             held.take(rt, book, number, place, pass, command, self)
         } else {
-            (Answer::Refused(Refusal::ChangesExhausted), None)
+            (Answer::Refused(Refusal::ChangesExhausted), None, None)
         }
     }
 }

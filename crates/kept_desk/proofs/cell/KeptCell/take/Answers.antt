@@ -6,8 +6,8 @@ use Rattle.station_cell.specs.Settle.{cell_after}
 use Rattle.site_desk.proofs.Submits.{submitted}
 use Rattle.kept_desk.proofs.cell.KeptCell.take.Goals as goal
 
-pub returns-in-Repeat : goal.returns-in-Repeat
-returns-in-Repeat g c =
+pub returns-in-Repeat-clause-submitted : goal.returns-in-Repeat-clause-submitted
+returns-in-Repeat-clause-submitted g c =
     let may = c.requires.can in
     let cell = c.args.self.now in
     let book : Book = record { site = c.args.place.now.site; limits = []; posts = [] } in
@@ -15,8 +15,8 @@ returns-in-Repeat g c =
     submitted c.args.place.now c.args.number cell book c.args.pass.now c.args.command may.stands refl may.reached may.counted may.knows
     Repeat (cell_after cell c.args.pass.now c.args.command) book c.args.pass.now _ is refl refl refl refl
 
-pub returns-in-Refused : goal.returns-in-Refused
-returns-in-Refused g c =
+pub returns-in-Refused-clause-submitted : goal.returns-in-Refused-clause-submitted
+returns-in-Refused-clause-submitted g c =
     let may = c.requires.can in
     let cell = c.args.self.now in
     let book : Book = record { site = c.args.place.now.site; limits = []; posts = [] } in

@@ -12,7 +12,7 @@ invariant_of-self g c =
       is_named = i.is_named;
       sits = i.sits;
       me_is = i.me_is;
-      written = cut _ _ _ _ c.self.inside.seat.me.0.log c.args.line.now c.requires.line c.if-self.false i.written c.in_err-write_line.ensures;
+      written = cut _ _ _ _ _ _ c.self.inside.seat.me.0.log c.args.line.now c.requires.line c.if-self.false i.written c.in_err-write_line.ensures.written;
     }
 
 pub invariant_of-self-2 : goal.invariant_of-self-2
@@ -20,11 +20,11 @@ invariant_of-self-2 g c =
     let i = c.self.invariant in
     let log = c.self.inside.seat.me.0.log in
     let now = log ++ entry c.hand.inside.station c.args.line.now c.args.command.now ∷ [] in
-    let grown : c.note.new.seat.me.0.log ≡ now = ap (λ m. m.0.log) c.note.ensures.keeps in
+    let grown : c.receive-seat.new.seat.me.0.log ≡ now = ap (λ m. m.0.log) (c.receive-seat.ensures.keeps ∙ ap (λ m. (keeping m.0.log m.0.made, [])) c.note.ensures.keeps) in
     let made : c.self.inside.seat.me.0.made ≡ c.self.inside.hands = ap (λ m. m.0.made) i.me_is in
     record {
       is_named = i.is_named;
-      sits = c.note.ensures.sits.0;
-      me_is = c.note.ensures.keeps ∙ (λ n. (keeping (sym grown n) (made n), []));
-      written = subst (IsWritten false _ _) (sym grown) (added _ _ _ _ log c.hand.inside.station c.args.line.now c.args.command.now c.requires.line c.if-self.false i.written c.in_ok-write_line.ensures);
+      sits = c.receive-seat.ensures.sits.0;
+      me_is = c.receive-seat.ensures.keeps ∙ ap (λ m. (keeping m.0.log m.0.made, [])) c.note.ensures.keeps ∙ (λ n. (keeping (sym grown n) (made n), []));
+      written = subst (IsWritten false _ _ _) (sym grown) (added _ _ _ _ _ _ log c.hand.inside.station c.args.line.now c.args.command.now c.requires.line c.if-self.false i.written c.in_ok-write_line.ensures.written c.in_ok-write_line.ensures.handed_on);
     }

@@ -13,5 +13,5 @@ invariant_of-result g c =
       is_named = table ∙ c.requires.table;
       sits = subst (λ t. Sits t c.into_parts-table.result.1.table_id) (sym table) unused.sits;
       me_is = unused.me_is ∙ ap (λ log. (keeping log 0, [])) (sym empty);
-      written = none _ _ _ c.requires.before empty;
+      written = none _ _ _ _ c.requires.before c.requires.empty empty;
     }
