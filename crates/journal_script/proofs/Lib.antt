@@ -1,8 +1,15 @@
 pub mod Steps
 pub mod Whole
+mod LastByte
 pub mod LinesRead
 pub mod UpToListen
 pub mod Contents
 pub mod Journals
 pub mod Boards
 pub mod Moments
+mod MessageLine
+mod NoTree
+mod NotJson
+mod Unheard
+mod Spoiled
+pub mod Cuts

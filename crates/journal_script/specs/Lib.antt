@@ -1,4 +1,5 @@
 pub mod Speaking
 pub mod Journals
+pub mod Cuts
 pub mod Restoring
 pub mod Reading

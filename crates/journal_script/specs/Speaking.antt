@@ -1,8 +1,9 @@
 -- What a line of a journal says, at whatever moment it is read.
-use Rattle.std.specs.Prelude.{◌≡◌, ℕ, ◌≤◌, List, length, Some}
+use Rattle.std.specs.Prelude.{◌≡◌, ℕ, ◌≤◌, true, List, ◌∷◌, ◌++◌, codes, length, Some}
 use Rattle.std.specs.Io.BufRead.{strip_last}
 use Rattle.ledger_model.specs.declared.command.Command.{Command}
 use Rattle.ledger_model.specs.declared.command.Command.TheVariants.{Deliver}
+use Rattle.ledger_model.specs.Name.{is_name}
 use Rattle.transaction_event.specs.Message.{Event, message}
 use Rattle.transaction_event.specs.Request.{Request}
 use Rattle.script_lines.specs.LineMeaning.{LineMeaning, nothing, fails, sets_limits, declares, sets_period, tells, sends, commands, asks_energy, asks_export, asks_total, asks_board, line_meaning}
@@ -41,3 +42,14 @@ pub record Speaks (name line : List ℕ) (command : Command) : Type 0 where
 -- A text that is an event at one moment asks for its delivery at any.
 abbrev pub EventsAskAtAnyMoment : Type 0
 EventsAskAtAnyMoment = (text : List ℕ) (now : ℕ) (id : List ℕ) (request : Request) → message text now ≡ Event id request → AsksFor text (Deliver request.key request.event)
+
+-- The line `msg <name> <text>`.
+abbrev pub message_text : List ℕ → List ℕ → List ℕ
+message_text name text = codes "msg " ++ (name ++ 32 ∷ text)
+
+-- The text stands in a script as it is, as the message of a station: it has no line feed and no carriage return at its end, and its line is no longer than a line may be.
+pub record StandsAsItIs (name text : List ℕ) : Type 0 where
+  pub named : is_name name ≡ true
+  pub feedless : HasNoFeed text
+  pub bare : strip_last 13 text ≡ text
+  pub short : length (message_text name text) ≤ longest_line

@@ -8,6 +8,10 @@ pub enum RestoreFault {
     /// The input ended before the line `listen`.
     #[error("NotRestored")]
     NotRestored,
+    /// The line before `listen` does not end with `#`. Behind a journal belong a line `#`, which spoils the part of a
+    /// line that a kill may have left there, and the line `listen`: `printf '#\nlisten\n'`.
+    #[error("NotMarked")]
+    NotMarked,
     /// The reader answered an error.
     #[error("ReadFault")]
     ReadFault,
@@ -26,6 +30,11 @@ impl From<AllocError> for RestoreFault {
 }
 
 impl From<ReplayFault> for RestoreFault {
+    ghost use Rattle.std.specs.Prelude.{◌≢◌};
+    ghost use Rattle.journal_script.specs.declared.fault.RestoreFault.TheVariants.{NotMarked};
+
+    ghost from_gives = { λ fault e. e ≢ NotMarked };
+
     fn from(fault: ReplayFault) -> RestoreFault {
         match fault {
             ReplayFault::ReadFault | ReplayFault::WriteFault => RestoreFault::ReadFault,

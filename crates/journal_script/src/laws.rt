@@ -1,4 +1,5 @@
 //! Laws of a journal's text. Each function's contract is the law; the functions do nothing.
+ghost use Rattle.journal_script.specs.Cuts.{CutsAreScripts};
 ghost use Rattle.journal_script.specs.Journals.{BoardsAreThoseOfCells, JournalsAreScripts};
 ghost use Rattle.journal_script.specs.Speaking.{EventsAskAtAnyMoment};
 
@@ -6,6 +7,13 @@ ghost use Rattle.journal_script.specs.Speaking.{EventsAskAtAnyMoment};
 /// own.
 pub fn journals()
     ensures { JournalsAreScripts }
+{}
+
+/// A script with a journal's text behind it that was cut at any byte, and with the mark that a restore or the next run
+/// puts behind that, ends with the contents that the journal's whole lines leave: none of them is lost, and the part of
+/// a line says nothing.
+pub fn cuts()
+    ensures { CutsAreScripts }
 {}
 
 /// A script whose stations have the contents of a desk's cells answers `board` with that desk's boards.

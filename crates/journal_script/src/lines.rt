@@ -1,11 +1,11 @@
 //! The lines of a journal.
-ghost use Rattle.std.specs.Prelude.{◌≡◌, ◌↔◌, ◌≤◌, length, IsTrue, IfOk};
+ghost use Rattle.std.specs.Prelude.{◌≡◌, ◌↔◌, ◌≤◌, length, IsTrue, IfOk, OnOk};
 ghost use Rattle.std.specs.Io.BufRead.{strip_last};
 ghost use Rattle.ledger_model.specs.declared.command.Command.TheVariants.{Deliver};
 ghost use Rattle.script_lines.specs.LineMeaning.{line_meaning, sends};
 ghost use Rattle.script_lines.specs.Lines.{HasNoFeed, line_bytes};
 ghost use Rattle.script_lines.specs.Ranges.{longest_line};
-ghost use Rattle.journal_script.specs.Speaking.{AsksFor, Says, Speaks};
+ghost use Rattle.journal_script.specs.Speaking.{AsksFor, Says, Speaks, StandsAsItIs, message_text};
 
 use kept_desk::is_line;
 use ledger_model::{Event, Key, Moment, Name};
@@ -13,9 +13,9 @@ use script_lines::{MAX_LINE_BYTES, ScriptLine, read_line, without_return};
 use std::alloc::{AllocError, Global};
 use transaction_event::{Message, message_of};
 
-/// Makes the line of a station's message, and tells whether it asks for the delivery that the message asks for. Line
-/// feeds and carriage returns, which may stand between the tokens of a text, are spaces in the line; such a line is
-/// read, and its event compared.
+/// Makes the line of a station's message, and tells whether it asks for the delivery that the message asks for. It does
+/// where the text is one line that is not too long. Line feeds and carriage returns, which may stand between the tokens
+/// of a text, are spaces in the line; such a line is read, and its event compared.
 ///
 /// Condition: the text asks for this delivery.
 pub fn message_line(
@@ -27,7 +27,8 @@ pub fn message_line(
     event: &Event,
 ) -> Result<bool, AllocError>
     requires { AsksFor text.now (Deliver key.now event.now) }
-    ensures { IfOk result (λ is. IsTrue is → Speaks name.now line.new.items (Deliver key.now event.now)) }
+    ensures speaks { IfOk result (λ is. IsTrue is → Speaks name.now line.new.items (Deliver key.now event.now)) }
+    ensures as_it_is { IfOk result (λ is. StandsAsItIs name.now text.now → IsTrue is) }
 {
     put_message(line, name, text)?;
     if is_script_line(line) && is_message(Some(line), name, text) {
@@ -38,7 +39,9 @@ pub fn message_line(
 }
 
 // Makes the line `msg <name> <text>`.
-fn put_message(line: &mut Vec<u8>, name: &Name, text: &str) -> Result<(), AllocError> {
+fn put_message(line: &mut Vec<u8>, name: &Name, text: &str) -> Result<(), AllocError>
+    ensures { OnOk result (line.new.items ≡ message_text name.now text.now) }
+{
     line.clear();
     line.extend_from_slice(b"msg ")?;
     line.extend_from_slice(name.text().as_bytes())?;
@@ -75,7 +78,7 @@ fn is_bare(line: &[u8]) -> bool
 
 // Tells whether the line says that this station sends this text.
 fn is_message(line: Option<&[u8]>, name: &Name, text: &str) -> bool
-    ensures { IsTrue result → line_meaning (line_bytes line.entry) ≡ sends name.now text.now }
+    ensures { IsTrue result ↔ (line_meaning (line_bytes line.entry) ≡ sends name.now text.now) }
 {
     match &read_line(line) {
         ScriptLine::Sends(to, said) => is_sent(to, said, name, text),
@@ -85,7 +88,7 @@ fn is_message(line: Option<&[u8]>, name: &Name, text: &str) -> bool
 
 // Tells whether both names are one, and both texts.
 fn is_sent(to: &Name, said: &str, name: &Name, text: &str) -> bool
-    ensures { IsTrue result → (to.now ≡ name.now) × (said.now ≡ text.now) }
+    ensures { IsTrue result ↔ ((to.now ≡ name.now) × (said.now ≡ text.now)) }
 {
     *to == *name && *said == *text
 }

@@ -1,4 +1,5 @@
-ghost use Rattle.std.specs.Prelude.{◌≡◌, ◌↔◌, ℕ, ◌+◌, ◌<◌, ◌≤◌, ◌^◌, true, false, List, ◌++◌, codes, length, None, Some, IsTrue, IfOk, OnOk};
+ghost use Rattle.std.specs.Prelude.{◌≡◌, ◌↔◌, ℕ, ◌+◌, ◌<◌, ◌≤◌, ◌^◌, true, false, List, ◌++◌, codes, length, None, Some, IsTrue, IfErr, IfOk, OnOk};
+ghost use Rattle.std.specs.Io.BufRead.{ends_with_byte};
 ghost use Rattle.std.specs.Io.KnownBytes.{Consumes};
 ghost use Rattle.script_ledgers.specs.Drafts.{planned};
 ghost use Rattle.script_ledgers.specs.Running.{posts_in, running};
@@ -10,7 +11,7 @@ ghost use Rattle.script_lines.specs.declared.line_reader.LineEnd.TheVariants.{Fe
 ghost use Rattle.site_book.specs.Tables.{HasTable, NamedBy};
 ghost use Rattle.site_desk.specs.Plan.{plan_fault};
 ghost use Rattle.site_desk.specs.Roster.{AreCellsOf};
-ghost use Rattle.journal_script.specs.Reading.{GoesOn, ReadsLine, Stops};
+ghost use Rattle.journal_script.specs.Reading.{GoesOn, HoldsMark, ReadsLine, Stops};
 ghost use Rattle.journal_script.specs.Restoring.{IsListen, IsRestored};
 
 use crate::fault::RestoreFault;
@@ -42,7 +43,9 @@ pub struct Restored {
 /// and commands. A line whose answer is a fault, a refusal or a CALLERROR changes nothing, and is told as `left out
 /// <line number> <answer>`, the first line being 1; whether that can be written does not matter. A repeat is not told.
 ///
-/// An input that ends before the line feed of `listen` is `NotRestored`.
+/// The line before `listen` has to end with `#`, and else the script is `NotMarked`: behind a journal that a kill cut
+/// within a line, the `#` makes that part of a line say nothing. An input that ends before the line feed of `listen` is
+/// `NotRestored`.
 pub fn restore<X: AllocGlobal + Threads, R: BufRead, T: Write>(
     rt: &X,
     reader: &mut R,
@@ -70,7 +73,7 @@ fn declare<X: AllocGlobal, R: BufRead, T: Write>(
     told: &mut T,
 ) -> Result<bool, RestoreFault>
     requires short { lines.old.max_line_bytes < 2 ^ 62 }
-    ensures run { IfOk result (λ opens. Stops lines.old.max_line_bytes lines.old.room lines.new.room opens (planned draft.old) (planned draft.new) (R.remaining reader.old) (R.remaining reader.new) lines.new.held.items) }
+    ensures run { IfOk result (λ opens. Stops lines.old.max_line_bytes lines.old.room lines.new.room opens (planned draft.old) (planned draft.new) (R.remaining reader.old) (R.remaining reader.new) lines.old.held.items lines.new.held.items) }
     ensures opening { IfOk result (λ opens. opens ≡ true → opening (line_meaning (line_of Feed lines.old.max_line_bytes lines.new.held.items)) ≡ true) }
     ensures max_line_bytes { lines.new.max_line_bytes ≡ lines.old.max_line_bytes }
 {
@@ -142,7 +145,7 @@ fn run_from<J: Naming, X: AllocGlobal + Threads, R: BufRead, T: Write>(
 ) -> Result<(), RestoreFault>
     requires short { lines.old.max_line_bytes < 2 ^ 62 }
     requires few { posts_in ledgers.old.books.items + 1 + lines.old.room < 2 ^ 62 }
-    ensures { OnOk result (Stops lines.old.max_line_bytes lines.old.room lines.new.room false (line_step (running ledgers.old.draft ledgers.old.cells.items) (line_of Feed lines.old.max_line_bytes lines.old.held.items)).0 (running ledgers.new.draft ledgers.new.cells.items) (R.remaining reader.old) (R.remaining reader.new) lines.new.held.items) }
+    ensures { OnOk result (Stops lines.old.max_line_bytes lines.old.room lines.new.room false (line_step (running ledgers.old.draft ledgers.old.cells.items) (line_of Feed lines.old.max_line_bytes lines.old.held.items)).0 (running ledgers.new.draft ledgers.new.cells.items) (R.remaining reader.old) (R.remaining reader.new) lines.old.held.items lines.new.held.items) }
 {
     take(rt, ledgers, lines, left_out, told)?;
     run(rt, ledgers, lines, left_out, reader, told)
@@ -159,7 +162,7 @@ fn run<J: Naming, X: AllocGlobal + Threads, R: BufRead, T: Write>(
 ) -> Result<(), RestoreFault>
     requires short { lines.old.max_line_bytes < 2 ^ 62 }
     requires few { posts_in ledgers.old.books.items + lines.old.room < 2 ^ 62 }
-    ensures { OnOk result (Stops lines.old.max_line_bytes lines.old.room lines.new.room false (running ledgers.old.draft ledgers.old.cells.items) (running ledgers.new.draft ledgers.new.cells.items) (R.remaining reader.old) (R.remaining reader.new) lines.new.held.items) }
+    ensures { OnOk result (Stops lines.old.max_line_bytes lines.old.room lines.new.room false (running ledgers.old.draft ledgers.old.cells.items) (running ledgers.new.draft ledgers.new.cells.items) (R.remaining reader.old) (R.remaining reader.new) lines.old.held.items lines.new.held.items) }
 {
     'lines: loop {
         if ledgers.look(rt, lines, reader).is_err() {
@@ -191,15 +194,48 @@ fn take<J: Naming, X: AllocGlobal, T: Write>(
     Ok(())
 }
 
-// Reads the next line; false where it is `listen`.
+// Reads the next line; false where it is `listen`, before which the line that was held has to end with `#`.
 fn next<R: BufRead>(lines: &mut LineReader, reader: &mut R) -> Result<bool, RestoreFault>
     requires { lines.old.max_line_bytes < 2 ^ 62 }
     ensures reads { IfOk result (λ more. (bytes : List ℕ) × Consumes (R.remaining reader.old) (R.remaining reader.new) bytes × ReadsLine lines.old.max_line_bytes lines.old.room lines.new.room more bytes lines.new.held.items) }
+    ensures marked { IfOk result (λ more. more ≡ false → HoldsMark lines.old.max_line_bytes lines.old.held.items) }
+    ensures unmarked { IfErr result (λ e. e ≡ RestoreFault.NotMarked → HoldsMark lines.old.max_line_bytes lines.old.held.items → ⊥) }
     ensures max_line_bytes { lines.new.max_line_bytes ≡ lines.old.max_line_bytes }
 {
+    let is_marked = holds_mark(lines);
     match lines.next_line(reader, &mut io::sink())? {
-        LineEnd::Feed => Ok(!is_listen(lines.line(LineEnd::Feed))),
+        LineEnd::Feed => reads_on(is_listen(lines.line(LineEnd::Feed)), is_marked),
         LineEnd::Input => Err(RestoreFault::NotRestored),
+    }
+}
+
+// Tells whether the line that was read last ends with `#`; one that is not held to its end does not.
+fn holds_mark(lines: &LineReader) -> bool
+    ensures { IsTrue result ↔ HoldsMark lines.now.max_line_bytes lines.now.held.items }
+{
+    lines.held.len() <= lines.max_line_bytes && ends_with_mark(&lines.held)
+}
+
+// Tells whether the bytes end with `#`.
+fn ends_with_mark(bytes: &[u8]) -> bool
+    ensures { result ≡ ends_with_byte 35 bytes.now }
+{
+    match bytes {
+        [.., b'#'] => true,
+        _ => false,
+    }
+}
+
+// Tells whether a script goes on behind a line.
+fn reads_on(is_listen: bool, is_marked: bool) -> Result<bool, RestoreFault>
+    ensures on { IfOk result (λ more. more ≡ true → is_listen ≡ false) }
+    ensures stops { IfOk result (λ more. more ≡ false → (is_listen ≡ true) × (is_marked ≡ true)) }
+    ensures refuses { IfErr result (λ e. is_marked ≡ false) }
+{
+    match (is_listen, is_marked) {
+        (false, _) => Ok(true),
+        (true, true) => Ok(false),
+        (true, false) => Err(RestoreFault::NotMarked),
     }
 }
 

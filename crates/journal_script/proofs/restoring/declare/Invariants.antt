@@ -5,7 +5,7 @@ use Rattle.journal_script.proofs.restoring.declare.Given as goal
 
 abbrev pub invariant-lines : goal.invariant-lines
 invariant-lines g l =
-    Goes l.fn.lines.max_line_bytes l.fn.lines.room l.lines.room (planned l.fn.draft) (planned l.draft) (g.R.Read.remaining l.fn.reader) (g.R.Read.remaining l.reader)
+    Goes l.fn.lines.max_line_bytes l.fn.lines.room l.lines.room (planned l.fn.draft) (planned l.draft) (g.R.Read.remaining l.fn.reader) (g.R.Read.remaining l.reader) l.fn.lines.held.items l.lines.held.items
     × (l.lines.max_line_bytes ≡ l.fn.lines.max_line_bytes)
 
 abbrev pub decreases-lines : goal.decreases-lines

@@ -26,7 +26,7 @@ returns-clause-goes g c =
           let last = w.run_from.new.lines.held.items in
           let first = running old.draft old.cells.items in
           let t = running new.draft new.cells.items in
-          let stops = subst (λ r. Stops most a.lines.room left false (line_step first (line_of Feed most held)).0 t r0 (g.R.Read.remaining r) last) (sym w.reader-is) w.in_ok-run_from.ensures in
+          let stops = subst (λ r. Stops most a.lines.room left false (line_step first (line_of Feed most held)).0 t r0 (g.R.Read.remaining r) held last) (sym w.reader-is) w.in_ok-run_from.ensures in
           let shows = shows_parts t parts.draft new.draft parts.cells.items new.cells.items (told.draft ∙ ap (λ l. l.draft) w.ledgers-is) (told.cells ∙ ap (λ l. l.cells.items) w.ledgers-is) (shows_running new.draft new.cells.items) in
           goes_opened parts.draft.sites parts.draft.stations parts.cells.items a.opens most a.lines.room (planned a.draft) held r0 r1 left first t last w.if-opens.true c.in_ok-ledgers.ensures.script (c.requires.opening w.if-opens.true) stops shows
       | else-opens w ↦

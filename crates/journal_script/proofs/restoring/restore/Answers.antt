@@ -22,6 +22,6 @@ returns-clause-restored g c =
     (λ r. GoesOn opens new.lines.max_line_bytes new.lines.room (planned new.draft) new.lines.held.items r1 r2 r.draft.sites r.draft.stations r.cells.items)
     (λ r. Restores r0 r2 r.draft.sites r.draft.stations r.cells.items)
     (λ r goes.
-    restored_from r.draft.sites r.draft.stations r.cells.items opens made.result.max_line_bytes new.lines.max_line_bytes made.result.room new.lines.room (planned c.new-draft.result) (planned new.draft) r0 r1 r2 new.lines.held.items
-    most (c.declare.ensures.max_line_bytes ∙ most) c.new-draft.ensures c.in_ok-opens.ensures.run goes)
+    restored_from r.draft.sites r.draft.stations r.cells.items opens made.result.max_line_bytes new.lines.max_line_bytes made.result.room new.lines.room (planned c.new-draft.result) (planned new.draft) r0 r1 r2 made.result.held.items new.lines.held.items
+    most (c.declare.ensures.max_line_bytes ∙ most) c.new-draft.ensures made.ensures.held c.in_ok-opens.ensures.run goes)
     c.go_on.ensures.goes

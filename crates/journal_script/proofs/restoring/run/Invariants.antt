@@ -5,7 +5,7 @@ use Rattle.journal_script.proofs.restoring.run.Given as goal
 
 abbrev pub invariant-lines : goal.invariant-lines
 invariant-lines g l =
-    Goes l.fn.lines.max_line_bytes l.fn.lines.room l.lines.room (running l.fn.ledgers.draft l.fn.ledgers.cells.items) (running l.ledgers.draft l.ledgers.cells.items) (g.R.Read.remaining l.fn.reader) (g.R.Read.remaining l.reader)
+    Goes l.fn.lines.max_line_bytes l.fn.lines.room l.lines.room (running l.fn.ledgers.draft l.fn.ledgers.cells.items) (running l.ledgers.draft l.ledgers.cells.items) (g.R.Read.remaining l.fn.reader) (g.R.Read.remaining l.reader) l.fn.lines.held.items l.lines.held.items
     × (l.lines.max_line_bytes ≡ l.fn.lines.max_line_bytes)
     × (posts_in l.ledgers.books.items + l.lines.room ≤ posts_in l.fn.ledgers.books.items + l.fn.lines.room)
 

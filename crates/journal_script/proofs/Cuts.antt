@@ -1,0 +1,138 @@
+-- A journal that was cut at any byte, with a mark behind it.
+use Rattle.std.proofs.Common.{◌≡◌, ◌≢◌, ℕ, zero, suc, ◌≤◌, true, not, ◌==◌, List, [], ◌∷◌, ◌++◌, All, length, take, drop, get_or, ◌⊎◌, inl, inr, refl, sym, ap, subst, ◌∙◌, arith, append_assoc, append-nil, length-append, eq-eqb, zero-le}
+use Rattle.std.specs.Prelude.{codes}
+use Rattle.std.specs.List.{list_all}
+use Rattle.std.proofs.lemmas.Bool.{cases_lt, false≢true}
+use Rattle.std.proofs.lemmas.List.{take-append-le}
+use Rattle.std.proofs.lemmas.List.Elements.{All-append, All-head, All-tail, All-take}
+use Rattle.std.proofs.lemmas.List.Sums.{AllPass-from_list_all}
+use Rattle.std.proofs.Math.Seq.{take-append_seam}
+use Rattle.kept_desk.specs.declared.entry.Entry.{Entry}
+use Rattle.kept_desk.specs.Entries.{line_text, text_of}
+use Rattle.ledger_model.specs.declared.command.Command.{Command}
+use Rattle.script_lines.specs.Lines.{HasNoFeed, ended, lines_of, unended}
+use Rattle.script_lines.specs.Ranges.{longest_line}
+use Rattle.script_lines.proofs.Cuts.{cut-ended}
+use Rattle.script_ledgers.specs.Script.{Script, line_step, start, script_after}
+use Rattle.site_desk.specs.declared.plan.SitePlan.{SitePlan}
+use Rattle.site_desk.specs.declared.plan.StationPlan.{StationPlan}
+use Rattle.station_cell.specs.Cell.{Cell}
+use Rattle.journal_script.specs.Cuts.{BeginsNext, CutsAreScripts, HasWhole, IsMark}
+use Rattle.journal_script.specs.Journals.{EndsWhole, IsSpoken, Shows}
+use Rattle.journal_script.proofs.Journals.{journals_are_scripts}
+use Rattle.journal_script.proofs.LinesRead.{both_whole}
+use Rattle.journal_script.proofs.LastByte.{last}
+use Rattle.journal_script.proofs.Spoiled.{Stays, spoiled}
+use Rattle.journal_script.proofs.Whole.{after_both, lines_apart}
+
+-- ---- where a text is cut
+
+-- two texts that are one, of which the first is no longer
+front_of : (a b x y : List ℕ) → a ++ b ≡ x ++ y → length a ≤ length x → (more : List ℕ) × (x ≡ a ++ more) × (b ≡ more ++ y)
+front_of [] b x y e short = (x, refl, e)
+front_of (c ∷ a) b [] y e short = absurd (omega arith)
+front_of (c ∷ a) b (d ∷ x) y e short =
+    let first : c ≡ d = cc e in
+    let rest : a ++ b ≡ x ++ y = cc e in
+    let later = front_of a b x y rest (omega arith) in
+    (later.0, (λ i. sym first i ∷ later.1 i), later.2)
+
+-- how many lines are whole in a front
+pub whole_lines : (log : List (Entry Command)) (front rest : List ℕ) → front ++ rest ≡ text_of log → (k : ℕ) × HasWhole log front k
+whole_lines [] front rest is = (0, record { within = zero-le; part = []; is = nothing front rest is; next = refl })
+  where
+    nothing : (a b : List ℕ) → a ++ b ≡ [] → a ≡ []
+    nothing [] b e = refl
+    nothing (x ∷ a) b e = cc e
+whole_lines (e ∷ log) front rest is = elim (cases_lt (length front) (length (line_text e.line))) [
+  | inl less ↦
+      let there = front_of front rest (line_text e.line) (text_of log) is (omega arith) in
+      (0, record { within = zero-le; part = front; is = refl; next = (there.0, there.1, omega (arith, ap length there.1, length-append front there.0)) })
+  | inr more ↦
+      let there = front_of (line_text e.line) (text_of log) front rest (sym is) more in
+      let later = whole_lines log there.0 rest (sym there.2) in
+      let cut = later.1 in (
+        suc later.0,
+        record {
+          within = omega (arith, cut.within);
+          part = cut.part;
+          is = there.1 ∙ ap (λ l. line_text e.line ++ l) cut.is ∙ sym (append_assoc (line_text e.line) (text_of (take later.0 log)) cut.part);
+          next = cut.next;
+        },
+      )
+]
+
+-- the part of a line has no line feed
+part_feedless : (stations : List StationPlan) (part : List ℕ) (log : List (Entry Command)) → All (IsSpoken stations) log → BeginsNext part log → HasNoFeed part
+part_feedless stations part [] all next = subst HasNoFeed (sym next) (λ k d less. absurd (omega arith))
+part_feedless stations part (e ∷ log) all next =
+    let spoken = All-head (IsSpoken stations) e log all in
+    let short : length part ≤ length e.line = omega (arith, next.2, ap length next.1, length-append part next.0, length-append e.line (10 ∷ [])) in
+    let same : take (length part) e.line ≡ part =
+    sym (take-append-le (length part) e.line (10 ∷ []) short) ∙ ap (take (length part)) next.1 ∙ take-append_seam part next.0 in
+    subst HasNoFeed same (All-take (λ b. b ≢ 10) (length part) e.line spoken.speaks.feedless)
+
+All-drop : (stations : List StationPlan) (k : ℕ) (log : List (Entry Command)) → All (IsSpoken stations) log → All (IsSpoken stations) (drop k log)
+All-drop stations zero log all = all
+All-drop stations (suc k) [] all = all
+All-drop stations (suc k) (e ∷ log) all = All-drop stations k log (All-tail (IsSpoken stations) e log all)
+
+-- ---- the mark
+
+-- a mark is `#`, bytes without a line feed that end with a byte which ends no command, and a line feed
+record Marks (mark : List ℕ) : Type 0 where
+  back : List ℕ
+  feedless : HasNoFeed back
+  ends : (last 35 back ≡ 35) ⊎ (last 35 back ≡ 115)
+  is : mark ≡ 35 ∷ (back ++ 10 ∷ [])
+
+no_feed : (bytes : List ℕ) → list_all (λ b. not (b == 10)) bytes ≡ true → HasNoFeed bytes
+no_feed bytes h = λ k d less e. false≢true (sym (ap not (eq-eqb (get_or bytes k d) 10 e)) ∙ AllPass-from_list_all (λ b. not (b == 10)) bytes h k d less)
+
+marks : (mark : List ℕ) → IsMark mark → Marks mark
+marks mark (inl e) = record { back = []; feedless = no_feed [] refl; ends = inl refl; is = e }
+marks mark (inr e) = record { back = codes " a run of ocpp_board begins"; feedless = no_feed (codes " a run of ocpp_board begins") refl; ends = inr refl; is = e }
+
+-- the part of a line and a mark behind it are one line
+one_line : (part mark : List ℕ) (m : Marks mark) → HasNoFeed part → lines_of longest_line (part ++ mark) ≡ ended longest_line (part ++ 35 ∷ m.back) ∷ []
+one_line part mark m feedless =
+    let raw = part ++ 35 ∷ m.back in
+    let whole : part ++ mark ≡ (raw ++ 10 ∷ []) ++ [] = ap (λ l. part ++ l) m.is ∙ sym (append_assoc part (35 ∷ m.back) (10 ∷ [])) ∙ sym (append-nil (raw ++ 10 ∷ [])) in
+    ap (lines_of longest_line) whole
+    ∙ cut-ended (unended longest_line) longest_line raw [] (All-append (λ b. b ≢ 10) part (35 ∷ m.back) feedless (All-append (λ b. b ≢ 10) (35 ∷ []) m.back (no_feed (35 ∷ []) refl) m.feedless))
+
+-- ---- the law
+
+texts_whole : (log : List (Entry Command)) → EndsWhole (text_of log)
+texts_whole [] = inl refl
+texts_whole (e ∷ log) = both_whole (line_text e.line) (text_of log) (inr (e.line, refl)) (texts_whole log)
+
+shows_same : (s t : Script) (sites : List SitePlan) (stations : List StationPlan) (cells : List Cell) → Stays s t → Shows s sites stations cells → Shows t sites stations cells
+shows_same s t sites stations cells stays shows = record { sites_are = stays.1.0 ∙ shows.sites_are; periods_are = stays.1.1 ∙ shows.periods_are; world_is = stays.0 ∙ shows.world_is }
+
+pub cuts_are_scripts : CutsAreScripts
+cuts_are_scripts read sites stations firsts log front rest mark whole once shows all is marked =
+    let found = whole_lines log front rest is in
+    let k = found.0 in
+    let cut = found.1 in
+    let m = marks mark marked in
+    let before = read ++ text_of (take k log) in
+    let ends = both_whole read (text_of (take k log)) whole (texts_whole (take k log)) in
+    let feedless = part_feedless stations cut.part (drop k log) (All-drop stations k log all) cut.next in
+    let same : read ++ (front ++ mark) ≡ before ++ (cut.part ++ mark) =
+    ap (λ l. read ++ (l ++ mark)) cut.is ∙ ap (λ l. read ++ l) (append_assoc (text_of (take k log)) cut.part mark) ∙ sym (append_assoc read (text_of (take k log)) (cut.part ++ mark)) in
+    let last_line : EndsWhole (cut.part ++ mark) = inr (cut.part ++ 35 ∷ m.back, ap (λ l. cut.part ++ l) m.is ∙ sym (append_assoc cut.part (35 ∷ m.back) (10 ∷ []))) in
+    let s = script_after start (lines_of longest_line before) in
+    let line = ended longest_line (cut.part ++ 35 ∷ m.back) in
+    let after : script_after start (lines_of longest_line (read ++ (front ++ mark))) ≡ (line_step s line).0 =
+    ap (λ l. script_after start (lines_of longest_line l)) same
+    ∙ ap (script_after start) (lines_apart longest_line before (cut.part ++ mark) ends ∙ ap (λ l. lines_of longest_line before ++ l) (one_line cut.part mark m feedless))
+    ∙ after_both start (lines_of longest_line before) (line ∷ []) in (
+      k,
+      cut,
+      subst EndsWhole (sym same) (both_whole before (cut.part ++ mark) ends last_line),
+      λ cells left.
+          subst (λ t. Shows t sites stations cells) (sym after)
+          (shows_same s (line_step s line).0 sites stations cells (spoiled s longest_line cut.part m.back m.ends)
+          (journals_are_scripts read sites stations firsts cells (take k log) whole once shows (All-take (IsSpoken stations) k log all) left)),
+    )
