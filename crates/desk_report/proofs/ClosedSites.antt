@@ -66,11 +66,12 @@ closed_of sites xs desk closed passes viewers planned new count books whole =
 
 -- its boards are those of contents that its passes' commands lead to
 pub boards_are : (sites : List SitePlan) (xs : List StationPlan) (places : List StationPlace) (given : ℕ) (closed : Ended) (passes : List Held) (viewers : List Known) → IsClosedOf sites xs closed
-    → IsClosable places given closed.cells closed.books passes viewers → AreBoards sites xs (boards_text sites xs closed.cells (length sites))
+    → IsClosable places given closed.cells closed.books passes viewers → AreBoards sites xs passes (boards_text sites xs closed.cells (length sites))
 boards_are sites xs places given closed passes viewers of_plan whole = record {
   cells = closed.cells;
   of_plan = of_plan.cells;
   at_sites = of_plan.at_sites;
+  counted = λ k c is. (whole.whole k c is).counted.changes;
   reached = λ k c is.
       let counted = (whole.whole k c is).counted in
       subst (λ n. Reached c.limits n c.content) (sym counted.changes) counted.reached;

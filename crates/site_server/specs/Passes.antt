@@ -1,5 +1,5 @@
 -- The passes that sessions give back.
-use Rattle.std.specs.Prelude.{ℕ, ◌<◌, ◌≤◌, List, [], ◌∷◌, ◌++◌, Option, None, Some}
+use Rattle.std.specs.Prelude.{ℕ, ◌<◌, ◌≤◌, List, [], ◌∷◌, ◌++◌, All, length, Option, None, Some}
 use Rattle.station_cell.specs.Cell.{Held}
 use Rattle.station_link.specs.Session.{most_messages}
 
@@ -7,6 +7,11 @@ use Rattle.station_link.specs.Session.{most_messages}
 pub record IsPassOf (stations : ℕ) (p : Held) : Type 0 where
   pub station : p.station < stations
   pub changes : p.changes ≤ most_messages
+
+-- The passes of so many sessions at most, of a desk with so many stations.
+pub record AreOfSessions (sessions stations : ℕ) (passes : List Held) : Type 0 where
+  pub few : length passes ≤ sessions
+  pub each : All (IsPassOf stations) passes
 
 -- These passes, and the one that a session gave back.
 abbrev pub passes_with : List Held → Option Held → List Held

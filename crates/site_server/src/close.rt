@@ -28,7 +28,7 @@ pub fn close_desk<J: Naming, W: Write>(
     requires opened { AreNewPlaces plan.now.sites.items plan.now.stations.items desk.stations }
     requires readings { sum_by (λ s. s.limits.readings) plan.now.stations.items ≤ most_plan_readings }
     ensures { OnOk result ((boards : List ℕ) × Appends (W.contents output.old) (W.contents output.new) boards
-        × AreBoards plan.now.sites.items plan.now.stations.items boards) }
+        × AreBoards plan.now.sites.items plan.now.stations.items passes.items boards) }
 {
     match desk.close(passes, viewers) {
         Ok(closed) => {

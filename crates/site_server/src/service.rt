@@ -5,6 +5,8 @@ ghost use Rattle.site_book.specs.Tables.{HasTable, NamedBy};
 ghost use Rattle.ledger_model.specs.Ranges.{most_plan_readings};
 ghost use Rattle.site_desk.specs.Roster.{AreNewPlaces};
 ghost use Rattle.desk_report.specs.Closed.{AreBoards};
+ghost use Rattle.station_cell.specs.Cell.{Held};
+ghost use Rattle.site_server.specs.Passes.{AreOfSessions};
 ghost use Rattle.site_server.specs.Written.{listening};
 
 use crate::close::close_desk;
@@ -64,8 +66,10 @@ pub fn serve_plan<
 ) -> Result<(), ServiceFault>
     requires some { 1 ≤ service.connections }
     requires most { service.connections ≤ 64 }
-    ensures { OnOk result ((port : ℕ) × (boards : List ℕ) × Appends (W.contents output.old) (W.contents output.new) (listening port ++ boards)
-        × AreBoards plan.now.sites.items plan.now.stations.items boards) }
+    ensures { OnOk result ((port : ℕ) × (passes : List Held) × (boards : List ℕ)
+        × Appends (W.contents output.old) (W.contents output.new) (listening port ++ boards)
+        × AreOfSessions service.connections (length plan.now.stations.items) passes
+        × AreBoards plan.now.sites.items plan.now.stations.items passes boards) }
 {
     let tables = Tables::make(alloc, plan.sites.len() as u16)?;
     serve_under::<Brand, R, W, L>(rt, alloc, tables, plan, service, output, lines)
@@ -90,8 +94,10 @@ fn serve_under<
     requires there { (site : ℕ) → site < length plan.now.sites.items → HasTable tables site }
     requires some { 1 ≤ service.connections }
     requires most { service.connections ≤ 64 }
-    ensures { OnOk result ((port : ℕ) × (boards : List ℕ) × Appends (W.contents output.old) (W.contents output.new) (listening port ++ boards)
-        × AreBoards plan.now.sites.items plan.now.stations.items boards) }
+    ensures { OnOk result ((port : ℕ) × (passes : List Held) × (boards : List ℕ)
+        × Appends (W.contents output.old) (W.contents output.new) (listening port ++ boards)
+        × AreOfSessions service.connections (length plan.now.stations.items) passes
+        × AreBoards plan.now.sites.items plan.now.stations.items passes boards) }
 {
     let (desk, viewers) = open_desk::<J>(alloc, tables, plan)?;
     let listener = listen(rt, service.port)?;
@@ -107,7 +113,8 @@ fn serve_under<
         lines,
         WATCH_STACK,
     );
-    close_desk(alloc, plan, desk, passes?, viewers, output)
+    let passes = passes?;
+    close_desk(alloc, plan, desk, passes, viewers, output)
 }
 
 /// The desk of a plan, and its viewers.
@@ -192,6 +199,7 @@ pub fn serve_watched<
 ) -> Served<J, L>
     requires some { 1 ≤ service.connections }
     requires most { service.connections ≤ 64 }
+    ensures { IfOk result.0 (λ passes. AreOfSessions service.connections (length desk.now.stations) passes.items) }
 {
     let glances = AtomicU64::new(service.glances as u64);
     let glances = &glances;
@@ -202,6 +210,7 @@ pub fn serve_watched<
         rt,
         |scope| -> Served<J, L>
             requires { (1 ≤ connections) × (connections ≤ 64) }
+            ensures { IfOk result.0 (λ passes. AreOfSessions connections (length desk.entry.now.stations) passes.items) }
         {
             let watching = Stack::new().stack_size(stack).spawn_scoped_with(
                 scope,

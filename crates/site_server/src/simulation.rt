@@ -4,6 +4,8 @@ ghost use Rattle.std.specs.Io.KnownBytes.{Appends};
 ghost use Rattle.site_book.specs.Tables.{HasTable, NamedBy};
 ghost use Rattle.desk_report.specs.Closed.{AreBoards};
 ghost use Rattle.station_link.specs.Sim.{IsSimulated};
+ghost use Rattle.station_cell.specs.Cell.{Held};
+ghost use Rattle.site_server.specs.Passes.{AreOfSessions};
 ghost use Rattle.site_server.specs.Simulated.{simulated_name, simulated_sites, simulated_stations};
 
 use crate::close::close_desk;
@@ -49,8 +51,10 @@ pub fn simulate<
     W: Write,
 >(rt: &R, alloc: Global, stations: u16, events: u32, output: &mut W) -> Result<(), ServiceFault>
     requires { IsSimulated stations events }
-    ensures { OnOk result ((boards : List ℕ) × Appends (W.contents output.old) (W.contents output.new) boards
-        × AreBoards (simulated_sites stations) (simulated_stations stations) boards) }
+    ensures { OnOk result ((passes : List Held) × (boards : List ℕ)
+        × Appends (W.contents output.old) (W.contents output.new) boards
+        × AreOfSessions stations (length (simulated_stations stations)) passes
+        × AreBoards (simulated_sites stations) (simulated_stations stations) passes boards) }
 {
     let plan = simulated_plan(stations);
     let tables = Tables::make(alloc, plan.sites.len() as u16)?;
@@ -119,18 +123,21 @@ fn simulate_under<
     requires named { NamedBy J.table tables }
     requires there { (site : ℕ) → site < length plan.now.sites.items → HasTable tables site }
     requires simulated { IsSimulated stations events }
-    ensures { OnOk result ((boards : List ℕ) × Appends (W.contents output.old) (W.contents output.new) boards
-        × AreBoards plan.now.sites.items plan.now.stations.items boards) }
+    ensures { OnOk result ((passes : List Held) × (boards : List ℕ)
+        × Appends (W.contents output.old) (W.contents output.new) boards
+        × AreOfSessions stations (length plan.now.stations.items) passes
+        × AreBoards plan.now.sites.items plan.now.stations.items passes boards) }
 {
     let (desk, viewers) = open_desk::<J>(alloc, tables, plan)?;
     let listener = listen(rt, 0)?;
     let streams = connect_all(rt, alloc, &listener, stations)?;
     let played = Vec::with_capacity(alloc, stations as usize)?;
     let (passes, fault) = play_all(rt, alloc, listener, &desk, streams, events, played);
-    match fault {
-        Some(fault) => Err(ServiceFault::from(fault)),
-        None => close_desk(alloc, plan, desk, passes?, viewers, output),
+    if let Some(fault) = fault {
+        return Err(ServiceFault::from(fault));
     }
+    let passes = passes?;
+    close_desk(alloc, plan, desk, passes, viewers, output)
 }
 
 // A connection for each station. They wait for the server in the listener's queue.
@@ -182,6 +189,7 @@ fn play_all<J: Naming + Send + Sync, R: Threads + Wait + Clock + RandomSource + 
     requires events { (2 ≤ events) × (events ≤ 64) }
     requires none { vec_len played ≡ 0 }
     requires room { length streams.items ≤ vec_capacity played }
+    ensures { IfOk result.0 (λ passes. AreOfSessions (length streams.items) (length desk.now.stations) passes.items) }
 {
     let connections = streams.len() as u8;
     thread::scope(
@@ -189,6 +197,7 @@ fn play_all<J: Naming + Send + Sync, R: Threads + Wait + Clock + RandomSource + 
         rt,
         |scope| -> (Result<Vec<Pass>, AllocError>, Option<SimFault>)
             requires { (1 ≤ connections) × (connections ≤ 64) × (length streams.items ≡ connections) × (2 ≤ events) × (events ≤ 64) × (vec_len played ≡ 0) × (connections ≤ vec_capacity played) }
+            ensures { IfOk result.0 (λ passes. AreOfSessions connections (length desk.entry.now.stations) passes.items) }
         {
             let (played, refused) = start_all(scope, rt, alloc, streams, events, played);
             let passes = serve_many(rt, alloc, &listener, connections, desk, &NoGate);

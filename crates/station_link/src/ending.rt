@@ -1,5 +1,6 @@
 //! How sessions end.
-ghost use Rattle.std.specs.Prelude.{◌≡◌, Some, None};
+ghost use Rattle.std.specs.Prelude.{◌≡◌, ◌≢◌, Some, None};
+ghost use Rattle.station_link.specs.declared.ending.Why.{Why};
 ghost use Rattle.station_link.specs.Session.{MayHavePass};
 
 use tungstenite::{CloseCode, Error};
@@ -79,7 +80,8 @@ impl Ending {
 
 // How a session ends where a read of its socket fails.
 pub(crate) fn end_of_read(error: &Error) -> Ending
-    ensures { MayHavePass result.why }
+    ensures has { MayHavePass result.why }
+    ensures unspent { result.why ≢ Why.MessagesSpent }
 {
     match error {
         Error::ConnectionClosed | Error::Protocol(ProtocolError::ResetWithoutClosingHandshake) => {

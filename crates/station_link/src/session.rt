@@ -1,5 +1,6 @@
 //! A session: one connection of a station, from its handshake to its end.
-ghost use Rattle.std.specs.Prelude.{◌≡◌, ◌≤◌, ◌<◌, ◌+◌, IsNone, IsSome, IfErr, IfSome, length};
+ghost use Rattle.std.specs.Prelude.{◌≡◌, ◌≢◌, ◌≤◌, ◌<◌, ◌+◌, IsNone, IsSome, IfErr, IfSome, None, length};
+ghost use Rattle.station_link.specs.declared.ending.Why.{Why};
 ghost use Rattle.station_link.specs.Session.{MayHavePass, MayLackPass, most_messages};
 
 use crate::answer::{Answered, answer_text};
@@ -42,6 +43,21 @@ pub struct SessionEnd {
     pub why: Why,
     /// The pass of its station, where it was given one.
     pub pass: Option<Pass>,
+    /// How many messages it took, up to a million, with the one, or the try to read one, that ended it.
+    pub messages: u64,
+}
+
+impl SessionEnd {
+    // The end of a session that was given no pass.
+    fn refused(why: Why) -> SessionEnd
+        ensures { result ≡ record { why = why; pass = None; messages = 0 } }
+    {
+        SessionEnd {
+            why,
+            pass: None,
+            messages: 0,
+        }
+    }
 }
 
 /// Serves one connection until it ends: the opening handshake of a path `/ocpp/<station>` with the
@@ -61,18 +77,20 @@ pub fn serve_connection<
     ensures lacks { IsNone result.pass → MayLackPass result.why }
     ensures has { IsSome result.pass → MayHavePass result.why }
     ensures station { IfSome result.pass (λ p. p.station < length desk.now.stations) }
-    ensures few { IfSome result.pass (λ p. p.changes ≤ most_messages) }
+    ensures few { IfSome result.pass (λ p. p.changes ≤ result.messages) }
+    ensures most { result.messages ≤ most_messages }
+    ensures spent { result.why ≡ Why.MessagesSpent → result.messages ≡ most_messages }
 {
     let seen = Cell::new(Seen::Nothing);
     let mut socket = match shake_hands(alloc, stream, Look { seen: &seen }) {
         Ok(socket) => socket,
-        Err(why) => return SessionEnd { why, pass: None },
+        Err(why) => return SessionEnd::refused(why),
     };
     match admit(rt, desk, seen.into_inner()) {
         Ok((name, pass)) => serve_session(rt, alloc, socket, desk, &name, pass, gate, clock),
         Err(why) => {
             say_goodbye(&mut socket, end_of_refusal(why).code, "");
-            SessionEnd { why, pass: None }
+            SessionEnd::refused(why)
         }
     }
 }
@@ -93,13 +111,16 @@ pub fn serve_session<J: Naming, R: Wait + Clock, S: Read + Write + Drop, G: Gate
     ensures given_back { IsSome result.pass }
     ensures has { MayHavePass result.why }
     ensures station { IfSome result.pass (λ p. p.station ≡ pass.station) }
-    ensures few { IfSome result.pass (λ p. p.changes ≤ pass.changes + most_messages) }
+    ensures few { IfSome result.pass (λ p. p.changes ≤ pass.changes + result.messages) }
+    ensures most { result.messages ≤ most_messages }
+    ensures spent { result.why ≡ Why.MessagesSpent → result.messages ≡ most_messages }
 {
-    let end = answer_all(rt, alloc, &mut socket, desk, name, &mut pass, gate, clock);
+    let (end, messages) = answer_all(rt, alloc, &mut socket, desk, name, &mut pass, gate, clock);
     say_goodbye(&mut socket, end.code, "");
     SessionEnd {
         why: end.why,
         pass: Some(pass),
+        messages,
     }
 }
 
@@ -122,7 +143,7 @@ pub(crate) fn shake_hands<S: Read + Write + Drop, L: Callback + Drop>(
     }
 }
 
-// Answers message after message until the session ends.
+// Answers message after message until the session ends, and tells how many it took, with the one that ended it.
 fn answer_all<J: Naming, R: Wait + Clock, S: Read + Write + Drop, G: Gate, C: MomentSource>(
     rt: &R,
     alloc: Global,
@@ -132,10 +153,12 @@ fn answer_all<J: Naming, R: Wait + Clock, S: Read + Write + Drop, G: Gate, C: Mo
     pass: &mut Pass,
     gate: &G,
     clock: &mut C,
-) -> Ending
-    ensures has { MayHavePass result.why }
+) -> (Ending, u64)
+    ensures has { MayHavePass result.0.why }
     ensures station { pass.new.station ≡ pass.old.station }
-    ensures few { pass.new.changes ≤ pass.old.changes + most_messages }
+    ensures few { pass.new.changes ≤ pass.old.changes + result.1 }
+    ensures most { result.1 ≤ most_messages }
+    ensures spent { result.0.why ≡ Why.MessagesSpent → result.1 ≡ most_messages }
 {
     let mut calls = 0;
     for turn in 0..MAX_MESSAGES {
@@ -145,10 +168,13 @@ fn answer_all<J: Naming, R: Wait + Clock, S: Read + Write + Drop, G: Gate, C: Mo
                 gate.after(rt, name, calls);
             }
             Ok(false) => {}
-            Err(end) => return end,
+            Err(end) => return (end, turn + 1),
         }
     }
-    Ending::told(Why::MessagesSpent, CloseCode::Error)
+    (
+        Ending::told(Why::MessagesSpent, CloseCode::Error),
+        MAX_MESSAGES,
+    )
 }
 
 // Takes the next message, and tells whether it was a text. What waits to be sent goes first, so that a
@@ -163,6 +189,7 @@ fn take_message<J: Naming, R: Wait + Clock, S: Read + Write + Drop, G: Gate, C: 
     clock: &mut C,
 ) -> Result<bool, Ending>
     ensures has { IfErr result (λ end. MayHavePass end.why) }
+    ensures unspent { IfErr result (λ end. end.why ≢ Why.MessagesSpent) }
     ensures station { pass.new.station ≡ pass.old.station }
     ensures one { pass.new.changes ≤ pass.old.changes + 1 }
 {
@@ -194,6 +221,7 @@ pub(crate) fn answer_message<
     message: Message,
 ) -> Result<bool, Ending>
     ensures has { IfErr result (λ end. MayHavePass end.why) }
+    ensures unspent { IfErr result (λ end. end.why ≢ Why.MessagesSpent) }
     ensures station { pass.new.station ≡ pass.old.station }
     ensures one { pass.new.changes ≤ pass.old.changes + 1 }
 {
@@ -219,7 +247,8 @@ fn send_reply<J: Naming, S: Read + Write + Drop>(
     socket: &mut WebSocket<S, NoMask>,
     answered: Answered<J>,
 ) -> Result<(), Ending>
-    ensures { IfErr result (λ end. MayHavePass end.why) }
+    ensures has { IfErr result (λ end. MayHavePass end.why) }
+    ensures unspent { IfErr result (λ end. end.why ≢ Why.MessagesSpent) }
 {
     let Some(reply) = answered.text else {
         return Ok(());
