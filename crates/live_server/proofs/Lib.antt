@@ -1,0 +1,4 @@
+pub mod Browsing
+pub mod Told
+pub mod Replied
+pub mod Shelved

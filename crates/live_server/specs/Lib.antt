@@ -1,2 +1,6 @@
-pub mod Operated
+pub mod Browsing
+pub mod Ordered
+pub mod Replied
 pub mod Responses
+pub mod Shelved
+pub mod Told

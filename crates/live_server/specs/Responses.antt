@@ -25,3 +25,15 @@ response_bytes status kind body =
     ++ head_line (codes "Connection: close")
     ++ head_line []
     ++ body
+
+-- The content type of a board, and of a status.
+abbrev pub plain : List ℕ
+plain = codes "text/plain; charset=utf-8"
+
+-- The content type of a page.
+abbrev pub html : List ℕ
+html = codes "text/html; charset=utf-8"
+
+-- The bytes of an answer that tells its status alone.
+abbrev pub status_bytes : Status → List ℕ
+status_bytes status = response_bytes status plain (status_text status)

@@ -1,4 +1,11 @@
 //! Boards in a browser: a listener of its own, one request at a time, and nothing that changes anything.
+ghost use Rattle.std.specs.Prelude.{◌≡◌, ◌++◌, IfOk, OnOk};
+ghost use Rattle.std.specs.List.{position};
+ghost use Rattle.std.specs.Str.{bytes_eq};
+ghost use Rattle.live_server.specs.declared.reply.Status.{Status};
+ghost use Rattle.live_server.specs.Browsing.{IsBoardAnswer, IsBrowsed, site_link, sites_page};
+ghost use Rattle.live_server.specs.Responses.{html, response_bytes, status_bytes};
+
 use crate::crew::Crew;
 use crate::door::Door;
 use crate::reply::{Status, response};
@@ -162,7 +169,9 @@ fn answer<J: Naming, C: HasCell, S: Serves<J, C>, R: Wait>(
     alloc: Global,
     running: &Running<'_, J, C, S>,
     request: Request,
-) -> Result<Vec<u8>, AllocError> {
+) -> Result<Vec<u8>, AllocError>
+    ensures { IfOk result (λ bytes. IsBrowsed running.now.plan.now.sites.items running.now.desk.desk.now.stations request bytes.items) }
+{
     match request {
         Request::Sites => answer_sites(alloc, running.plan),
         Request::Board(name) => answer_board(rt, alloc, running, &name),
@@ -174,7 +183,9 @@ fn answer<J: Naming, C: HasCell, S: Serves<J, C>, R: Wait>(
 }
 
 // An answer that tells its status alone.
-fn told(alloc: Global, status: Status) -> Result<Vec<u8>, AllocError> {
+fn told(alloc: Global, status: Status) -> Result<Vec<u8>, AllocError>
+    ensures { IfOk result (λ bytes. bytes.items ≡ status_bytes status) }
+{
     response(alloc, status, TEXT, status.text().as_bytes())
 }
 
@@ -184,7 +195,9 @@ fn answer_board<J: Naming, C: HasCell, S: Serves<J, C>, R: Wait>(
     alloc: Global,
     running: &Running<'_, J, C, S>,
     name: &Name,
-) -> Result<Vec<u8>, AllocError> {
+) -> Result<Vec<u8>, AllocError>
+    ensures { IfOk result (λ bytes. IsBoardAnswer running.now.plan.now.sites.items running.now.desk.desk.now.stations (position (λ s. bytes_eq name.now s.name) running.now.plan.now.sites.items) bytes.items) }
+{
     let Some(site) = site_of(running.plan, name) else {
         return told(alloc, Status::NotFound);
     };
@@ -195,10 +208,13 @@ fn answer_board<J: Naming, C: HasCell, S: Serves<J, C>, R: Wait>(
 }
 
 // The list of sites, each a link to its board.
-fn answer_sites(alloc: Global, plan: &Plan) -> Result<Vec<u8>, AllocError> {
+fn answer_sites(alloc: Global, plan: &Plan) -> Result<Vec<u8>, AllocError>
+    ensures { IfOk result (λ bytes. bytes.items ≡ response_bytes Status.Found html (sites_page plan.now.sites.items)) }
+{
+    let sites = plan.sites.as_slice();
     let mut page = Vec::new(alloc);
     page.extend_from_slice(b"<!DOCTYPE html>\n<title>ocpp_board</title>\n<ul>\n")?;
-    for site in plan.sites.as_slice() {
+    for site in sites {
         put_link(&mut page, site.name.text())?;
     }
     page.extend_from_slice(b"</ul>\n")?;
@@ -206,9 +222,13 @@ fn answer_sites(alloc: Global, plan: &Plan) -> Result<Vec<u8>, AllocError> {
 }
 
 // Appends the link to a site's board. A name has no character that a page or a path has another meaning for.
-fn put_link(page: &mut Vec<u8>, name: &str) -> Result<(), AllocError> {
-    for part in ["<li><a href=\"/board/", name, "\">", name, "</a></li>\n"] {
-        page.extend_from_slice(part.as_bytes())?;
-    }
+fn put_link(page: &mut Vec<u8>, name: &str) -> Result<(), AllocError>
+    ensures { OnOk result (page.new.items ≡ page.old.items ++ site_link name.now) }
+{
+    page.extend_from_slice(b"<li><a href=\"/board/")?;
+    page.extend_from_slice(name.as_bytes())?;
+    page.extend_from_slice(b"\">")?;
+    page.extend_from_slice(name.as_bytes())?;
+    page.extend_from_slice(b"</a></li>\n")?;
     Ok(())
 }

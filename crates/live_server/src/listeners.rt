@@ -1,4 +1,8 @@
 //! Where a live server listens, and how it tells that.
+ghost use Rattle.std.specs.Prelude.{◌≡◌, ℕ, Option, OnOk};
+ghost use Rattle.std.specs.Io.KnownBytes.{Appends};
+ghost use Rattle.live_server.specs.Told.{boards_at, ports};
+
 use crate::service::Live;
 use arrayvec::ArrayString;
 use desk_report::write_out;
@@ -20,7 +24,9 @@ impl Listeners {
         rt: &R,
         live: Live,
         output: &mut W,
-    ) -> Result<Self, ServiceFault> {
+    ) -> Result<Self, ServiceFault>
+        ensures { OnOk result ((port : ℕ) × (browsers : Option ℕ) × Appends (W.contents output.old) (W.contents output.new) (ports port browsers)) }
+    {
         let stations = listen(rt, live.port)?;
         let browsers = listen_for_browsers(rt, live.board_port)?;
         tell(&stations, browsers.as_ref(), output)?;
@@ -44,7 +50,9 @@ fn tell<W: Write>(
     stations: &TcpListener,
     browsers: Option<&TcpListener>,
     output: &mut W,
-) -> Result<(), ServiceFault> {
+) -> Result<(), ServiceFault>
+    ensures { OnOk result ((port : ℕ) × (browsers : Option ℕ) × Appends (W.contents output.old) (W.contents output.new) (ports port browsers)) }
+{
     tell_port(stations, output)?;
     match browsers {
         Some(listener) => tell_board_port(listener, output),
@@ -53,14 +61,18 @@ fn tell<W: Write>(
 }
 
 // Writes the line that tells where browsers find boards.
-fn tell_board_port<W: Write>(listener: &TcpListener, output: &mut W) -> Result<(), ServiceFault> {
+fn tell_board_port<W: Write>(listener: &TcpListener, output: &mut W) -> Result<(), ServiceFault>
+    ensures { OnOk result ((port : ℕ) × Appends (W.contents output.old) (W.contents output.new) (boards_at port)) }
+{
     let line = board_port_line(address_of(listener)?.port());
     write_out(output, line.as_str().as_bytes())?;
     Ok(())
 }
 
 // The line that tells this port.
-fn board_port_line(port: u16) -> ArrayString<32> {
+fn board_port_line(port: u16) -> ArrayString<32>
+    ensures { result.bytes ≡ boards_at port }
+{
     let mut line = ArrayString::new();
     line.push_str("boards 127.0.0.1:");
     line.push_str(Buffer::new().format(port));

@@ -1,7 +1,18 @@
 //! An operator's lines, which are answered while stations are served.
-ghost use Rattle.std.specs.Prelude.{◌≡◌};
+ghost use Rattle.std.specs.Prelude.{◌≡◌, ℕ, List, [], OnOk, Some, slice_get};
+ghost use Rattle.std.specs.Io.KnownBytes.{Appends};
+ghost use Rattle.std.specs.List.{position};
+ghost use Rattle.std.specs.Str.{bytes_eq};
 ghost use Rattle.script_lines.specs.LineMeaning.{commands, line_meaning};
 ghost use Rattle.script_lines.specs.Lines.{line_bytes};
+ghost use Rattle.script_lines.specs.declared.script_line.LineFault.{LineFault};
+ghost use Rattle.script_lines.specs.ScriptLines.{meaning_of};
+ghost use Rattle.script_lines.specs.Texts.{fault_line};
+ghost use Rattle.site_desk.specs.declared.roster.StationPlace.{StationPlace};
+ghost use Rattle.site_desk.specs.Roster.{IsNamed};
+ghost use Rattle.live_server.specs.declared.shelf_desk.PassFault.{PassFault};
+ghost use Rattle.live_server.specs.Replied.{IsBoard, IsCommandLine, IsCommanded, IsMessageLine, IsReply, IsReplyOrMemory, IsSent, IsTotals, asked_answer, totals_line};
+ghost use Rattle.live_server.specs.Told.{AddsReplies};
 
 use crate::orders::{Came, Orders};
 use crate::running::{Running, site_of};
@@ -25,8 +36,11 @@ use std::time::Clock;
 // The line that ends a live server.
 const CLOSE: &[u8] = b"close";
 
-// What a line is answered for which there is no memory; it changed nothing.
+// What a line is answered for which there is no memory.
 const NO_MEMORY: &[u8] = b"fault OutOfMemory\n";
+
+// How long the answer to a message or a command is at most; room for it is made before anything changes.
+const MOST_ANSWER: usize = 513;
 
 // What a line is answered whose station or site does not stand behind its lock as it should, which no run meets.
 const TORN: &str = "fault Torn";
@@ -46,15 +60,15 @@ pub(crate) fn operate<
     running: &Running<'_, J, C, S>,
     orders: &mut O,
     writer: &mut W,
-) -> Result<(), ServiceFault> {
+) -> Result<(), ServiceFault>
+    ensures { OnOk result (AddsReplies running.now.plan.now.sites.items running.now.desk.desk.now.stations (W.contents writer.old) (W.contents writer.new)) }
+{
     for _ in rt.forever() {
         let came = orders.next(rt)?;
         if is_last(came, orders.line()) {
             return Ok(());
         }
-        if came != Came::Nothing {
-            put_reply(rt, alloc, running, orders.line(), writer)?;
-        }
+        put_came(rt, alloc, running, came, orders.line(), writer)?;
         if running.serves.is_broken() {
             return Err(ServiceFault::WriteFault);
         }
@@ -74,6 +88,23 @@ fn is_last(came: Came, line: Option<&[u8]>) -> bool {
     }
 }
 
+// Writes the answer to a line, if one came.
+fn put_came<J: Naming, C: HasCell, S: Serves<J, C>, R: Threads + Wait + Clock, W: Write>(
+    rt: &R,
+    alloc: Global,
+    running: &Running<'_, J, C, S>,
+    came: Came,
+    line: Option<&[u8]>,
+    writer: &mut W,
+) -> Result<(), ServiceFault>
+    ensures { OnOk result (AddsReplies running.now.plan.now.sites.items running.now.desk.desk.now.stations (W.contents writer.old) (W.contents writer.new)) }
+{
+    if came == Came::Nothing {
+        return Ok(());
+    }
+    put_reply(rt, alloc, running, line, writer)
+}
+
 // Writes the answer to a line.
 fn put_reply<J: Naming, C: HasCell, S: Serves<J, C>, R: Threads + Wait + Clock, W: Write>(
     rt: &R,
@@ -81,7 +112,10 @@ fn put_reply<J: Naming, C: HasCell, S: Serves<J, C>, R: Threads + Wait + Clock, 
     running: &Running<'_, J, C, S>,
     line: Option<&[u8]>,
     writer: &mut W,
-) -> Result<(), ServiceFault> {
+) -> Result<(), ServiceFault>
+    ensures { OnOk result ((text : List ℕ) × Appends (W.contents writer.old) (W.contents writer.new) text
+        × IsReplyOrMemory running.now.plan.now.sites.items running.now.desk.desk.now.stations (line_meaning (line_bytes line.entry)) text) }
+{
     let mut reply = Vec::new(alloc);
     let text = match answer_line(rt, alloc, running, line, &mut reply) {
         Ok(()) => reply.as_slice(),
@@ -99,8 +133,27 @@ fn answer_line<J: Naming, C: HasCell, S: Serves<J, C>, R: Threads + Wait + Clock
     running: &Running<'_, J, C, S>,
     line: Option<&[u8]>,
     reply: &mut Vec<u8>,
-) -> Result<(), AllocError> {
-    match read_line(line) {
+) -> Result<(), AllocError>
+    requires { reply.old.items ≡ [] }
+    ensures { OnOk result (IsReply running.now.plan.now.sites.items running.now.desk.desk.now.stations (line_meaning (line_bytes line.entry)) reply.new.items) }
+{
+    answer_said(rt, alloc, running, read_line(line), line, reply)
+}
+
+// Appends the answer to what an operator's line says.
+fn answer_said<J: Naming, C: HasCell, S: Serves<J, C>, R: Threads + Wait + Clock>(
+    rt: &R,
+    alloc: Global,
+    running: &Running<'_, J, C, S>,
+    said: ScriptLine<'_>,
+    line: Option<&[u8]>,
+    reply: &mut Vec<u8>,
+) -> Result<(), AllocError>
+    requires said { meaning_of said ≡ line_meaning (line_bytes line) }
+    requires empty { reply.old.items ≡ [] }
+    ensures { OnOk result (IsReply running.now.plan.now.sites.items running.now.desk.desk.now.stations (meaning_of said.entry) reply.new.items) }
+{
+    match said {
         ScriptLine::Nothing => Ok(()),
         ScriptLine::Fails(fault) => put_fault(reply, fault),
         ScriptLine::Limits(_, _, _, _)
@@ -124,32 +177,42 @@ fn receive<J: Naming, C: HasCell, S: Serves<J, C>, R: Threads + Wait + Clock>(
     name: &Name,
     text: &str,
     reply: &mut Vec<u8>,
-) -> Result<(), AllocError> {
+) -> Result<(), AllocError>
+    requires { reply.old.items ≡ [] }
+    ensures { OnOk result ((moment : ℕ) × IsSent running.now.desk.desk.now.stations name.now text.now moment reply.new.items) }
+{
     match running.desk.pass_of(rt, name) {
-        Ok(pass) => deliver(rt, alloc, running, pass, text, reply),
+        Ok(mut pass) => {
+            let delivered = deliver(rt, alloc, running, &mut pass, text, reply);
+            let _lost = running.desk.lay(rt, pass);
+            delivered
+        }
         Err(fault) => put_pass_fault(reply, fault),
     }
 }
 
-// Delivers a message with a pass, and lays the pass back.
+// Delivers a message with a pass, and appends its reply.
 fn deliver<J: Naming, C: HasCell, S: Serves<J, C>, R: Threads + Wait + Clock>(
     rt: &R,
     alloc: Global,
     running: &Running<'_, J, C, S>,
-    mut pass: Pass,
+    pass: &mut Pass,
     text: &str,
     reply: &mut Vec<u8>,
-) -> Result<(), AllocError> {
+) -> Result<(), AllocError>
+    requires { reply.old.items ≡ [] }
+    ensures { OnOk result (IsMessageLine running.now.desk.desk.now.stations pass.old text.now pass.new reply.new.items) }
+{
+    reply.reserve(MOST_ANSWER)?;
     let now = present(&mut SystemMoments { rt });
-    let answered = answer_text(running.serves, rt, alloc, &mut pass, text, now, &NoGate);
-    running.desk.lay(rt, pass);
+    let answered = answer_text(running.serves, rt, alloc, pass, text, now, &NoGate);
     match answered.text {
         Some(text) => put_line(reply, text.as_str()),
         None => put_line(reply, "silent"),
     }
 }
 
-// Appends the answer to an operator's command.
+// Submits an operator's command on the station of this name, and appends its answer.
 fn put_command<J: Naming, C: HasCell, S: Serves<J, C>, R: Threads + Wait + Clock>(
     rt: &R,
     running: &Running<'_, J, C, S>,
@@ -158,16 +221,45 @@ fn put_command<J: Naming, C: HasCell, S: Serves<J, C>, R: Threads + Wait + Clock
     line: Option<&[u8]>,
     reply: &mut Vec<u8>,
 ) -> Result<(), AllocError>
-    requires { line_meaning (line_bytes line) ≡ commands name.now what }
+    requires line { line_meaning (line_bytes line) ≡ commands name.now what }
+    requires empty { reply.old.items ≡ [] }
+    ensures { OnOk result (IsCommanded running.now.desk.desk.now.stations name.now what reply.new.items) }
 {
-    match running.serves.command(rt, &running.desk, name, what, line) {
-        Ok(answer) => put_answer(reply, answer),
+    match running.desk.pass_of(rt, name) {
+        Ok(mut pass) => {
+            let submitted = submit(rt, running, &mut pass, name, what, line, reply);
+            let _lost = running.desk.lay(rt, pass);
+            submitted
+        }
         Err(fault) => put_pass_fault(reply, fault),
     }
 }
 
+// Submits an operator's command with a pass of the station of this name, and appends its answer.
+fn submit<J: Naming, C: HasCell, S: Serves<J, C>, R: Threads + Wait + Clock>(
+    rt: &R,
+    running: &Running<'_, J, C, S>,
+    pass: &mut Pass,
+    name: &Name,
+    what: Command,
+    line: Option<&[u8]>,
+    reply: &mut Vec<u8>,
+) -> Result<(), AllocError>
+    requires named { IsNamed running.now.desk.desk.now.stations name.now pass.old.station }
+    requires line { line_meaning (line_bytes line) ≡ commands name.now what }
+    requires empty { reply.old.items ≡ [] }
+    ensures { OnOk result ((at : StationPlace) → slice_get running.now.desk.desk.now.stations pass.old.station ≡ Some at → IsCommandLine at pass.old what pass.new reply.new.items) }
+{
+    reply.reserve(MOST_ANSWER)?;
+    let (answer, _told) = running.serves.command(rt, pass, name, what, line);
+    put_answer(reply, answer)
+}
+
 // Appends why there was no pass.
-fn put_pass_fault(reply: &mut Vec<u8>, fault: PassFault) -> Result<(), AllocError> {
+fn put_pass_fault(reply: &mut Vec<u8>, fault: PassFault) -> Result<(), AllocError>
+    requires { reply.old.items ≡ [] }
+    ensures { OnOk result ((fault ≡ PassFault.UnknownStation) × (reply.new.items ≡ fault_line LineFault.UnknownStation)) }
+{
     match fault {
         PassFault::UnknownStation => put_fault(reply, LineFault::UnknownStation),
         PassFault::TooManyPasses | PassFault::OutOfMemory => Err(AllocError),
@@ -176,7 +268,7 @@ fn put_pass_fault(reply: &mut Vec<u8>, fault: PassFault) -> Result<(), AllocErro
 
 // Which totals of a station a line asks for.
 #[derive(Clone, Copy)]
-enum Asked {
+pub(crate) enum Asked {
     Figures,
     Import,
     Export,
@@ -189,25 +281,31 @@ fn put_totals<J: Naming, C: HasCell, S: Serves<J, C>, R: Wait>(
     name: &Name,
     asked: Asked,
     reply: &mut Vec<u8>,
-) -> Result<(), AllocError> {
+) -> Result<(), AllocError>
+    requires { reply.old.items ≡ [] }
+    ensures { OnOk result (IsTotals running.now.desk.desk.now.stations name.now (asked_answer asked) reply.new.items) }
+{
     match running.desk.desk.station_totals(rt, name) {
-        Ok((figures, import, export)) => put_total(reply, asked, figures, import, export),
-        Err(fault) => put_board_fault(reply, fault, LineFault::UnknownStation),
+        Ok(totals) => put_total(reply, asked, totals),
+        Err(BoardFault::UnknownStation) => put_fault(reply, LineFault::UnknownStation),
+        Err(BoardFault::Torn) => put_line(reply, TORN),
+        Err(BoardFault::OutOfMemory) => Err(AllocError),
     }
 }
 
-// Appends the line of the totals that are asked for.
+// Appends the line of the totals that are asked for: of the figures, of what was imported, and of what was exported.
 fn put_total(
     reply: &mut Vec<u8>,
     asked: Asked,
-    figures: Figures,
-    import: Flow,
-    export: Flow,
-) -> Result<(), AllocError> {
+    totals: (Figures, Flow, Flow),
+) -> Result<(), AllocError>
+    requires { reply.old.items ≡ [] }
+    ensures { OnOk result (reply.new.items ≡ totals_line asked totals.0 totals.1 totals.2) }
+{
     match asked {
-        Asked::Figures => put_line(reply, total_text(&figures).as_str()),
-        Asked::Import => put_line(reply, energy_text(import).as_str()),
-        Asked::Export => put_line(reply, export_text(export).as_str()),
+        Asked::Figures => put_line(reply, total_text(&totals.0).as_str()),
+        Asked::Import => put_line(reply, energy_text(totals.1).as_str()),
+        Asked::Export => put_line(reply, export_text(totals.2).as_str()),
     }
 }
 
@@ -218,7 +316,10 @@ fn put_board<J: Naming, C: HasCell, S: Serves<J, C>, R: Wait>(
     running: &Running<'_, J, C, S>,
     name: &Name,
     reply: &mut Vec<u8>,
-) -> Result<(), AllocError> {
+) -> Result<(), AllocError>
+    requires { reply.old.items ≡ [] }
+    ensures { OnOk result (IsBoard running.now.plan.now.sites.items running.now.desk.desk.now.stations (position (λ s. bytes_eq name.now s.name) running.now.plan.now.sites.items) reply.new.items) }
+{
     let Some(site) = site_of(running.plan, name) else {
         return put_fault(reply, LineFault::UnknownSite);
     };
@@ -227,19 +328,7 @@ fn put_board<J: Naming, C: HasCell, S: Serves<J, C>, R: Wait>(
             *reply = text;
             Ok(())
         }
-        Err(fault) => put_board_fault(reply, fault, LineFault::UnknownSite),
-    }
-}
-
-// Appends why there is no board or no figures.
-fn put_board_fault(
-    reply: &mut Vec<u8>,
-    fault: BoardFault,
-    unknown: LineFault,
-) -> Result<(), AllocError> {
-    match fault {
-        BoardFault::UnknownStation => put_fault(reply, unknown),
-        BoardFault::Torn => put_line(reply, TORN),
-        BoardFault::OutOfMemory => Err(AllocError),
+        Err(BoardFault::OutOfMemory) => Err(AllocError),
+        Err(BoardFault::Torn | BoardFault::UnknownStation) => put_line(reply, TORN),
     }
 }

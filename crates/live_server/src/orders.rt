@@ -1,5 +1,6 @@
 //! Where an operator's lines come from.
 ghost use Rattle.std.specs.Prelude.{◌≡◌};
+ghost use Rattle.live_server.specs.Ordered.{came_of, told_as};
 
 use script_lines::{LineEnd, LineReader, MAX_LINE_BYTES, ReplayFault};
 use site_server::ServiceFault;
@@ -68,7 +69,9 @@ impl<I: BufRead> Orders for ReadOrders<'_, I> {
 }
 
 /// What a line is that was read to this end.
-pub fn ending_of(lines: &LineReader, end: LineEnd) -> Came {
+pub fn ending_of(lines: &LineReader, end: LineEnd) -> Came
+    ensures { result ≡ came_of end lines.now.held.items }
+{
     match end {
         LineEnd::Feed => Came::Line,
         LineEnd::Input if lines.held.is_empty() => Came::End,
@@ -77,7 +80,9 @@ pub fn ending_of(lines: &LineReader, end: LineEnd) -> Came {
 }
 
 /// Why no line more is read.
-pub fn fault_of(fault: ReplayFault) -> ServiceFault {
+pub fn fault_of(fault: ReplayFault) -> ServiceFault
+    ensures { result ≡ told_as fault }
+{
     match fault {
         ReplayFault::ReadFault | ReplayFault::TooMuchInput => ServiceFault::ReadFault,
         ReplayFault::WriteFault => ServiceFault::WriteFault,

@@ -1,5 +1,8 @@
 //! The desk of a plan while it is served.
 ghost use Rattle.std.specs.Prelude.{◌≡◌, ◌≤◌, ◌<◌, IfOk, IfSome, length, sum_by};
+ghost use Rattle.std.specs.List.{position};
+ghost use Rattle.std.specs.Str.{bytes_eq};
+ghost use Rattle.desk_report.specs.Running.{IsRunningBoard};
 ghost use Rattle.ledger_model.specs.Ranges.{most_plan_readings};
 ghost use Rattle.site_desk.specs.Roster.{AreNewPlaces, IsNamed};
 ghost use Rattle.station_link.specs.Session.{MayLackPass};
@@ -22,6 +25,7 @@ pub(crate) struct Running<'a, J: Naming, C: HasCell, S: Serves<J, C>> {
     pub(crate) serves: &'a S,
     pub(crate) desk: ShelfDesk<'a, J, C>,
     ghost same: { desk.desk.now ≡ S.roster serves.now },
+    ghost stations: { desk.desk.now.stations ≡ S.stations serves.now },
     ghost opened: { AreNewPlaces plan.now.sites.items plan.now.stations.items desk.desk.now.stations },
     ghost readings: { sum_by (λ s. s.limits.readings) plan.now.stations.items ≤ most_plan_readings },
 }
@@ -31,6 +35,8 @@ impl<'a, J: Naming, C: HasCell, S: Serves<J, C>> Running<'a, J, C, S> {
     pub(crate) fn open(plan: &'a Plan, serves: &'a S, passes: Vec<Pass>) -> Self
         requires opened { AreNewPlaces plan.now.sites.items plan.now.stations.items (S.roster serves.now).stations }
         requires readings { sum_by (λ s. s.limits.readings) plan.now.stations.items ≤ most_plan_readings }
+        ensures plan { result.plan.now ≡ plan.now }
+        ensures desk { result.desk.desk.now ≡ S.roster serves.now }
     {
         let desk = ShelfDesk::open(serves.desk(), passes);
         Running { plan, serves, desk }
@@ -59,6 +65,7 @@ impl<'a, J: Naming, C: HasCell, S: Serves<J, C>> Running<'a, J, C, S> {
         site: u16,
     ) -> Result<Vec<u8>, BoardFault>
         requires { site < length self.now.plan.now.sites.items }
+        ensures { IfOk result (λ text. IsRunningBoard self.now.plan.now.sites.items self.now.desk.desk.now.stations site text.items) }
     {
         running_board(rt, alloc, self.plan, self.desk.desk, site)
     }
@@ -77,13 +84,11 @@ fn why_of(fault: PassFault) -> Why
 
 // The number of the site of this name.
 pub(crate) fn site_of(plan: &Plan, name: &Name) -> Option<u16>
-    ensures { IfSome result (λ site. site < length plan.now.sites.items) }
+    ensures is { result ≡ position (λ s. bytes_eq name.now s.name) plan.now.sites.items }
+    ensures there { IfSome result (λ site. site < length plan.now.sites.items) }
 {
-    let sites = plan.sites.as_slice();
-    for site in 0..sites.len() {
-        if sites[site].name == *name {
-            return Some(site as u16);
-        }
+    match plan.site(name) {
+        Some(site) => Some(site as u16),
+        None => None,
     }
-    None
 }

@@ -1,11 +1,12 @@
 //! A whole live server, from its desk to its boards.
-ghost use Rattle.std.specs.Prelude.{◌≡◌, ◌≤◌, ◌<◌, ℕ, List, Option, OnOk, length, sum_by};
+ghost use Rattle.std.specs.Prelude.{◌≡◌, ◌≤◌, ◌<◌, ℕ, List, Ok, IfOk, OnOk, length, sum_by};
 ghost use Rattle.std.specs.Io.KnownBytes.{Appends};
 ghost use Rattle.std.specs.Thread.{IsSend, IsSync};
 ghost use Rattle.site_book.specs.Tables.{HasTable, NamedBy};
 ghost use Rattle.ledger_model.specs.Ranges.{most_plan_readings};
 ghost use Rattle.site_desk.specs.Roster.{AreNewPlaces};
 ghost use Rattle.desk_report.specs.Closed.{AreBoards};
+ghost use Rattle.live_server.specs.Told.{AddsReplies, IsServed, Tells};
 
 use crate::boards::serve_boards;
 use crate::door::{Door, Doors};
@@ -62,7 +63,7 @@ pub struct Live {
 pub fn serve_live<
     R: Threads + Wait + Clock + Sync + Net<Listener = TcpListener, Stream = TcpStream>,
     I: BufRead,
-    W: Write,
+    W: Write + Drop,
     L: Write + Send + Drop,
 >(
     rt: &R,
@@ -70,11 +71,10 @@ pub fn serve_live<
     plan: &Plan,
     live: Live,
     input: &mut I,
-    output: &mut W,
+    output: W,
     lines: L,
-) -> Result<(), ServiceFault>
-    ensures { OnOk result ((before : Option (List ℕ)) × (boards : List ℕ) × Appends before (W.contents output.new) boards
-        × AreBoards plan.now.sites.items plan.now.stations.items boards) }
+) -> Result<W, ServiceFault>
+    ensures { IfOk result (λ w. IsServed plan.now.sites.items plan.now.stations.items (W.contents output) (W.contents w)) }
 {
     let tables = Tables::make(alloc, plan.sites.len() as u16)?;
     serve_under::<Brand, R, I, W, L>(rt, alloc, tables, plan, live, input, output, lines)
@@ -85,7 +85,7 @@ fn serve_under<
     J: Naming + Send + Sync,
     R: Threads + Wait + Clock + Sync + Net<Listener = TcpListener, Stream = TcpStream>,
     I: BufRead,
-    W: Write,
+    W: Write + Drop,
     L: Write + Send + Drop,
 >(
     rt: &R,
@@ -94,13 +94,12 @@ fn serve_under<
     plan: &Plan,
     live: Live,
     input: &mut I,
-    output: &mut W,
+    output: W,
     lines: L,
-) -> Result<(), ServiceFault>
+) -> Result<W, ServiceFault>
     requires named { NamedBy J.table tables }
     requires there { (site : ℕ) → site < length plan.now.sites.items → HasTable tables site }
-    ensures { OnOk result ((before : Option (List ℕ)) × (boards : List ℕ) × Appends before (W.contents output.new) boards
-        × AreBoards plan.now.sites.items plan.now.stations.items boards) }
+    ensures { IfOk result (λ w. IsServed plan.now.sites.items plan.now.stations.items (W.contents output) (W.contents w)) }
 {
     let (desk, viewers) = open_desk::<J>(alloc, tables, plan)?;
     let mut orders = ReadOrders::open(alloc, input);
@@ -122,7 +121,7 @@ fn serve_desk<
     J: Naming + Send + Sync,
     R: Threads + Wait + Clock + Sync + Net<Listener = TcpListener, Stream = TcpStream>,
     O: Orders,
-    W: Write,
+    W: Write + Drop,
     L: Write + Send + Drop,
 >(
     rt: &R,
@@ -132,36 +131,58 @@ fn serve_desk<
     viewers: Vec<Viewer<J>>,
     live: Live,
     orders: &mut O,
-    output: &mut W,
+    output: W,
     lines: L,
-) -> Result<(), ServiceFault>
+) -> Result<W, ServiceFault>
     requires sites { desk.sites ≡ length plan.now.sites.items }
     requires opened { AreNewPlaces plan.now.sites.items plan.now.stations.items desk.stations }
     requires readings { sum_by (λ s. s.limits.readings) plan.now.stations.items ≤ most_plan_readings }
-    ensures { OnOk result ((before : Option (List ℕ)) × (boards : List ℕ) × Appends before (W.contents output.new) boards
-        × AreBoards plan.now.sites.items plan.now.stations.items boards) }
+    ensures { IfOk result (λ w. IsServed plan.now.sites.items plan.now.stations.items (W.contents output) (W.contents w)) }
 {
     let passes = Vec::new(alloc);
+    let ran = serve_plan_at(
+        rt, alloc, plan, &desk, passes, viewers, live, orders, output, lines,
+    )?;
+    end_run(alloc, plan, desk, ran)
+}
+
+// Closes the desk, and writes the boards behind what its output has. How the operator's lines ended is told after that.
+fn end_run<J: Naming, W: Write + Drop>(
+    alloc: Global,
+    plan: &Plan,
+    desk: Desk<J>,
+    ran: Ran<J, W>,
+) -> Result<W, ServiceFault>
+    requires sites { desk.sites ≡ length plan.now.sites.items }
+    requires opened { AreNewPlaces plan.now.sites.items plan.now.stations.items desk.stations }
+    requires readings { sum_by (λ s. s.limits.readings) plan.now.stations.items ≤ most_plan_readings }
+    ensures ended { OnOk result (ran.ended ≡ Ok tt) }
+    ensures boards { IfOk result (λ w. (boards : List ℕ) × Appends (W.contents ran.output) (W.contents w) boards × AreBoards plan.now.sites.items plan.now.stations.items ran.passes.items boards) }
+{
     let Ran {
         passes,
         viewers,
         ended,
-    } = serve_plan_at(
-        rt, alloc, plan, &desk, passes, viewers, live, orders, output, lines,
-    )?;
-    close_desk(alloc, plan, desk, passes, viewers, output)?;
-    ended
+        mut output,
+    } = ran;
+    close_desk(alloc, plan, desk, passes, viewers, &mut output)?;
+    match ended {
+        Ok(()) => Ok(output),
+        Err(fault) => Err(fault),
+    }
 }
 
 /// What stands when all threads have ended.
 #[derive(Drop)]
-pub struct Ran<J: Naming> {
-    /// All passes that were given out.
+pub struct Ran<J: Naming, W: Write + Drop> {
+    /// All passes that were laid back.
     pub passes: Vec<Pass>,
     /// The viewers.
     pub viewers: Vec<Viewer<J>>,
     /// How the operator's lines ended, or why no connection was served.
     pub ended: Result<(), ServiceFault>,
+    /// The output.
+    pub output: W,
 }
 
 /// Listens, writes `listening 127.0.0.1:<port>` to `output`, and serves a plan's stations as [`serve_live`] does, at the
@@ -175,7 +196,7 @@ pub fn serve_plan_at<
     S: Serves<J, C> + Sync,
     R: Threads + Wait + Clock + Sync + Net<Listener = TcpListener, Stream = TcpStream>,
     O: Orders,
-    W: Write,
+    W: Write + Drop,
     L: Write + Send + Drop,
 >(
     rt: &R,
@@ -186,13 +207,14 @@ pub fn serve_plan_at<
     viewers: Vec<Viewer<J>>,
     live: Live,
     orders: &mut O,
-    output: &mut W,
+    mut output: W,
     lines: L,
-) -> Result<Ran<J>, ServiceFault>
+) -> Result<Ran<J, W>, ServiceFault>
     requires opened { AreNewPlaces plan.now.sites.items plan.now.stations.items (S.roster serves.now).stations }
     requires readings { sum_by (λ s. s.limits.readings) plan.now.stations.items ≤ most_plan_readings }
+    ensures { IfOk result (λ r. OnOk r.ended (Tells plan.now.sites.items (S.roster serves.now).stations (W.contents output) (W.contents r.output))) }
 {
-    let listeners = Listeners::open(rt, live, output)?;
+    let listeners = Listeners::open(rt, live, &mut output)?;
     let workers = workers_for(plan);
     let shared = Shared::open(alloc, plan, serves, passes, workers, lines, live.is_logged)?;
     Ok(serve_all(
@@ -220,7 +242,7 @@ fn serve_all<
     S: Serves<J, C> + Sync,
     R: Threads + Wait + Clock + Sync + Net<Listener = TcpListener, Stream = TcpStream>,
     O: Orders,
-    W: Write,
+    W: Write + Drop,
     L: Write + Send + Drop,
 >(
     rt: &R,
@@ -230,21 +252,24 @@ fn serve_all<
     glances: u16,
     viewers: Vec<Viewer<J>>,
     orders: &mut O,
-    output: &mut W,
-) -> Ran<J> {
+    output: W,
+) -> Ran<J, W>
+    ensures { OnOk result.ended (AddsReplies shared.entry.running.plan.now.sites.items shared.entry.running.desk.desk.now.stations (W.contents output) (W.contents result.output)) }
+{
     let doors = Doors::open(&listeners.stations, listeners.browsers.as_ref());
-    let (ended, viewers) = serve_beside(
+    let (ended, viewers, output) = serve_beside(
         rt, alloc, &shared, &doors, glances, viewers, orders, output,
     );
     Ran {
         passes: shared.into_passes(),
         viewers,
         ended,
+        output,
     }
 }
 
-/// What stands at the end of the threads: how the operator's lines ended, and the viewers.
-type Ended<J> = (Result<(), ServiceFault>, Vec<Viewer<J>>);
+/// What stands at the end of the threads: how the operator's lines ended, the viewers, and the output.
+type Ended<J, W> = (Result<(), ServiceFault>, Vec<Viewer<J>>, W);
 
 // Serves on threads while this one answers the operator's lines, and then ends them all.
 fn serve_beside<
@@ -253,7 +278,7 @@ fn serve_beside<
     S: Serves<J, C> + Sync,
     R: Threads + Wait + Clock + Sync + Net<Listener = TcpListener, Stream = TcpStream>,
     O: Orders,
-    W: Write,
+    W: Write + Drop,
     L: Write + Send + Drop,
 >(
     rt: &R,
@@ -263,25 +288,29 @@ fn serve_beside<
     glances: u16,
     viewers: Vec<Viewer<J>>,
     orders: &mut O,
-    output: &mut W,
-) -> Ended<J> {
+    output: W,
+) -> Ended<J, W>
+    ensures { OnOk result.0 (AddsReplies shared.now.running.plan.now.sites.items shared.now.running.desk.desk.now.stations (W.contents output) (W.contents result.2)) }
+{
     thread::scope(
         thread::scope_env(),
         rt,
-        |scope| -> Ended<J>
+        |scope| -> Ended<J, W>
             requires { IsSync R.row × IsSend J.row × IsSync J.row × IsSend C.row × IsSync S.row × IsSend L.row }
+            ensures { OnOk result.0 (AddsReplies shared.entry.now.running.plan.now.sites.items shared.entry.now.running.desk.desk.now.stations (W.contents output) (W.contents result.2)) }
         {
+            let mut own = output;
             let watching = Stack::new().stack_size(SMALL_STACK).spawn_scoped_with(
                 scope,
                 Anything,
                 move || watch(rt, shared, glances, viewers),
             );
-            let ended = serve_until_end(scope, rt, alloc, shared, doors, orders, output);
+            let ended = serve_until_end(scope, rt, alloc, shared, doors, orders, &mut own);
             let viewers = match watching {
                 Ok(watching) => watching.join(rt),
                 Err(refused) => (refused.value)(),
             };
-            (ended, viewers)
+            (ended, viewers, own)
         },
     )
 }
@@ -305,7 +334,9 @@ fn serve_until_end<
     doors: &'s Doors<'_>,
     orders: &mut O,
     output: &mut W,
-) -> Result<(), ServiceFault> {
+) -> Result<(), ServiceFault>
+    ensures { OnOk result (AddsReplies shared.now.running.plan.now.sites.items shared.now.running.desk.desk.now.stations (W.contents output.old) (W.contents output.new)) }
+{
     let ended = if start_all(scope, rt, alloc, shared, doors) {
         operate(rt, alloc, &shared.running, orders, output)
     } else {

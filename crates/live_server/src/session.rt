@@ -131,6 +131,6 @@ fn finish<J: Naming, C: HasCell, S: Serves<J, C>, R: Wait, L: Write + Drop>(
     if let Some(pass) = pass {
         let changes = pass.changes().saturating_sub(before);
         shared.log.tell_ended(rt, name, cause, texts, changes);
-        shared.running.desk.lay(rt, pass);
+        let _lost = shared.running.desk.lay(rt, pass);
     }
 }

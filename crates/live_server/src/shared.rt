@@ -1,5 +1,5 @@
 //! What all threads of a live server look at.
-ghost use Rattle.std.specs.Prelude.{◌≤◌, sum_by};
+ghost use Rattle.std.specs.Prelude.{◌≡◌, ◌≤◌, IfOk, sum_by};
 ghost use Rattle.ledger_model.specs.Ranges.{most_plan_readings};
 ghost use Rattle.site_desk.specs.Roster.{AreNewPlaces};
 
@@ -33,6 +33,8 @@ impl<'a, J: Naming, C: HasCell, S: Serves<J, C>, L: Write + Drop> Shared<'a, J, 
     ) -> Result<Self, AllocError>
         requires opened { AreNewPlaces plan.now.sites.items plan.now.stations.items (S.roster serves.now).stations }
         requires readings { sum_by (λ s. s.limits.readings) plan.now.stations.items ≤ most_plan_readings }
+        ensures plan { IfOk result (λ s. s.running.plan.now ≡ plan.now) }
+        ensures desk { IfOk result (λ s. s.running.desk.desk.now ≡ S.roster serves.now) }
     {
         let crew = Crew::open(alloc, workers)?;
         Ok(Shared {

@@ -1,41 +1,39 @@
 //! A running desk whose passes are taken up again.
-ghost use Rattle.std.specs.Prelude.{◌≡◌, Err, IfOk, IfSome, false};
+ghost use Rattle.std.specs.Prelude.{◌≡◌, Err, IfErr, IfOk, IfSome, false};
 ghost use Rattle.std.specs.List.{list_any};
 ghost use Rattle.std.specs.Str.{bytes_eq};
 ghost use Rattle.site_desk.specs.Roster.{IsNamed};
 ghost use Rattle.live_server.specs.declared.shelf_desk.PassFault.{PassFault};
-ghost use Rattle.live_server.specs.Operated.{IsCommanded};
 
 use crate::shelf::Shelf;
-use ledger_model::{Answer, Command, Name};
+use ledger_model::Name;
 use site_book::Naming;
-use site_desk::{Desk, EnlistFault, HasCell, NoGate, Pass, StationCell};
+use site_desk::{Desk, EnlistFault, HasCell, Pass, StationCell};
 use std::sync::{Mutex, Wait};
 use std::thread::Threads;
-use std::time::Clock;
 
-/// Why no pass is given.
+// Why no pass is given.
 #[derive(Clone, Copy, Debug, PartialEq, Eq)]
-pub enum PassFault {
-    /// No station of the desk has this name.
+pub(crate) enum PassFault {
+    // No station of the desk has this name.
     UnknownStation,
-    /// The station gave out 65,536 passes.
+    // The station gave out 65,536 passes.
     TooManyPasses,
-    /// There is no memory to lay it back.
+    // There is no memory to lay it back.
     OutOfMemory,
 }
 
-/// A running desk with a shelf for the passes of its stations.
+// A running desk with a shelf for the passes of its stations.
 #[derive(Drop)]
-pub struct ShelfDesk<'a, J: Naming, C: HasCell = StationCell> {
-    /// The desk.
-    pub desk: &'a Desk<J, C>,
+pub(crate) struct ShelfDesk<'a, J: Naming, C: HasCell = StationCell> {
+    // The desk.
+    pub(crate) desk: &'a Desk<J, C>,
     shelf: Mutex<Shelf>,
 }
 
 impl<'a, J: Naming, C: HasCell> ShelfDesk<'a, J, C> {
-    /// The desk, with the passes on the shelf that were given out before.
-    pub fn open(desk: &'a Desk<J, C>, passes: Vec<Pass>) -> Self
+    // The desk, with the passes on the shelf that were given out before.
+    pub(crate) fn open(desk: &'a Desk<J, C>, passes: Vec<Pass>) -> Self
         ensures { result.desk.now ≡ desk.now }
     {
         ShelfDesk {
@@ -44,9 +42,9 @@ impl<'a, J: Naming, C: HasCell> ShelfDesk<'a, J, C> {
         }
     }
 
-    /// A pass of the station of this name: one that lies on the shelf, or else a new one, for which there is room there
-    /// from then on. It may wait for the station's lock.
-    pub fn pass_of<R: Wait + Threads>(&self, rt: &R, name: &Name) -> Result<Pass, PassFault>
+    // A pass of the station of this name: one that lies on the shelf, or else a new one, for which there is room there
+    // from then on. It may wait for the station's lock.
+    pub(crate) fn pass_of<R: Wait + Threads>(&self, rt: &R, name: &Name) -> Result<Pass, PassFault>
         ensures unknown { result ≡ Err PassFault.UnknownStation → list_any (λ s. bytes_eq name.now s.name) self.now.desk.now.stations ≡ false }
         ensures named { IfOk result (λ p. IsNamed self.now.desk.now.stations name.now p.station) }
     {
@@ -81,32 +79,16 @@ impl<'a, J: Naming, C: HasCell> ShelfDesk<'a, J, C> {
         }
     }
 
-    /// Lays a pass back, for the next one that asks for its station.
-    pub fn lay<R: Wait>(&self, rt: &R, pass: Pass) {
-        self.shelf.lock(rt).lay(pass);
-    }
-
-    /// All passes that were laid back.
-    pub fn into_passes(self) -> Vec<Pass> {
-        self.shelf.into_inner().into_passes()
-    }
-}
-
-impl<J: Naming> ShelfDesk<'_, J> {
-    /// Takes an operator's command on the station of this name, with a pass that it lays back, and gives the answer. It
-    /// may wait for the locks of the station and its site.
-    pub fn command<R: Wait + Threads + Clock>(
-        &self,
-        rt: &R,
-        name: &Name,
-        what: Command,
-    ) -> Result<Answer, PassFault>
-        ensures unknown { result ≡ Err PassFault.UnknownStation → list_any (λ s. bytes_eq name.now s.name) self.now.desk.now.stations ≡ false }
-        ensures commanded { IfOk result (IsCommanded self.now.desk.now.stations name.now what) }
+    // Lays a pass back, for the next one that asks for its station. It comes back where there is no room for it, which no
+    // run meets: room is made before a pass is given out.
+    pub(crate) fn lay<R: Wait>(&self, rt: &R, pass: Pass) -> Result<(), Pass>
+        ensures { IfErr result (λ back. back ≡ pass) }
     {
-        let mut pass = self.pass_of(rt, name)?;
-        let (answer, _told) = self.desk.submit(rt, &mut pass, what, &NoGate);
-        self.lay(rt, pass);
-        Ok(answer)
+        self.shelf.lock(rt).lay(pass)
+    }
+
+    // All passes that were laid back.
+    pub(crate) fn into_passes(self) -> Vec<Pass> {
+        self.shelf.into_inner().into_passes()
     }
 }

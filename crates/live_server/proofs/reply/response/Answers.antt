@@ -1,4 +1,4 @@
-use Rattle.std.proofs.Common.{◌≡◌, [], ◌++◌, codes, ap, ◌∙◌}
+use Rattle.std.proofs.Common.{[], ◌++◌, codes, ◌∙◌}
 use Rattle.live_server.specs.Responses.{head_line}
 use Rattle.live_server.proofs.reply.response.Goals as goal
 

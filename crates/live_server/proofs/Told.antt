@@ -1,0 +1,110 @@
+-- What a live server writes, piece by piece.
+use Rattle.std.proofs.Common.{◌≡◌, ℕ, List, [], ◌∷◌, ◌++◌, Option, Some, Result, Ok, Err, append_assoc, append-nil, subst, sym}
+use Rattle.std.specs.Prelude.{IfOk, OnOk}
+use Rattle.std.specs.Io.KnownBytes.{Appends}
+use Rattle.std.specs.List.{flat_map}
+use Rattle.std.proofs.KnownBytes.{Appends-nil, Appends-trans}
+use Rattle.std.proofs.lemmas.List.Concat.{flat_map-append}
+use Rattle.std.proofs.lemmas.List.Elements.{All-append, All-cons, All-nil}
+use Rattle.desk_report.specs.Closed.{AreBoards}
+use Rattle.script_lines.specs.LineMeaning.{LineMeaning}
+use Rattle.site_desk.specs.declared.plan.SitePlan.{SitePlan}
+use Rattle.site_desk.specs.declared.plan.StationPlan.{StationPlan}
+use Rattle.site_desk.specs.declared.roster.StationPlace.{StationPlace}
+use Rattle.site_desk.specs.Roster.{AreNewPlaces}
+use Rattle.site_server.specs.Written.{listening}
+use Rattle.station_cell.specs.Cell.{Held}
+use Rattle.live_server.specs.Replied.{IsReplyOrMemory}
+use Rattle.live_server.specs.Told.{AddsReplies, IsServed, Tells, boards_at, ports}
+
+module _ (sites : List SitePlan) (places : List StationPlace) where
+  -- a line and its answer
+  abbrev Own : LineMeaning × List ℕ → Type 0
+  Own l = IsReplyOrMemory sites places l.0 l.1
+
+  -- what lines were answered
+  abbrev texts : List (LineMeaning × List ℕ) → List ℕ
+  texts lines = flat_map (λ l. l.1) lines
+
+  -- nothing was written
+  pub nothing : (w : Option (List ℕ)) → AddsReplies sites places w w
+  nothing w = record { lines = []; replies = All-nil Own; adds = Appends-nil w }
+
+  -- one answer
+  pub one : (w0 w1 : Option (List ℕ)) (meaning : LineMeaning) (text : List ℕ) → Appends w0 w1 text → IsReplyOrMemory sites places meaning text → AddsReplies sites places w0 w1
+  one w0 w1 meaning text told own =
+      record { lines = (meaning, text) ∷ []; replies = All-cons Own (meaning, text) [] own (All-nil Own); adds = subst (Appends w0 w1) (sym (append-nil text)) told }
+
+  -- answers, and then more of them
+  pub more : (w0 w1 w2 : Option (List ℕ)) → AddsReplies sites places w0 w1 → AddsReplies sites places w1 w2 → AddsReplies sites places w0 w2
+  more w0 w1 w2 first then =
+      record {
+        lines = first.lines ++ then.lines;
+        replies = All-append Own first.lines then.lines first.replies then.replies;
+        adds = subst (Appends w0 w2) (sym (flat_map-append (λ (l : LineMeaning × List ℕ). l.1) first.lines then.lines)) (Appends-trans w0 w1 w2 (texts first.lines) (texts then.lines) first.adds then.adds);
+      }
+
+  -- where it listens, and nothing else yet
+  pub ports_told : (w0 w1 : Option (List ℕ)) (port : ℕ) (browsers : Option ℕ) → Appends w0 w1 (ports port browsers) → Tells sites places w0 w1
+  ports_told w0 w1 port browsers told =
+      record { port = port; browsers = browsers; lines = []; replies = All-nil Own; adds = subst (Appends w0 w1) (sym (append-nil (ports port browsers))) told }
+
+  -- where it listens, and answers behind it
+  pub then_replies : (w0 w1 w2 : Option (List ℕ)) → (port : ℕ) × (browsers : Option ℕ) × Appends w0 w1 (ports port browsers) → AddsReplies sites places w1 w2 → Tells sites places w0 w2
+  then_replies w0 w1 w2 first then =
+      record {
+        port = first.0;
+        browsers = first.1;
+        lines = then.lines;
+        replies = then.replies;
+        adds = Appends-trans w0 w1 w2 (ports first.0 first.1) (texts then.lines) first.2 then.adds;
+      }
+
+  -- the same, once it ended well
+  pub then_replies_ok : {T E : Type 0} (r : Result T E) (w0 w1 w2 : Option (List ℕ)) → (port : ℕ) × (browsers : Option ℕ) × Appends w0 w1 (ports port browsers) → OnOk r (AddsReplies sites places w1 w2) → OnOk r (Tells sites places w0 w2)
+  then_replies_ok (Ok _) w0 w1 w2 first then = then_replies w0 w1 w2 first then
+  then_replies_ok (Err _) w0 w1 w2 first then = then
+
+  -- where it listens, answers, and the boards
+  pub then_boards : (stations : List StationPlan) (passes : List Held) (w0 w1 w2 : Option (List ℕ)) → AreNewPlaces sites stations places → Tells sites places w0 w1 → (boards : List ℕ) × Appends w1 w2 boards × AreBoards sites stations passes boards → IsServed sites stations w0 w2
+  then_boards stations passes w0 w1 w2 placed first then =
+      record {
+        port = first.port;
+        browsers = first.browsers;
+        places = places;
+        placed = placed;
+        lines = first.lines;
+        replies = first.replies;
+        passes = passes;
+        boards = then.0;
+        writes = subst (Appends w0 w2) (append_assoc (ports first.port first.browsers) (texts first.lines) then.0) (Appends-trans w0 w1 w2 (ports first.port first.browsers ++ texts first.lines) then.0 first.adds then.1);
+        shown = then.2;
+      }
+
+  -- the same, of a call that writes it
+  pub one_ok : {T E : Type 0} (r : Result T E) (w0 w1 : Option (List ℕ)) (meaning : LineMeaning) → OnOk r ((text : List ℕ) × Appends w0 w1 text × IsReplyOrMemory sites places meaning text) → OnOk r (AddsReplies sites places w0 w1)
+  one_ok (Ok _) w0 w1 meaning h = one w0 w1 meaning h.0 h.1 h.2
+  one_ok (Err _) w0 w1 meaning h = h
+
+-- where it listens for stations, and then for browsers
+pub both_told : {T E : Type 0} (r : Result T E) (w0 w1 w2 : Option (List ℕ)) → (port : ℕ) × Appends w0 w1 (listening port) → OnOk r ((port : ℕ) × Appends w1 w2 (boards_at port)) → OnOk r ((port : ℕ) × (browsers : Option ℕ) × Appends w0 w2 (ports port browsers))
+both_told (Ok _) w0 w1 w2 first then = (first.0, Some then.0, Appends-trans w0 w1 w2 (listening first.0) (boards_at then.0) first.1 then.1)
+both_told (Err _) w0 w1 w2 first then = then
+
+-- answers at a desk that is the same under another name
+pub replies_along : {T E : Type 0} (r : Result T E) (sites sites' : List SitePlan) (places places' : List StationPlace) (w0 w1 w2 : Option (List ℕ)) → sites' ≡ sites → places' ≡ places
+    → (port : ℕ) × (browsers : Option ℕ) × Appends w0 w1 (ports port browsers) → OnOk r (AddsReplies sites' places' w1 w2) → OnOk r (Tells sites places w0 w2)
+replies_along r sites sites' places places' w0 w1 w2 same there first then =
+    then_replies_ok sites places r w0 w1 w2 first (subst (λ s. OnOk r (AddsReplies s places w1 w2)) same (subst (λ p. OnOk r (AddsReplies sites' p w1 w2)) there then))
+
+-- what holds where a call ended well
+pub of_ok : {T E : Type 0} (r : Result T E) (t : T) (P : Type 0) → r ≡ Ok t → OnOk r P → P
+of_ok (Ok _) t P is h = h
+of_ok (Err _) t P is h = cc
+
+-- all that was written, where the operator's lines and the close ended well
+pub served_ok : {W E F : Type 0} (r : Result W E) (contents : W → Option (List ℕ)) (ended : Result (Unit {0}) F) (sites : List SitePlan) (stations : List StationPlan) (places : List StationPlace) (passes : List Held) (w0 w1 : Option (List ℕ)) → AreNewPlaces sites stations places
+    → OnOk ended (Tells sites places w0 w1) → OnOk r (ended ≡ Ok tt) → IfOk r (λ w. (boards : List ℕ) × Appends w1 (contents w) boards × AreBoards sites stations passes boards)
+    → IfOk r (λ w. IsServed sites stations w0 (contents w))
+served_ok (Ok w) contents ended sites stations places passes w0 w1 placed told well boards = then_boards sites places stations passes w0 w1 (contents w) placed (of_ok ended tt (Tells sites places w0 w1) well told) boards
+served_ok (Err _) contents ended sites stations places passes w0 w1 placed told well boards = boards

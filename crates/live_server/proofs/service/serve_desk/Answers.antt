@@ -1,0 +1,6 @@
+use Rattle.live_server.proofs.Told.{served_ok}
+use Rattle.live_server.proofs.service.serve_desk.Goals as goal
+
+pub returns : goal.returns
+returns g c =
+    served_ok c.end_run.result g.W.Write.contents c.in_ok-ran.ran.ended _ _ _ _ _ _ c.requires.opened c.in_ok-ran.ensures c.end_run.ensures.ended c.end_run.ensures.boards
