@@ -11,7 +11,7 @@ use Rattle.station_cell.specs.Cell.{Cell}
 use Rattle.journal_script.specs.Journals.{EndsWhole, Shows}
 use Rattle.journal_script.specs.Restoring.{IsRestored}
 use Rattle.journal_script.proofs.Whole.{after_both, lines_apart}
-use Rattle.journal_server.specs.Served.{after}
+use Rattle.journal_server.specs.Served.{Leaves, after}
 
 abbrev words : List ℕ
 words = codes "# a run of ocpp_board begins"
@@ -37,7 +37,7 @@ pub comment_whole : (read : List ℕ) → EndsWhole (read ++ run_begins)
 comment_whole read = inr (read ++ words, sym (append_assoc read words (10 ∷ [])))
 
 -- what a script leaves, it leaves with the comment behind it
-pub restored_after : (read : List ℕ) (sites : List SitePlan) (stations : List StationPlan) (cells : List Cell) → IsRestored read sites stations cells → IsRestored (read ++ run_begins) sites stations cells
+pub restored_after : (read : List ℕ) (sites : List SitePlan) (stations : List StationPlan) (cells : List Cell) → IsRestored read sites stations cells → Leaves (read ++ run_begins) sites stations cells
 restored_after read sites stations cells r = record {
   whole = comment_whole read;
   shows = subst (λ s. Shows s sites stations cells) (sym (comment_after read r.whole)) r.shows;

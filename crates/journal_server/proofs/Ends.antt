@@ -7,22 +7,21 @@ use Rattle.kept_desk.specs.declared.entry.Entry.{Entry}
 use Rattle.kept_desk.specs.Entries.{of_station, text_of}
 use Rattle.journal_script.specs.Journals.{AreLeft, HasOnce, IsSpoken, station_name}
 use Rattle.journal_script.specs.Speaking.{Speaks}
-use Rattle.journal_script.specs.Restoring.{IsRestored}
 use Rattle.journal_script.proofs.Boards.{boards_are_those_of_cells}
 use Rattle.journal_script.proofs.Journals.{journals_are_scripts}
-use Rattle.kept_desk.specs.Kept.{AreSpoken, commands_of}
+use Rattle.kept_desk.specs.Kept.{AreSpoken, IsLeftFrom, commands_of}
 use Rattle.kept_desk.specs.Opened.{AreFirst, content_or_empty, contents_of, names_of}
 use Rattle.std.proofs.lemmas.Option.{slice_get_within}
 use Rattle.ledger_model.specs.declared.command.Command.{Command}
 use Rattle.ledger_model.specs.Content.{Content}
-use Rattle.ledger_model.specs.Laws.{left_by}
+use Rattle.ledger_model.specs.Limits.{Bounds}
 use Rattle.site_desk.specs.declared.plan.SitePlan.{SitePlan}
 use Rattle.site_desk.specs.declared.plan.StationPlan.{StationPlan}
 use Rattle.station_cell.specs.Cell.{Cell}
 use Rattle.site_desk.specs.Plan.{plan_fault}
 use Rattle.site_desk.specs.Roster.{AreCellsOf}
 use Rattle.site_desk.proofs.NewParts.{planned_names, planned_sites}
-use Rattle.journal_server.specs.Served.{IsEnded, IsItsScript, SpeaksOf, after, joined}
+use Rattle.journal_server.specs.Served.{AreLeftFrom, IsEnded, IsItsScript, Leaves, SpeaksOf, after, joined}
 
 all_placed : (n : ℕ) (stations : List StationPlan) → ((k : ℕ) (s : StationPlan) → slice_get stations k ≡ Some s → s.site < n) → All (λ s. s.site < n) stations
 all_placed n [] each = All-nil (λ s. s.site < n)
@@ -61,19 +60,25 @@ boards_joined : (sites : List SitePlan) (stations : List StationPlan) (cells : L
 boards_joined sites stations cells zero = refl
 boards_joined sites stations cells (suc n) = ap (λ l. l ++ board_text (closed_site sites stations cells n)) (boards_joined sites stations cells n)
 
-pub its_script : (front : List ℕ) (sites : List SitePlan) (stations : List StationPlan) (firsts : List Cell) (before now : Option (List ℕ)) (broken : Bool) (boards : List ℕ)
-    → plan_fault sites stations ≡ None → AreCellsOf sites stations firsts → IsRestored front sites stations firsts
-    → IsEnded (names_of stations) (contents_of firsts) before now broken sites stations boards
-    → IsItsScript front sites stations firsts before now broken boards
-its_script front sites stations firsts before now broken boards none of_plan restored e =
+pub its_script : (front : List ℕ) (sites : List SitePlan) (stations : List StationPlan) (firsts : List Cell) (before now : Option (List ℕ)) (buffer : List ℕ) (broken : Bool) (boards : List ℕ)
+    → plan_fault sites stations ≡ None → AreCellsOf sites stations firsts → Leaves front sites stations firsts
+    → IsEnded (names_of stations) (contents_of firsts) before now buffer broken sites stations boards
+    → IsItsScript front sites stations firsts before now buffer broken boards
+its_script front sites stations firsts before now buffer broken boards none of_plan restored e =
     let once = has_once sites stations none in
     let log = e.written.log in
     let spoken = all_spoken stations log e.written.spoken in
-    let left : AreLeft stations firsts e.cells log = record {
+    let kept : AreLeftFrom stations firsts e.cells log = record {
       count_first = of_plan.count;
       count = e.count;
       left = λ k s f c at first there.
-          (λ i. left_by (sym (e.limits k s c at there) i) (ap content_or_empty (sym first) i) (commands_of (of_station k log))) ∙ (e.written.left k c there).left;
+          subst (λ (x : Bounds × Content). IsLeftFrom x.0 x.1 c.content (commands_of (of_station k log)))
+          (λ i. (e.limits k s c at there i, ap content_or_empty first i)) (e.written.left k c there);
+    } in
+    let left : AreLeft stations firsts e.cells log = record {
+      count_first = of_plan.count;
+      count = e.count;
+      left = λ k s f c at first there. (kept.left k s f c at first there).left;
     } in
     let ended = journals_are_scripts front sites stations firsts e.cells log restored.whole once restored.shows spoken left in
     record {
@@ -82,7 +87,7 @@ its_script front sites stations firsts before now broken boards none of_plan res
       cells = e.cells;
       opened = restored.shows;
       spoken = spoken;
-      left = left;
+      left = kept;
       ended = ended;
       shown = record {
         texts = λ k. board_text (closed_site sites stations e.cells k);
@@ -92,11 +97,11 @@ its_script front sites stations firsts before now broken boards none of_plan res
     }
 
 -- the same, by what is named
-pub ended_as : (name name' : ℕ → List ℕ) (first first' : ℕ → Content) (before before' now : Option (List ℕ)) (broken : Bool) (sites : List SitePlan) (stations : List StationPlan) (boards : List ℕ)
-    → name ≡ name' → first ≡ first' → before ≡ before' → IsEnded name first before now broken sites stations boards → IsEnded name' first' before' now broken sites stations boards
-ended_as name name' first first' before before' now broken sites stations boards n f b e =
-    subst (λ x. IsEnded name' first' x now broken sites stations boards) b
-    (subst (λ x. IsEnded name' x before now broken sites stations boards) f (subst (λ x. IsEnded x first before now broken sites stations boards) n e))
+pub ended_as : (name name' : ℕ → List ℕ) (first first' : ℕ → Content) (before before' now : Option (List ℕ)) (buffer : List ℕ) (broken : Bool) (sites : List SitePlan) (stations : List StationPlan) (boards : List ℕ)
+    → name ≡ name' → first ≡ first' → before ≡ before' → IsEnded name first before now buffer broken sites stations boards → IsEnded name' first' before' now buffer broken sites stations boards
+ended_as name name' first first' before before' now buffer broken sites stations boards n f b e =
+    subst (λ x. IsEnded name' first' x now buffer broken sites stations boards) b
+    (subst (λ x. IsEnded name' x before now buffer broken sites stations boards) f (subst (λ x. IsEnded x first before now buffer broken sites stations boards) n e))
 
 none_past : (stations : List StationPlan) (k : ℕ) → slice_get stations k ≡ None → length stations ≤ k
 none_past [] k e = omega arith
@@ -115,11 +120,11 @@ are_first sites stations cells parts first of_plan named same k c at = (own (sli
     own (Some s) e = (of_plan.each k s c e there).station
 
 -- the same, where the sites and stations are those of a plan
-pub script_of_plan : (front : List ℕ) (sites planned : List SitePlan) (stations plan : List StationPlan) (firsts : List Cell) (before now : Option (List ℕ)) (broken : Bool) (boards : List ℕ)
-    → planned ≡ sites → plan ≡ stations → plan_fault sites stations ≡ None → AreCellsOf sites stations firsts → IsRestored front sites stations firsts
-    → IsEnded (names_of plan) (contents_of firsts) before now broken planned plan boards
-    → IsItsScript front sites stations firsts before now broken boards
-script_of_plan front sites planned stations plan firsts before now broken boards s t none of_plan restored e =
-    its_script front sites stations firsts before now broken boards none of_plan restored
-    (subst (λ x. IsEnded (names_of stations) (contents_of firsts) before now broken x stations boards) s
-    (subst (λ x. IsEnded (names_of x) (contents_of firsts) before now broken planned x boards) t e))
+pub script_of_plan : (front : List ℕ) (sites planned : List SitePlan) (stations plan : List StationPlan) (firsts : List Cell) (before now : Option (List ℕ)) (buffer : List ℕ) (broken : Bool) (boards : List ℕ)
+    → planned ≡ sites → plan ≡ stations → plan_fault sites stations ≡ None → AreCellsOf sites stations firsts → Leaves front sites stations firsts
+    → IsEnded (names_of plan) (contents_of firsts) before now buffer broken planned plan boards
+    → IsItsScript front sites stations firsts before now buffer broken boards
+script_of_plan front sites planned stations plan firsts before now buffer broken boards s t none of_plan restored e =
+    its_script front sites stations firsts before now buffer broken boards none of_plan restored
+    (subst (λ x. IsEnded (names_of stations) (contents_of firsts) before now buffer broken x stations boards) s
+    (subst (λ x. IsEnded (names_of x) (contents_of firsts) before now buffer broken planned x boards) t e))

@@ -1,4 +1,3 @@
 pub mod Comments
 pub mod Cuts
 pub mod Ends
-pub mod Spoken

@@ -3,12 +3,12 @@ use Rattle.std.specs.Prelude.{◌≡◌, ℕ, zero, suc, ◌<◌, Bool, List, []
 use Rattle.std.specs.Io.KnownBytes.{Appends, Consumes}
 use Rattle.desk_report.specs.Closed.{boards_text}
 use Rattle.kept_desk.specs.declared.entry.Entry.{Entry}
-use Rattle.kept_desk.specs.Entries.{text_of}
+use Rattle.kept_desk.specs.Entries.{of_station, text_of}
 use Rattle.kept_desk.specs.Journal.{IsWritten}
-use Rattle.journal_script.specs.Journals.{AreLeft, IsSpoken, Shows}
-use Rattle.journal_script.specs.Restoring.{IsListen}
+use Rattle.journal_script.specs.Journals.{EndsWhole, IsSpoken, Shows}
+use Rattle.journal_script.specs.Restoring.{HasNoListen, IsListen, IsMarked}
 use Rattle.journal_script.specs.Speaking.{Speaks}
-use Rattle.kept_desk.specs.Kept.{IsWrittenDown}
+use Rattle.kept_desk.specs.Kept.{IsLeftFrom, IsWrittenDown, commands_of}
 use Rattle.ledger_model.specs.declared.command.Command.{Command}
 use Rattle.ledger_model.specs.Content.{Content, empty_content}
 use Rattle.script_lines.specs.LineMeaning.{asks_board, line_meaning}
@@ -29,6 +29,11 @@ pub record SpeaksOf (name line : List ℕ) (command : Command) : Type 0 where
 abbrev pub after : List ℕ → Script
 after bytes = script_after start (lines_of longest_line bytes)
 
+-- A script, in whole lines, that leaves these sites and stations, in the contents of these cells.
+pub record Leaves (script : List ℕ) (sites : List SitePlan) (stations : List StationPlan) (cells : List Cell) : Type 0 where
+  pub whole : EndsWhole script
+  pub shows : Shows (after script) sites stations cells
+
 -- The texts of the first so many sites, one behind the other.
 abbrev pub joined : (ℕ → List ℕ) → ℕ → List ℕ
 joined texts zero = []
@@ -46,52 +51,55 @@ pub record Declares (sites read : List SitePlan) (cells : List Cell) : Type 0 wh
   pub periods : map (λ s. s.period) read ≡ map (λ s. s.period) sites
   pub unchanged : All (λ c. c.content ≡ empty_content) cells
 
--- What a server wrote behind the front of its script, which leaves these sites and stations in the contents of the cells `firsts`, and the boards that it showed last. There is one list of lines: the writer, which held `before`, took their text, and where a write failed a front of one line more; each line speaks for its command on its station; behind the front, each station's content is what just its own lines leave; and the boards are what `replay` answers after the front and the lines.
-pub record IsItsScript (front : List ℕ) (sites : List SitePlan) (stations : List StationPlan) (firsts : List Cell) (before now : Option (List ℕ)) (broken : Bool) (boards : List ℕ) : Type 0 where
+-- Each station's content is what the commands of its own lines, each accepted under the station's limits and counted, leave of what it was first.
+pub record AreLeftFrom (stations : List StationPlan) (firsts cells : List Cell) (log : List (Entry Command)) : Type 0 where
+  pub count_first : length firsts ≡ length stations
+  pub count : length cells ≡ length stations
+  pub left : (k : ℕ) (s : StationPlan) (f c : Cell) → slice_get stations k ≡ Some s → slice_get firsts k ≡ Some f → slice_get cells k ≡ Some c → IsLeftFrom s.limits f.content c.content (commands_of (of_station k log))
+
+-- What a server wrote behind the front of its script, which leaves these sites and stations in the contents of the cells `firsts`, and the boards that it gave last. There is one list of lines: the writer, which held `before`, took their text, and where a write failed a front of one line more; each line speaks for its command on its station; behind the front, each station's content is what just its own lines leave; and the boards are what `replay` answers after the front and the lines.
+pub record IsItsScript (front : List ℕ) (sites : List SitePlan) (stations : List StationPlan) (firsts : List Cell) (before now : Option (List ℕ)) (buffer : List ℕ) (broken : Bool) (boards : List ℕ) : Type 0 where
   pub log : List (Entry Command)
-  pub written : IsWritten broken before now log
+  pub written : IsWritten broken before now buffer log
   pub cells : List Cell
   pub opened : Shows (after front) sites stations firsts
   pub spoken : All (IsSpoken stations) log
-  pub left : AreLeft stations firsts cells log
+  pub left : AreLeftFrom stations firsts cells log
   pub ended : Shows (after (front ++ text_of log)) sites stations cells
   pub shown : AreAnswers (after (front ++ text_of log)) sites boards
 
 -- A server that began anew with this plan: its script is what it wrote, a head that declares the plan's sites and stations, without a change, and its lines.
-pub record IsNewRun (sites : List SitePlan) (stations : List StationPlan) (before now told : Option (List ℕ)) (broken : Bool) : Type 0 where
+pub record IsNewRun (sites : List SitePlan) (stations : List StationPlan) (before now : Option (List ℕ)) (buffer : List ℕ) (broken : Bool) (boards : List ℕ) : Type 0 where
   pub head : List ℕ
   pub begun : Option (List ℕ)
   pub begins : Appends before begun head
-  pub boards : List ℕ
-  pub told_before : Option (List ℕ)
-  pub tells : Appends told_before told boards
   pub read : List SitePlan
   pub firsts : List Cell
   pub declares : Declares sites read firsts
-  pub script : IsItsScript head read stations firsts begun now broken boards
+  pub script : IsItsScript head read stations firsts begun now buffer broken boards
 
--- A server that was restored: its script is what it read before the line `listen`, followed by what it wrote, a head and its lines.
-pub record IsRestoredRun (input before now told : Option (List ℕ)) (broken : Bool) : Type 0 where
+-- A server that was restored: its script is what it read, in whole lines, before the first line `listen`, followed by what it wrote, a head and its lines.
+pub record IsRestoredRun (input before now : Option (List ℕ)) (buffer : List ℕ) (broken : Bool) (boards : List ℕ) : Type 0 where
   pub read : List ℕ
   pub last : List ℕ
   pub rest : Option (List ℕ)
   pub reads : Consumes input rest (read ++ last)
   pub listens : IsListen last
+  pub whole : EndsWhole read
+  pub marked : IsMarked read
+  pub no_listen : HasNoListen longest_line read
   pub head : List ℕ
   pub begun : Option (List ℕ)
   pub begins : Appends before begun head
-  pub boards : List ℕ
-  pub told_before : Option (List ℕ)
-  pub tells : Appends told_before told boards
   pub sites : List SitePlan
   pub stations : List StationPlan
   pub firsts : List Cell
-  pub script : IsItsScript (read ++ head) sites stations firsts begun now broken boards
+  pub script : IsItsScript (read ++ head) sites stations firsts begun now buffer broken boards
 
 -- What a desk with a journal was when it was closed, and its boards.
-pub record IsEnded (name : ℕ → List ℕ) (first : ℕ → Content) (before now : Option (List ℕ)) (broken : Bool) (sites : List SitePlan) (stations : List StationPlan) (boards : List ℕ) : Type 0 where
+pub record IsEnded (name : ℕ → List ℕ) (first : ℕ → Content) (before now : Option (List ℕ)) (buffer : List ℕ) (broken : Bool) (sites : List SitePlan) (stations : List StationPlan) (boards : List ℕ) : Type 0 where
   pub cells : List Cell
-  pub written : IsWrittenDown SpeaksOf name first before broken now cells
+  pub written : IsWrittenDown SpeaksOf name first before broken now buffer cells []
   pub count : length cells ≡ length stations
   pub limits : (k : ℕ) (s : StationPlan) (c : Cell) → slice_get stations k ≡ Some s → slice_get cells k ≡ Some c → c.limits ≡ s.limits
   pub is : boards ≡ boards_text sites stations cells (length sites)

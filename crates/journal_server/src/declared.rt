@@ -7,7 +7,10 @@ use std::alloc::{AllocError, Global};
 // How a run begins in a journal. Behind a line that a kill cut, it makes of that line and itself one that changes nothing.
 pub(crate) const RUN: &[u8] = b"# a run of ocpp_board begins\n";
 
-// How a journal begins: the comment of its run, and the declarations of the plan.
+// What ends the head of a journal, as it ends what is restored: a script that is restored has it before its line `listen`.
+const MARK: &[u8] = b"#\n";
+
+// How a journal begins: the comment of its run, the declarations of the plan, and the mark.
 pub(crate) fn journal_head(alloc: Global, plan: &Plan) -> Result<Vec<u8>, AllocError> {
     let mut head = Vec::new(alloc);
     head.extend_from_slice(RUN)?;
@@ -18,6 +21,7 @@ pub(crate) fn journal_head(alloc: Global, plan: &Plan) -> Result<Vec<u8>, AllocE
     for site in plan.sites.as_slice() {
         put_period(&mut head, site)?;
     }
+    head.extend_from_slice(MARK)?;
     Ok(head)
 }
 

@@ -1,12 +1,11 @@
 //! A server with a journal, from its desk to its boards.
-ghost use Rattle.std.specs.Prelude.{◌≡◌, ◌<◌, ℕ, List, Option, None, IfOk, length};
-ghost use Rattle.std.specs.Io.KnownBytes.{Appends};
-ghost use Rattle.journal_script.specs.Restoring.{IsRestored};
+ghost use Rattle.std.specs.Prelude.{◌≡◌, ◌<◌, ℕ, List, [], None, IfOk, length};
+ghost use Rattle.std.specs.Io.Buffered.{writer_buffer, writer_inner};
 ghost use Rattle.kept_desk.specs.Opened.{contents_of, names_of};
 ghost use Rattle.site_book.specs.Tables.{HasTable, NamedBy};
 ghost use Rattle.site_desk.specs.Plan.{plan_fault};
 ghost use Rattle.site_desk.specs.Roster.{AreCellsOf, AreNewPlaces};
-ghost use Rattle.journal_server.specs.Served.{IsEnded, IsItsScript};
+ghost use Rattle.journal_server.specs.Served.{IsEnded, IsItsScript, Leaves};
 
 use crate::fault::JournalFault;
 use crate::mail::{Mail, MailOrders, read_all};
@@ -21,7 +20,7 @@ use site_book::{Naming, Tables, Viewer};
 use site_desk::{Parts, Pass, Plan, StationCell};
 use site_server::ServiceFault;
 use std::alloc::{AllocError, Global};
-use std::io::{BufRead, Write};
+use std::io::{BufRead, BufWriter, Write};
 use std::marker::Brand;
 use std::net::{Net, TcpListener, TcpStream};
 use std::sync::{Arc, Mutex, Wait};
@@ -31,11 +30,13 @@ use std::time::Clock;
 
 /// What a server with a journal leaves.
 #[derive(Drop)]
-pub struct Served<W> {
+pub struct Served<W: Write + Drop> {
     /// The writer of the journal.
-    pub journal: W,
-    /// Whether a write to it failed.
+    pub journal: BufWriter<W>,
+    /// Whether a write or a flush of it failed.
     pub is_broken: bool,
+    /// The board of each site, in the plan's order.
+    pub boards: Vec<u8>,
     /// How the operator's lines ended.
     pub ended: Result<(), ServiceFault>,
 }
@@ -60,14 +61,16 @@ pub(crate) fn run_restored<
     restored: Restored,
     live: Live,
     input: I,
-    journal: W,
+    journal: BufWriter<W>,
     told: &mut T,
     lines: L,
 ) -> Result<Served<W>, JournalFault>
     requires faultless { plan_fault restored.draft.sites restored.draft.stations ≡ None }
     requires cells { AreCellsOf restored.draft.sites restored.draft.stations restored.cells.items }
-    ensures { IfOk result (λ s. (front : List ℕ) → IsRestored front restored.draft.sites restored.draft.stations restored.cells.items
-        → (told0 : Option (List ℕ)) × (boards : List ℕ) × Appends told0 (T.contents told.new) boards × IsItsScript front restored.draft.sites restored.draft.stations restored.cells.items (W.contents journal) (W.contents s.journal) s.is_broken boards) }
+    requires empty { writer_buffer journal ≡ [] }
+    ensures { IfOk result (λ s. (front : List ℕ) → Leaves front restored.draft.sites restored.draft.stations restored.cells.items
+        → IsItsScript front restored.draft.sites restored.draft.stations restored.cells.items
+        (W.contents (writer_inner journal)) (W.contents (writer_inner s.journal)) (writer_buffer s.journal) s.is_broken s.boards.items) }
 {
     let alloc = rt.alloc();
     let Restored {
@@ -135,20 +138,21 @@ fn run_over<
     passes: Vec<Pass>,
     live: Live,
     orders: &mut O,
-    journal: W,
+    journal: BufWriter<W>,
     told: &mut T,
     lines: L,
 ) -> Result<Served<W>, JournalFault>
     requires named { NamedBy J.table tables }
     requires there { (site : ℕ) → site < length plan.now.sites.items → HasTable tables site }
     requires table { blank ≡ K.table }
-    requires before { W.contents journal ≡ K.before }
+    requires before { W.contents (writer_inner journal) ≡ K.before }
+    requires empty { writer_buffer journal ≡ [] }
     requires first { K.first ≡ contents_of cells.items }
     requires names { K.name ≡ names_of plan.now.stations.items }
     requires faultless { plan_fault plan.now.sites.items plan.now.stations.items ≡ None }
     requires cells { AreCellsOf plan.now.sites.items plan.now.stations.items cells.items }
-    ensures { IfOk result (λ s. (told0 : Option (List ℕ)) × (boards : List ℕ) × Appends told0 (T.contents told.new) boards
-        × IsEnded (names_of plan.now.stations.items) (contents_of cells.items) (W.contents journal) (W.contents s.journal) s.is_broken plan.now.sites.items plan.now.stations.items boards) }
+    ensures { IfOk result (λ s. IsEnded (names_of plan.now.stations.items) (contents_of cells.items) (W.contents (writer_inner journal))
+        (W.contents (writer_inner s.journal)) (writer_buffer s.journal) s.is_broken plan.now.sites.items plan.now.stations.items s.boards.items) }
 {
     let (serving, viewers) = open_over::<J, K, W>(
         alloc,
@@ -160,9 +164,15 @@ fn run_over<
         journal,
     )?;
     let ran = serve_plan_at(
-        rt, alloc, plan, &serving, passes, viewers, live, orders, told, lines,
+        rt, alloc, plan, &serving, passes, viewers, live, orders, &mut *told, lines,
     )?;
-    end_run(alloc, plan, serving.kept, ran, told)
+    let Ran {
+        passes,
+        viewers,
+        ended,
+        output: _,
+    } = ran;
+    end_run(alloc, plan, serving.kept, passes, viewers, ended)
 }
 
 // The desk of a plan over cells that took commands before, with a journal that has no lines yet, and its viewers.
@@ -173,12 +183,13 @@ fn open_over<J: Naming, K: Ties + Opening, W: Write + Drop>(
     plan: &Plan,
     cells: Vec<StationCell>,
     glances: u16,
-    journal: W,
+    journal: BufWriter<W>,
 ) -> Result<(Serving<J, K, W>, Vec<Viewer<J>>), AllocError>
     requires named { NamedBy J.table tables }
     requires there { (site : ℕ) → site < length plan.now.sites.items → HasTable tables site }
     requires table { blank ≡ K.table }
-    requires before { W.contents journal ≡ K.before }
+    requires before { W.contents (writer_inner journal) ≡ K.before }
+    requires empty { writer_buffer journal ≡ [] }
     requires first { K.first ≡ contents_of cells.items }
     requires names { K.name ≡ names_of plan.now.stations.items }
     requires faultless { plan_fault plan.now.sites.items plan.now.stations.items ≡ None }
@@ -196,35 +207,33 @@ fn open_over<J: Naming, K: Ties + Opening, W: Write + Drop>(
     Ok((Serving { kept }, viewers))
 }
 
-// Closes a desk with a journal whose sessions have ended, and writes the board of each site, in the plan's order.
-fn end_run<J: Naming, K: Ties + Opening, W: Write + Drop, T: Write>(
+// Closes a desk with a journal whose sessions have ended, and makes the board of each site, in the plan's order.
+fn end_run<J: Naming, K: Ties + Opening, W: Write + Drop>(
     alloc: Global,
     plan: &Plan,
     kept: KeptDesk<J, K, ScriptSpeech, W>,
-    ran: Ran<J>,
-    told: &mut T,
+    passes: Vec<Pass>,
+    viewers: Vec<Viewer<J>>,
+    ended: Result<(), ServiceFault>,
 ) -> Result<Served<W>, JournalFault>
     requires opened { AreNewPlaces plan.now.sites.items plan.now.stations.items kept.stations }
     requires sites { kept.sites ≡ length plan.now.sites.items }
     requires faultless { plan_fault plan.now.sites.items plan.now.stations.items ≡ None }
-    ensures { IfOk result (λ s. (boards : List ℕ) × Appends (T.contents told.old) (T.contents told.new) boards
-        × IsEnded K.name K.first K.before (W.contents s.journal) s.is_broken plan.now.sites.items plan.now.stations.items boards) }
+    ensures { IfOk result (λ s. IsEnded K.name K.first K.before (W.contents (writer_inner s.journal)) (writer_buffer s.journal)
+        s.is_broken plan.now.sites.items plan.now.stations.items s.boards.items) }
 {
-    let Ran {
-        passes,
-        viewers,
-        ended,
-    } = ran;
-    let closed = match kept.close(passes, viewers) {
+    let mut boards = Vec::new(alloc);
+    let closed = match kept.close(passes, viewers, Vec::new(alloc)) {
         Ok(closed) => closed,
         Err(refused) => return Err(JournalFault::Service(ServiceFault::from(refused.fault))),
     };
-    if let Err(fault) = write_boards(alloc, plan, &closed.closed, told) {
-        return Err(JournalFault::Service(ServiceFault::from(fault)));
+    if let Err(_fault) = write_boards(alloc, plan, &closed.closed, &mut boards) {
+        return Err(JournalFault::Service(ServiceFault::OutOfMemory));
     }
     Ok(Served {
         journal: closed.writer,
         is_broken: closed.is_broken,
+        boards,
         ended,
     })
 }

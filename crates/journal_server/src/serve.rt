@@ -1,5 +1,6 @@
 //! Servers with a journal: one that begins anew, and one that is restored.
-ghost use Rattle.std.specs.Prelude.{◌≡◌, None, IfOk};
+ghost use Rattle.std.specs.Prelude.{◌≡◌, [], None, IfOk};
+ghost use Rattle.std.specs.Io.Buffered.{writer_buffer, writer_contents, writer_inner};
 ghost use Rattle.std.specs.Io.KnownBytes.{Appends};
 ghost use Rattle.journal_script.specs.Restoring.{IsRestored};
 ghost use Rattle.site_desk.specs.Plan.{plan_fault};
@@ -10,14 +11,13 @@ use crate::declared::{RUN, journal_head};
 use crate::fault::JournalFault;
 use crate::run::{Served, run_restored};
 use crate::same::is_declared;
-use desk_report::write_out;
 use itoa::Buffer;
 use journal_script::{Restored, restore};
 use live_server::Live;
 use site_desk::{Plan, StationCell};
 use site_server::ServiceFault;
 use std::io;
-use std::io::{BufRead, Write};
+use std::io::{BufRead, BufWriter, Write};
 use std::net::{Net, TcpListener, TcpStream};
 use std::sync::Wait;
 use std::thread::Threads;
@@ -27,9 +27,9 @@ use std::time::Clock;
 const LISTEN: &[u8] = b"listen\n";
 
 /// Serves a plan's stations as [`serve_live`](live_server::serve_live) does, and writes a journal: a comment, the plan's
-/// declarations, and the line of each accepted change before its answer. What a server without a journal writes to its
-/// output goes to `told`. Where the journal can't be written nothing more is accepted, and the server ends itself with
-/// `WriteFault` behind its boards.
+/// declarations, and the line of each accepted change, which the writer behind the buffer took before the change is
+/// answered. Where it listens and what an operator is answered goes to `told`; the boards come back as a value. Where the
+/// journal can't be written nothing more is accepted, and the server ends itself with `WriteFault`; its boards are there.
 ///
 /// A plan with a fault is told before anything is written.
 pub fn serve_journalled<
@@ -51,11 +51,12 @@ pub fn serve_journalled<
     plan: &Plan,
     live: Live,
     input: I,
-    journal: W,
+    journal: BufWriter<W>,
     told: &mut T,
     lines: L,
 ) -> Result<Served<W>, JournalFault>
-    ensures { IfOk result (λ s. IsNewRun plan.now.sites.items plan.now.stations.items (W.contents journal) (W.contents s.journal) (T.contents told.new) s.is_broken) }
+    ensures { IfOk result (λ s. IsNewRun plan.now.sites.items plan.now.stations.items (writer_contents W.contents journal)
+        (W.contents (writer_inner s.journal)) (writer_buffer s.journal) s.is_broken s.boards.items) }
 {
     if let Some(fault) = plan.fault() {
         return Err(JournalFault::Service(ServiceFault::from(fault)));
@@ -91,11 +92,12 @@ pub fn serve_restored<
     rt: &R,
     live: Live,
     mut input: I,
-    journal: W,
+    journal: BufWriter<W>,
     told: &mut T,
     lines: L,
 ) -> Result<Served<W>, JournalFault>
-    ensures { IfOk result (λ s. IsRestoredRun (I.remaining input) (W.contents journal) (W.contents s.journal) (T.contents told.new) s.is_broken) }
+    ensures { IfOk result (λ s. IsRestoredRun (I.remaining input) (writer_contents W.contents journal)
+        (W.contents (writer_inner s.journal)) (writer_buffer s.journal) s.is_broken s.boards.items) }
 {
     let restored = restore(rt, &mut input, told)?;
     tell_restored(told, restored.cells.as_slice());
@@ -103,13 +105,20 @@ pub fn serve_restored<
     run_restored(rt, restored, live, input, journal, told, lines)
 }
 
-// Writes how a run begins.
-fn begin<W: Write + Drop>(mut journal: W, head: &[u8]) -> Result<W, JournalFault>
-    ensures { IfOk result (λ w. Appends (W.contents journal) (W.contents w) head.now) }
+// Writes how a run begins, of which nothing is left in the buffer then.
+fn begin<W: Write + Drop>(
+    mut journal: BufWriter<W>,
+    head: &[u8],
+) -> Result<BufWriter<W>, JournalFault>
+    ensures begins { IfOk result (λ w. Appends (writer_contents W.contents journal) (W.contents (writer_inner w)) head.now) }
+    ensures handed_on { IfOk result (λ w. writer_buffer w ≡ []) }
 {
-    match write_out(&mut journal, head) {
+    if journal.write_all(head).is_err() {
+        return Err(JournalFault::Service(ServiceFault::WriteFault));
+    }
+    match journal.flush() {
         Ok(()) => Ok(journal),
-        Err(fault) => Err(JournalFault::Service(ServiceFault::from(fault))),
+        Err(_) => Err(JournalFault::Service(ServiceFault::WriteFault)),
     }
 }
 

@@ -14,14 +14,13 @@ use crate::speech::ScriptSpeech;
 use journal_script::{is_script_line, laws, message_line};
 use kept_desk::{KeptCell, KeptDesk, Opening, Ties};
 use ledger_model::{Answer, Command, Event, Key, Name, Refusal};
-use live_server::{PassFault, Serves, ShelfDesk};
+use live_server::Serves;
 use site_book::{Naming, Told};
 use site_desk::{Desk, Gate, NoGate, Pass};
 use station_link::Delivers;
 use std::alloc::{AllocError, Global};
 use std::io::Write;
 use std::sync::Wait;
-use std::thread::Threads;
 use std::time::Clock;
 
 // How many bytes of a message's line stand before its text at most: `msg`, two spaces and a name.
@@ -31,30 +30,6 @@ const LINE_START: usize = 53;
 #[derive(Drop)]
 pub(crate) struct Serving<J: Naming, K: Ties + Opening, W: Write + Drop> {
     pub(crate) kept: KeptDesk<J, K, ScriptSpeech, W>,
-}
-
-impl<J: Naming, K: Ties + Opening, W: Write + Drop> Serving<J, K, W> {
-    // Takes an operator's command with a pass of the station of this name, by the line that says it.
-    fn take<R: Wait + Clock>(
-        &self,
-        rt: &R,
-        pass: &mut Pass,
-        name: &Name,
-        what: Command,
-        line: Option<&[u8]>,
-    ) -> (Answer, Option<Told<J>>)
-        requires named { IsNamed self.now.kept.stations name.now pass.old.station }
-        requires line { line_meaning (line_bytes line) ≡ commands name.now what }
-        ensures { (at : StationPlace) → slice_get self.now.kept.stations pass.old.station ≡ Some at → Submitted at pass.old what result.0 pass.new result.1 }
-    {
-        let Some(bytes) = line else {
-            return exhausted();
-        };
-        if name.text().is_empty() || !is_script_line(bytes) {
-            return exhausted();
-        }
-        self.kept.submit(rt, pass, what, bytes, &NoGate)
-    }
 }
 
 // The answer that nothing more is accepted.
@@ -90,7 +65,8 @@ impl<J: Naming, K: Ties + Opening, W: Write + Drop> Delivers<J> for Serving<J, K
             return Ok(exhausted());
         }
         let command = Command::Deliver(key, event);
-        Ok(self.kept.submit(rt, pass, command, line.as_slice(), gate))
+        let (answer, told, _receipt) = self.kept.submit(rt, pass, command, line.as_slice(), gate);
+        Ok((answer, told))
     }
 }
 
@@ -101,18 +77,22 @@ impl<J: Naming, K: Ties + Opening, W: Write + Drop> Serves<J, KeptCell<K>> for S
         self.kept.desk()
     }
 
-    fn command<R: Threads + Wait + Clock>(
+    fn command<R: Wait + Clock>(
         &self,
         rt: &R,
-        shelf: &ShelfDesk<'_, J, KeptCell<K>>,
+        pass: &mut Pass,
         name: &Name,
         what: Command,
         line: Option<&[u8]>,
-    ) -> Result<Answer, PassFault> {
-        let mut pass = shelf.pass_of(rt, name)?;
-        let (answer, _told) = self.take(rt, &mut pass, name, what, line);
-        shelf.lay(rt, pass);
-        Ok(answer)
+    ) -> (Answer, Option<Told<J>>) {
+        let Some(bytes) = line else {
+            return exhausted();
+        };
+        if name.text().is_empty() || !is_script_line(bytes) {
+            return exhausted();
+        }
+        let (answer, told, _receipt) = self.kept.submit(rt, pass, what, bytes, &NoGate);
+        (answer, told)
     }
 
     fn is_broken(&self) -> bool {

@@ -10,5 +10,5 @@ pub returns : goal.returns
 returns g c =
     value_told c.run_over.result _ _
     (λ s h front restored.
-    (h.0, h.1, h.2, script_of_plan front c.args.restored.draft.sites c.plan-2.result.now.sites.items c.args.restored.draft.stations c.plan-2.result.now.stations.items c.args.restored.cells.items _ _ _ h.1 c.plan-2.ensures.sites c.plan-2.ensures.stations c.requires.faultless c.requires.cells restored h.3))
+    script_of_plan front c.args.restored.draft.sites c.plan-2.result.now.sites.items c.args.restored.draft.stations c.plan-2.result.now.stations.items c.args.restored.cells.items _ _ _ _ _ c.plan-2.ensures.sites c.plan-2.ensures.stations c.requires.faultless c.requires.cells restored h)
     c.run_over.ensures

@@ -8,7 +8,7 @@ ghosts-run_over-J-Naming g a = record { table = tables.names_of a.tables }
 
 -- the table that was just made, and what the writer holds
 abbrev pub ghosts-run_over-K-Ties : goal.ghosts-run_over-K-Ties
-ghosts-run_over-K-Ties g a = record { table = a.blank; before = g.W.Write.contents a.journal }
+ghosts-run_over-K-Ties g a = record { table = a.blank; before = g.W.Write.contents a.journal.inner }
 
 -- what the cells hold, and the names of the plan's stations
 abbrev pub ghosts-run_over-K-Opening : goal.ghosts-run_over-K-Opening

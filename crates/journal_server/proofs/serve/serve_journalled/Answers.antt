@@ -1,4 +1,5 @@
 use Rattle.std.proofs.Common.{◌≡◌, true, sym, subst, ◌∙◌, rules}
+use Rattle.std.specs.Io.Buffered.{writer_contents}
 use Rattle.std.specs.Io.KnownBytes.{Appends}
 use Rattle.desk_report.proofs.ClosedSites.{value_told}
 use Rattle.journal_server.specs.Served.{Declares, IsItsScript}
@@ -6,7 +7,7 @@ use Rattle.journal_server.proofs.serve.serve_journalled.Goals as goal
 
 pub returns : goal.returns
 returns g c =
-    let begun = g.W.Write.contents c.in_ok-journal.journal in
+    let begun = g.W.Write.contents c.in_ok-journal.journal.inner in
     let sites = c.in_ok-restored.restored.draft.sites in
     let firsts = c.in_ok-restored.restored.cells.items in
     let same : c.as_slice-3.result.now ≡ c.as_slice.result.now = c.as_slice-3.ensures.value ∙ sym c.as_slice.ensures.value in
@@ -15,18 +16,16 @@ returns g c =
     (subst (Declares c.args.plan.now.sites.items c.plan.result.now.sites.items) c.as_slice-2.ensures.value (c.is_declared.ensures.sites told)) in
     value_told c.run_restored.result _ _
     (λ s h.
-    let ran = h c.as_slice.result.now c.in_ok-restored.ensures.restored in
+    let own = c.in_ok-restored.ensures.restored in
+    let ran = h c.as_slice.result.now (record { whole = own.whole; shows = own.shows }) in
     record {
       head = c.as_slice.result.now;
       begun = begun;
-      begins = subst (Appends (g.W.Write.contents c.args.journal) begun) same c.in_ok-journal.ensures;
-      boards = ran.1;
-      told_before = ran.0;
-      tells = ran.2;
+      begins = subst (Appends (writer_contents g.W.Write.contents c.args.journal) begun) same c.in_ok-journal.ensures.begins;
       read = sites;
       firsts = firsts;
       declares = declares;
-      script = subst (λ x. IsItsScript c.as_slice.result.now sites x firsts begun (g.W.Write.contents s.journal) s.is_broken ran.1)
-          (sym c.plan.ensures.stations ∙ c.is_declared.ensures.stations told) ran.3;
+      script = subst (λ x. IsItsScript c.as_slice.result.now sites x firsts begun (g.W.Write.contents s.journal.inner) s.journal.buf.items s.is_broken s.boards.items)
+          (sym c.plan.ensures.stations ∙ c.is_declared.ensures.stations told) ran;
     })
     c.run_restored.ensures
