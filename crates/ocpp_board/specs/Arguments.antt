@@ -1,5 +1,5 @@
 -- What the program can be asked to do, and what its words ask for.
-use Rattle.std.specs.Prelude.{◌≡◌, ℕ, ◌<◌, ◌≤◌, ◌^◌, ⊤, Bool, true, false, List, [], Option, None, Some, codes, nat_lt, if◌then◌else◌, option_map, unwrap_or}
+use Rattle.std.specs.Prelude.{◌≡◌, ◌≢◌, ℕ, ◌<◌, ◌≤◌, ◌^◌, ⊤, Bool, true, false, List, [], Option, None, Some, codes, nat_lt, if◌then◌else◌, option_map, unwrap_or}
 use Rattle.core.specs.Str.Parse.{IsNumeral, digits_value, without_leading_plus}
 use Rattle.clap.specs.Matches.{matched_of, one_text, raw_values}
 use Rattle.clap.specs.declared.parser.matches.Found.{Found}
@@ -105,3 +105,9 @@ AsksSimulate found (ServeLive plan live) = ⊥
 AsksSimulate found (ServeJournalled plan live) = ⊥
 AsksSimulate found (ServeRestored live journalled) = ⊥
 AsksSimulate found (Simulate stations events) = GivesWithin found (codes "stations") 16 2 1 64 stations × GivesWithin found (codes "events") 32 3 2 64 events
+
+-- The command of this name is asked for: `serve` and `sim` by their options, and else a replay.
+pub record IsAskedBy (name : Option (List ℕ)) (asked : Asked) : Type 0 where
+  pub serves : name ≡ Some (codes "serve") → (found : Found) × AsksServe found asked
+  pub simulates : name ≡ Some (codes "sim") → (found : Found) × AsksSimulate found asked
+  pub replays : name ≢ Some (codes "serve") → name ≢ Some (codes "sim") → asked ≡ Replay

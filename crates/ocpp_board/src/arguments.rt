@@ -1,9 +1,10 @@
 //! The program's commands and options.
 ghost use Rattle.std.specs.Prelude.{IfOk};
-ghost use Rattle.ocpp_board.specs.Arguments.{IsAskable};
+ghost use Rattle.clap.specs.Matches.{subcommand_name_of};
+ghost use Rattle.ocpp_board.specs.Arguments.{IsAskable, IsAskedBy};
 
 use crate::asked::{Asked, MAX_SIMULATED_STATIONS, serve_asked, sim_asked};
-use clap::{Arg, ArgAction, Command, Error, value_parser};
+use clap::{Arg, ArgAction, ArgMatches, Command, Error, value_parser};
 use site_server::{MAX_CONNECTIONS, MAX_SIMULATED_EVENTS};
 use std::alloc::{AllocError, Global};
 use std::convert::AsStr;
@@ -64,14 +65,15 @@ declarations and `now`; it ends when its input ends or says `close`, and writes 
 
 With --journal standard output is a script of the declarations and of each accepted change, which
 is out before its answer; all else goes to standard error. With --restore standard input begins
-with such a script, up to a line `listen`: `left out <line> <answer>` tells a line that changed
-nothing, and `restored <n>` how many changes the stations hold.
+with such a script, up to a line `listen`; the line before that has to end with `#`, which spoils
+what a kill may have left of a line. `left out <line> <answer>` tells a line that changed nothing,
+and `restored <n>` how many changes the stations hold.
   ocpp_board serve --live --journal --port 9000 north/CS-01 north/CS-02 >> journal < orders
   { cat journal; printf '#\nlisten\n'; tail -n 0 -f orders; } |
     ocpp_board serve --live --journal --restore --port 9000 >> journal
 
 Exit status: 0; 1 with `fault <name>` (ListenFailed, ReadFault, WriteFault, OutOfMemory,
-Torn, NotRestored, TooMuchInput); 2 for a fault of the arguments, or with `fault BadStation`, `fault PlanLimit` or `fault StationTwice`.
+Torn, NotRestored, NotMarked, TooMuchInput); 2 for a fault of the arguments, or with `fault BadStation`, `fault PlanLimit` or `fault StationTwice`.
 A second line tells the cause: the word, the station, or the system's words for the port.";
 
 const SIM_EXAMPLE: &str = "\
@@ -90,11 +92,19 @@ pub fn read_arguments<'a, S: AsStr>(alloc: Global, words: &'a [S]) -> Result<Ask
     ensures { IfOk result IsAskable }
 {
     let matches = program(alloc)?.try_get_matches_from(words)?;
-    Ok(match matches.subcommand() {
+    Ok(asked_of(&matches))
+}
+
+/// What the matches of the program's words ask for, by the command that they name; without one, to replay.
+pub fn asked_of<'a>(matches: &ArgMatches<'a>) -> Asked<'a>
+    ensures range { IsAskable result }
+    ensures command { IsAskedBy (subcommand_name_of matches.now) result }
+{
+    match matches.subcommand() {
         Some(("serve", matches)) => serve_asked(matches),
         Some(("sim", matches)) => sim_asked(matches),
         _ => Asked::Replay,
-    })
+    }
 }
 
 // The program and its commands.

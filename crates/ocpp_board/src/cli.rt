@@ -6,6 +6,7 @@ use crate::asked::Asked;
 use crate::station_words::WordFault;
 use clap::Error;
 use clap::error::ErrorKind;
+use desk_report::write_out;
 use journal_server::{JournalFault, Served, serve_journalled, serve_restored};
 use ledger_model::{MAX_SITES, MAX_STATIONS};
 use live_server::{Live, serve_live};
@@ -75,15 +76,9 @@ fn run_asked<
     match asked {
         Asked::Replay => tell_replay(errors, replay_buffered(rt, &mut reader, &mut writer)),
         Asked::Serve(plan, service) => serve(rt, plan, service, &mut writer, errors, lines),
-        Asked::ServeLive(plan, live) => live_on(
-            rt,
-            plan,
-            live,
-            &mut reader,
-            &mut writer,
-            errors,
-            lines,
-        ),
+        Asked::ServeLive(plan, live) => {
+            live_on(rt, plan, live, &mut reader, writer, errors, lines)
+        }
         Asked::ServeJournalled(plan, live) => {
             journalled_on(rt, plan, live, reader, writer, errors, lines)
         }
@@ -136,7 +131,7 @@ fn live_on<
         + Sync
         + Net<Listener = TcpListener, Stream = TcpStream>,
     R: BufRead,
-    W: Write,
+    W: Write + Drop,
     E: Write,
     L: Write + Send + Drop,
 >(
@@ -144,14 +139,14 @@ fn live_on<
     plan: Result<Plan, WordFault<'_>>,
     live: Live,
     reader: &mut R,
-    writer: &mut W,
+    writer: W,
     errors: &mut E,
     lines: L,
 ) -> u8 {
     match plan {
         Ok(plan) => {
             let ended = serve_live(rt, rt.alloc(), &plan, live, reader, writer, lines);
-            tell_server(errors, &plan, live.port, ended)
+            tell_server(errors, &plan, live.port, ended.map(|_writer| ()))
         }
         Err(fault) => tell_word(errors, fault),
     }
@@ -184,7 +179,8 @@ fn journalled_on<
     match plan {
         Ok(plan) => {
             let served = serve_journalled(rt, &plan, live, reader, journal, errors, lines);
-            tell_journalled(errors, &plan, live.port, without_rest(served))
+            let ended = end_journalled(served, errors);
+            tell_journalled(errors, &plan, live.port, ended)
         }
         Err(fault) => tell_word(errors, fault),
     }
@@ -217,39 +213,45 @@ fn restored_on<
     let plan = Plan::new();
     if is_journalled {
         let served = serve_restored(rt, live, reader, writer, errors, lines);
-        return tell_journalled(errors, &plan, live.port, without_rest(served));
+        let ended = end_journalled(served, errors);
+        return tell_journalled(errors, &plan, live.port, ended);
     }
-    let served = serve_restored(rt, live, reader, io::sink(), &mut writer, lines);
-    tell_journalled(errors, &plan, live.port, served)
+    let Ok(nowhere) = BufWriter::with_capacity(rt.alloc(), 0, io::sink()) else {
+        return tell_fault(errors, ServiceFault::OutOfMemory, STOPPED);
+    };
+    let served = serve_restored(rt, live, reader, nowhere, &mut writer, lines);
+    let ended = end_journalled(served, &mut writer);
+    tell_journalled(errors, &plan, live.port, ended)
 }
 
-// What a server leaves, without what the writer of its journal kept back: where a line could not be written its change was
-// refused, so it is not written later.
-fn without_rest<W: Write + Drop>(
-    served: Result<Served<BufWriter<W>>, JournalFault>,
-) -> Result<Served<W>, JournalFault> {
+// Writes the boards that a server with a journal leaves, and tells how its operator's lines ended. What the writer of
+// the journal kept back is dropped: where a line could not be written its change was refused, so it is not written later.
+fn end_journalled<W: Write + Drop, T: Write>(
+    served: Result<Served<W>, JournalFault>,
+    told: &mut T,
+) -> Result<Result<(), ServiceFault>, JournalFault> {
     let Served {
         journal,
-        is_broken,
+        is_broken: _,
+        boards,
         ended,
     } = served?;
-    let (journal, _rest) = journal.into_parts();
-    Ok(Served {
-        journal,
-        is_broken,
-        ended,
-    })
+    let (_journal, _rest) = journal.into_parts();
+    match write_out(told, boards.as_slice()) {
+        Ok(()) => Ok(ended),
+        Err(fault) => Err(JournalFault::Service(ServiceFault::from(fault))),
+    }
 }
 
 // The exit status of a server with a journal; its fault is told, with its cause.
-fn tell_journalled<E: Write, W: Drop>(
+fn tell_journalled<E: Write>(
     errors: &mut E,
     plan: &Plan,
     port: u16,
-    served: Result<Served<W>, JournalFault>,
+    ended: Result<Result<(), ServiceFault>, JournalFault>,
 ) -> u8 {
-    match served {
-        Ok(served) => tell_server(errors, plan, port, served.ended),
+    match ended {
+        Ok(ended) => tell_server(errors, plan, port, ended),
         Err(JournalFault::Service(fault)) => tell_server(errors, plan, port, Err(fault)),
         Err(JournalFault::Restore(fault)) => tell_fault(errors, fault, STOPPED),
     }

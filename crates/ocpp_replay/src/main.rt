@@ -1,9 +1,13 @@
 //! `ocpp_replay`, the program that replays and does nothing else.
 //!
 //! It answers a script from standard input on standard output, by `script_replay`, as `ocpp_board replay` does, with
-//! the same faults and exit statuses. It has no words, opens no socket, and stands on neither the servers nor `clap`.
+//! the same faults and exit statuses. Its words are `replay`, which may be left out, `--help` and `--version`. It opens
+//! no socket, and stands on neither the servers nor `clap`.
 #![tactic(auto)]
 
+mod words;
+
+use crate::words::{Asked, HELP, VERSION, read_words};
 use script_replay::{ReplayFault, buffered, replay_buffered};
 use std::io::{BufRead, BufWriter, Write};
 use std::process::ExitCode;
@@ -14,38 +18,52 @@ use std::{env, io};
 // The exit status where a replay stopped before its end.
 const STOPPED: u8 = 1;
 
-// The exit status for words, of which there are none.
+// The exit status for words that ask for nothing.
 const MISTAKEN: u8 = 2;
 
 fn main(rt: HostRuntime) -> ExitCode {
-    let ended = match has_words(&rt) {
-        Ok(true) => return refuse_words(&mut rt.stderr()),
-        Ok(false) => match buffered(&rt, rt.stdin(), rt.stdout()) {
+    let ended = match program_asked(&rt) {
+        Ok(Asked::Replay) => match buffered(&rt, rt.stdin(), rt.stdout()) {
             Ok((reader, writer)) => replay(&rt, reader, writer),
             Err(_) => Err(ReplayFault::OutOfMemory),
         },
+        Ok(Asked::Help) => tell(&mut rt.stdout(), HELP),
+        Ok(Asked::Version) => tell(&mut rt.stdout(), VERSION),
+        Ok(Asked::Unknown) => return refuse_words(&mut rt.stderr()),
         Err(_) => Err(ReplayFault::OutOfMemory),
     };
     exit_of(&mut rt.stderr(), ended)
 }
 
-// Whether there are words behind the program's name; the only error is want of memory.
-fn has_words<X: AllocGlobal + Env>(rt: &X) -> io::Result<bool> {
-    match env::args(rt) {
-        Ok(words) => Ok(words.len() > 1),
+// What the program's words ask for; the only error is want of memory.
+fn program_asked<X: AllocGlobal + Env>(rt: &X) -> io::Result<Asked> {
+    match program_words(rt) {
+        Ok(words) => Ok(read_words(words.as_slice())),
         // One that is no UTF-8.
-        Err(error) if error.kind() == io::ErrorKind::InvalidData => Ok(true),
+        Err(error) if error.kind() == io::ErrorKind::InvalidData => Ok(Asked::Unknown),
         Err(error) => Err(error),
     }
 }
 
-// Tells that the program has no words.
+fn program_words<X: AllocGlobal + Env>(rt: &X) -> io::Result<Vec<String>> {
+    Ok(env::args(rt)?.collect(rt.alloc())?)
+}
+
+// Tells which words there are.
 fn refuse_words<E: Write>(errors: &mut E) -> ExitCode {
     let _ = writeln!(
         errors,
-        "ocpp_replay has no words: it answers the script that it reads from standard input"
+        "ocpp_replay takes the words replay, --help and --version; it answers the script that it reads from standard input"
     );
     ExitCode::from(MISTAKEN)
+}
+
+// Writes a text of the program's own.
+fn tell<W: Write>(writer: &mut W, text: &str) -> Result<(), ReplayFault> {
+    match writeln!(writer, "{text}") {
+        Ok(()) => Ok(()),
+        Err(_) => Err(ReplayFault::WriteFault),
+    }
 }
 
 // Replays the script that the reader has.
@@ -57,7 +75,7 @@ fn replay<X: AllocGlobal + Threads, R: BufRead + Drop, W: Write + Drop>(
     replay_buffered(rt, &mut reader, &mut writer)
 }
 
-// The exit status of a replay; its fault is told.
+// The exit status of what was asked for; its fault is told.
 fn exit_of<E: Write>(errors: &mut E, ended: Result<(), ReplayFault>) -> ExitCode {
     match ended {
         Ok(()) => ExitCode::SUCCESS,
