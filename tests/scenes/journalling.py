@@ -41,12 +41,12 @@ from tests.scenes.drawn import drawn_messages
 from tests.scenes.playing import play
 from tests.scenes.servers import NONE, STATIONS, TWO, Live, board, boards, dismissed
 
-# How a run begins in a journal, and what declares the stations.
+# How a run begins in a journal, and what declares the stations, up to the mark that ends a new journal's head.
 RUN = b"# a run of ocpp_board begins\n"
 LIMITS = b"limits 1024 16384 16384 9223372036854775808\n"
 DECLARED = (
     LIMITS + b"station north A\n" + LIMITS + b"station north B\n" + LIMITS + b"station south C\n"
-    b"period north 900\nperiod south 900\n"
+    b"period north 900\nperiod south 900\n#\n"
 )
 # What goes behind a journal that is restored.
 LISTEN = b"#\nlisten\n"
