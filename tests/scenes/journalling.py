@@ -631,12 +631,21 @@ def kill_and_restore(program: str) -> None:
         for turn in range(rounds):
             if turn:
                 held = dict.fromkeys(names, 0)
-                for line in journal.read_bytes().splitlines():
-                    if match := re.fullmatch(rb"msg ([A-C]) (.*\]\}\]\}\])", line):
+                kept = journal.read_bytes().split(b"\n")
+                left_out = ""
+                for number, line in enumerate(kept, 1):
+                    match = re.fullmatch(rb"msg ([A-C]) (.*\]\}\]\}\])", line)
+                    if match and number < len(kept):
                         held[match[1].decode()] += 1
+                    elif line.startswith(b"m"):
+                        # A kill cut this line in two.
+                        fault = (
+                            NOT_JSON.decode() if re.match(b"msg [A-C] ", line) else "fault BadLine"
+                        )
+                        left_out += f"left out {number} {fault}\n"
                 if any(held[name] - answered_of[name] not in (0, 1) for name in names):
                     raise Differs(f"the journal has {held} events, and {answered_of} are answered")
-                server = restored(program, journal, f"restored {sum(held.values())}\n")
+                server = restored(program, journal, f"{left_out}restored {sum(held.values())}\n")
             else:
                 server = begun(program, journal)
             with server:
