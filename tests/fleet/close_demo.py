@@ -10,121 +10,20 @@ the archives together have to be the boards of a replay from scratch, and what i
 the closed day. The status is 1 where something is not as it must be.
 """
 
-import argparse
 import asyncio
 import subprocess
 import sys
 import time
-from datetime import date, datetime, timedelta, timezone
-from pathlib import Path
-from typing import Any
-from zoneinfo import ZoneInfo
+from datetime import date, datetime, timedelta
 
 import asyncpg
 
-from tests.fleet.fleet import ended
-from tests.fleet.trials import Trial, event, parsed, parser_of, tried
-
-ZONE = ZoneInfo("Europe/Berlin")
-WAITING = "select count(*) from own_log l join own_shard s using (shard) where (l.xid, l.id) > (s.xid, s.id)"
+from tests.fleet.closings import ZONE, ClosingTrial, line, local, session
+from tests.fleet.trials import parsed, parser_of, tried
 
 
-def local(text: str) -> datetime:
-    """A time of the site's zone, such as 2026-03-01 08:00."""
-    return datetime.fromisoformat(text).replace(tzinfo=ZONE)
-
-
-def line(station: str, name: str, number: int, kind: str, at: datetime, value: int) -> str:
-    """The line of an event with one reading, in Wh."""
-    moment = f"{at.astimezone(timezone.utc):%Y-%m-%dT%H:%M:%SZ}"
-    return f"msg {station} {event(name, number, kind, moment, value)}"
-
-
-def session(
-    station: str, name: str, at: datetime, count: int, step: timedelta = timedelta(minutes=15)
-) -> list[str]:
-    """A whole transaction, with so many events."""
-    kinds = ["Started"] + ["Updated"] * (count - 2) + ["Ended"]
-    begin = at.astimezone(timezone.utc)
-    return [
-        line(station, name, number, kind, begin + number * step, 1000 + 250 * number)
-        for number, kind in enumerate(kinds)
-    ]
-
-
-class Demo(Trial):
-    def __init__(self, words: argparse.Namespace) -> None:
-        super().__init__(words)
-        self.archives = self.fleet.folder / "archives"
-        self.worker: Any = None
-        # All that came, of each shard.
-        self.lines: dict[int, list[str]] = {}
-        self.homes: dict[str, int] = {}
-
-    async def open(self) -> None:
-        self.archives.mkdir()
-        await self.one_cell()
-        for shard, site, station in (
-            (0, "north", "A"),
-            (0, "north", "B"),
-            (0, "south", "C"),
-            (1, "north", "D"),
-        ):
-            await self.owner.execute("select add_station($1, $2, $3)", shard, site, station)
-            self.homes[station] = shard
-        await self.owner.execute("update own_site set zone = 'Europe/Berlin' where site = 'north'")
-        self.worker = self.fleet.worker("--boards", 0.2)
-
-    async def came(self, *lines: str) -> None:
-        """Appends lines, and waits until they are answered."""
-        for line in lines:
-            shard = self.homes[line.split(" ", 2)[1]]
-            self.lines.setdefault(shard, []).append(line)
-            await self.owner.execute(
-                "insert into own_log (shard, line) values ($1, $2)", shard, line
-            )
-        await self.owner.execute("select pg_notify('wake', '0 1')")
-        end = time.monotonic() + 20
-        while await self.owner.fetchval(WAITING) and time.monotonic() < end:
-            await asyncio.sleep(0.02)
-
-    def command(self, day: str, site: str = "north", archive: Path | None = None) -> list[str]:
-        """The command that closes a day."""
-        return self.fleet.closing(site, archive or self.archives, day)
-
-    async def close_day(self, day: str, **more: Any) -> tuple[int, str]:
-        return await ended(
-            self.fleet.start(*self.command(day, **more), stdout=-1, stderr=subprocess.STDOUT)
-        )
-
-    async def same(self, text: str, day: str) -> None:
-        """Whether boards and archives together are the whole, and what is settled its periods up to the day."""
-        end, differ = time.monotonic() + 10, ["not compared"]
-        while differ and time.monotonic() < end:
-            differ = []
-            for shard in sorted(set(self.homes.values())):
-                lines = [
-                    line for line in self.lines.get(shard, []) if not line.startswith("msg C ")
-                ]
-                differ += await self.fleet.compare_closed(
-                    self.owner, self.archives, shard, "north", lines, day
-                )
-            if differ:
-                await asyncio.sleep(0.1)
-        self.check(
-            not differ,
-            f"{text}: boards with archives, and what is settled, are as a replay says {differ or ''}",
-        )
-
-    async def closed(self, text: str, day: str, *wanted: str) -> None:
-        """Closes the day, which has to tell what is wanted, and compares."""
-        status, said = await self.close_day(day)
-        missing = [part for part in wanted if part not in said]
-        self.check(
-            status == 0 and not missing,
-            f"{text}: {said}" + (f", and not {missing}" if missing else ""),
-        )
-        await self.same(text, day)
+class Demo(ClosingTrial):
+    STATIONS = ((0, "north", "A"), (0, "north", "B"), (0, "south", "C"), (1, "north", "D"))
 
     # What is tried ----------------------------------------------------------------------------------------------------
 

@@ -19,8 +19,8 @@ from zoneinfo import ZoneInfo
 from ocpp_board.boards import TOTAL
 from ocpp_board.energies import FLOW, Flow, flow_of
 from ocpp_board.fleet.figures import Figures, added, figures, periods
-from ocpp_board.fleet.close_day import COMMANDS, transaction_of
 from ocpp_board.fleet.database import Fault, connect
+from ocpp_board.fleet.lines import COMMANDS, transaction_of
 from ocpp_board.fleet.plans import Plan, knows_period
 
 TOP = Path(__file__).resolve().parent.parent.parent

@@ -8,12 +8,13 @@ pytest.importorskip("asyncpg")
 pytest.importorskip("websockets")
 
 from ocpp_board.energies import Flow  # noqa: E402
-from ocpp_board.fleet.close_day import differences, is_before, transaction_of  # noqa: E402
+from ocpp_board.fleet.close_day import differences  # noqa: E402
 from ocpp_board.fleet.compact import is_repeat  # noqa: E402
 from ocpp_board.fleet.database import Fault, places, said, wakes  # noqa: E402
 from ocpp_board.fleet.events import citrine_event, event_of, maeve_event  # noqa: E402
 from ocpp_board.fleet.figures import added, figures, joined, new_rows, periods  # noqa: E402
 from ocpp_board.fleet.gateway import empty_answer  # noqa: E402
+from ocpp_board.fleet.lines import Unreadable, is_before, transaction_of  # noqa: E402
 from ocpp_board.fleet.page import fields_of  # noqa: E402
 from ocpp_board.fleet.page_texts import Words, Wrong  # noqa: E402
 from ocpp_board.fleet.plans import Plan  # noqa: E402
@@ -142,9 +143,29 @@ def test_a_line_lies_before_a_day_with_all_its_moments() -> None:
     day = datetime(2026, 3, 2, tzinfo=timezone.utc)
     assert is_before("msg A " + EVENT % "2026-03-01T23:59:59Z", day)
     assert not is_before("msg A " + EVENT % "2026-03-02T00:00:00Z", day)
-    assert not is_before("msg A " + EVENT % "2026-03-01T23:59:59", day)
-    assert not is_before("msg A " + EVENT % "yesterday", day)
     assert is_before("void A T1 3", day)
+
+
+@pytest.mark.parametrize(
+    "text",
+    [
+        EVENT % "2026-03-01T23:59:59",
+        EVENT % "2026-03-01T23:59:60Z",
+        EVENT % "yesterday",
+        "[]",
+        '[2,"1","TransactionEvent",{"timestamp":7}]',
+        '[2,"1","TransactionEvent",{"timestamp":"2026-03-01T10:00:00Z","meterValue":[7]}]',
+    ],
+)
+def test_a_line_that_cannot_be_read_is_told(text: str) -> None:
+    with pytest.raises(Unreadable):
+        is_before(f"msg A {text}", datetime(2026, 3, 2, tzinfo=timezone.utc))
+
+
+def test_integers_of_a_line_may_have_any_length() -> None:
+    text = (EVENT % "2026-03-01T23:59:59Z").replace("{", '{"customData":%s,' % (5_000 * "7"), 1)
+    assert transaction_of(f"msg A {text}") == ("A", "t1")
+    assert is_before(f"msg A {text}", datetime(2026, 3, 2, tzinfo=timezone.utc))
 
 
 def test_differences_of_periods() -> None:

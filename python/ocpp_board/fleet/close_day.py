@@ -13,12 +13,13 @@ here, and replayed behind its archived ones; the file of this closing has it who
 `ocpp-board compact` does. Before anything is taken from the log, the file and the lines that are left are replayed,
 and their figures together have to be those of the log.
 
-It may end at any time: call it again. Lines of a transaction with a time that Python can't read stay in the log.
+It may end at any time: call it again. A line that the ledger took and that can't be read here, such as one with a
+time of a second 60, is told with its number, and its transaction stays in the log.
 """
 
 import argparse
 import asyncio
-import json
+import logging
 import os
 from collections.abc import Sequence
 from datetime import date, datetime, time, timedelta
@@ -31,20 +32,27 @@ from ocpp_board.fleet import parts
 from ocpp_board.fleet.compact import READ, answered, boards, is_repeat
 from ocpp_board.fleet.database import Fault, connect
 from ocpp_board.fleet.figures import Figures, Flows, added, figures, periods
+from ocpp_board.fleet.lines import (
+    COMMANDS,
+    Transaction,
+    Unreadable,
+    is_before,
+    station_of,
+    transaction_of,
+)
 from ocpp_board.fleet.plans import Plan, knows_period
 from ocpp_board.limits import GREATEST_LIMITS
 from ocpp_board.words import add_program, parser_of
 
+log = logging.getLogger(__name__)
+
 NAME = "ocpp-board close-day"
-# A station and the id of a transaction, in small letters as boards have it.
-Transaction = tuple[str, str]
 REMOVE = """
 delete from own_log l using unnest($2::text[], $3::bigint[]) as g (xid, id)
 where l.shard = $1 and l.xid = g.xid::xid8 and l.id = g.id
 """
 # Its worker begins a replay anew from what is left; the plan that lines were replayed under is still that.
 REPLAN = "update own_shard set plan = plan + 1 where shard = $1 and plan = $2 and moving_to is null"
-COMMANDS = ("msg ", "void ", "restore ", "erase ")
 BEFORE = "select day, period from own_closing where shard = $1 and site = $2 order by closing"
 FILES = """
 select station, transaction, archive from own_archived_transaction join own_closing using (shard, site, closing)
@@ -92,34 +100,6 @@ class Line(NamedTuple):
     is_change: bool
 
 
-def transaction_of(text: str) -> Transaction | None:
-    """Which transaction a line of the log speaks of."""
-    command, station, rest = (text.split(" ", 2) + [""])[:3]
-    if command != "msg":
-        return station, rest.split(" ")[0].lower()
-    try:
-        name = json.loads(rest)[3]["transactionInfo"]["transactionId"]
-    except (ValueError, LookupError, TypeError, RecursionError):
-        return None
-    return (station, name.lower()) if isinstance(name, str) else None
-
-
-def is_before(text: str, moment: datetime) -> bool:
-    """Whether all moments of a line lie before this one; False where one can't be read."""
-    if not text.startswith("msg "):
-        return True
-    payload = json.loads(text.split(" ", 2)[2])[3]
-    texts = [
-        payload["timestamp"],
-        *(value["timestamp"] for value in payload.get("meterValue") or []),
-    ]
-    try:
-        moments = [datetime.fromisoformat(one) for one in texts]
-    except ValueError:
-        return False
-    return all(one.tzinfo is not None and one < moment for one in moments)
-
-
 class Closing:
     """The closing of one shard's stations of the site."""
 
@@ -150,7 +130,7 @@ class Closing:
         rows = [
             row
             for row in await self.fetch(READ, mark["xid"], mark["id"])
-            if row["line"].split(" ", 2)[1] in names
+            if station_of(row["line"]) in names
         ]
         return mark, rows
 
@@ -158,7 +138,7 @@ class Closing:
         """The plan of the site's stations, with limits that take these lines whatever they were."""
         needs: dict[str, list[int]] = {row["station"]: [0, 0] for row in self.stations}
         for line in lines:
-            need = needs[line.split(" ", 2)[1]]
+            need = needs[station_of(line)]
             need[0] += 1
             need[1] += line.count('"value"')
         rows = []
@@ -192,13 +172,30 @@ class Closing:
     def finished(self, changes: list[Line], whole: Figures, day: date) -> set[Transaction]:
         """The transactions that are complete, and all moments of which lie before the day."""
         begin = datetime.combine(day, time(), self.zone)
-        open_ones = {line.transaction for line in changes if not is_before(line.text, begin)}
-        complete = {
+        open_ones, unread = set[Transaction | None](), set[str]()
+        for line in changes:
+            try:
+                is_over = is_before(line.text, begin)
+            except Unreadable as fault:
+                self.tell_unread(line, fault)
+                is_over = False
+            if not is_over:
+                open_ones.add(line.transaction)
+            if line.transaction is None:
+                unread.add(station_of(line.text))
+        return {
             (station, name)
             for (station, kind, name), numbers in whole.items()
-            if kind == "tx" and numbers["complete"]
-        }
-        return complete - open_ones
+            if kind == "tx" and numbers["complete"] and station not in unread
+        } - open_ones
+
+    def tell_unread(self, line: Line, fault: Unreadable) -> None:
+        """Names a line that can't be read, and what stays in the log for that."""
+        station, name = line.transaction or (station_of(line.text), "each transaction")
+        log.warning(
+            "shard %d: line %d of the log can't be read: %s; %s of %s stays in it",
+            *(self.shard, line.row["id"], fault, name, station),
+        )
 
     def archived_lines(self, files: dict[Transaction, str]) -> list[str]:
         """What archives have of these transactions."""

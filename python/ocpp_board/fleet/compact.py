@@ -13,6 +13,7 @@ from collections.abc import Sequence
 
 from ocpp_board.fleet import parts
 from ocpp_board.fleet.database import Fault, connect
+from ocpp_board.fleet.lines import station_of
 from ocpp_board.fleet.plans import Plan, knows_period
 from ocpp_board.fleet.replays import Replay
 from ocpp_board.words import add_program, parser_of
@@ -52,7 +53,7 @@ async def answered(program: str, plan: Plan, lines: list[str]) -> list[tuple[byt
         totals = dict(zip(plan.stations, await replay.answers(len(plan.stations))))
         for front in range(0, len(lines), 500):
             part = lines[front : front + 500]
-            stations = [line.split(" ", 2)[1] for line in part]
+            stations = [station_of(line) for line in part]
             replay.write(
                 "".join(
                     f"{line}\ntotal {station}\n" for line, station in zip(part, stations)

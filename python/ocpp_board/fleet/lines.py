@@ -1,0 +1,58 @@
+"""Lines of a shard's log: which transaction each speaks of, and the moments of its event."""
+
+from datetime import datetime
+from typing import Any
+
+from ocpp_board.messages import parsed
+
+COMMANDS = ("msg ", "void ", "restore ", "erase ")
+# A station and the id of a transaction, in small letters as boards have it.
+Transaction = tuple[str, str]
+# What reading the JSON of a line may raise where that is no event.
+ODD = (ValueError, LookupError, TypeError, AttributeError, RecursionError)
+
+
+class Unreadable(Exception):
+    """What of a line can't be read."""
+
+
+def station_of(text: str) -> str:
+    """The station that a line of the log names."""
+    return text.split(" ", 2)[1]
+
+
+def transaction_of(text: str) -> Transaction | None:
+    """Which transaction a line of the log speaks of; None where it names none."""
+    command, station, rest = (text.split(" ", 2) + [""])[:3]
+    if command != "msg":
+        return station, rest.split(" ")[0].lower()
+    try:
+        name = parsed(rest)[3]["transactionInfo"]["transactionId"]
+    except ODD:
+        return None
+    return (station, name.lower()) if isinstance(name, str) else None
+
+
+def moment_of(text: Any) -> datetime:
+    """A moment of a message. Raises ValueError and TypeError."""
+    moment = datetime.fromisoformat(text)
+    if moment.tzinfo is None:
+        raise ValueError(f"a time without an offset: {text!r}")
+    return moment
+
+
+def moments_of(text: str) -> list[datetime]:
+    """The moments of a line's event; an operator's line has none. Raises Unreadable."""
+    if not text.startswith("msg "):
+        return []
+    try:
+        payload = parsed(text.split(" ", 2)[2])[3]
+        values = payload.get("meterValue") or []
+        return [moment_of(one["timestamp"]) for one in (payload, *values)]
+    except ODD as fault:
+        raise Unreadable(str(fault)[:80] or type(fault).__name__) from None
+
+
+def is_before(text: str, moment: datetime) -> bool:
+    """Whether all moments of a line lie before this one. Raises Unreadable."""
+    return all(one < moment for one in moments_of(text))

@@ -1,0 +1,138 @@
+"""What is shared by programs that close days of a fleet: a site in Berlin, lines that came, and closings compared."""
+
+import argparse
+import asyncio
+import subprocess
+import time
+from collections.abc import Sequence
+from datetime import datetime, timedelta, timezone
+from pathlib import Path
+from typing import Any
+from zoneinfo import ZoneInfo
+
+from tests.fleet.fleet import ended
+from tests.fleet.trials import Trial, event
+
+ZONE = ZoneInfo("Europe/Berlin")
+# The channel on which answers are told here.
+CHANNEL = "closings"
+APPEND = "insert into own_log (shard, gateway, token, line) values ($1, $2, $3, $4)"
+WAITING = "select count(*) from own_log l join own_shard s using (shard) where (l.xid, l.id) > (s.xid, s.id)"
+
+
+def local(text: str) -> datetime:
+    """A time of the site's zone, such as 2026-03-01 08:00."""
+    return datetime.fromisoformat(text).replace(tzinfo=ZONE)
+
+
+def line(station: str, name: str, number: int, kind: str, at: datetime, value: int) -> str:
+    """The line of an event with one reading, in Wh."""
+    moment = f"{at.astimezone(timezone.utc):%Y-%m-%dT%H:%M:%SZ}"
+    return f"msg {station} {event(name, number, kind, moment, value)}"
+
+
+def session(
+    station: str, name: str, at: datetime, count: int, step: timedelta = timedelta(minutes=15)
+) -> list[str]:
+    """A whole transaction, with so many events."""
+    kinds = ["Started"] + ["Updated"] * (count - 2) + ["Ended"]
+    begin = at.astimezone(timezone.utc)
+    return [
+        line(station, name, number, kind, begin + number * step, 1000 + 250 * number)
+        for number, kind in enumerate(kinds)
+    ]
+
+
+class ClosingTrial(Trial):
+    """Sites in Berlin, a worker, and closings that are compared."""
+
+    # Each shard, site and station, and which site is compared.
+    STATIONS: tuple[tuple[int, str, str], ...] = ()
+    SITE = "north"
+
+    def __init__(self, words: argparse.Namespace) -> None:
+        super().__init__(words)
+        self.archives = self.fleet.folder / "archives"
+        self.worker: Any = None
+        # All that came, of each shard; the same in the order in which it was asked, and the answers by their tokens.
+        self.lines: dict[int, list[str]] = {}
+        self.asked: list[str] = []
+        self.answers: dict[int, str] = {}
+        self.homes: dict[str, int] = {}
+
+    async def open(self) -> None:
+        self.archives.mkdir()
+        await self.one_cell()
+        for shard, site, station in self.STATIONS:
+            await self.owner.execute("select add_station($1, $2, $3)", shard, site, station)
+            self.homes[station] = shard
+        await self.owner.execute("update own_site set zone = 'Europe/Berlin'")
+        await self.owner.add_listener(CHANNEL, self.told)
+        self.worker = self.fleet.worker("--boards", 0.2)
+
+    def told(self, _session: Any, _pid: int, _channel: str, payload: str) -> None:
+        """A worker told answers."""
+        for text in payload.split("\n"):
+            token, _, answer = text.partition(" ")
+            self.answers[int(token)] = answer
+
+    async def came(self, *lines: str) -> list[str]:
+        """Appends lines, waits until they are answered, and gives the answers."""
+        front = len(self.asked)
+        for line in lines:
+            shard = self.homes[line.split(" ", 2)[1]]
+            self.lines.setdefault(shard, []).append(line)
+            self.asked.append(line)
+            await self.owner.execute(APPEND, shard, CHANNEL, len(self.asked), line)
+        shards = " ".join(map(str, set(self.homes.values())))
+        await self.owner.execute("select pg_notify('wake', $1)", shards)
+        await self.until(WAITING, 0)
+        tokens = range(front + 1, len(self.asked) + 1)
+        return [self.answers.get(token, "no answer") for token in tokens]
+
+    async def until(self, query: str, wanted: object, *values: object) -> bool:
+        """Whether a query has this answer within 20 seconds."""
+        end = time.monotonic() + 20
+        while (found := await self.owner.fetchval(query, *values)) != wanted:
+            if time.monotonic() > end:
+                print(f"not {wanted} but {found}: {query}", flush=True)
+                return False
+            await asyncio.sleep(0.02)
+        return True
+
+    def command(
+        self, day: str, site: str = "", archive: Path | None = None, more: Sequence[str] = ()
+    ) -> list[str]:
+        """The command that closes a day."""
+        return [*self.fleet.closing(site or self.SITE, archive or self.archives, day), *more]
+
+    async def close_day(self, day: str, **more: Any) -> tuple[int, str]:
+        return await ended(
+            self.fleet.start(*self.command(day, **more), stdout=-1, stderr=subprocess.STDOUT)
+        )
+
+    async def same(self, text: str, day: str) -> None:
+        """Whether boards and archives together are the whole, and what is settled its periods up to the day."""
+        end, differ = time.monotonic() + 10, ["not compared"]
+        while differ and time.monotonic() < end:
+            differ = []
+            for shard in sorted(set(self.homes.values())):
+                differ += await self.fleet.compare_closed(
+                    self.owner, self.archives, shard, self.SITE, self.lines.get(shard, []), day
+                )
+            if differ:
+                await asyncio.sleep(0.1)
+        self.check(
+            not differ,
+            f"{text}: boards with archives, and what is settled, are as a replay says {differ or ''}",
+        )
+
+    async def closed(self, text: str, day: str, *wanted: str) -> None:
+        """Closes the day, which has to tell what is wanted, and compares."""
+        status, said = await self.close_day(day)
+        missing = [part for part in wanted if part not in said]
+        self.check(
+            status == 0 and not missing,
+            f"{text}: {said}" + (f", and not {missing}" if missing else ""),
+        )
+        await self.same(text, day)
