@@ -31,13 +31,10 @@ import time
 from collections.abc import Awaitable, Callable
 
 import asyncpg
-from websockets.http11 import Request, Response
-from websockets.uri import parse_uri
-
 from ocpp_board.fleet.database import Fault, connect
+from tests.fleet.client import Client
 from tests.fleet.fleet import BIN, SCHEMA, children, ended, free_port, part, tool
 from tests.fleet.trials import MISTAKEN, RIGHT, Trial, parsed, parser_of, tried
-from ocpp_board.fleet.websocket import ClientLink
 
 # Faults of one fleet, and the two that need one of their own.
 COMMON = ["worker", "gateway", "replay", "hang", "two-workers", "network", "plan"]
@@ -46,33 +43,6 @@ OWN = ["primary", "disk"]
 # where the machine is busy: less than it takes to see that a worker hangs, so no time ran out.
 LONGEST = {"worker": 2.5, "gateway": 2.5, "replay": 2.5}
 EACH = 20
-
-
-class Client(ClientLink):
-    """A station that sends what it is told to."""
-
-    def __init__(self, url: str) -> None:
-        super().__init__(url)
-        self.heard: asyncio.Queue[str] = asyncio.Queue()
-
-    def handshake(self, event: Request | Response) -> None:
-        assert isinstance(event, Response)
-        self.heard.put_nowait(f"{event.status_code} {(event.body or b'').decode().strip()}".strip())
-
-    def text(self, data: bytes) -> None:
-        self.heard.put_nowait(data.decode())
-
-    def connection_lost(self, fault: Exception | None) -> None:
-        super().connection_lost(fault)
-        self.heard.put_nowait(f"closed {self.connection.close_code}")
-
-    @classmethod
-    async def open(cls, url: str, station: str) -> "Client":
-        loop, whole = asyncio.get_running_loop(), parse_uri(f"{url}/{station}")
-        _, link = await loop.create_connection(
-            lambda: cls(f"{url}/{station}"), whole.host, whole.port
-        )
-        return link
 
 
 class Demo(Trial):
@@ -318,14 +288,11 @@ class Demo(Trial):
     # Bad input --------------------------------------------------------------------------------------------------------
 
     async def bad_input(self, url: str) -> None:
-        async def heard(link: Client) -> str:
-            return await asyncio.wait_for(link.heard.get(), 10)
-
-        answer = await heard(await Client.open(url, "NOBODY"))
+        answer = await (await Client.open(url, "NOBODY")).said()
         self.check(answer.startswith("404 no station 'NOBODY'"), f"an unknown station: {answer}")
         station = f"CS-{await self.more_stations(1):05}"
         link = await Client.open(url, station)
-        self.check(await heard(link) == "101", "a station that was just added is let in")
+        self.check(await link.said() == "101", "a station that was just added is let in")
         for text, wanted in (
             ('[2,"1","Heartbeat",\n{}]', '[3,"1",{"currentTime":'),
             ("TransactionEvent {", '[4,"-1","RpcFrameworkError","NotJson"'),
@@ -344,10 +311,10 @@ class Demo(Trial):
             ('[2,"6",\n"TransactionEvent",{}]', '[4,"6","OccurrenceConstraintViolation","Missing"'),
         ):
             link.send(text.encode())
-            answer = await heard(link)
+            answer = await link.said()
             self.check(answer.startswith(wanted), f"{text[:40]!r}: {answer[:70]}")
         link.send(b'"' + 600_000 * b"x" + b'"')
-        answer = await heard(link)
+        answer = await link.said()
         self.check(answer == "closed 1009", f"a message of 600,000 bytes: {answer}")
         await self.wrong_words()
         await self.names()
@@ -513,7 +480,7 @@ def own_functions() -> bytes:
     """The schema's own functions of holding, in place of those that were put there."""
     text = SCHEMA.read_text()
     parts = re.findall(
-        r"create (function (?:living_workers|hold_shard)\(.*?\$\$;\n)", text, re.DOTALL
+        r"create or replace (function (?:living_workers|hold_shard)\(.*?\$\$;\n)", text, re.DOTALL
     )
     return "".join(f"create or replace {part}" for part in parts).encode()
 

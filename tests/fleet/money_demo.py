@@ -9,11 +9,13 @@ something is not as it must be.
 """
 
 import argparse
+import asyncio
 import sys
 from typing import Any
 
 import asyncpg
 
+from tests.fleet.client import Client
 from tests.fleet.closings import ClosingTrial, local, session
 from tests.fleet.trials import parsed, parser_of, tried
 
@@ -47,6 +49,60 @@ class Demo(ClosingTrial):
         )
         return said
 
+    async def leaving(self) -> None:
+        """A station that leaves the plan, and what it had settled."""
+        first, second = (
+            session(name, "TX-1", local("2026-03-01 08:00"), 5) for name in ("L1", "L2")
+        )
+        await self.came(*first, *second, *session("L1", "TX-2", local("2026-03-02 08:00"), 3)[:2])
+        for day in ("2026-03-01", "2026-03-02"):
+            await self.close_site(f"a station stays, {day}", day, site="leaving")
+        had = await self.owner.fetchval(SETTLED, "L1")
+        for query in (
+            "delete from own_station where station = 'L1'",
+            "delete from own_site where site = 'leaving'",
+            "update own_station set station = 'L9' where station = 'L1'",
+        ):
+            text = await self.refused(query)
+            self.check(text.startswith("station L1 has lines"), f"{query}: {text or 'is done'}")
+        text = await self.refused("select retire_station('L1', current_date + 1)")
+        self.check("still to come" in text, f"retired tomorrow: {text}")
+        text = await self.refused("select retire_station('L1')")
+        _, url = await asyncio.to_thread(self.fleet.gateway)
+        heard = [await (await Client.open(url, name)).said() for name in ("L1", "L2")]
+        self.check(
+            not text and heard[0].startswith("404 ") and heard[1] == "101",
+            f"a station that is retired, and one that is not: {text}{heard}",
+        )
+        await self.settled("a station is retired", "2026-03-03", had, "void L2 TX-1 1")
+        answers = await self.came("void L1 TX-2 0", "restore L1 TX-2 0")
+        self.check(
+            [answer[:8] for answer in answers] == ["accepted", "accepted"],
+            f"an operator's lines for a retired station: {answers}",
+        )
+        text = await self.refused("select add_station(0, 'leaving', 'L1')")
+        self.check("is retired" in text, f"a retired station is added: {text}")
+        await self.owner.execute(
+            "select add_station(0, 'elsewhere', 'L3');"
+            "update own_station set site = 'elsewhere' where station = 'L1'"
+        )
+        await self.settled("a station is given to another site", "2026-03-04", had)
+        await self.close_site("its new site", "2026-03-04", " 0 rows", site="elsewhere")
+        await self.owner.execute(
+            "set session_replication_role = replica; delete from own_station where station = 'L1';"
+            "reset session_replication_role"
+        )
+        await self.settled(
+            "a station is gone from the plan", "2026-03-05", had, "restore L2 TX-1 1"
+        )
+
+    async def settled(self, text: str, day: str, had: int, *lines: str) -> None:
+        """Closes a day of the site that L1 left; what that one had stays settled."""
+        await self.came(*lines)
+        await self.close_site(text, day, site="leaving")
+        found = await self.owner.fetchval(SETTLED, "L1")
+        self.check(found == had > 0, f"{text}: {found} mWh of it are settled, and were {had}")
+
     async def long_numbers(self) -> None:
         """Numbers that Python does not read, and a time that the ledger reads and Python does not."""
         lines = session("N1", "Digits", local("2026-03-01 08:00"), 4)
@@ -71,6 +127,7 @@ class Demo(ClosingTrial):
 
     async def run(self) -> None:
         await self.open()
+        await self.leaving()
         await self.long_numbers()
         await self.owner.close()
 

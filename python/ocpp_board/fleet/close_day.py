@@ -54,19 +54,21 @@ where l.shard = $1 and l.xid = g.xid::xid8 and l.id = g.id
 # Its worker begins a replay anew from what is left; the plan that lines were replayed under is still that.
 REPLAN = "update own_shard set plan = plan + 1 where shard = $1 and plan = $2 and moving_to is null"
 BEFORE = "select day, period from own_closing where shard = $1 and site = $2 order by closing"
+# What is settled and archived is a station's, whichever site it was given to before; of stations that are not in the
+# plan nothing is corrected, since nothing of theirs was replayed.
 FILES = """
 select station, transaction, archive from own_archived_transaction join own_closing using (shard, site, closing)
-where shard = $1 and site = $2
+where shard = $1 and station = any($2)
 """
 KEPT = """
 select station, starts, sum(up)::bigint as up, sum(down)::bigint as down, sum(export_up)::bigint as export_up,
     sum(export_down)::bigint as export_down from own_archived_period
-where shard = $1 and site = $2 group by station, starts
+where shard = $1 and station = any($2) group by station, starts
 """
 SETTLED = """
 select station, starts, sum(up)::bigint as up, sum(down)::bigint as down, sum(export_up)::bigint as export_up,
     sum(export_down)::bigint as export_down from own_closed_period
-where shard = $1 and site = $2 group by station, starts
+where shard = $1 and station = any($2) group by station, starts
 """
 CLOSING = """
 insert into own_closing (shard, site, closing, day, period, xid, id, archive)
@@ -80,6 +82,8 @@ ARCHIVED = """
 insert into own_archived_period (shard, site, closing, station, starts, up, down, export_up, export_down)
 values ($1, $2, $3, $4, $5, $6, $7, $8, $9)
 """
+# A transaction is archived once: under the site that its station has now.
+ELSEWHERE = "delete from own_archived_transaction where shard = $1 and site <> $2 and station = $3 and transaction = $4"
 TRANSACTION = """
 insert into own_archived_transaction (shard, site, closing, station, transaction, complete, missing, up, down,
     export_up, export_down)
@@ -117,6 +121,10 @@ class Closing:
         """The rows of a query about the shard."""
         return await self.session.fetch(query, self.shard, *values)
 
+    def names(self) -> list[str]:
+        """The site's stations, those among them that are retired."""
+        return [row["station"] for row in self.stations]
+
     async def read(self) -> tuple[Any, list[Any]]:
         """Up to where answers were told, and the lines of the site's stations up to there."""
         if not await self.session.fetchval("select reserve_shard($1)", self.shard):
@@ -126,7 +134,7 @@ class Closing:
         mark = (await self.fetch("select plan, xid::text, id from own_shard where shard = $1"))[0]
         query = "select * from own_station where shard = $1 and site = $2 order by place"
         self.stations = [dict(row) for row in await self.fetch(query, self.site)]
-        names = {row["station"] for row in self.stations}
+        names = set(self.names())
         rows = [
             row
             for row in await self.fetch(READ, mark["xid"], mark["id"])
@@ -248,7 +256,7 @@ class Closing:
         day = max([day, *(row["day"] for row in before)])
         files = {
             (row["station"], row["transaction"]): row["archive"]
-            for row in await self.fetch(FILES, self.site)
+            for row in await self.fetch(FILES, self.names())
         }
         # What came for transactions that are archived, and what the others' lines do without that.
         late_rows = [row for row in rows if transaction_of(row["line"]) in files]
@@ -305,6 +313,9 @@ class Closing:
                 ARCHIVED, [(*head, *key, *flow) for key, flow in moved.items()]
             )
             await self.session.executemany(
+                ELSEWHERE, [(self.shard, self.site, *row[:2]) for row in transactions(in_file)]
+            )
+            await self.session.executemany(
                 TRANSACTION, [(*head, *row) for row in transactions(in_file)]
             )
             xids, ids = [row["xid"] for row in removed], [row["id"] for row in removed]
@@ -330,14 +341,14 @@ class Closing:
     async def unsettled(self, day: date, rest: Figures, moved: Flows) -> list[tuple[Any, ...]]:
         """The rows by which what is settled comes to be what log and archives say, up to this day."""
         actual = dict(periods(rest))
-        kept = await self.fetch(KEPT, self.site)
+        kept = await self.fetch(KEPT, self.names())
         for key, flow in [((row["station"], row["starts"]), flow_of(row)) for row in kept] + [
             *moved.items()
         ]:
             actual[key] = actual.get(key, Flow()).plus(flow)
         settled = {
             (row["station"], row["starts"]): flow_of(row)
-            for row in await self.fetch(SETTLED, self.site)
+            for row in await self.fetch(SETTLED, self.names())
         }
         rows = list[tuple[Any, ...]]()
         for (station, starts), flow in sorted(differences(actual, settled).items()):

@@ -79,10 +79,11 @@ join own_shard s on s.shard = w.shard where s.moving_to is null order by w.place
 """
 STATIONS = """
 select t.shard, t.station from own_station t join own_shard s using (shard)
-where s.moving_to is null and ($1::int[] is null or s.shard = any($1))
+where s.moving_to is null and t.retired is null and ($1::int[] is null or s.shard = any($1))
 """
 STATION = """
-select t.shard from own_station t join own_shard s using (shard) where t.station = $1 and s.moving_to is null
+select t.shard from own_station t join own_shard s using (shard)
+where t.station = $1 and s.moving_to is null and t.retired is null
 """
 
 

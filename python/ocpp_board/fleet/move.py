@@ -43,7 +43,7 @@ where shard = $1 and (l.xid, l.id) <= (s.xid, s.id)
 # What goes with a shard, in an order in which it can be written.
 PARTS = (
     ("own_site", "site, period, zone", "site"),
-    ("own_station", "site, station, transactions, events, readings, changes", "place"),
+    ("own_station", "site, station, transactions, events, readings, changes, retired", "place"),
     ("own_board", "site, text", "site"),
     ("own_closing", "site, closing, day, period, at, archive", "closing"),
     (

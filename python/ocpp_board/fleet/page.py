@@ -68,7 +68,8 @@ log = logging.getLogger(__name__)
 # A site's figures, of its stations in this cell and a shard: what is in the log, and what archives have.
 SITES = """
 select p.shard, p.site, p.zone, p.period, b.*, a.*,
-       (select count(*) from own_station t where t.shard = p.shard and t.site = p.site) as stations
+       (select count(*) from own_station t
+        where t.shard = p.shard and t.site = p.site and t.retired is null) as stations
 from own_site p
 cross join lateral (
     select coalesce(sum(events), 0)::bigint as events, coalesce(sum(voided), 0)::bigint as voided,

@@ -2,7 +2,9 @@
 --
 --     psql -v cell=1 -f schema.sql
 --
--- Needs PostgreSQL 15, a superuser and an empty database. The passwords of the roles come from the environment:
+-- Needs PostgreSQL 15, a superuser, and a database that is empty or has the schema of an earlier version, which it
+-- brings to this one in one transaction: workers are stopped before it, and those of this version started behind it.
+-- The passwords of the roles come from the environment:
 -- GATEWAY_PASSWORD, FEED_PASSWORD, WORKER_PASSWORD, READER_PASSWORD and OPERATOR_PASSWORD; a role whose variable is not
 -- set gets none.
 --
@@ -50,20 +52,26 @@ end $$;
     alter role ledger_operator password :'operator_password';
 \endif
 
-create table own_cell (
+create table if not exists own_cell (
     cell smallint primary key check (cell > 0)
 );
-create unique index own_cell_is_one on own_cell ((true));
-insert into own_cell values (:cell);
+create unique index if not exists own_cell_is_one on own_cell ((true));
+insert into own_cell values (:cell) on conflict do nothing;
+select cell from own_cell \gset
 
 -- The plan -----------------------------------------------------------------------------------------------------------
 
 -- Names as the program takes them.
-create domain name_in_plan as text
-    check (value ~ '^[A-Za-z0-9*\-_=:+|@.]{1,48}$');
+do $$
+begin
+    if to_regtype('name_in_plan') is null then
+        create domain name_in_plan as text
+            check (value ~ '^[A-Za-z0-9*\-_=:+|@.]{1,48}$');
+    end if;
+end $$;
 
 -- A shard: up to 64 stations with one log and one `replay`. It says up to which place of the log replies were given.
-create table shard (
+create table if not exists shard (
     cell smallint not null default :cell,
     shard integer not null,
     moving_to smallint,                    -- the cell that it moves to (move.py); it takes no lines then
@@ -72,27 +80,27 @@ create table shard (
     xid xid8 not null default '0',
     id bigint not null default 0
 ) partition by list (cell);
-create table own_shard partition of shard (
+create table if not exists own_shard partition of shard (
     primary key (shard),
     check (shard >= 0)
 ) for values in (:cell) with (fillfactor = 50);
 
-create table site (
+create table if not exists site (
     cell smallint not null default :cell,
     shard integer not null,
     site name_in_plan not null,
     period integer not null default 900,   -- seconds
     zone text not null default 'UTC'       -- whose days are its settlement days, such as Europe/Berlin
 ) partition by list (cell);
-create table own_site partition of site (
+create table if not exists own_site partition of site (
     primary key (shard, site),
     foreign key (shard) references own_shard on delete cascade,
     constraint "a period is 300, 900, 1800 or 3600 seconds" check (period in (300, 900, 1800, 3600)),
     constraint "a zone is one that PostgreSQL knows" check (timestamp '2000-01-01' at time zone zone is not null)
 ) for values in (:cell);
 
-create sequence place_in_plan;
-create table station (
+create sequence if not exists place_in_plan;
+create table if not exists station (
     cell smallint not null default :cell,
     shard integer not null,
     station name_in_plan not null,
@@ -103,7 +111,7 @@ create table station (
     readings integer not null default 2048,
     changes bigint not null default 1000000000
 ) partition by list (cell);
-create table own_station partition of station (
+create table if not exists own_station partition of station (
     primary key (station),
     foreign key (shard, site) references own_site on delete cascade on update cascade,
     constraint "a station may keep 1 to 4,096 transactions" check (transactions between 1 and 4096),
@@ -111,10 +119,11 @@ create table own_station partition of station (
     constraint "a station may keep 1 to 65,536 readings" check (readings between 1 and 65536),
     constraint "a station may accept 1 change or more" check (changes > 0)
 ) for values in (:cell);
-create index on own_station (shard, place);
+alter table station add column if not exists retired date;     -- since when it takes no part; it stays, with its energy
+create index if not exists own_station_shard_place_idx on own_station (shard, place);
 
 -- Each change of a shard's plan is told, and what the program would refuse is refused here.
-create function plan_changed() returns trigger language plpgsql as $$
+create or replace function plan_changed() returns trigger language plpgsql as $$
 declare
     shard_number integer := case when tg_op = 'DELETE' then old.shard else new.shard end;
     sums record;
@@ -136,14 +145,46 @@ begin
     perform pg_notify('plan', shard_number::text);
     return null;
 end $$;
-create trigger plan_changed after insert or update or delete on own_station
+create or replace trigger plan_changed after insert or update or delete on own_station
     for each row execute function plan_changed();
-create trigger plan_changed after update of period on own_site
+create or replace trigger plan_changed after update of period on own_site
     for each row execute function plan_changed();
+
+-- What a station sent belongs to its shard and its name. So one that sent something is retired, and neither removed nor
+-- given another name or shard; it goes with its shard alone, which has moved to another cell.
+create or replace function keep_station() returns trigger language plpgsql as $$
+begin
+    if (tg_op = 'UPDATE' and (new.shard, new.station) = (old.shard, old.station))
+            or not exists (select from own_shard where shard = old.shard) then
+        return coalesce(new, old);
+    elsif exists (select from own_log where shard = old.shard and split_part(line, ' ', 2) = old.station)
+            or exists (select from own_closed_period where shard = old.shard and station = old.station)
+            or exists (select from own_archived_transaction where shard = old.shard and station = old.station) then
+        raise 'station % has lines in the log or in archives, so it stays as it is; select retire_station(''%'') lets '
+            'it take no part', old.station, old.station;
+    end if;
+    return coalesce(new, old);
+end $$;
+create or replace trigger keep_station before delete or update of shard, station on own_station
+    for each row execute function keep_station();
+
+-- A station that takes no part from now on: gateways send it away. It keeps its place in the plan and its energy, which
+-- closings settle and correct as before.
+create or replace function retire_station(station_name text, day date default current_date)
+    returns void language plpgsql as $$
+begin
+    if day > current_date then
+        raise 'a station is retired once it takes no part, and % is still to come', day;
+    end if;
+    update own_station set retired = day where station = station_name;
+    if not found then
+        raise 'no station % in this cell', station_name;
+    end if;
+end $$;
 
 -- A station that takes part from now on: gateways let it in, and its shard's replay begins anew from the log. Its name is
 -- to be in one cell only, so the other cells that this one sees are asked for it, unless `unasked` says not to.
-create function add_station(shard_number integer, site_name text, station_name text, unasked boolean default false)
+create or replace function add_station(shard_number integer, site_name text, station_name text, unasked boolean default false)
     returns void language plpgsql as $$
 declare
     other text;
@@ -161,13 +202,16 @@ begin
             raise 'station % is in shard % of % already', station_name, other_shard, other;
         end if;
     end loop;
+    if exists (select from own_station where station = station_name and retired is not null) then
+        raise 'station % is retired; update own_station set retired = null lets it take part again', station_name;
+    end if;
     insert into own_shard (shard) values (shard_number) on conflict do nothing;
     insert into own_site (shard, site) values (shard_number, site_name) on conflict do nothing;
     insert into own_station (shard, site, station) values (shard_number, site_name, station_name);
 end $$;
 
 -- The stations that are in several cells, of which there should be none; a shard that moves counts where it arrives.
-create view station_twice as
+create or replace view station_twice as
     select station, array_agg(cell order by cell) as cells
     from station join shard using (cell, shard) where moving_to is null
     group by station having count(*) > 1;
@@ -176,8 +220,8 @@ create view station_twice as
 
 -- Lines of a shard's script, in the order of (xid, id). Numbers alone are not in the order of commits; below the oldest
 -- transaction that is still open, (xid, id) is: no row ever commits in front of one that was read there.
-create sequence place_in_log;
-create table log (
+create sequence if not exists place_in_log;
+create table if not exists log (
     cell smallint not null default :cell,
     shard integer not null,
     xid xid8 not null default pg_current_xact_id(),
@@ -187,7 +231,7 @@ create table log (
     token bigint,
     line text not null
 ) partition by list (cell);
-create table own_log partition of log (
+create table if not exists own_log partition of log (
     primary key (shard, xid, id),
     -- Each line has exactly one line of answer, or all answers behind it would be those of others.
     constraint "a line is msg, void, restore or erase without a line feed, of at most 262,400 bytes" check (
@@ -196,7 +240,7 @@ create table own_log partition of log (
 
 -- An operator's line, which is behind all that came before: operate('void', 'CS-00441', 'TX-2', 3). Whoever listens on a
 -- channel is told its answer there, with the token.
-create function operate(command text, station_name text, transaction_id text, sequence_number bigint,
+create or replace function operate(command text, station_name text, transaction_id text, sequence_number bigint,
         channel text default null, channel_token bigint default null) returns bigint language plpgsql as $$
 declare
     shard_number integer;
@@ -225,26 +269,26 @@ end $$;
 -- What feed.py took ---------------------------------------------------------------------------------------------------
 
 -- Up to which byte of a file its events are in this cell's log.
-create table fed (
+create table if not exists fed (
     source text primary key,
     place bigint not null,
     front text not null,                   -- by which the file is known again
     at timestamptz not null default now()
 );
 -- Events of stations that no plan has. feed.py appends them once one has their station, and removes them here.
-create table stray (
+create table if not exists stray (
     id bigint generated always as identity primary key,
     at timestamptz not null default now(),
     source text not null,
     station text not null,
     line text not null
 );
-create index on stray (station);
+create index if not exists stray_station_idx on stray (station);
 
 -- Boards -------------------------------------------------------------------------------------------------------------
 
 -- The text of a site's board after the log up to (xid, id). Of a site with stations in several shards one a shard.
-create table board (
+create table if not exists board (
     cell smallint not null default :cell,
     shard integer not null,
     site text not null,
@@ -253,13 +297,13 @@ create table board (
     at timestamptz not null default now(),
     text text not null
 ) partition by list (cell);
-create table own_board partition of board (
+create table if not exists own_board partition of board (
     primary key (shard, site),
     foreign key (shard) references own_shard on delete cascade
 ) for values in (:cell);
 
 -- The same as rows, each with when it came to be as it is, and by which place of the log. Energies are in mWh.
-create table board_station (
+create table if not exists board_station (
     cell smallint not null default :cell,
     shard integer not null,
     site text not null,
@@ -277,12 +321,12 @@ create table board_station (
     export_up bigint not null default 0,
     export_down bigint not null default 0
 ) partition by list (cell);
-create table own_board_station partition of board_station (
+create table if not exists own_board_station partition of board_station (
     primary key (shard, site, station),
     foreign key (shard, site) references own_board on delete cascade
 ) for values in (:cell);
 
-create table board_period (
+create table if not exists board_period (
     cell smallint not null default :cell,
     shard integer not null,
     site text not null,
@@ -296,12 +340,12 @@ create table board_period (
     export_up bigint not null default 0,
     export_down bigint not null default 0
 ) partition by list (cell);
-create table own_board_period partition of board_period (
+create table if not exists own_board_period partition of board_period (
     primary key (shard, site, station, starts),
     foreign key (shard, site) references own_board on delete cascade
 ) for values in (:cell);
 
-create table board_transaction (
+create table if not exists board_transaction (
     cell smallint not null default :cell,
     shard integer not null,
     site text not null,
@@ -321,13 +365,13 @@ create table board_transaction (
     export_up bigint not null default 0,
     export_down bigint not null default 0
 ) partition by list (cell);
-create table own_board_transaction partition of board_transaction (
+create table if not exists own_board_transaction partition of board_transaction (
     primary key (shard, site, station, transaction),
     foreign key (shard, site) references own_board on delete cascade
 ) for values in (:cell);
 
 -- The sequence numbers that a transaction lacks.
-create table board_gap (
+create table if not exists board_gap (
     cell smallint not null default :cell,
     shard integer not null,
     site text not null,
@@ -339,7 +383,7 @@ create table board_gap (
     id bigint not null,
     at timestamptz not null default now()
 ) partition by list (cell);
-create table own_board_gap partition of board_gap (
+create table if not exists own_board_gap partition of board_gap (
     primary key (shard, site, station, transaction, first),
     foreign key (shard, site, station, transaction) references own_board_transaction on delete cascade
 ) for values in (:cell);
@@ -347,7 +391,7 @@ create table own_board_gap partition of board_gap (
 -- Writes a board as text and as rows. `parts` has the rows that are new since the board of (base_xid, base_id), and those
 -- that are gone; all rows where that is null. False where the board is of an earlier place than the one that is there, or
 -- not based on that.
-create function show_board(shard_number integer, site_name text, base_xid xid8, base_id bigint,
+create or replace function show_board(shard_number integer, site_name text, base_xid xid8, base_id bigint,
         new_xid xid8, new_id bigint, new_text text, parts jsonb) returns boolean language plpgsql as $$
 declare
     had record;
@@ -422,7 +466,7 @@ end $$;
 -- Closed days --------------------------------------------------------------------------------------------------------
 
 -- What close_day.py did to a shard's stations of a site: up to which day it settled, and up to which place of the log.
-create table closing (
+create table if not exists closing (
     cell smallint not null default :cell,
     shard integer not null,
     site text not null,
@@ -434,12 +478,12 @@ create table closing (
     at timestamptz not null default now(),
     archive text                           -- the file of the lines that it took out of the log
 ) partition by list (cell);
-create table own_closing partition of closing (
+create table if not exists own_closing partition of closing (
     primary key (shard, site, closing)
 ) for values in (:cell);
 
 -- The energy in mWh of a station's period as it was settled, and behind that what later closings found it to differ.
-create table closed_period (
+create table if not exists closed_period (
     cell smallint not null default :cell,
     shard integer not null,
     site text not null,
@@ -452,13 +496,13 @@ create table closed_period (
     export_up bigint not null default 0,
     export_down bigint not null default 0
 ) partition by list (cell);
-create table own_closed_period partition of closed_period (
+create table if not exists own_closed_period partition of closed_period (
     primary key (shard, site, station, starts, closing),
     foreign key (shard, site, closing) references own_closing on delete cascade
 ) for values in (:cell);
 
 -- What the transactions that a closing took out of the log give to a period, or to that of an earlier closing.
-create table archived_period (
+create table if not exists archived_period (
     cell smallint not null default :cell,
     shard integer not null,
     site text not null,
@@ -470,13 +514,13 @@ create table archived_period (
     export_up bigint not null default 0,
     export_down bigint not null default 0
 ) partition by list (cell);
-create table own_archived_period partition of archived_period (
+create table if not exists own_archived_period partition of archived_period (
     primary key (shard, site, station, starts, closing),
     foreign key (shard, site, closing) references own_closing on delete cascade
 ) for values in (:cell);
 
 -- The transactions that are no longer in the log, with the closing whose archive has their lines.
-create table archived_transaction (
+create table if not exists archived_transaction (
     cell smallint not null default :cell,
     shard integer not null,
     site text not null,
@@ -490,13 +534,13 @@ create table archived_transaction (
     export_up bigint not null default 0,
     export_down bigint not null default 0
 ) partition by list (cell);
-create table own_archived_transaction partition of archived_transaction (
+create table if not exists own_archived_transaction partition of archived_transaction (
     primary key (shard, site, station, transaction),
     foreign key (shard, site, closing) references own_closing on delete cascade
 ) for values in (:cell);
 
 -- Energy in kWh by local time: what is in the log, and what closings took out of it.
-create view energy as
+create or replace view energy as
     select site, (starts at time zone zone)::date as day, starts at time zone zone as local_start, starts, station,
         trim_scale(sum(up) / 1000000) as up_kwh, trim_scale(sum(down) / 1000000) as down_kwh,
         trim_scale(sum(export_up) / 1000000) as export_up_kwh, trim_scale(sum(export_down) / 1000000) as export_down_kwh
@@ -504,7 +548,7 @@ create view energy as
           select cell, shard, site, station, starts, up, down, export_up, export_down from archived_period) as flow
     join site using (cell, shard, site) group by site, zone, starts, station;
 -- Transactions that lack messages, with which ones, and since when they are as they are, in local time.
-create view lacking as
+create or replace view lacking as
     select site, station, transaction, missing, complete, at at time zone zone as since, at,
         (select string_agg(g.first || '..' || g.last, ', ' order by g.first) from board_gap g
          where (g.cell, g.shard, g.site, g.station, g.transaction) = (t.cell, t.shard, t.site, t.station, t.transaction))
@@ -512,7 +556,7 @@ create view lacking as
     from board_transaction t join site using (cell, shard, site) where not complete;
 
 -- What is settled: each period once, with how often it was corrected.
-create view settled_period as
+create or replace view settled_period as
     select site, station, day, starts, sum(up) as up, sum(down) as down, sum(export_up) as export_up,
         sum(export_down) as export_down, count(*) - 1 as corrections
     from closed_period group by site, station, day, starts;
@@ -520,7 +564,7 @@ create view settled_period as
 -- Workers ------------------------------------------------------------------------------------------------------------
 
 -- The workers that live, each with its session: it is what holds shards, and whoever ends it fences the worker.
-create unlogged table worker (
+create unlogged table if not exists worker (
     worker text primary key,
     pid integer not null,
     began timestamptz not null,
@@ -529,17 +573,17 @@ create unlogged table worker (
 );
 
 -- A worker that was killed has a row until that is too old, and no session.
-create function living_workers() returns bigint language sql as $$
+create or replace function living_workers() returns bigint language sql as $$
     select count(*) from worker w join pg_stat_activity a on a.pid = w.pid and a.backend_start = w.began;
 $$;
-create function hold_shard(shard_number integer) returns boolean language sql as $$
+create or replace function hold_shard(shard_number integer) returns boolean language sql as $$
     select pg_try_advisory_lock(1, shard_number);
 $$;
-create function release_shard(shard_number integer) returns boolean language sql as $$
+create or replace function release_shard(shard_number integer) returns boolean language sql as $$
     select pg_advisory_unlock(1, shard_number);
 $$;
 -- One program at a time removes or moves lines of a shard's log.
-create function reserve_shard(shard_number integer) returns boolean language sql as $$
+create or replace function reserve_shard(shard_number integer) returns boolean language sql as $$
     select pg_try_advisory_lock(3, shard_number);
 $$;
 
@@ -550,7 +594,9 @@ grant select on own_cell, own_shard, own_site, own_station to ledger_gateway, le
 grant insert (shard, gateway, token, line) on own_log to ledger_gateway;
 grant usage on sequence place_in_log to ledger_gateway;
 alter table own_log enable row level security;
+drop policy if exists messages on own_log;
 create policy messages on own_log for insert to ledger_gateway with check (line like 'msg %');
+drop policy if exists lines on own_log;
 create policy lines on own_log for select to ledger_worker, ledger_reader using (true);
 -- A feed appends as a gateway does, and keeps how far it came and what has no station yet.
 grant ledger_gateway to ledger_feed;
@@ -572,12 +618,13 @@ grant select on shard, site, station, station_twice, log, board, own_log, own_bo
 grant ledger_reader to ledger_operator;
 grant insert (shard, gateway, token, line) on own_log to ledger_operator;
 grant usage on sequence place_in_log to ledger_operator;
+drop policy if exists commands on own_log;
 create policy commands on own_log for insert to ledger_operator with check (line !~ '^msg ');
 
 -- Other cells --------------------------------------------------------------------------------------------------------
 
 -- Makes another cell's rows visible in shard, site, station, log and board. `hosts` and `ports` may be lists with commas.
-create procedure see_cell(other smallint, hosts text, ports text, database text, reader_password text)
+create or replace procedure see_cell(other smallint, hosts text, ports text, database text, reader_password text)
     language plpgsql as $$
 declare
     name text;

@@ -1,0 +1,40 @@
+"""A station that sends to a gateway what it is told to."""
+
+import asyncio
+
+from websockets.http11 import Request, Response
+from websockets.uri import parse_uri
+
+from ocpp_board.fleet.websocket import ClientLink
+
+
+class Client(ClientLink):
+    """A station that sends what it is told to."""
+
+    def __init__(self, url: str) -> None:
+        super().__init__(url)
+        self.heard: asyncio.Queue[str] = asyncio.Queue()
+
+    def handshake(self, event: Request | Response) -> None:
+        assert isinstance(event, Response)
+        self.heard.put_nowait(f"{event.status_code} {(event.body or b'').decode().strip()}".strip())
+
+    def text(self, data: bytes) -> None:
+        self.heard.put_nowait(data.decode())
+
+    def connection_lost(self, fault: Exception | None) -> None:
+        super().connection_lost(fault)
+        self.heard.put_nowait(f"closed {self.connection.close_code}")
+
+    async def said(self) -> str:
+        """What the gateway sends next."""
+        return await asyncio.wait_for(self.heard.get(), 10)
+
+    @classmethod
+    async def open(cls, url: str, station: str) -> "Client":
+        """Connects the station to a gateway."""
+        loop, whole = asyncio.get_running_loop(), parse_uri(f"{url}/{station}")
+        _, link = await loop.create_connection(
+            lambda: cls(f"{url}/{station}"), whole.host, whole.port
+        )
+        return link
