@@ -27,6 +27,7 @@ class Demo(ClosingTrial):
     STATIONS = (
         (0, "leaving", "L1"),
         (0, "leaving", "L2"),
+        (1, "full", "F1"),
         (0, "long", "N1"),
         (0, "long", "N2"),
     )
@@ -39,12 +40,14 @@ class Demo(ClosingTrial):
             return str(fault)
         return ""
 
-    async def close_site(self, text: str, day: str, *wanted: str, **more: Any) -> str:
-        """Closes a day, which has to tell what is wanted, and gives what it told."""
-        status, said = await self.close_day(day, **more)
+    async def close_site(
+        self, text: str, day: str, *wanted: str, status: int = 0, **more: Any
+    ) -> str:
+        """Closes a day, which has to end so and tell what is wanted, and gives what it told."""
+        ended, said = await self.close_day(day, **more)
         missing = [part for part in wanted if part not in said]
         self.check(
-            status == 0 and not missing,
+            ended == status and not missing,
             f"{text}: {said}" + (f", and not {missing}" if missing else ""),
         )
         return said
@@ -103,6 +106,67 @@ class Demo(ClosingTrial):
         found = await self.owner.fetchval(SETTLED, "L1")
         self.check(found == had > 0, f"{text}: {found} mWh of it are settled, and were {had}")
 
+    async def full(self) -> None:
+        """A station at its limit of transactions, of which two never end."""
+        await self.owner.execute("update own_station set transactions = 3 where station = 'F1'")
+        sessions = [
+            session("F1", f"TX-{number}", local(f"2026-03-01 {8 + 2 * number:02}:00"), 4)
+            for number in range(6)
+        ]
+        await self.came(*sessions[0][:2], *sessions[1][1:], *sessions[2])
+        answers = await self.came(*sessions[3], sessions[3][0], *sessions[4], *sessions[5])
+        self.check(
+            all("TooManyTransactions" in answer for answer in answers),
+            f"sessions beyond the limit are refused: {answers[0]}",
+        )
+        await self.close_site(
+            "a station at its limit", "2026-03-02", "1 transactions archived", "12 wait for room",
+            site="full",
+        )  # fmt: skip
+        await self.shown("one session left, so the first that waited is taken", "TX-0 TX-1 TX-3")
+        await self.owner.execute("update own_station set transactions = 4 where station = 'F1'")
+        await self.shown("a higher limit takes the next", "TX-0 TX-1 TX-3 TX-4")
+        text = await self.close_site(
+            "what is not there", "2026-03-02", site="full", more=("--incomplete", "F1", "TX-8"),
+            status=2,
+        )  # fmt: skip
+        self.check("no transaction tx-8 of F1" in text, f"archived as incomplete: {text}")
+        await self.close_site(
+            "sessions that never end", "2026-03-02", "4 transactions archived", site="full",
+            more=("--incomplete", "F1", "TX-0", "--incomplete", "F1", "TX-1"),
+        )  # fmt: skip
+        rows = await self.owner.fetch(
+            "select transaction, complete, missing from own_archived_transaction where station = 'F1' "
+            "and not complete order by 1"
+        )
+        found = [tuple(row) for row in rows]
+        self.check(
+            found == [("tx-0", False, 0), ("tx-1", False, 0)],
+            f"archived as not complete: {found}",
+        )
+        await self.shown("the last is taken", "TX-5")
+        await self.came(*sessions[0][2:], sessions[1][0])
+        await self.close_site(
+            "what they lacked comes", "2026-03-03", "2 late lines for tx-0 of F1", "; 2 taken",
+            "1 transactions archived", site="full",
+        )  # fmt: skip
+        count = await self.owner.fetchval(
+            "select count(*) from own_archived_transaction where station = 'F1' and complete"
+        )
+        energy = await self.owner.fetchval(SETTLED, "F1")
+        self.check(
+            (count, energy) == (6, 6 * 750_000),
+            f"all six sessions are complete in archives, and {energy} mWh are settled",
+        )
+
+    async def shown(self, text: str, wanted: str) -> None:
+        """Whether the board of F1 has these transactions."""
+        query = (
+            "select string_agg(transaction, ' ' order by transaction) from own_board_transaction "
+            "where station = 'F1'"
+        )
+        self.check(await self.until(query, wanted.lower()), f"{text}: {wanted}")
+
     async def long_numbers(self) -> None:
         """Numbers that Python does not read, and a time that the ledger reads and Python does not."""
         lines = session("N1", "Digits", local("2026-03-01 08:00"), 4)
@@ -128,6 +192,7 @@ class Demo(ClosingTrial):
     async def run(self) -> None:
         await self.open()
         await self.leaving()
+        await self.full()
         await self.long_numbers()
         await self.owner.close()
 

@@ -9,12 +9,18 @@ pytest.importorskip("websockets")
 
 from ocpp_board.energies import Flow  # noqa: E402
 from ocpp_board.fleet.close_day import differences  # noqa: E402
-from ocpp_board.fleet.compact import is_repeat  # noqa: E402
 from ocpp_board.fleet.database import Fault, places, said, wakes  # noqa: E402
 from ocpp_board.fleet.events import citrine_event, event_of, maeve_event  # noqa: E402
 from ocpp_board.fleet.figures import added, figures, joined, new_rows, periods  # noqa: E402
 from ocpp_board.fleet.gateway import empty_answer  # noqa: E402
-from ocpp_board.fleet.lines import Unreadable, is_before, transaction_of  # noqa: E402
+from ocpp_board.fleet.lines import (  # noqa: E402
+    Unreadable,
+    is_before,
+    is_for_room,
+    is_repeat,
+    readings_of,
+    transaction_of,
+)
 from ocpp_board.fleet.page import fields_of  # noqa: E402
 from ocpp_board.fleet.page_texts import Words, Wrong  # noqa: E402
 from ocpp_board.fleet.plans import Plan  # noqa: E402
@@ -160,6 +166,24 @@ def test_a_line_lies_before_a_day_with_all_its_moments() -> None:
 def test_a_line_that_cannot_be_read_is_told(text: str) -> None:
     with pytest.raises(Unreadable):
         is_before(f"msg A {text}", datetime(2026, 3, 2, tzinfo=timezone.utc))
+
+
+def test_refusals_for_want_of_room() -> None:
+    error = '[4,"EventsFull","%s","%s",{}]'
+    assert is_for_room((error % ("InternalError", "TooManyTransactions")).encode())
+    assert not is_for_room((error % ("GenericError", "ConflictingEvent")).encode())
+    assert is_for_room(b"refused ChangesExhausted") and not is_for_room(b"refused NoSuchEvent")
+    assert not is_for_room(b'[3,"EventsFull",{}]') and not is_for_room(b"accepted 3")
+
+
+def test_readings_of_a_line_are_those_of_registers() -> None:
+    export = '{"value":2,"measurand":"Energy.Active.Export.Register"}'
+    meter = '{"sampledValue":[{"value":1},{"value":2,"measurand":"Voltage"},%s]}' % export
+    assert (
+        readings_of('msg A [2,"1","TransactionEvent",{"meterValue":[%s,%s]}]' % (meter, meter)) == 4
+    )
+    assert readings_of('msg A [2,"1","TransactionEvent",{}]') == readings_of("void A T1 3") == 0
+    assert readings_of('msg A no JSON with a "value"') == 1
 
 
 def test_integers_of_a_line_may_have_any_length() -> None:

@@ -8,10 +8,12 @@ an operator's void, it adds a row with the difference; settled_period has the su
 any time, and a day that was left out is settled with the next one.
 
 Transactions that are complete, and of which every moment lies before the day, leave the log for a file in FOLDER: a
-script, which any `replay` reads, with what was refused as comments. A line that comes later for one of them is told
-here, and replayed behind its archived ones; the file of this closing has it whole again. Repeats are removed, as
-`ocpp-board compact` does. Before anything is taken from the log, the file and the lines that are left are replayed,
-and their figures together have to be those of the log.
+script, which any `replay` reads, with what was refused as comments; what was refused for want of room stays in the
+log, and is taken once there is some. A transaction that never becomes complete keeps its room: `--incomplete CS-1
+TX-9` archives it as it is, and archived_transaction has it as not complete. A line that comes later for an archived
+transaction is told here, and replayed behind its archived ones; the file of this closing has it whole again. Repeats
+are removed, as `ocpp-board compact` does. Before anything is taken from the log, the file and the lines that are left
+are replayed, and their figures together have to be those of the log.
 
 It may end at any time: call it again. A line that the ledger took and that can't be read here, such as one with a
 time of a second 60, is told with its number, and its transaction stays in the log.
@@ -29,7 +31,7 @@ from zoneinfo import ZoneInfo
 
 from ocpp_board.energies import Flow, flow_of
 from ocpp_board.fleet import parts
-from ocpp_board.fleet.compact import READ, answered, boards, is_repeat
+from ocpp_board.fleet.compact import READ, answered, boards
 from ocpp_board.fleet.database import Fault, connect
 from ocpp_board.fleet.figures import Figures, Flows, added, figures, periods
 from ocpp_board.fleet.lines import (
@@ -37,6 +39,9 @@ from ocpp_board.fleet.lines import (
     Transaction,
     Unreadable,
     is_before,
+    is_for_room,
+    is_repeat,
+    readings_of,
     station_of,
     transaction_of,
 )
@@ -148,16 +153,18 @@ class Closing:
         for line in lines:
             need = needs[station_of(line)]
             need[0] += 1
-            need[1] += line.count('"value"')
+            need[1] += readings_of(line)
         rows = []
         for row in self.stations:
             events, readings = needs[row["station"]]
-            wide = {
-                "transactions": min(events, GREATEST_LIMITS["transactions"]),
-                "events": events,
-                "readings": readings,
-            }
-            rows.append(row | {name: max(row[name], number) for name, number in wide.items()})
+            wide = {"transactions": events, "events": events, "readings": readings}
+            rows.append(
+                row
+                | {
+                    name: max(row[name], min(number, GREATEST_LIMITS[name]))
+                    for name, number in wide.items()
+                }
+            )
         return Plan(rows, {self.site: self.period}, self.words.with_period)
 
     async def replayed(self, lines: list[str]) -> Figures:
@@ -178,7 +185,7 @@ class Closing:
         ]
 
     def finished(self, changes: list[Line], whole: Figures, day: date) -> set[Transaction]:
-        """The transactions that are complete, and all moments of which lie before the day."""
+        """The transactions that are complete, all moments of which lie before the day, and those that were named."""
         begin = datetime.combine(day, time(), self.zone)
         open_ones, unread = set[Transaction | None](), set[str]()
         for line in changes:
@@ -191,11 +198,25 @@ class Closing:
                 open_ones.add(line.transaction)
             if line.transaction is None:
                 unread.add(station_of(line.text))
-        return {
+        complete = {
             (station, name)
             for (station, kind, name), numbers in whole.items()
             if kind == "tx" and numbers["complete"] and station not in unread
-        } - open_ones
+        }
+        return complete - open_ones | self.named({line.transaction for line in changes})
+
+    def named(self, there: set[Transaction | None]) -> set[Transaction]:
+        """The transactions that an operator has archived as they are. Raises Fault where one is not there."""
+        named = {
+            (station, name.lower())
+            for station, name in self.words.incomplete
+            if station in self.names()
+        }
+        for station, name in sorted(named - there):
+            raise Fault(
+                f"shard {self.shard}: the log has no transaction {name} of {station}; nothing was taken from it"
+            )
+        return named
 
     def tell_unread(self, line: Line, fault: Unreadable) -> None:
         """Names a line that can't be read, and what stays in the log for that."""
@@ -275,8 +296,16 @@ class Closing:
         again = old + [line.text for line in late if line.is_change]
         was, now = (await self.replayed(old), await self.replayed(again)) if late else ({}, {})
         # The archive of this closing: what leaves the log, and what is archived with what came for it.
+        # What was refused for want of room stays in the log, once: there is more room once others have left.
+        kept = dict[str, Line]()
+        for line in live + late:
+            if is_for_room(line.answer):
+                kept.setdefault(line.text, line)
+        staying = {line.row["id"] for line in kept.values()}
         refused = [
-            line for line in live + late if not line.is_change and not is_repeat(line.answer, False)
+            line
+            for line in live + late
+            if not (line.is_change or is_repeat(line.answer, False) or is_for_room(line.answer))
         ]
         leaving = [line.text for line in changes if line.transaction in gone]
         number = len(before) + 1
@@ -296,9 +325,8 @@ class Closing:
             )
         moved = differences(periods(in_file), periods(was))
         settled = await self.unsettled(day, rest, moved)
-        removed = [
-            line.row for line in live if line.transaction in gone or not line.is_change
-        ] + late_rows
+        left = [line for line in live if line.transaction in gone or not line.is_change]
+        removed = [line.row for line in left + late if line.row["id"] not in staying]
         if not (settled or removed) and before and before[-1]["day"] == day:
             return (
                 f"{self.site}, shard {self.shard}: {day} is closed already, and nothing came since"
@@ -335,7 +363,8 @@ class Closing:
         return (
             f"{self.site}, shard {self.shard}: settled up to {day}, {len(settled)} rows, {corrections} of them "
             f"corrections; {len(gone)} transactions archived, {len(late)} late lines, {len(refused)} refused ones, "
-            f"{sum(is_repeat(line.answer, line.is_change) for line in live)} repeats; {name or 'no archive needed'}"
+            f"{sum(is_repeat(line.answer, line.is_change) for line in live)} repeats, {len(kept)} wait for room; "
+            f"{name or 'no archive needed'}"
         )
 
     async def unsettled(self, day: date, rest: Figures, moved: Flows) -> list[tuple[Any, ...]]:
@@ -396,6 +425,11 @@ async def run(words: argparse.Namespace) -> None:
     )
     if not sites:
         raise Fault(f"no site {words.site} in this cell")
+    query = "select station from own_station where site = $1"
+    names = {row["station"] for row in await session.fetch(query, words.site)}
+    for station, _ in words.incomplete:
+        if station not in names:
+            raise Fault(f"site {words.site} has no station {station}")
     for site in sites:
         today = datetime.now(ZoneInfo(site["zone"])).date()
         if words.day and words.day >= today:
@@ -423,6 +457,14 @@ def main(argv: Sequence[str], prog: str) -> int:
     parser.add_argument("--site", required=True, help="which site")
     parser.add_argument(
         "--day", type=day_of, help="such as 2026-03-01 (default: yesterday, in the site's zone)"
+    )
+    parser.add_argument(
+        "--incomplete",
+        nargs=2,
+        action="append",
+        default=[],
+        metavar=("STATION", "TRANSACTION"),
+        help="archives this transaction as it is, too, though it is not complete",
     )
     parser.add_argument(
         "--archive", required=True, type=Path, metavar="FOLDER", help="where archives are kept"

@@ -13,7 +13,7 @@ from collections.abc import Sequence
 
 from ocpp_board.fleet import parts
 from ocpp_board.fleet.database import Fault, connect
-from ocpp_board.fleet.lines import station_of
+from ocpp_board.fleet.lines import is_repeat, station_of
 from ocpp_board.fleet.plans import Plan, knows_period
 from ocpp_board.fleet.replays import Replay
 from ocpp_board.words import add_program, parser_of
@@ -66,11 +66,6 @@ async def answered(program: str, plan: Plan, lines: list[str]) -> list[tuple[byt
     finally:
         replay.kill()
     return found
-
-
-def is_repeat(answer: bytes, is_change: bool) -> bool:
-    """Whether a message was taken before."""
-    return answer.startswith(b"[3,") and not is_change
 
 
 async def compact(words: argparse.Namespace) -> None:

@@ -1,4 +1,4 @@
-"""Lines of a shard's log: which transaction each speaks of, and the moments of its event."""
+"""Lines of a shard's log: which transaction each speaks of, what its event has, and what its answer says."""
 
 from datetime import datetime
 from typing import Any
@@ -8,6 +8,9 @@ from ocpp_board.messages import parsed
 COMMANDS = ("msg ", "void ", "restore ", "erase ")
 # A station and the id of a transaction, in small letters as boards have it.
 Transaction = tuple[str, str]
+# Refusals of what may be taken once there is room, and the measurands that count as readings.
+FOR_ROOM = ("TooManyTransactions", "EventsFull", "ReadingsFull", "ChangesExhausted")
+REGISTERS = (None, "Energy.Active.Import.Register", "Energy.Active.Export.Register")
 # What reading the JSON of a line may raise where that is no event.
 ODD = (ValueError, LookupError, TypeError, AttributeError, RecursionError)
 
@@ -56,3 +59,28 @@ def moments_of(text: str) -> list[datetime]:
 def is_before(text: str, moment: datetime) -> bool:
     """Whether all moments of a line lie before this one. Raises Unreadable."""
     return all(one < moment for one in moments_of(text))
+
+
+def readings_of(text: str) -> int:
+    """How many readings of a line's event may count; more than do where a phase or a location is named."""
+    if not text.startswith("msg "):
+        return 0
+    try:
+        meters = parsed(text.split(" ", 2)[2])[3].get("meterValue") or []
+        return sum(
+            value.get("measurand") in REGISTERS for one in meters for value in one["sampledValue"]
+        )
+    except ODD:
+        return text.count('"value"')
+
+
+def is_repeat(answer: bytes, is_change: bool) -> bool:
+    """Whether a message was taken before."""
+    return answer.startswith(b"[3,") and not is_change
+
+
+def is_for_room(answer: bytes) -> bool:
+    """Whether a line was refused for want of room: it may be taken once there is some."""
+    if answer.startswith(b"[4,"):
+        return parsed(answer.decode())[3] in FOR_ROOM
+    return answer.removeprefix(b"refused ").decode() in FOR_ROOM
