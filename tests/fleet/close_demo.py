@@ -131,32 +131,13 @@ class Demo(ClosingTrial):
         """Killed before it read, before it wrote rows, and after it did."""
         for step, table in (("reading", "own_log"), ("writing rows", "own_closing")):
             await self.came(*session("A", f"Kill-{step[0]}", local("2026-11-02 08:00"), 4))
-            lock = await self.fleet.owner()
-            transaction = lock.transaction()
-            await transaction.start()
             mode = "exclusive" if table == "own_closing" else "access exclusive"
-            await lock.execute(
-                f"set idle_in_transaction_session_timeout = 0; lock table {table} in {mode} mode"
-            )
-            process = self.fleet.start(
-                *self.command("2026-11-03"), stdout=-1, stderr=subprocess.STDOUT
-            )
-            end, blocked = time.monotonic() + 15, 0
-            while not blocked and time.monotonic() < end:
-                await asyncio.sleep(0.05)
-                blocked = await self.owner.fetchval(
-                    "select count(*) from pg_stat_activity where wait_event_type = 'Lock' and application_name = "
-                    "'ocpp-board close-day'"
-                )
-            process.kill()
-            process.wait()
-            await transaction.rollback()
-            await lock.close()
+            was_blocked = await self.killed(self.command("2026-11-03"), table, mode)
             gone = await self.owner.fetchval(
                 "select count(*) from own_closing where day = '2026-11-03'"
             )
             self.check(
-                blocked == 1 and gone == 0,
+                was_blocked and gone == 0,
                 f"ocpp-board close-day is killed while {step}, and closed nothing",
             )
         await self.closed("closing after it was killed", "2026-11-03", "3 transactions archived")
@@ -211,6 +192,8 @@ class Demo(ClosingTrial):
         )
         if row:
             await self.came(f"void {row['station']} {row['transaction']} 1")
+            # As an earlier version left it, which had its lines in the file alone.
+            await self.owner.execute("delete from own_archived_lines where shard = 0")
             status, said = await self.close_day("2026-11-05")
             self.check(status == 2 and name in said, f"an archive that is not there: {said}")
         moved.rename(path)

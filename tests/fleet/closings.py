@@ -10,6 +10,7 @@ from pathlib import Path
 from typing import Any
 from zoneinfo import ZoneInfo
 
+from ocpp_board.fleet.database import connect
 from tests.fleet.fleet import ended
 from tests.fleet.trials import Trial, event
 
@@ -17,6 +18,9 @@ ZONE = ZoneInfo("Europe/Berlin")
 # The channel on which answers are told here.
 CHANNEL = "closings"
 APPEND = "insert into own_log (shard, gateway, token, line) values ($1, $2, $3, $4)"
+BLOCKED = """
+select count(*) from pg_stat_activity where wait_event_type = 'Lock' and application_name like 'ocpp-board %'
+"""
 WAITING = "select count(*) from own_log l join own_shard s using (shard) where (l.xid, l.id) > (s.xid, s.id)"
 
 
@@ -61,6 +65,12 @@ class ClosingTrial(Trial):
         self.homes: dict[str, int] = {}
 
     async def open(self) -> None:
+        """Starts a database with the stations, and a worker."""
+        await self.open_plan()
+        self.worker = self.fleet.worker("--boards", 0.2)
+
+    async def open_plan(self) -> None:
+        """Starts a database with the stations."""
         self.archives.mkdir()
         await self.one_cell()
         for shard, site, station in self.STATIONS:
@@ -68,7 +78,6 @@ class ClosingTrial(Trial):
             self.homes[station] = shard
         await self.owner.execute("update own_site set zone = 'Europe/Berlin'")
         await self.owner.add_listener(CHANNEL, self.told)
-        self.worker = self.fleet.worker("--boards", 0.2)
 
     def told(self, _session: Any, _pid: int, _channel: str, payload: str) -> None:
         """A worker told answers."""
@@ -91,8 +100,8 @@ class ClosingTrial(Trial):
         return [self.answers.get(token, "no answer") for token in tokens]
 
     async def until(self, query: str, wanted: object, *values: object) -> bool:
-        """Whether a query has this answer within 20 seconds."""
-        end = time.monotonic() + 20
+        """Whether a query has this answer within 10 seconds."""
+        end = time.monotonic() + 10
         while (found := await self.owner.fetchval(query, *values)) != wanted:
             if time.monotonic() > end:
                 print(f"not {wanted} but {found}: {query}", flush=True)
@@ -110,6 +119,25 @@ class ClosingTrial(Trial):
         return await ended(
             self.fleet.start(*self.command(day, **more), stdout=-1, stderr=subprocess.STDOUT)
         )
+
+    async def killed(self, command: list[str], table: str, mode: str, login: str = "") -> bool:
+        """Kills a command once it waits for this table. Whether it came to that."""
+        lock = await connect(login or self.fleet.dsn("owner"))
+        transaction = lock.transaction()
+        await transaction.start()
+        await lock.execute(
+            f"set idle_in_transaction_session_timeout = 0; lock table {table} in {mode} mode"
+        )
+        process = self.fleet.start(*command, stdout=-1, stderr=subprocess.STDOUT)
+        end, blocked = time.monotonic() + 15, 0
+        while not blocked and time.monotonic() < end and process.poll() is None:
+            await asyncio.sleep(0.05)
+            blocked = await self.owner.fetchval(BLOCKED)
+        process.kill()
+        process.wait()
+        await transaction.rollback()
+        await lock.close()
+        return bool(blocked == 1)
 
     async def same(self, text: str, day: str) -> None:
         """Whether boards and archives together are the whole, and what is settled its periods up to the day."""

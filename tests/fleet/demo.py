@@ -323,7 +323,7 @@ class Demo(Trial):
         """A station's name is in one cell only; the second cell is another database of the same server."""
         database, station = self.fleet.databases[0], "CS-00000"
         database.fill(2, "second")
-        second = await connect(self.fleet.dsn("owner").replace("/ledger", "/second"))
+        second = await connect(self.fleet.dsn("owner", database="second"))
         see = f"call see_cell(1::smallint, '127.0.0.1', '{database.port}', 'ledger', '{self.fleet.password}')"
 
         async def refused(query: str) -> str:

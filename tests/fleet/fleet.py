@@ -25,6 +25,8 @@ from ocpp_board.fleet.plans import Plan, knows_period
 
 TOP = Path(__file__).resolve().parent.parent.parent
 SCHEMA = TOP / "python/ocpp_board/fleet/schema.sql"
+# As version 0.3.0 had it, for trying that a database of that is migrated.
+OLD_SCHEMA = TOP / "tests/fleet/schema-0.3.0.sql"
 BIN = Path("/usr/lib/postgresql/15/bin")
 
 
@@ -140,9 +142,12 @@ class Database:
         ]
         subprocess.run(list(map(str, command)), check=True, **more)
 
-    def fill(self, cell: int, name: str = "ledger") -> None:
+    def fill(self, cell: int, name: str = "ledger", schema: Path = SCHEMA) -> None:
         self.psql("postgres", "-c", f"create database {name}")
-        self.psql(name, "-v", f"cell={cell}", "-f", SCHEMA, env=os.environ | self.fleet.roles())
+        self.run_schema(name, "-v", f"cell={cell}", schema=schema)
+
+    def run_schema(self, name: str, *words: str, schema: Path = SCHEMA) -> None:
+        self.psql(name, *words, "-f", schema, env=os.environ | self.fleet.roles())
 
     def kill(self) -> None:
         """Ends the server and all its processes at once, as a machine that fails."""
@@ -206,11 +211,11 @@ class Fleet:
         self.databases.append(Database(self, self.folder / name))
         return self.databases[-1]
 
-    def dsn(self, user: str, *ports: int) -> str:
+    def dsn(self, user: str, *ports: int, database: str = "ledger") -> str:
         hosts = ",".join(
             f"127.0.0.1:{port}" for port in ports or [one.port for one in self.databases]
         )
-        return f"postgresql://{user}@{hosts}/ledger"
+        return f"postgresql://{user}@{hosts}/{database}"
 
     def roles(self) -> dict[str, str]:
         """The passwords that schema.sql takes from the environment."""
@@ -374,7 +379,7 @@ class Fleet:
             "select text from own_board where shard = $1 and site = $2", shard, site
         )
         rows = await owner.fetch(
-            "select station, transaction, archive from own_archived_transaction join own_closing "
+            "select station, transaction, archive from own_archived_lines join own_closing "
             "using (shard, site, closing) where shard = $1 and site = $2",
             shard,
             site,

@@ -10,15 +10,19 @@ something is not as it must be.
 
 import argparse
 import asyncio
+import signal
 import sys
 from typing import Any
 
 import asyncpg
 
 from tests.fleet.client import Client
-from tests.fleet.closings import ClosingTrial, local, session
+from tests.fleet.closings import ClosingTrial, line, local, session
+from tests.fleet.fleet import ended, tool
 from tests.fleet.trials import parsed, parser_of, tried
 
+ENERGY = "select coalesce(sum(up_kwh - down_kwh), 0) from energy where site = $1"
+ALL_SETTLED = "select coalesce(sum(up - down), 0)::bigint from settled_period where site = $1"
 SETTLED = "select coalesce(sum(up - down), 0)::bigint from settled_period where station = $1"
 IN_LOG = "select count(*) from own_log where line like 'msg ' || $1 || ' %' || $2 || '%'"
 
@@ -28,6 +32,8 @@ class Demo(ClosingTrial):
         (0, "leaving", "L1"),
         (0, "leaving", "L2"),
         (1, "full", "F1"),
+        (2, "again", "G1"),
+        (3, "moving", "M1"),
         (0, "long", "N1"),
         (0, "long", "N2"),
     )
@@ -105,6 +111,100 @@ class Demo(ClosingTrial):
         await self.close_site(text, day, site="leaving")
         found = await self.owner.fetchval(SETTLED, "L1")
         self.check(found == had > 0, f"{text}: {found} mWh of it are settled, and were {had}")
+
+    async def again(self) -> None:
+        """What comes for a transaction that is archived: counted once, and answered as it will be."""
+        lines = session("G1", "TX-1", local("2026-03-01 08:00"), 4)
+        other = session("G1", "TX-2", local("2026-03-02 08:00"), 3)[:2]
+        await self.came(*lines, *other)
+        await self.closed_at_once(lines)
+        await self.came(*lines, *lines[1:3])
+        await self.counted("an archived transaction that comes again", "1")
+        answers = await self.came(
+            line("G1", "TX-1", 2, "Updated", local("2026-03-01 08:30"), 9999), lines[3],
+            "void G1 TX-1 1", "void G1 tx-1 1", "void G1 TX-1 9", "restore G1 TX-1 2",
+            line("G1", "TX-1", 4, "Updated", local("2026-03-01 09:00"), 2000), "void G1 TX-2 1",
+        )  # fmt: skip
+        wanted = [
+            '[4,"TX-1-2","GenericError","ConflictingEvent",{}]', '[3,"TX-1-3",{}]',
+            "accepted at the next closing", "refused AlreadyVoided", "refused NoSuchEvent",
+            "refused NotVoided", '[3,"TX-1-4",{}]', "accepted 3",
+        ]  # fmt: skip
+        self.check(answers == wanted, f"what comes for it is answered as it will be: {answers}")
+        await self.counted("what waits for the next closing", "0.75")
+        self.worker.kill()
+        self.worker = self.fleet.worker("--boards", 0.2)
+        await self.came("restore G1 TX-2 1")
+        await self.counted("a new worker", "1")
+        await self.close_site(
+            "which takes it", "2026-03-03", "tx-1 of G1, which was archived; 2 taken",
+            "4 refused ones", site="again",
+        )  # fmt: skip
+        await self.counted("a late event behind the end", "1.25")
+        await self.came(*(f"void G1 TX-1 {number}" for number in (0, 2, 3, 4)))
+        await self.close_site("all of its events voided", "2026-03-03", "; 4 taken", site="again")
+        await self.counted("an archived transaction without live events", "0.25")
+        answers = await self.came("restore G1 TX-1 4", "restore G1 TX-1 3")
+        self.check(answers == 2 * [wanted[2]], f"two of these are restored: {answers}")
+        await self.close_site("two restored", "2026-03-03", "; 2 taken", site="again")
+        await self.counted("and counted again", "0.5")
+
+    async def closed_at_once(self, lines: list[str]) -> None:
+        """Between a closing and the next board, what it archived is counted once."""
+        await self.close_site("a day before it", "2026-03-01", "0 transactions", site="again")
+        await self.until(f"select exists ({ENERGY} having sum(up_kwh) = 1)", True, "again")
+        self.worker.send_signal(signal.SIGSTOP)
+        await self.close_site("and its day", "2026-03-02", "1 transactions", site="again")
+        found = await self.owner.fetchval(ENERGY, "again")
+        self.worker.send_signal(signal.SIGCONT)
+        self.check(found == 1, f"a closing before the board is written again: {found} kWh")
+        answers = await self.came(lines[0])
+        self.check(answers[0].startswith("[3,"), f"an archived event again: {answers}")
+
+    async def counted(self, text: str, wanted: str) -> None:
+        """Whether the energy of the site is this once boards are written, and stays so."""
+        board = "select min(b.plan - s.plan) from own_board b join own_shard s using (shard)"
+        await self.until(board, 0)
+        await asyncio.sleep(0.5)
+        found = await self.owner.fetchval(ENERGY, "again")
+        self.check(float(found) == float(wanted), f"{text}: {found} kWh")
+
+    async def moving(self) -> None:
+        """A move that is killed between its steps: each energy counts once, in one of the cells."""
+        database = self.fleet.databases[0]
+        database.fill(2, "second")
+        second = self.fleet.dsn("owner", database="second")
+        await self.owner.execute(
+            f"call see_cell(2::smallint, '127.0.0.1', '{database.port}', 'second', '{self.fleet.password}')"
+        )
+        await self.came(
+            *session("M1", "TX-1", local("2026-03-01 08:00"), 4),
+            *session("M1", "TX-2", local("2026-03-02 08:00"), 3)[:2],
+        )
+        for day in ("2026-03-01", "2026-03-02"):
+            await self.close_site(f"a shard that moves, {day}", day, site="moving")
+        await self.until(f"select exists ({ENERGY} having sum(up_kwh) = 1)", True, "moving")
+        command = [*tool("move"), "--from", self.fleet.dsn("owner"), "--to", second, "--shard", "3"]
+        for text, table, login in (
+            ("before it wrote there", "own_shard", second),
+            ("before it removed here", "own_closing", ""),
+        ):
+            was_blocked = await self.killed(command, table, "share", login)
+            await self.once(f"a move that is killed {text}", was_blocked)
+        status, said = await ended(self.fleet.start(*command, stdout=-1, stderr=-2))
+        await self.once(f"the move at its end: {said}", status == 0)
+        login = self.fleet.dsn("ledger_worker", database="second")
+        self.fleet.worker("--boards", 0.2, dsn=login)
+        await self.until("select count(*) from board where cell = 2 and plan > 0 and id > 0", 1)
+        await self.once("a board of the other cell's worker", True)
+
+    async def once(self, text: str, is_right: bool) -> None:
+        """Whether the site that moves has its energy once."""
+        found = [await self.owner.fetchval(query, "moving") for query in (ENERGY, ALL_SETTLED)]
+        self.check(
+            is_right and [float(one) for one in found] == [1, 1_000_000],
+            f"{text}: {found[0]} kWh, of which {found[1]} mWh are settled",
+        )
 
     async def full(self) -> None:
         """A station at its limit of transactions, of which two never end."""
@@ -192,8 +292,10 @@ class Demo(ClosingTrial):
     async def run(self) -> None:
         await self.open()
         await self.leaving()
+        await self.again()
         await self.full()
         await self.long_numbers()
+        await self.moving()
         await self.owner.close()
 
 

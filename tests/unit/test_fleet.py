@@ -1,5 +1,6 @@
 """The fleet's plans, figures, payloads and closings, without a database."""
 
+import asyncio
 from datetime import datetime, timezone
 
 import pytest
@@ -8,6 +9,7 @@ pytest.importorskip("asyncpg")
 pytest.importorskip("websockets")
 
 from ocpp_board.energies import Flow  # noqa: E402
+from ocpp_board.fleet.archives import Late, packed, unpacked, widened  # noqa: E402
 from ocpp_board.fleet.close_day import differences  # noqa: E402
 from ocpp_board.fleet.database import Fault, places, said, wakes  # noqa: E402
 from ocpp_board.fleet.events import citrine_event, event_of, maeve_event  # noqa: E402
@@ -18,6 +20,7 @@ from ocpp_board.fleet.lines import (  # noqa: E402
     is_before,
     is_for_room,
     is_repeat,
+    may_name,
     readings_of,
     transaction_of,
 )
@@ -166,6 +169,39 @@ def test_a_line_lies_before_a_day_with_all_its_moments() -> None:
 def test_a_line_that_cannot_be_read_is_told(text: str) -> None:
     with pytest.raises(Unreadable):
         is_before(f"msg A {text}", datetime(2026, 3, 2, tzinfo=timezone.utc))
+
+
+def test_what_a_line_may_name_is_told_without_reading_it() -> None:
+    assert may_name("msg A " + EVENT % "x") == {("A", "t1")}
+    assert may_name('msg A {"transactionId" : "T1", "customData": {"transactionId":"T2"}}') == {
+        ("A", "t1"),
+        ("A", "t2"),
+    }
+    assert may_name('msg A {"transactionI\\u0064":"T1"}') is None
+    assert may_name("msg A no JSON") == set() and may_name("void A T1 3") == {("A", "t1")}
+
+
+def test_lines_of_archives_are_packed() -> None:
+    lines = ["msg A " + EVENT % "x", "void A T1 3"]
+    assert unpacked(packed(lines)) == lines
+    wide = widened(station("A") | {"transactions": 1, "events": 1, "readings": 5}, 5 * lines)
+    assert [wide[name] for name in ("transactions", "events", "readings")] == [1, 10, 5]
+
+
+def test_lines_for_archived_transactions_are_found() -> None:
+    asked = []
+
+    async def fetch(_query: str, _shard: int, *names: tuple[str, ...]) -> list[dict[str, object]]:
+        asked.append(set(zip(*names)))
+        return [{"station": "A", "transaction": "t1", "lines": packed(["void A T1 3"])}]
+
+    late = Late(0, {"A": station("A")}, True)
+    texts = ["msg A " + EVENT % "x", "void A T2 3", "void B T1 3", "msg A no JSON", "void A t1 4"]
+    found = asyncio.run(late.places(fetch, texts))
+    assert found == {0: ("A", "t1"), 4: ("A", "t1")}
+    assert asyncio.run(late.places(fetch, texts)) == found
+    assert asked == [{("A", "t1"), ("A", "t2")}]
+    assert asyncio.run(Late(0, {"A": station("A")}, False).places(fetch, texts)) == {}
 
 
 def test_refusals_for_want_of_room() -> None:

@@ -23,7 +23,7 @@ import argparse
 import asyncio
 import logging
 import os
-from collections.abc import Sequence
+from collections.abc import Collection, Sequence
 from datetime import date, datetime, time, timedelta
 from pathlib import Path
 from typing import Any, NamedTuple
@@ -31,8 +31,9 @@ from zoneinfo import ZoneInfo
 
 from ocpp_board.energies import Flow, flow_of
 from ocpp_board.fleet import parts
+from ocpp_board.fleet.archives import ARCHIVED, packed, unpacked, widened
 from ocpp_board.fleet.compact import READ, answered, boards
-from ocpp_board.fleet.database import Fault, connect
+from ocpp_board.fleet.database import Fault, connect, said
 from ocpp_board.fleet.figures import Figures, Flows, added, figures, periods
 from ocpp_board.fleet.lines import (
     COMMANDS,
@@ -41,12 +42,10 @@ from ocpp_board.fleet.lines import (
     is_before,
     is_for_room,
     is_repeat,
-    readings_of,
     station_of,
     transaction_of,
 )
 from ocpp_board.fleet.plans import Plan, knows_period
-from ocpp_board.limits import GREATEST_LIMITS
 from ocpp_board.words import add_program, parser_of
 
 log = logging.getLogger(__name__)
@@ -59,12 +58,15 @@ where l.shard = $1 and l.xid = g.xid::xid8 and l.id = g.id
 # Its worker begins a replay anew from what is left; the plan that lines were replayed under is still that.
 REPLAN = "update own_shard set plan = plan + 1 where shard = $1 and plan = $2 and moving_to is null"
 BEFORE = "select day, period from own_closing where shard = $1 and site = $2 order by closing"
+# What an earlier version archived, whose lines are in its files alone.
+UNPACKED = """
+select t.station, t.transaction, t.site, t.closing, c.archive
+from own_archived_transaction t join own_closing c using (shard, site, closing)
+where t.shard = $1 and t.station = any($2) and not exists (
+    select from own_archived_lines l where (l.shard, l.station, l.transaction) = (t.shard, t.station, t.transaction))
+"""
 # What is settled and archived is a station's, whichever site it was given to before; of stations that are not in the
 # plan nothing is corrected, since nothing of theirs was replayed.
-FILES = """
-select station, transaction, archive from own_archived_transaction join own_closing using (shard, site, closing)
-where shard = $1 and station = any($2)
-"""
 KEPT = """
 select station, starts, sum(up)::bigint as up, sum(down)::bigint as down, sum(export_up)::bigint as export_up,
     sum(export_down)::bigint as export_down from own_archived_period
@@ -76,26 +78,30 @@ select station, starts, sum(up)::bigint as up, sum(down)::bigint as down, sum(ex
 where shard = $1 and station = any($2) group by station, starts
 """
 CLOSING = """
-insert into own_closing (shard, site, closing, day, period, xid, id, archive)
-values ($1, $2, $3, $4, $5, $6::text::xid8, $7, $8)
+insert into own_closing (shard, site, closing, day, period, xid, id, archive, plan)
+values ($1, $2, $3, $4, $5, $6::text::xid8, $7, $8, $9)
 """
 CLOSED = """
 insert into own_closed_period (shard, site, closing, station, starts, day, up, down, export_up, export_down)
 values ($1, $2, $3, $4, $5, $6, $7, $8, $9, $10)
 """
-ARCHIVED = """
+ARCHIVED_PERIOD = """
 insert into own_archived_period (shard, site, closing, station, starts, up, down, export_up, export_down)
 values ($1, $2, $3, $4, $5, $6, $7, $8, $9)
 """
-# A transaction is archived once: under the site that its station has now.
-ELSEWHERE = "delete from own_archived_transaction where shard = $1 and site <> $2 and station = $3 and transaction = $4"
+# A transaction is archived once, and has figures where it has a live event.
+FORGET = (
+    "delete from own_archived_transaction where shard = $1 and station = $2 and transaction = $3"
+)
 TRANSACTION = """
 insert into own_archived_transaction (shard, site, closing, station, transaction, complete, missing, up, down,
     export_up, export_down)
 values ($1, $2, $3, $4, $5, $6, $7, $8, $9, $10, $11)
-on conflict (shard, site, station, transaction) do update set closing = excluded.closing, complete = excluded.complete,
-    missing = excluded.missing, up = excluded.up, down = excluded.down, export_up = excluded.export_up,
-    export_down = excluded.export_down
+"""
+PACKED = """
+insert into own_archived_lines (shard, site, closing, station, transaction, lines) values ($1, $2, $3, $4, $5, $6)
+on conflict (shard, station, transaction) do update
+    set site = excluded.site, closing = excluded.closing, lines = excluded.lines
 """
 
 
@@ -107,6 +113,54 @@ class Line(NamedTuple):
     transaction: Transaction | None
     answer: bytes
     is_change: bool
+
+    def is_refused(self) -> bool:
+        """Whether it was refused for good."""
+        is_taken = self.is_change or is_repeat(self.answer, False)
+        return not is_taken and not is_for_room(self.answer)
+
+
+class Sorted(NamedTuple):
+    """The log's lines by what becomes of them, and the figures of parts of it."""
+
+    # Lines of transactions of the log, and those that came for archived ones, whose lines are known.
+    live: list[Line]
+    late: list[Line]
+    known: dict[Transaction, list[str]]
+    # Transactions that leave the log; figures of it whole and of the rest, of what was archived and of that with what
+    # came for it.
+    gone: set[Transaction]
+    whole: Figures
+    rest: Figures
+    was: Figures
+    now: Figures
+
+    def leaving(self) -> dict[Transaction, list[str]]:
+        """The lines of each transaction that this closing archives, or archives again with what came for it."""
+        lines = {one: list(known) for one, known in self.known.items()}
+        for line in self.live + self.late:
+            if line.is_change and (line.transaction in self.gone or line.transaction in self.known):
+                assert line.transaction
+                lines.setdefault(line.transaction, []).append(line.text)
+        return lines
+
+    def refused(self) -> list[Line]:
+        """What was refused for good."""
+        return [line for line in self.live + self.late if line.is_refused()]
+
+    def waiting(self) -> list[Line]:
+        """What was refused for want of room, each text once: it stays in the log, and is taken once there is room."""
+        lines = dict[str, Line]()
+        for line in self.live + self.late:
+            if is_for_room(line.answer):
+                lines.setdefault(line.text, line)
+        return list(lines.values())
+
+    def removed(self) -> list[Any]:
+        """The rows that leave the log."""
+        staying = {line.row["id"] for line in self.waiting()}
+        lines = [line for line in self.live if line.transaction in self.gone or not line.is_change]
+        return [line.row for line in lines + self.late if line.row["id"] not in staying]
 
 
 class Closing:
@@ -149,22 +203,10 @@ class Closing:
 
     def plan(self, lines: list[str]) -> Plan:
         """The plan of the site's stations, with limits that take these lines whatever they were."""
-        needs: dict[str, list[int]] = {row["station"]: [0, 0] for row in self.stations}
+        own: dict[str, list[str]] = {}
         for line in lines:
-            need = needs[station_of(line)]
-            need[0] += 1
-            need[1] += readings_of(line)
-        rows = []
-        for row in self.stations:
-            events, readings = needs[row["station"]]
-            wide = {"transactions": events, "events": events, "readings": readings}
-            rows.append(
-                row
-                | {
-                    name: max(row[name], min(number, GREATEST_LIMITS[name]))
-                    for name, number in wide.items()
-                }
-            )
+            own.setdefault(station_of(line), []).append(line)
+        rows = [widened(row, own.get(row["station"], [])) for row in self.stations]
         return Plan(rows, {self.site: self.period}, self.words.with_period)
 
     async def replayed(self, lines: list[str]) -> Figures:
@@ -178,7 +220,7 @@ class Closing:
         plan = self.plan(lines if front else [])
         answers = await answered(self.words.program, plan, lines)
         if not all(is_change for _, is_change in answers[: len(front)]):
-            raise Fault(f"site {self.site}: what is in {self.words.archive} is not taken again")
+            raise Fault(f"site {self.site}: what was archived is not taken again")
         return [
             Line(row, row["line"], transaction_of(row["line"]), answer, is_change)
             for row, (answer, is_change) in zip(rows, answers[len(front) :])
@@ -226,17 +268,35 @@ class Closing:
             *(self.shard, line.row["id"], fault, name, station),
         )
 
-    def archived_lines(self, files: dict[Transaction, str]) -> list[str]:
-        """What archives have of these transactions."""
-        lines = []
-        for name in sorted(set(files.values())):
-            for line in (self.words.archive / name).read_bytes().decode().split("\n"):
-                if (
-                    line.startswith(COMMANDS)
-                    and files.get(transaction_of(line) or ("", "")) == name
-                ):
-                    lines.append(line)
-        return lines
+    async def pack(self) -> None:
+        """Packs the lines of what an earlier version archived, where the archives are there."""
+        names = dict[str, dict[Transaction, Any]]()
+        for row in await self.fetch(UNPACKED, self.names()):
+            names.setdefault(row["archive"], {})[row["station"], row["transaction"]] = row
+        for name, rows in names.items():
+            try:
+                lines = archived_lines(self.words.archive / name, rows)
+            except OSError as fault:
+                log.warning("%s; what comes for its transactions can't be taken", said(fault))
+                continue
+            place = [(self.shard, row["site"], row["closing"], *one) for one, row in rows.items()]
+            texts = [packed(lines[one]) for one in rows]
+            await self.session.executemany(
+                PACKED, [(*head, text) for head, text in zip(place, texts)]
+            )
+
+    async def archived(self, rows: list[Any]) -> dict[Transaction, list[str]]:
+        """The archived transactions that these rows are of, with their lines. Raises Fault where these are missing."""
+        ones = {one for row in rows if (one := transaction_of(row["line"]))}
+        found = {}
+        for row in await self.fetch(ARCHIVED, *([one[part] for one in ones] for part in (0, 1))):
+            if row["lines"] is None:
+                raise Fault(
+                    f"{self.words.archive / row['archive']} is not there, and lines came for {row['transaction']} of "
+                    f"{row['station']}, which it has"
+                )
+            found[row["station"], row["transaction"]] = unpacked(row["lines"])
+        return found
 
     async def archive(self, name: str, lines: list[str], refused: list[Line]) -> Figures:
         """Writes an archive, and gives its figures as they are read again from the disk."""
@@ -265,6 +325,21 @@ class Closing:
         text, _ = await replay.communicate(path.read_bytes() + f"board {self.site}\n".encode())
         return figures(text[text.rindex(b"\nboard ") if b"\nboard " in text else 0 :].decode())
 
+    async def sorted_all(self, rows: list[Any], day: date) -> Sorted:
+        """What becomes of the log's lines: what came for archived transactions, and what the others do without that."""
+        known = await self.archived(rows)
+        own = [(row, transaction_of(row["line"]) in known) for row in rows]
+        live = await self.sorted_out([row for row, is_late in own if not is_late], [])
+        changes = [line for line in live if line.is_change]
+        whole = await self.replayed([line.text for line in changes])
+        gone = self.finished(changes, whole, day)
+        rest = await self.replayed([line.text for line in changes if line.transaction not in gone])
+        old = [line for lines in known.values() for line in lines]
+        late = await self.sorted_out([row for row, is_late in own if is_late], old)
+        again = old + [line.text for line in late if line.is_change]
+        was, now = (await self.replayed(old), await self.replayed(again)) if late else ({}, {})
+        return Sorted(live, late, known, gone, whole, rest, was, now)
+
     async def run(self, day: date) -> str:
         """Closes the day, and says in one line what that was."""
         mark, rows = await self.read()
@@ -275,95 +350,78 @@ class Closing:
                 f"{self.period}: give its stations to a site of another name"
             )
         day = max([day, *(row["day"] for row in before)])
-        files = {
-            (row["station"], row["transaction"]): row["archive"]
-            for row in await self.fetch(FILES, self.names())
-        }
-        # What came for transactions that are archived, and what the others' lines do without that.
-        late_rows = [row for row in rows if transaction_of(row["line"]) in files]
-        live = await self.sorted_out(
-            [row for row in rows if transaction_of(row["line"]) not in files], []
-        )
-        changes = [line for line in live if line.is_change]
-        whole = await self.replayed([line.text for line in changes])
-        gone = self.finished(changes, whole, day)
-        rest = await self.replayed([line.text for line in changes if line.transaction not in gone])
-        late_files = {
-            one: files[one] for row in late_rows if (one := transaction_of(row["line"])) in files
-        }
-        old = self.archived_lines(late_files)
-        late = await self.sorted_out(late_rows, old)
-        again = old + [line.text for line in late if line.is_change]
-        was, now = (await self.replayed(old), await self.replayed(again)) if late else ({}, {})
-        # The archive of this closing: what leaves the log, and what is archived with what came for it.
-        # What was refused for want of room stays in the log, once: there is more room once others have left.
-        kept = dict[str, Line]()
-        for line in live + late:
-            if is_for_room(line.answer):
-                kept.setdefault(line.text, line)
-        staying = {line.row["id"] for line in kept.values()}
-        refused = [
-            line
-            for line in live + late
-            if not (line.is_change or is_repeat(line.answer, False) or is_for_room(line.answer))
-        ]
-        leaving = [line.text for line in changes if line.transaction in gone]
-        number = len(before) + 1
-        name = (
-            f"{self.site}.shard-{self.shard}.{number}.script"
-            if leaving or late or refused
-            else None
-        )
-        in_file = await self.archive(name, leaving + again, refused) if name else {}
+        await self.pack()
+        log_lines = await self.sorted_all(rows, day)
+        leaving, refused = log_lines.leaving(), log_lines.refused()
+        head = (self.shard, self.site, len(before) + 1)
+        name = f"{self.site}.shard-{self.shard}.{head[2]}.script" if leaving or refused else None
+        lines = [line for own in leaving.values() for line in own]
+        in_file = await self.archive(name, lines, refused) if name else {}
+        self.compare(log_lines, in_file)
+        moved = differences(periods(in_file), periods(log_lines.was))
+        settled, removed = await self.unsettled(day, log_lines.rest, moved), log_lines.removed()
+        if not (settled or removed) and before and before[-1]["day"] == day:
+            return (
+                f"{self.site}, shard {self.shard}: {day} is closed already, and nothing came since"
+            )
+        values = (day, self.period, mark["xid"], mark["id"], name, mark["plan"] + 1)
+        async with self.session.transaction():
+            await self.session.execute(CLOSING, *head, *values)
+            await self.session.executemany(CLOSED, [(*head, *row) for row in settled])
+            await self.session.executemany(
+                ARCHIVED_PERIOD, [(*head, *key, *flow) for key, flow in moved.items()]
+            )
+            await self.write_transactions(head, in_file, leaving)
+            await self.take_out(mark, removed)
+        self.tell_late(log_lines.late)
+        return self.told(day, log_lines, settled, [row["day"] for row in before], name)
+
+    def compare(self, log_lines: Sorted, in_file: Figures) -> None:
+        """Raises Fault where the archive and what is left are not together what the log and older archives had."""
         try:
-            is_same = added([rest, in_file]) == added([whole, now])
+            is_same = added([log_lines.rest, in_file]) == added([log_lines.whole, log_lines.now])
         except ValueError as fault:
             raise Fault(f"site {self.site}: {fault}; nothing was taken from the log") from None
         if not is_same:
             raise Fault(
                 f"site {self.site}: the archive and what is left differ from the log; nothing was taken from it"
             )
-        moved = differences(periods(in_file), periods(was))
-        settled = await self.unsettled(day, rest, moved)
-        left = [line for line in live if line.transaction in gone or not line.is_change]
-        removed = [line.row for line in left + late if line.row["id"] not in staying]
-        if not (settled or removed) and before and before[-1]["day"] == day:
-            return (
-                f"{self.site}, shard {self.shard}: {day} is closed already, and nothing came since"
-            )
-        async with self.session.transaction():
-            head = (self.shard, self.site, number)
-            await self.session.execute(
-                CLOSING, *head, day, self.period, mark["xid"], mark["id"], name
-            )
-            await self.session.executemany(CLOSED, [(*head, *row) for row in settled])
-            await self.session.executemany(
-                ARCHIVED, [(*head, *key, *flow) for key, flow in moved.items()]
-            )
-            await self.session.executemany(
-                ELSEWHERE, [(self.shard, self.site, *row[:2]) for row in transactions(in_file)]
-            )
-            await self.session.executemany(
-                TRANSACTION, [(*head, *row) for row in transactions(in_file)]
-            )
-            xids, ids = [row["xid"] for row in removed], [row["id"] for row in removed]
-            done = [
-                await self.session.execute(REMOVE, self.shard, xids, ids),
-                await self.session.execute(REPLAN, self.shard, mark["plan"]),
-            ]
-            if done != [f"DELETE {len(removed)}", "UPDATE 1"]:
-                raise Fault(
-                    f"shard {self.shard}: its plan or its log was changed meanwhile; nothing was taken from it"
-                )
-            await self.session.execute("select pg_notify('plan', $1)", str(self.shard))
-        self.tell_late(late)
-        corrections = (
-            sum(row[2] <= max(one["day"] for one in before) for row in settled) if before else 0
+
+    async def write_transactions(
+        self, head: tuple[int, str, int], in_file: Figures, leaving: dict[Transaction, list[str]]
+    ) -> None:
+        """Writes the archived transactions: their figures, and their lines."""
+        await self.session.executemany(FORGET, [(self.shard, *one) for one in leaving])
+        await self.session.executemany(
+            TRANSACTION, [(*head, *row) for row in transactions(in_file)]
         )
+        await self.session.executemany(
+            PACKED, [(*head, *one, packed(lines)) for one, lines in leaving.items()]
+        )
+
+    async def take_out(self, mark: Any, removed: list[Any]) -> None:
+        """Takes rows out of the log. Raises Fault where that or the plan was changed meanwhile."""
+        xids, ids = [row["xid"] for row in removed], [row["id"] for row in removed]
+        done = [
+            await self.session.execute(REMOVE, self.shard, xids, ids),
+            await self.session.execute(REPLAN, self.shard, mark["plan"]),
+        ]
+        if done != [f"DELETE {len(removed)}", "UPDATE 1"]:
+            raise Fault(
+                f"shard {self.shard}: its plan or its log was changed meanwhile; nothing was taken from it"
+            )
+        await self.session.execute("select pg_notify('plan', $1)", str(self.shard))
+
+    def told(
+        self, day: date, log_lines: Sorted, settled: list[Any], before: list[date], name: str | None
+    ) -> str:
+        """What a closing did, in one line."""
+        corrections = sum(row[2] <= max(before) for row in settled) if before else 0
+        repeats = sum(is_repeat(line.answer, line.is_change) for line in log_lines.live)
         return (
             f"{self.site}, shard {self.shard}: settled up to {day}, {len(settled)} rows, {corrections} of them "
-            f"corrections; {len(gone)} transactions archived, {len(late)} late lines, {len(refused)} refused ones, "
-            f"{sum(is_repeat(line.answer, line.is_change) for line in live)} repeats, {len(kept)} wait for room; "
+            f"corrections; {len(log_lines.gone)} transactions archived, {len(log_lines.late)} late lines, "
+            f"{len(log_lines.refused())} refused ones, {repeats} repeats, {len(log_lines.waiting())} wait for room; "
             f"{name or 'no archive needed'}"
         )
 
@@ -393,6 +451,15 @@ class Closing:
             print(
                 f"{self.site}: {len(lines)} late lines for {name} of {station}, which was archived; {taken} taken"
             )
+
+
+def archived_lines(path: Path, ones: Collection[Transaction]) -> dict[Transaction, list[str]]:
+    """What an archive has of these transactions. Raises OSError where it is not there."""
+    lines: dict[Transaction, list[str]] = {one: [] for one in ones}
+    for line in path.read_bytes().decode().split("\n"):
+        if line.startswith(COMMANDS) and (one := transaction_of(line)) in lines:
+            lines[one].append(line)
+    return lines
 
 
 def differences(new: Flows, old: Flows) -> Flows:

@@ -4,7 +4,8 @@
 
 The log up to where answers were told is replayed under the plan's limits, and after each message the station's
 total is asked for. A message that was taken and left the total as it was is a repeat, since each accepted change
-counts in it. What was refused stays, since it tells of a conflict. Before anything is removed the lines that are
+counts in it. What was refused stays, since it tells of a conflict; so does what came for archived transactions, which
+the next closing takes. Before anything is removed the lines that are
 left are replayed, and their boards must be the same.
 """
 
@@ -12,6 +13,7 @@ import argparse
 from collections.abc import Sequence
 
 from ocpp_board.fleet import parts
+from ocpp_board.fleet.archives import Late
 from ocpp_board.fleet.database import Fault, connect
 from ocpp_board.fleet.lines import is_repeat, station_of
 from ocpp_board.fleet.plans import Plan, knows_period
@@ -81,6 +83,10 @@ async def compact(words: argparse.Namespace) -> None:
         raise Fault(f"no shard {words.shard} in this cell")
     plan = await Plan.of(session.fetch, words.shard, with_period)
     rows = await session.fetch(READ, words.shard, mark["xid"], mark["id"])
+    late = await Late(words.shard, plan.rows, True).places(
+        session.fetch, [row["line"] for row in rows]
+    )
+    rows = [row for place, row in enumerate(rows) if place not in late]
     answers = await answered(words.program, plan, [row["line"] for row in rows])
     gone = [row for row, answer in zip(rows, answers) if is_repeat(*answer)]
     places = {(row["xid"], row["id"]) for row in gone}

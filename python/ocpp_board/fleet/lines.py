@@ -1,5 +1,6 @@
 """Lines of a shard's log: which transaction each speaks of, what its event has, and what its answer says."""
 
+import re
 from datetime import datetime
 from typing import Any
 
@@ -11,6 +12,8 @@ Transaction = tuple[str, str]
 # Refusals of what may be taken once there is room, and the measurands that count as readings.
 FOR_ROOM = ("TooManyTransactions", "EventsFull", "ReadingsFull", "ChangesExhausted")
 REGISTERS = (None, "Energy.Active.Import.Register", "Energy.Active.Export.Register")
+# The member that names a transaction, and others of that name, in a text without escapes.
+NAMED = re.compile(r'"transactionId"[ \t\r\n]*:[ \t\r\n]*"([^"]*)"')
 # What reading the JSON of a line may raise where that is no event.
 ODD = (ValueError, LookupError, TypeError, AttributeError, RecursionError)
 
@@ -34,6 +37,17 @@ def transaction_of(text: str) -> Transaction | None:
     except ODD:
         return None
     return (station, name.lower()) if isinstance(name, str) else None
+
+
+def may_name(text: str) -> set[Transaction] | None:
+    """The transactions that a line may speak of, told without reading it; None where it has to be read."""
+    if "\\" in text:
+        return None
+    if not text.startswith("msg "):
+        found = transaction_of(text)
+        return {found} if found else set()
+    station = station_of(text)
+    return {(station, name.lower()) for name in NAMED.findall(text)}
 
 
 def moment_of(text: Any) -> datetime:

@@ -15,6 +15,8 @@ import time
 from collections.abc import Sequence
 from typing import Any
 
+from ocpp_board.boards import TOTAL
+from ocpp_board.energies import FLOW
 from ocpp_board.fleet import parts
 from ocpp_board.fleet.database import Fault, connect
 from ocpp_board.words import parser_of
@@ -44,8 +46,20 @@ where shard = $1 and (l.xid, l.id) <= (s.xid, s.id)
 PARTS = (
     ("own_site", "site, period, zone", "site"),
     ("own_station", "site, station, transactions, events, readings, changes, retired", "place"),
-    ("own_board", "site, text", "site"),
-    ("own_closing", "site, closing, day, period, at, archive", "closing"),
+    ("own_board", "site, text, at, plan", "site"),
+    *(
+        (f"own_board_{part}", f"site, station, {columns}", "station")
+        for part, columns in (
+            ("station", f"at, {', '.join(TOTAL)}"),
+            ("period", f"starts, at, {', '.join(FLOW)}"),
+            (
+                "transaction",
+                f"transaction, at, evse, events, first, last, complete, missing, {', '.join(FLOW)}",
+            ),
+            ("gap", "transaction, first, last, at"),
+        )
+    ),
+    ("own_closing", "site, closing, day, period, at, archive, plan", "closing"),
     (
         "own_closed_period",
         "site, closing, station, starts, day, up, down, export_up, export_down",
@@ -61,6 +75,7 @@ PARTS = (
         "site, closing, station, transaction, complete, missing, up, down, export_up, export_down",
         "transaction",
     ),
+    ("own_archived_lines", "site, closing, station, transaction, lines", "transaction"),
 )
 PLACE = "select l.xid::text, l.id from own_log l where l.shard = $1 order by l.xid, l.id offset $2 limit 1"
 
@@ -106,9 +121,14 @@ class Move:
                 if told_lines
                 else None
             )
+            # Its plan goes on: boards and closings of earlier ones are told by it.
+            plan = await self.source.fetchval(
+                "select plan + 1 from own_shard where shard = $1", self.shard
+            )
             await self.target.execute(
-                "insert into own_shard (shard, xid, id) values ($1, $2::text::xid8, $3)",
+                "insert into own_shard (shard, plan, xid, id) values ($1, $2, $3::text::xid8, $4)",
                 self.shard,
+                plan,
                 place["xid"] if place else "0",
                 place["id"] if place else 0,
             )
@@ -117,10 +137,9 @@ class Move:
                 rows = await self.source.fetch(
                     f"select {columns} from {table} where shard = $1 order by {order}", self.shard
                 )
-                # Places of the log are others here: a board's and a closing's begin with the first one.
-                more, zeros = (
-                    (", xid, id", ", '0', 0") if table in ("own_board", "own_closing") else ("", "")
-                )
+                # Places of the log are others here: those of boards and closings begin with the first one.
+                has_place = table.startswith("own_board") or table == "own_closing"
+                more, zeros = (", xid, id", ", '0', 0") if has_place else ("", "")
                 marks = ", ".join(f"${place}" for place in range(2, len(names) + 2))
                 await self.target.executemany(
                     f"insert into {table} (shard, {columns}{more}) values ($1, {marks}{zeros})",

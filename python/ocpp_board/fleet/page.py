@@ -85,13 +85,15 @@ cross join lateral (
            coalesce(sum(export_up), 0)::bigint as archived_export_up,
            coalesce(sum(export_down), 0)::bigint as archived_export_down
     from own_archived_transaction a join own_closing c using (shard, site, closing)
-    where a.shard = p.shard and a.site = p.site and c.at <= b.at) a
+    left join own_board o using (shard, site)
+    where a.shard = p.shard and a.site = p.site and (o.plan is null or c.plan <= o.plan)) a
 order by p.site, p.shard
 """
 # Up to which closing the board knows what archives have: it is written anew some seconds after one.
 BOARD = """
 select p.shard, p.period, p.zone, b.text, b.xid::text as xid, b.id, b.at,
-       (select max(closing) from own_closing c where c.shard = p.shard and c.site = p.site and c.at <= b.at) as closing
+       (select max(closing) from own_closing c
+        where c.shard = p.shard and c.site = p.site and c.plan <= b.plan) as closing
 from own_site p left join own_board b using (shard, site) where p.site = $1 order by p.shard
 """
 ARCHIVED = """
@@ -118,7 +120,9 @@ COUNTS = """
 select count(*) filter (where missing > 0) as missing, count(*) as all from own_board_transaction where not complete
 """
 SESSION = """
-select p.site, t.transaction, t.first, t.last, t.events, t.missing, t.complete
+select p.site, t.transaction, t.first, t.last, t.events, t.missing, t.complete,
+       exists (select from own_archived_transaction a
+               where a.shard = p.shard and a.station = p.station and a.transaction = lower($2)) as is_archived
 from own_station p join own_shard h using (shard)
 left join own_board_transaction t on t.shard = p.shard and t.station = p.station and t.transaction = lower($2)
 where p.station = $1 and h.moving_to is null

@@ -11,6 +11,7 @@ from zoneinfo import ZoneInfo
 
 from ocpp_board.boards import Numbers
 from ocpp_board.energies import FLOW, kwh
+from ocpp_board.fleet.archives import LATER
 from ocpp_board.fleet.figures import summed
 from ocpp_board.limits import GREATEST_SEQ_NO, TRANSACTION, is_name
 from ocpp_board.pages import FOOT, MARK, head, table
@@ -22,6 +23,7 @@ COMMANDS = {
 }
 ANSWERS = {
     "accepted": "It is done; the number says how many changes of this station were accepted.",
+    LATER.decode(): "The session is in the archive of a closed day: the site's next closing does it, and shows it.",
     "refused NoSuchEvent": "The ledger has no such event, and nothing changed.",
     "refused AlreadyVoided": "It was voided before, and nothing changed.",
     "refused NotVoided": "It is not voided, and nothing changed.",
@@ -258,7 +260,9 @@ def form(words: Words, fault: str = "") -> str:
 def question_page(words: Words, row: Any, token: str) -> bytes:
     """The page that asks again, whose form carries the token."""
     told_of = "The board has no such session."
-    if row["transaction"] is not None:
+    if row["is_archived"]:
+        told_of = "The session is in the archive of a closed day: the site's next closing does it."
+    elif row["transaction"] is not None:
         state = "complete" if row["complete"] else "not complete"
         told_of = (
             f"The board has this session with {row['events']} events, numbers {row['first']} to {row['last']}, "
@@ -280,7 +284,7 @@ def question_page(words: Words, row: Any, token: str) -> bytes:
 
 def answer_page(words: Words, answer: str, site: str) -> bytes:
     """The page with the ledger's answer."""
-    known = ANSWERS.get("accepted" if answer.startswith("accepted ") else answer, "")
+    known = ANSWERS.get(answer) or ANSWERS["accepted"] * answer.startswith("accepted ")
     body = (
         f"<p>{escape(words.text())}</p>\n"
         f'<p>Answer of the ledger:</p>\n<p class="answer" id="answer">{escape(answer)}</p>\n<p>{known}</p>\n'

@@ -51,6 +51,7 @@ class Plan:
     def __init__(self, stations: list[Any], periods: dict[str, int], with_period: bool) -> None:
         self.sites = list(dict.fromkeys(row["site"] for row in stations))
         self.stations = [row["station"] for row in stations]
+        self.rows = {row["station"]: row for row in stations}
         self.lines = declarations(
             stations, {site: periods[site] for site in self.sites}, with_period
         )

@@ -301,6 +301,8 @@ create table if not exists own_board partition of board (
     primary key (shard, site),
     foreign key (shard) references own_shard on delete cascade
 ) for values in (:cell);
+-- The plan under which it was replayed: it is without what closings up to that plan archived.
+alter table board add column if not exists plan bigint not null default 0;
 
 -- The same as rows, each with when it came to be as it is, and by which place of the log. Energies are in mWh.
 create table if not exists board_station (
@@ -389,19 +391,24 @@ create table if not exists own_board_gap partition of board_gap (
 ) for values in (:cell);
 
 -- Writes a board as text and as rows. `parts` has the rows that are new since the board of (base_xid, base_id), and those
--- that are gone; all rows where that is null. False where the board is of an earlier place than the one that is there, or
--- not based on that.
+-- that are gone; all rows where that is null. False where the board is of an earlier place than the one that is there,
+-- not based on that, or of a plan that is no longer the shard's.
+drop function if exists show_board(integer, text, xid8, bigint, xid8, bigint, text, jsonb);
 create or replace function show_board(shard_number integer, site_name text, base_xid xid8, base_id bigint,
-        new_xid xid8, new_id bigint, new_text text, parts jsonb) returns boolean language plpgsql as $$
+        new_xid xid8, new_id bigint, new_text text, parts jsonb, new_plan bigint) returns boolean language plpgsql as $$
 declare
     had record;
 begin
+    if new_plan <> (select plan from own_shard where shard = shard_number) then
+        return false;
+    end if;
     select xid, id into had from own_board where shard = shard_number and site = site_name for update;
     if (had.xid, had.id) > (new_xid, new_id) or base_xid <> had.xid or base_id <> had.id then
         return false;
     end if;
-    insert into own_board (shard, site, xid, id, text) values (shard_number, site_name, new_xid, new_id, new_text)
-        on conflict (shard, site) do update set xid = new_xid, id = new_id, at = now(), text = new_text;
+    insert into own_board (shard, site, xid, id, text, plan)
+        values (shard_number, site_name, new_xid, new_id, new_text, new_plan)
+        on conflict (shard, site) do update set xid = new_xid, id = new_id, at = now(), text = new_text, plan = new_plan;
     if base_xid is null then
         delete from own_board_station where shard = shard_number and site = site_name and station not in
             (select station from jsonb_to_recordset(parts->'stations') as r (station text));
@@ -482,6 +489,9 @@ create table if not exists own_closing partition of closing (
     primary key (shard, site, closing)
 ) for values in (:cell);
 
+-- The plan that the closing made: boards of earlier plans still have what it archived.
+alter table closing add column if not exists plan bigint not null default 0;
+
 -- The energy in mWh of a station's period as it was settled, and behind that what later closings found it to differ.
 create table if not exists closed_period (
     cell smallint not null default :cell,
@@ -539,27 +549,52 @@ create table if not exists own_archived_transaction partition of archived_transa
     foreign key (shard, site, closing) references own_closing on delete cascade
 ) for values in (:cell);
 
--- Energy in kWh by local time: what is in the log, and what closings took out of it.
+-- The lines of these, packed by zlib with line feeds between them: what comes for one later is answered by them.
+create table if not exists own_archived_lines (
+    shard integer not null,
+    site text not null,
+    closing integer not null,
+    station text not null,
+    transaction text not null,
+    lines bytea not null,
+    primary key (shard, station, transaction),
+    foreign key (shard, site, closing) references own_closing on delete cascade
+);
+
+-- What counts --------------------------------------------------------------------------------------------------------
+
+-- Shards of which another cell has all by now: a move that has not ended yet left rows of theirs here.
+create or replace view moved_shard as
+    select cell, shard from shard s
+    where exists (select from shard t where t.cell = s.moving_to and t.shard = s.shard);
+-- Energy in kWh by local time: what is in the log, and what closings took out of it before the board was made.
 create or replace view energy as
     select site, (starts at time zone zone)::date as day, starts at time zone zone as local_start, starts, station,
         trim_scale(sum(up) / 1000000) as up_kwh, trim_scale(sum(down) / 1000000) as down_kwh,
         trim_scale(sum(export_up) / 1000000) as export_up_kwh, trim_scale(sum(export_down) / 1000000) as export_down_kwh
     from (select cell, shard, site, station, starts, up, down, export_up, export_down from board_period union all
-          select cell, shard, site, station, starts, up, down, export_up, export_down from archived_period) as flow
-    join site using (cell, shard, site) group by site, zone, starts, station;
+          select cell, shard, site, a.station, a.starts, a.up, a.down, a.export_up, a.export_down
+          from archived_period a join closing c using (cell, shard, site, closing)
+              left join board b using (cell, shard, site)
+          where b.plan is null or c.plan <= b.plan) as flow
+    join site using (cell, shard, site)
+    where (cell, shard) not in (select cell, shard from moved_shard)
+    group by site, zone, starts, station;
 -- Transactions that lack messages, with which ones, and since when they are as they are, in local time.
 create or replace view lacking as
     select site, station, transaction, missing, complete, at at time zone zone as since, at,
         (select string_agg(g.first || '..' || g.last, ', ' order by g.first) from board_gap g
          where (g.cell, g.shard, g.site, g.station, g.transaction) = (t.cell, t.shard, t.site, t.station, t.transaction))
         as gaps
-    from board_transaction t join site using (cell, shard, site) where not complete;
+    from board_transaction t join site using (cell, shard, site)
+    where not complete and (cell, shard) not in (select cell, shard from moved_shard);
 
 -- What is settled: each period once, with how often it was corrected.
 create or replace view settled_period as
     select site, station, day, starts, sum(up) as up, sum(down) as down, sum(export_up) as export_up,
         sum(export_down) as export_down, count(*) - 1 as corrections
-    from closed_period group by site, station, day, starts;
+    from closed_period where (cell, shard) not in (select cell, shard from moved_shard)
+    group by site, station, day, starts;
 
 -- Workers ------------------------------------------------------------------------------------------------------------
 
@@ -603,13 +638,13 @@ grant ledger_gateway to ledger_feed;
 grant select, insert, update on fed to ledger_feed;
 grant select, insert, delete on stray to ledger_feed;
 
-grant select on own_log to ledger_worker;
+grant select on own_log, own_closing, own_archived_transaction, own_archived_lines to ledger_worker;
 grant update (taken, xid, id) on own_shard to ledger_worker;
 grant select, insert, update, delete on own_board, own_board_station, own_board_period, own_board_transaction,
     own_board_gap, worker to ledger_worker;
 
 grant select on shard, site, station, station_twice, log, board, own_log, own_board,
-    board_station, board_period, board_transaction, board_gap, energy, lacking,
+    board_station, board_period, board_transaction, board_gap, energy, lacking, moved_shard,
     own_board_station, own_board_period, own_board_transaction, own_board_gap,
     closing, closed_period, archived_period, archived_transaction, settled_period,
     own_closing, own_closed_period, own_archived_period, own_archived_transaction, fed, stray to ledger_reader;

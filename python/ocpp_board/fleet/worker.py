@@ -22,6 +22,7 @@ from typing import Any
 import asyncpg
 
 from ocpp_board.fleet import parts
+from ocpp_board.fleet.archives import HAS_ARCHIVED, Late
 from ocpp_board.fleet.database import (
     BY_INDEX,
     LOST,
@@ -88,7 +89,7 @@ update own_shard set taken = taken + 1 where shard = any($1)
 returning shard, plan, xid::text as xid, id, set_config('synchronous_commit', 'on', true)
 """
 # A board never gives way to that of an earlier place, whoever writes it.
-BOARD = "select show_board($1, $2, $3::text::xid8, $4, $5::text::xid8, $6, $7, $8::text::jsonb) as is_taken"
+BOARD = "select show_board($1, $2, $3::text::xid8, $4, $5::text::xid8, $6, $7, $8::text::jsonb, $9) as is_taken"
 # Shards that are read at once, and those among them that still read their log from the start.
 AT_ONCE, OPENING = 64, 2
 # Seconds after which the other shards no longer wait for a slow one.
@@ -106,11 +107,11 @@ TAKEN, OPENING_TIME = 16, 60
 class Shard:
     """A shard that this worker holds."""
 
-    def __init__(self, row: Any, replay: Replay, sites: list[str]) -> None:
+    def __init__(self, row: Any, replay: Replay, sites: list[str], late: Late) -> None:
         self.number, self.plan = row["shard"], row["plan"]
         self.told = (row["xid"], row["id"])
         self.read = ("0", 0)
-        self.replay, self.sites = replay, sites
+        self.replay, self.sites, self.late = replay, sites, late
         # The place and the text of each site's board as it was written last.
         self.shown: dict[str, tuple[tuple[str, int], str]] = {}
         self.began, self.lines = asyncio.get_running_loop().time(), 0
@@ -258,6 +259,7 @@ class Session:
             plan = await Plan.of(self.ask, number, self.words.with_period)
             replay = await Replay.start(self.words.program)
             await asyncio.wait_for(replay.open(plan), OPENING_TIME)
+            late = Late(number, plan.rows, bool(await self.ask(HAS_ARCHIVED, number)))
         except Fault as fault:
             log.error("shard %d: %s; it is left alone until its plan changes", number, fault)
             self.refused[number] = rows[0]["plan"] if rows else -1
@@ -269,7 +271,7 @@ class Session:
             await asyncio.sleep(0.5)
             await self.let_go(number)
             return
-        self.shards[number] = Shard(rows[0], replay, plan.sites)
+        self.shards[number] = Shard(rows[0], replay, plan.sites, late)
         self.opening.discard(number)
         self.woken.add(number)
         self.waking.set()
@@ -346,9 +348,7 @@ class Session:
     async def answer(self, shard: Shard, row: Any) -> Answers | None:
         """Hands a shard's lines to its replay, and gives the answers that gateways wait for."""
         try:
-            async with shard.busy:
-                shard.replay.write(row["text"].encode() + b"\n")
-                answers = await asyncio.wait_for(shard.replay.answers(row["rows"]), self.words.hang)
+            answers, is_live = await self.replayed(shard, row)
         except (ReplayEnded, OSError, asyncio.TimeoutError) as fault:
             why = str(fault) or "its replay hangs"
             log.warning("shard %d: %s; it begins anew", shard.number, why)
@@ -359,7 +359,7 @@ class Session:
         ):
             self.reopen(shard)
             return None
-        shard.read, shard.changed = (row["xid"], row["id"]), True
+        shard.read, shard.changed = (row["xid"], row["id"]), shard.changed or is_live
         shard.lines += row["rows"]
         front = row["silent"]
         parts = zip(row["gateways"][front:], row["tokens"][front:], answers[front:])
@@ -368,6 +368,22 @@ class Session:
             [(gateway, f"{token} {text.decode()}") for gateway, token, text in parts if gateway],
             row["more"],
         )
+
+    async def replayed(self, shard: Shard, row: Any) -> tuple[list[bytes], bool]:
+        """The answers to lines, and whether one reached the replay: those for archived transactions do not."""
+        texts = row["text"].split("\n")
+        late = await shard.late.places(self.ask, texts)
+        live = [text for place, text in enumerate(texts) if place not in late]
+        answers = list[bytes]()
+        if live:
+            async with shard.busy:
+                shard.replay.write("".join(text + "\n" for text in live).encode())
+                answers = await asyncio.wait_for(shard.replay.answers(len(live)), self.words.hang)
+        if late:
+            job = shard.late.answers(self.words.program, texts, late, row["silent"])
+            told, own = await asyncio.wait_for(job, self.words.hang), iter(answers)
+            answers = [told.get(n, b"") if n in late else next(own) for n in range(len(texts))]
+        return answers, bool(live)
 
     async def is_replanned(self, shard: Shard) -> bool:
         """Whether the plan changed under a shard: the station may be new."""
@@ -427,11 +443,15 @@ class Session:
     async def write(self, shard: Shard, site: str, place: tuple[str, int], text: str) -> None:
         """Writes a board, by what is new since the one that this worker wrote before."""
         base, old = shard.shown.pop(site, ((None, None), ""))
-        done = await self.ask(BOARD, shard.number, site, *base, *place, text, new_rows(text, old))
+        done = await self.ask(
+            BOARD, shard.number, site, *base, *place, text, new_rows(text, old), shard.plan
+        )
         if done[0]["is_taken"]:
             shard.shown[site] = (place, text)
         elif base[0]:
-            shard.changed = True  # Another worker wrote one in between: all rows next time.
+            shard.changed = (
+                True  # Another worker wrote one, or the plan changed: all rows next time.
+            )
 
 
 def order(place: tuple[str, int]) -> tuple[int, int]:

@@ -1,0 +1,141 @@
+"""Brings a database that the schema of 0.3.0 made, with data in it, to the schema of today, and goes on with it.
+
+    tests/one fleet.migrate_demo ocpp_board
+
+It starts PostgreSQL 15 in a temporary folder, makes one database by tests/fleet/schema-0.3.0.sql and one by
+schema.sql, fills the first and runs schema.sql there twice. The two then have to be alike, no row may have changed,
+and a closing has to find what the older version archived. The status is 1 where something is not as it must be.
+"""
+
+import difflib
+import re
+import subprocess
+import sys
+from datetime import date
+from typing import Any
+
+from tests.fleet.closings import ClosingTrial, local, session
+from tests.fleet.fleet import BIN, OLD_SCHEMA
+from tests.fleet.trials import parsed, parser_of, tried
+
+# What each table had before.
+TABLES = """
+select relname from pg_class where relkind = 'r' and relnamespace = 'public'::regnamespace order by 1
+"""
+COLUMNS = """
+select string_agg(attname, ', ' order by attnum) from pg_attribute
+where attrelid = $1::text::regclass and attnum > 0 and not attisdropped
+"""
+ARCHIVE = "north.shard-0.1.script"
+CLOSED_PERIOD = """
+insert into own_closed_period (shard, site, closing, station, starts, day, up, down)
+values (0, 'north', 1, 'A', $1, $2, $3, 0)
+"""
+ARCHIVED_PERIOD = """
+insert into own_archived_period (shard, site, closing, station, starts, up, down)
+values (0, 'north', 1, 'A', $1, $2, 0)
+"""
+
+
+class Demo(ClosingTrial):
+    STATIONS = ((0, "north", "A"), (0, "north", "B"))
+
+    async def one_cell(self) -> None:
+        database = self.fleet.database()
+        database.make()
+        database.start()
+        database.fill(1, schema=OLD_SCHEMA)
+        database.fill(1, "fresh")
+        self.owner = await self.fleet.owner()
+
+    async def fill(self) -> None:
+        """What the older version had: an archived session, one that goes on, and what is settled of both."""
+        first = session("A", "TX-1", local("2026-03-01 08:00"), 4)
+        second = session("B", "TX-1", local("2026-03-01 08:00"), 4)[:2]
+        self.lines[0] = first + second
+        for text in second:
+            await self.owner.execute("insert into own_log (shard, line) values (0, $1)", text)
+        await self.owner.execute("update own_shard set xid = pg_current_xact_id()")
+        declared = "limits 256 2048 2048 1000000000\nstation north A\nstation north B\n"
+        text = declared + "".join(line + "\n" for line in first)
+        (self.archives / ARCHIVE).write_text(text)
+        await self.owner.execute(
+            "insert into own_closing (shard, site, closing, day, period, xid, id, archive) "
+            "values (0, 'north', 1, '2026-03-02', 900, '0', 0, $1)",
+            ARCHIVE,
+        )
+        for number in (1, 2, 3):
+            starts = local(f"2026-03-01 08:{15 * number}")
+            await self.owner.execute(CLOSED_PERIOD, starts, date(2026, 3, 1), 250_000)
+            await self.owner.execute(ARCHIVED_PERIOD, starts, 250_000)
+        await self.owner.execute(
+            "insert into own_archived_transaction "
+            "(shard, site, closing, station, transaction, complete, missing, up, down) "
+            "values (0, 'north', 1, 'A', 'tx-1', true, 0, 750000, 0)"
+        )
+
+    async def rows(self, columns: dict[str, str]) -> dict[str, list[Any]]:
+        """All rows of all tables, by the columns that they had before."""
+        return {
+            table: [
+                tuple(row)
+                for row in await self.owner.fetch(f"select {names} from {table} order by {names}")
+            ]
+            for table, names in columns.items()
+        }
+
+    def schema(self, name: str) -> list[str]:
+        """The schema of a database as pg_dump writes it, in an order that does not depend on that of grants."""
+        database = self.fleet.databases[0]
+        made = subprocess.run(
+            [str(BIN / "pg_dump"), "-h", "127.0.0.1", "-p", str(database.port), "-U", "owner"]
+            + ["--schema-only", name],
+            stdout=subprocess.PIPE,
+            check=True,
+        )
+        # Each dump has a key of its own.
+        return sorted(re.sub(r"\\(un)?restrict .*", "", made.stdout.decode()).splitlines())
+
+    async def run(self) -> None:
+        await self.open_plan()
+        await self.fill()
+        columns = {
+            row["relname"]: await self.owner.fetchval(COLUMNS, row["relname"])
+            for row in await self.owner.fetch(TABLES)
+            if row["relname"] != "worker"
+        }
+        before = await self.rows(columns)
+        for _ in range(2):
+            self.fleet.databases[0].run_schema("ledger")
+        self.check(
+            await self.rows(columns) == before,
+            f"schema.sql twice over a database of 0.3.0: {sum(map(len, before.values()))} rows as before",
+        )
+        differ = [
+            text
+            for text in difflib.ndiff(self.schema("fresh"), self.schema("ledger"))
+            if text[0] in "+-"
+        ]
+        self.check(not differ, f"its schema is that of a database which is new {differ or ''}")
+        self.worker = self.fleet.worker("--boards", 0.2)
+        await self.closed("what was archived before", "2026-03-02", "1 rows, 1 of them corrections")
+        answers = await self.came(
+            "void A TX-1 1", *session("A", "TX-1", local("2026-03-01 08:00"), 4)
+        )
+        self.check(
+            answers[0] == "accepted at the next closing"
+            and all(answer.startswith("[3,") for answer in answers[1:]),
+            f"what comes for it: {answers}",
+        )
+        await self.closed("which takes it", "2026-03-02", "5 late lines for tx-1 of A", "; 1 taken")
+        await self.owner.close()
+
+
+def main() -> int:
+    """Tries it, and gives the exit status."""
+    words = parsed(parser_of(__doc__))
+    return tried("migration", lambda: Demo(words))
+
+
+if __name__ == "__main__":
+    sys.exit(main())

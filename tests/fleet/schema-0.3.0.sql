@@ -1,0 +1,600 @@
+-- The ledger of one cell: its plan, its log and its boards, and what workers need to share its shards.
+--
+--     psql -v cell=1 -f schema.sql
+--
+-- Needs PostgreSQL 15, a superuser and an empty database. The passwords of the roles come from the environment:
+-- GATEWAY_PASSWORD, FEED_PASSWORD, WORKER_PASSWORD, READER_PASSWORD and OPERATOR_PASSWORD; a role whose variable is not
+-- set gets none.
+--
+-- shard, site, station, log and board are tables over all cells; what lies in this one is own_shard, own_site, own_station,
+-- own_log and own_board, and `see_cell` adds another one's. Gateways and workers use the own ones alone, so that a cell
+-- which is down is none of their business.
+\set ON_ERROR_STOP on
+\if :{?cell}
+\else
+    \set cell 1
+\endif
+\getenv gateway_password GATEWAY_PASSWORD
+\getenv feed_password FEED_PASSWORD
+\getenv worker_password WORKER_PASSWORD
+\getenv reader_password READER_PASSWORD
+\getenv operator_password OPERATOR_PASSWORD
+
+begin;
+set local client_min_messages = warning;
+create extension if not exists postgres_fdw;
+
+do $$
+declare
+    role_name text;
+begin
+    foreach role_name in array array['ledger_gateway', 'ledger_feed', 'ledger_worker', 'ledger_reader', 'ledger_operator'] loop
+        if not exists (select from pg_roles where rolname = role_name) then
+            execute format('create role %I login', role_name);
+        end if;
+    end loop;
+end $$;
+\if :{?gateway_password}
+    alter role ledger_gateway password :'gateway_password';
+\endif
+\if :{?feed_password}
+    alter role ledger_feed password :'feed_password';
+\endif
+\if :{?worker_password}
+    alter role ledger_worker password :'worker_password';
+\endif
+\if :{?reader_password}
+    alter role ledger_reader password :'reader_password';
+\endif
+\if :{?operator_password}
+    alter role ledger_operator password :'operator_password';
+\endif
+
+create table own_cell (
+    cell smallint primary key check (cell > 0)
+);
+create unique index own_cell_is_one on own_cell ((true));
+insert into own_cell values (:cell);
+
+-- The plan -----------------------------------------------------------------------------------------------------------
+
+-- Names as the program takes them.
+create domain name_in_plan as text
+    check (value ~ '^[A-Za-z0-9*\-_=:+|@.]{1,48}$');
+
+-- A shard: up to 64 stations with one log and one `replay`. It says up to which place of the log replies were given.
+create table shard (
+    cell smallint not null default :cell,
+    shard integer not null,
+    moving_to smallint,                    -- the cell that it moves to (move.py); it takes no lines then
+    plan bigint not null default 0,        -- rises with each change of its sites and stations
+    taken bigint not null default 0,       -- how often a worker took it
+    xid xid8 not null default '0',
+    id bigint not null default 0
+) partition by list (cell);
+create table own_shard partition of shard (
+    primary key (shard),
+    check (shard >= 0)
+) for values in (:cell) with (fillfactor = 50);
+
+create table site (
+    cell smallint not null default :cell,
+    shard integer not null,
+    site name_in_plan not null,
+    period integer not null default 900,   -- seconds
+    zone text not null default 'UTC'       -- whose days are its settlement days, such as Europe/Berlin
+) partition by list (cell);
+create table own_site partition of site (
+    primary key (shard, site),
+    foreign key (shard) references own_shard on delete cascade,
+    constraint "a period is 300, 900, 1800 or 3600 seconds" check (period in (300, 900, 1800, 3600)),
+    constraint "a zone is one that PostgreSQL knows" check (timestamp '2000-01-01' at time zone zone is not null)
+) for values in (:cell);
+
+create sequence place_in_plan;
+create table station (
+    cell smallint not null default :cell,
+    shard integer not null,
+    station name_in_plan not null,
+    site name_in_plan not null,
+    place bigint not null default nextval('place_in_plan'),     -- boards show stations in this order
+    transactions integer not null default 256,                  -- the limits of what the station may keep
+    events integer not null default 2048,
+    readings integer not null default 2048,
+    changes bigint not null default 1000000000
+) partition by list (cell);
+create table own_station partition of station (
+    primary key (station),
+    foreign key (shard, site) references own_site on delete cascade on update cascade,
+    constraint "a station may keep 1 to 4,096 transactions" check (transactions between 1 and 4096),
+    constraint "a station may keep 1 to 65,536 events" check (events between 1 and 65536),
+    constraint "a station may keep 1 to 65,536 readings" check (readings between 1 and 65536),
+    constraint "a station may accept 1 change or more" check (changes > 0)
+) for values in (:cell);
+create index on own_station (shard, place);
+
+-- Each change of a shard's plan is told, and what the program would refuse is refused here.
+create function plan_changed() returns trigger language plpgsql as $$
+declare
+    shard_number integer := case when tg_op = 'DELETE' then old.shard else new.shard end;
+    sums record;
+begin
+    update own_shard set plan = plan + 1 where shard = shard_number;
+    if tg_op <> 'INSERT' then
+        delete from own_board b where shard = shard_number
+            and not exists (select from own_station t where t.shard = b.shard and t.site = b.site);
+    end if;
+    select count(*) as stations, count(distinct site) as sites, coalesce(sum(readings), 0) as readings
+        into sums from own_station where shard = shard_number;
+    if sums.stations > 64 then
+        raise 'shard % would have % stations, and a shard has at most 64', shard_number, sums.stations;
+    elsif sums.sites > 16 then
+        raise 'shard % would have % sites, and a shard has at most 16', shard_number, sums.sites;
+    elsif sums.readings > 1048576 then
+        raise 'the stations of shard % would keep % readings, and may keep at most 1,048,576', shard_number, sums.readings;
+    end if;
+    perform pg_notify('plan', shard_number::text);
+    return null;
+end $$;
+create trigger plan_changed after insert or update or delete on own_station
+    for each row execute function plan_changed();
+create trigger plan_changed after update of period on own_site
+    for each row execute function plan_changed();
+
+-- A station that takes part from now on: gateways let it in, and its shard's replay begins anew from the log. Its name is
+-- to be in one cell only, so the other cells that this one sees are asked for it, unless `unasked` says not to.
+create function add_station(shard_number integer, site_name text, station_name text, unasked boolean default false)
+    returns void language plpgsql as $$
+declare
+    other text;
+    other_shard integer;
+begin
+    for other in select srvname from pg_foreign_server where srvname ~ '^cell_[0-9]+$' and not unasked order by 1 loop
+        begin
+            execute format('select shard from %I where station = $1', 'station_' || substr(other, 6))
+                into other_shard using station_name;
+        exception when sqlclient_unable_to_establish_sqlconnection or connection_failure then
+            raise '% does not answer, so whether it has a station % is not known; add_station(.., unasked => true) does not ask',
+                other, station_name;
+        end;
+        if other_shard is not null then
+            raise 'station % is in shard % of % already', station_name, other_shard, other;
+        end if;
+    end loop;
+    insert into own_shard (shard) values (shard_number) on conflict do nothing;
+    insert into own_site (shard, site) values (shard_number, site_name) on conflict do nothing;
+    insert into own_station (shard, site, station) values (shard_number, site_name, station_name);
+end $$;
+
+-- The stations that are in several cells, of which there should be none; a shard that moves counts where it arrives.
+create view station_twice as
+    select station, array_agg(cell order by cell) as cells
+    from station join shard using (cell, shard) where moving_to is null
+    group by station having count(*) > 1;
+
+-- The log ------------------------------------------------------------------------------------------------------------
+
+-- Lines of a shard's script, in the order of (xid, id). Numbers alone are not in the order of commits; below the oldest
+-- transaction that is still open, (xid, id) is: no row ever commits in front of one that was read there.
+create sequence place_in_log;
+create table log (
+    cell smallint not null default :cell,
+    shard integer not null,
+    xid xid8 not null default pg_current_xact_id(),
+    id bigint not null default nextval('place_in_log'),
+    at timestamptz not null default now(),
+    gateway text,                          -- the channel on which the line's answer is told, with the token
+    token bigint,
+    line text not null
+) partition by list (cell);
+create table own_log partition of log (
+    primary key (shard, xid, id),
+    -- Each line has exactly one line of answer, or all answers behind it would be those of others.
+    constraint "a line is msg, void, restore or erase without a line feed, of at most 262,400 bytes" check (
+        line ~ '^(msg|void|restore|erase) ' and strpos(line, E'\n') = 0 and octet_length(line) <= 262400)
+) for values in (:cell);
+
+-- An operator's line, which is behind all that came before: operate('void', 'CS-00441', 'TX-2', 3). Whoever listens on a
+-- channel is told its answer there, with the token.
+create function operate(command text, station_name text, transaction_id text, sequence_number bigint,
+        channel text default null, channel_token bigint default null) returns bigint language plpgsql as $$
+declare
+    shard_number integer;
+    place bigint;
+begin
+    if command not in ('void', 'restore', 'erase') then
+        raise 'a command is void, restore or erase, and not %', command;
+    elsif transaction_id !~ '^[\x21-\x7E]{1,36}$' then
+        raise 'a transaction id has 1 to 36 characters without blanks, and is not "%"', transaction_id;
+    elsif sequence_number not between 0 and 2147483647 then
+        raise 'a sequence number is 0 to 2,147,483,647, and not %', sequence_number;
+    end if;
+    select s.shard into shard_number from own_station t join own_shard s using (shard)
+        where t.station = station_name and s.moving_to is null;
+    if shard_number is null then
+        raise 'no station % in this cell', station_name;
+    end if;
+    insert into own_log (shard, gateway, token, line)
+        values (shard_number, channel, channel_token,
+            format('%s %s %s %s', command, station_name, transaction_id, sequence_number))
+        returning id into place;
+    perform pg_notify('wake', shard_number::text);
+    return place;
+end $$;
+
+-- What feed.py took ---------------------------------------------------------------------------------------------------
+
+-- Up to which byte of a file its events are in this cell's log.
+create table fed (
+    source text primary key,
+    place bigint not null,
+    front text not null,                   -- by which the file is known again
+    at timestamptz not null default now()
+);
+-- Events of stations that no plan has. feed.py appends them once one has their station, and removes them here.
+create table stray (
+    id bigint generated always as identity primary key,
+    at timestamptz not null default now(),
+    source text not null,
+    station text not null,
+    line text not null
+);
+create index on stray (station);
+
+-- Boards -------------------------------------------------------------------------------------------------------------
+
+-- The text of a site's board after the log up to (xid, id). Of a site with stations in several shards one a shard.
+create table board (
+    cell smallint not null default :cell,
+    shard integer not null,
+    site text not null,
+    xid xid8 not null,
+    id bigint not null,
+    at timestamptz not null default now(),
+    text text not null
+) partition by list (cell);
+create table own_board partition of board (
+    primary key (shard, site),
+    foreign key (shard) references own_shard on delete cascade
+) for values in (:cell);
+
+-- The same as rows, each with when it came to be as it is, and by which place of the log. Energies are in mWh.
+create table board_station (
+    cell smallint not null default :cell,
+    shard integer not null,
+    site text not null,
+    station text not null,
+    xid xid8 not null,
+    id bigint not null,
+    at timestamptz not null default now(),
+    events bigint not null,
+    voided bigint not null,
+    transactions bigint not null,
+    complete bigint not null,
+    missing bigint not null,
+    up bigint not null,
+    down bigint not null,
+    export_up bigint not null default 0,
+    export_down bigint not null default 0
+) partition by list (cell);
+create table own_board_station partition of board_station (
+    primary key (shard, site, station),
+    foreign key (shard, site) references own_board on delete cascade
+) for values in (:cell);
+
+create table board_period (
+    cell smallint not null default :cell,
+    shard integer not null,
+    site text not null,
+    station text not null,
+    starts timestamptz not null,
+    xid xid8 not null,
+    id bigint not null,
+    at timestamptz not null default now(),
+    up bigint not null,
+    down bigint not null,
+    export_up bigint not null default 0,
+    export_down bigint not null default 0
+) partition by list (cell);
+create table own_board_period partition of board_period (
+    primary key (shard, site, station, starts),
+    foreign key (shard, site) references own_board on delete cascade
+) for values in (:cell);
+
+create table board_transaction (
+    cell smallint not null default :cell,
+    shard integer not null,
+    site text not null,
+    station text not null,
+    transaction text not null,
+    xid xid8 not null,
+    id bigint not null,
+    at timestamptz not null default now(),
+    evse smallint not null,                -- 0: none named
+    events bigint not null,
+    first bigint not null,                 -- sequence numbers
+    last bigint not null,
+    complete boolean not null,
+    missing bigint not null,
+    up bigint not null,
+    down bigint not null,
+    export_up bigint not null default 0,
+    export_down bigint not null default 0
+) partition by list (cell);
+create table own_board_transaction partition of board_transaction (
+    primary key (shard, site, station, transaction),
+    foreign key (shard, site) references own_board on delete cascade
+) for values in (:cell);
+
+-- The sequence numbers that a transaction lacks.
+create table board_gap (
+    cell smallint not null default :cell,
+    shard integer not null,
+    site text not null,
+    station text not null,
+    transaction text not null,
+    first bigint not null,
+    last bigint not null,
+    xid xid8 not null,
+    id bigint not null,
+    at timestamptz not null default now()
+) partition by list (cell);
+create table own_board_gap partition of board_gap (
+    primary key (shard, site, station, transaction, first),
+    foreign key (shard, site, station, transaction) references own_board_transaction on delete cascade
+) for values in (:cell);
+
+-- Writes a board as text and as rows. `parts` has the rows that are new since the board of (base_xid, base_id), and those
+-- that are gone; all rows where that is null. False where the board is of an earlier place than the one that is there, or
+-- not based on that.
+create function show_board(shard_number integer, site_name text, base_xid xid8, base_id bigint,
+        new_xid xid8, new_id bigint, new_text text, parts jsonb) returns boolean language plpgsql as $$
+declare
+    had record;
+begin
+    select xid, id into had from own_board where shard = shard_number and site = site_name for update;
+    if (had.xid, had.id) > (new_xid, new_id) or base_xid <> had.xid or base_id <> had.id then
+        return false;
+    end if;
+    insert into own_board (shard, site, xid, id, text) values (shard_number, site_name, new_xid, new_id, new_text)
+        on conflict (shard, site) do update set xid = new_xid, id = new_id, at = now(), text = new_text;
+    if base_xid is null then
+        delete from own_board_station where shard = shard_number and site = site_name and station not in
+            (select station from jsonb_to_recordset(parts->'stations') as r (station text));
+        delete from own_board_period where shard = shard_number and site = site_name and (station, starts) not in
+            (select station, starts from jsonb_to_recordset(parts->'periods') as r (station text, starts timestamptz));
+        delete from own_board_transaction where shard = shard_number and site = site_name
+            and (station, transaction) not in (select station, transaction
+                from jsonb_to_recordset(parts->'transactions') as r (station text, transaction text));
+    end if;
+    delete from own_board_period b
+        using jsonb_to_recordset(parts->'gone_periods') as r (station text, starts timestamptz)
+        where b.shard = shard_number and b.site = site_name and b.station = r.station and b.starts = r.starts;
+    delete from own_board_transaction b
+        using jsonb_to_recordset(parts->'gone_transactions') as r (station text, transaction text)
+        where b.shard = shard_number and b.site = site_name and b.station = r.station and b.transaction = r.transaction;
+    insert into own_board_station as b
+            (shard, site, station, xid, id, events, voided, transactions, complete, missing, up, down,
+            export_up, export_down)
+        select shard_number, site_name, station, new_xid, new_id, events, voided, transactions, complete, missing, up, down,
+            coalesce(export_up, 0), coalesce(export_down, 0)
+        from jsonb_to_recordset(parts->'stations') as r (station text, events bigint, voided bigint,
+            transactions bigint, complete bigint, missing bigint, up bigint, down bigint, export_up bigint,
+            export_down bigint)
+        on conflict (shard, site, station) do update set xid = excluded.xid, id = excluded.id, at = now(),
+            events = excluded.events, voided = excluded.voided, transactions = excluded.transactions,
+            complete = excluded.complete, missing = excluded.missing, up = excluded.up, down = excluded.down,
+            export_up = excluded.export_up, export_down = excluded.export_down
+        where (b.events, b.voided, b.transactions, b.complete, b.missing, b.up, b.down, b.export_up, b.export_down) <>
+            (excluded.events, excluded.voided, excluded.transactions, excluded.complete, excluded.missing, excluded.up,
+            excluded.down, excluded.export_up, excluded.export_down);
+    insert into own_board_period as b (shard, site, station, starts, xid, id, up, down, export_up, export_down)
+        select shard_number, site_name, station, starts, new_xid, new_id, up, down, coalesce(export_up, 0),
+            coalesce(export_down, 0)
+        from jsonb_to_recordset(parts->'periods') as r (station text, starts timestamptz, up bigint, down bigint,
+            export_up bigint, export_down bigint)
+        on conflict (shard, site, station, starts) do update set xid = excluded.xid, id = excluded.id, at = now(),
+            up = excluded.up, down = excluded.down, export_up = excluded.export_up, export_down = excluded.export_down
+        where (b.up, b.down, b.export_up, b.export_down) <>
+            (excluded.up, excluded.down, excluded.export_up, excluded.export_down);
+    insert into own_board_transaction as b (shard, site, station, transaction, xid, id, evse, events, first, last,
+            complete, missing, up, down, export_up, export_down)
+        select shard_number, site_name, station, transaction, new_xid, new_id, evse, events, first, last,
+            complete = 1, missing, up, down, coalesce(export_up, 0), coalesce(export_down, 0)
+        from jsonb_to_recordset(parts->'transactions') as r (station text, transaction text, evse smallint,
+            events bigint, first bigint, last bigint, complete smallint, missing bigint, up bigint, down bigint,
+            export_up bigint, export_down bigint)
+        on conflict (shard, site, station, transaction) do update set xid = excluded.xid, id = excluded.id, at = now(),
+            evse = excluded.evse, events = excluded.events, first = excluded.first, last = excluded.last,
+            complete = excluded.complete, missing = excluded.missing, up = excluded.up, down = excluded.down,
+            export_up = excluded.export_up, export_down = excluded.export_down
+        where (b.evse, b.events, b.first, b.last, b.complete, b.missing, b.up, b.down, b.export_up, b.export_down) <>
+            (excluded.evse, excluded.events, excluded.first, excluded.last, excluded.complete, excluded.missing,
+            excluded.up, excluded.down, excluded.export_up, excluded.export_down);
+    delete from own_board_gap b using jsonb_to_recordset(parts->'transactions') as r (station text, transaction text)
+        where b.shard = shard_number and b.site = site_name and b.station = r.station and b.transaction = r.transaction;
+    insert into own_board_gap (shard, site, station, transaction, first, last, xid, id)
+        select shard_number, site_name, station, transaction, first, last, new_xid, new_id
+        from jsonb_to_recordset(parts->'gaps') as r (station text, transaction text, first bigint, last bigint);
+    return true;
+end $$;
+
+-- Closed days --------------------------------------------------------------------------------------------------------
+
+-- What close_day.py did to a shard's stations of a site: up to which day it settled, and up to which place of the log.
+create table closing (
+    cell smallint not null default :cell,
+    shard integer not null,
+    site text not null,
+    closing integer not null,              -- 1, 2, ..
+    day date not null,                     -- in the site's zone
+    period integer not null,
+    xid xid8 not null,
+    id bigint not null,
+    at timestamptz not null default now(),
+    archive text                           -- the file of the lines that it took out of the log
+) partition by list (cell);
+create table own_closing partition of closing (
+    primary key (shard, site, closing)
+) for values in (:cell);
+
+-- The energy in mWh of a station's period as it was settled, and behind that what later closings found it to differ.
+create table closed_period (
+    cell smallint not null default :cell,
+    shard integer not null,
+    site text not null,
+    closing integer not null,
+    station text not null,
+    starts timestamptz not null,
+    day date not null,
+    up bigint not null,
+    down bigint not null,
+    export_up bigint not null default 0,
+    export_down bigint not null default 0
+) partition by list (cell);
+create table own_closed_period partition of closed_period (
+    primary key (shard, site, station, starts, closing),
+    foreign key (shard, site, closing) references own_closing on delete cascade
+) for values in (:cell);
+
+-- What the transactions that a closing took out of the log give to a period, or to that of an earlier closing.
+create table archived_period (
+    cell smallint not null default :cell,
+    shard integer not null,
+    site text not null,
+    closing integer not null,
+    station text not null,
+    starts timestamptz not null,
+    up bigint not null,
+    down bigint not null,
+    export_up bigint not null default 0,
+    export_down bigint not null default 0
+) partition by list (cell);
+create table own_archived_period partition of archived_period (
+    primary key (shard, site, station, starts, closing),
+    foreign key (shard, site, closing) references own_closing on delete cascade
+) for values in (:cell);
+
+-- The transactions that are no longer in the log, with the closing whose archive has their lines.
+create table archived_transaction (
+    cell smallint not null default :cell,
+    shard integer not null,
+    site text not null,
+    closing integer not null,
+    station text not null,
+    transaction text not null,
+    complete boolean not null,
+    missing bigint not null,
+    up bigint not null,
+    down bigint not null,
+    export_up bigint not null default 0,
+    export_down bigint not null default 0
+) partition by list (cell);
+create table own_archived_transaction partition of archived_transaction (
+    primary key (shard, site, station, transaction),
+    foreign key (shard, site, closing) references own_closing on delete cascade
+) for values in (:cell);
+
+-- Energy in kWh by local time: what is in the log, and what closings took out of it.
+create view energy as
+    select site, (starts at time zone zone)::date as day, starts at time zone zone as local_start, starts, station,
+        trim_scale(sum(up) / 1000000) as up_kwh, trim_scale(sum(down) / 1000000) as down_kwh,
+        trim_scale(sum(export_up) / 1000000) as export_up_kwh, trim_scale(sum(export_down) / 1000000) as export_down_kwh
+    from (select cell, shard, site, station, starts, up, down, export_up, export_down from board_period union all
+          select cell, shard, site, station, starts, up, down, export_up, export_down from archived_period) as flow
+    join site using (cell, shard, site) group by site, zone, starts, station;
+-- Transactions that lack messages, with which ones, and since when they are as they are, in local time.
+create view lacking as
+    select site, station, transaction, missing, complete, at at time zone zone as since, at,
+        (select string_agg(g.first || '..' || g.last, ', ' order by g.first) from board_gap g
+         where (g.cell, g.shard, g.site, g.station, g.transaction) = (t.cell, t.shard, t.site, t.station, t.transaction))
+        as gaps
+    from board_transaction t join site using (cell, shard, site) where not complete;
+
+-- What is settled: each period once, with how often it was corrected.
+create view settled_period as
+    select site, station, day, starts, sum(up) as up, sum(down) as down, sum(export_up) as export_up,
+        sum(export_down) as export_down, count(*) - 1 as corrections
+    from closed_period group by site, station, day, starts;
+
+-- Workers ------------------------------------------------------------------------------------------------------------
+
+-- The workers that live, each with its session: it is what holds shards, and whoever ends it fences the worker.
+create unlogged table worker (
+    worker text primary key,
+    pid integer not null,
+    began timestamptz not null,
+    beat timestamptz not null,
+    shards integer not null
+);
+
+-- A worker that was killed has a row until that is too old, and no session.
+create function living_workers() returns bigint language sql as $$
+    select count(*) from worker w join pg_stat_activity a on a.pid = w.pid and a.backend_start = w.began;
+$$;
+create function hold_shard(shard_number integer) returns boolean language sql as $$
+    select pg_try_advisory_lock(1, shard_number);
+$$;
+create function release_shard(shard_number integer) returns boolean language sql as $$
+    select pg_advisory_unlock(1, shard_number);
+$$;
+-- One program at a time removes or moves lines of a shard's log.
+create function reserve_shard(shard_number integer) returns boolean language sql as $$
+    select pg_try_advisory_lock(3, shard_number);
+$$;
+
+-- Roles --------------------------------------------------------------------------------------------------------------
+
+-- A gateway sees the plan and inserts `msg` lines; it reads, changes and removes nothing.
+grant select on own_cell, own_shard, own_site, own_station to ledger_gateway, ledger_worker, ledger_reader;
+grant insert (shard, gateway, token, line) on own_log to ledger_gateway;
+grant usage on sequence place_in_log to ledger_gateway;
+alter table own_log enable row level security;
+create policy messages on own_log for insert to ledger_gateway with check (line like 'msg %');
+create policy lines on own_log for select to ledger_worker, ledger_reader using (true);
+-- A feed appends as a gateway does, and keeps how far it came and what has no station yet.
+grant ledger_gateway to ledger_feed;
+grant select, insert, update on fed to ledger_feed;
+grant select, insert, delete on stray to ledger_feed;
+
+grant select on own_log to ledger_worker;
+grant update (taken, xid, id) on own_shard to ledger_worker;
+grant select, insert, update, delete on own_board, own_board_station, own_board_period, own_board_transaction,
+    own_board_gap, worker to ledger_worker;
+
+grant select on shard, site, station, station_twice, log, board, own_log, own_board,
+    board_station, board_period, board_transaction, board_gap, energy, lacking,
+    own_board_station, own_board_period, own_board_transaction, own_board_gap,
+    closing, closed_period, archived_period, archived_transaction, settled_period,
+    own_closing, own_closed_period, own_archived_period, own_archived_transaction, fed, stray to ledger_reader;
+
+-- An operator reads what a reader reads, and inserts operators' lines.
+grant ledger_reader to ledger_operator;
+grant insert (shard, gateway, token, line) on own_log to ledger_operator;
+grant usage on sequence place_in_log to ledger_operator;
+create policy commands on own_log for insert to ledger_operator with check (line !~ '^msg ');
+
+-- Other cells --------------------------------------------------------------------------------------------------------
+
+-- Makes another cell's rows visible in shard, site, station, log and board. `hosts` and `ports` may be lists with commas.
+create procedure see_cell(other smallint, hosts text, ports text, database text, reader_password text)
+    language plpgsql as $$
+declare
+    name text;
+begin
+    if exists (select from own_cell where cell = other) then
+        raise 'cell % is this one', other;
+    end if;
+    execute format('create server cell_%s foreign data wrapper postgres_fdw options (host %L, port %L, dbname %L, '
+        'target_session_attrs %L, connect_timeout %L, tcp_user_timeout %L, async_capable %L, fetch_size %L)',
+        other, hosts, ports, database, 'read-write', '3', '10000', 'true', '1000');
+    execute format('create user mapping for public server cell_%s options (user %L, password %L)',
+        other, 'ledger_reader', reader_password);
+    foreach name in array array['shard', 'site', 'station', 'log', 'board',
+                                'board_station', 'board_period', 'board_transaction', 'board_gap',
+                                'closing', 'closed_period', 'archived_period', 'archived_transaction'] loop
+        execute format('create foreign table %s_%s partition of %s for values in (%s) server cell_%s options (table_name %L)',
+            name, other, name, other, other, 'own_' || name);
+    end loop;
+end $$;
+commit;
