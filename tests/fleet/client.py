@@ -26,9 +26,9 @@ class Client(ClientLink):
         super().connection_lost(fault)
         self.heard.put_nowait(f"closed {self.connection.close_code}")
 
-    async def said(self) -> str:
+    async def said(self, seconds: float = 10) -> str:
         """What the gateway sends next."""
-        return await asyncio.wait_for(self.heard.get(), 10)
+        return await asyncio.wait_for(self.heard.get(), seconds)
 
     @classmethod
     async def open(cls, url: str, station: str) -> "Client":

@@ -173,9 +173,9 @@ class Demo(ClosingTrial):
         for query, wanted in (
             (
                 "update own_site set zone = 'Mars/Olympus'",
-                'time zone "Mars/Olympus" not recognized',
+                'time zone "Mars/Olympus" is not in the list',
             ),
-            ("update own_site set zone = ''", 'time zone "" not recognized'),
+            ("update own_site set zone = ''", 'time zone "" is not in the list'),
         ):
             try:
                 await self.owner.execute(query)

@@ -173,7 +173,7 @@ class Closing:
             site["shard"],
             site["site"],
         )
-        self.zone, self.period = ZoneInfo(site["zone"]), site["period"]
+        self.zone, self.period = zone_of(site), site["period"]
         self.stations: list[dict[str, Any]] = []
 
     async def fetch(self, query: str, *values: Any) -> Any:
@@ -453,6 +453,14 @@ class Closing:
             )
 
 
+def zone_of(site: Any) -> ZoneInfo:
+    """The zone of a site. Raises Fault where this system has none of its name."""
+    try:
+        return ZoneInfo(site["zone"])
+    except (KeyError, ValueError, OSError):
+        raise Fault(f"site {site['site']}: this system has no time zone {site['zone']!r}") from None
+
+
 def archived_lines(path: Path, ones: Collection[Transaction]) -> dict[Transaction, list[str]]:
     """What an archive has of these transactions. Raises OSError where it is not there."""
     lines: dict[Transaction, list[str]] = {one: [] for one in ones}
@@ -498,7 +506,7 @@ async def run(words: argparse.Namespace) -> None:
         if station not in names:
             raise Fault(f"site {words.site} has no station {station}")
     for site in sites:
-        today = datetime.now(ZoneInfo(site["zone"])).date()
+        today = datetime.now(zone_of(site)).date()
         if words.day and words.day >= today:
             raise Fault(f"{words.day} is not over in {site['zone']}")
         print(

@@ -8,8 +8,10 @@ from urllib.parse import unquote, urlsplit
 
 import asyncpg
 
-# Each session: no compiling of small queries, no open transaction that stalls readers, and an end of what is cut off.
+# Each session: commits that are on disk, no compiling of small queries, no open transaction that stalls readers, and an
+# end of what is cut off.
 SETTINGS = {
+    "synchronous_commit": "on",
     "jit": "off",
     "idle_in_transaction_session_timeout": "10s",
     "tcp_keepalives_idle": "5",
@@ -27,6 +29,14 @@ LOST = (
     asyncpg.OperatorInterventionError,
     asyncpg.InternalClientError,
 )
+# What a host is, and what it has to be for no answered event to be lost.
+HOST = """
+select pg_is_in_recovery() as is_standby, current_setting('fsync') = 'on' as has_fsync,
+    current_setting('full_page_writes') = 'on' as has_full_pages, getdatabaseencoding() as encoding,
+    to_regprocedure('log_is_ahead()') is not null as has_log
+"""
+# Addresses by which a session was had: what a host refuses from then on is no fault of the words.
+LET_IN = set[str]()
 # Seconds in which a host has to let a session in.
 ADMISSION = 5.0
 # Bytes of a notification, which PostgreSQL ends at 7,999.
@@ -92,29 +102,52 @@ async def enter(host: str, port: int, user: str, database: str, settings: dict[s
     except (*LOST, asyncpg.PostgresError) as fault:
         raise Unreachable(f"{host}:{port}: {said(fault)}") from None
     try:
-        if not await session.fetchval("select pg_is_in_recovery()", timeout=ADMISSION):
-            return session
-    except (*LOST, asyncpg.PostgresError) as fault:
+        is_standby, why = await seen_at(session)
+    except (*LOST, asyncpg.PostgresError) as lost:
         session.terminate()
-        raise Unreachable(f"{host}:{port}: {said(fault)}") from None
+        raise Unreachable(f"{host}:{port}: {said(lost)}") from None
     except asyncio.CancelledError:
         session.terminate()
         raise
+    if not (is_standby or why):
+        return session
     session.terminate()
-    raise Unreachable(f"{host}:{port}: a standby")
+    if is_standby:
+        raise Unreachable(f"{host}:{port}: a standby")
+    raise Fault(f"{host}:{port}: {why}")
+
+
+async def seen_at(session: Any) -> tuple[bool, str]:
+    """Whether a host is a standby, and why no event may be answered by it; nothing where it may."""
+    row = await session.fetchrow(HOST, timeout=ADMISSION)
+    why = ""
+    if row["is_standby"]:
+        return True, why
+    if not row["has_fsync"]:
+        why = "fsync is off, so what is answered may be lost"
+    elif not row["has_full_pages"]:
+        why = "full_page_writes is off, so what is answered may be lost"
+    elif row["encoding"] != "UTF8":
+        why = f"the encoding of the database is {row['encoding']}, and has to be UTF8"
+    elif row["has_log"] and await session.fetchval("select log_is_ahead()", timeout=ADMISSION):
+        why = (
+            "the log has transactions that this server has still to come to, as after a dump that was restored: "
+            "raise its epoch by pg_resetwal -e, or take a physical copy"
+        )
+    return False, why
 
 
 async def connect(dsn: str, **settings: str) -> Any:
     """A session with the host that takes writes. All are asked at once, so that one that hangs costs no time.
 
-    Raises Fault or Unreachable.
+    Raises Fault where every host gives one and none let this program in before, and else Unreachable.
     """
     pairs, user, database = places(dsn)
     tries = [
         asyncio.ensure_future(enter(host, port, user, database, SETTINGS | settings))
         for host, port in pairs
     ]
-    waited, session, reasons = set(tries), None, list[str]()
+    waited, session, reasons, faults = set(tries), None, list[str](), list[Fault]()
     try:
         while waited and session is None:
             done, waited = await asyncio.wait(waited, return_when=asyncio.FIRST_COMPLETED)
@@ -124,13 +157,18 @@ async def connect(dsn: str, **settings: str) -> Any:
                         session = await one
                     else:
                         (await one).terminate()
-                except Unreachable as fault:
-                    reasons.append(str(fault))
+                except Unreachable as why:
+                    reasons.append(str(why))
+                except Fault as fault:
+                    faults.append(fault)
     finally:
         for one in waited:
             one.cancel()
+    if session is None and faults and not reasons and dsn not in LET_IN:
+        raise faults[0]
     if session is None:
-        raise Unreachable("; ".join(reasons))
+        raise Unreachable("; ".join([*reasons, *map(str, faults)]))
+    LET_IN.add(dsn)
     return session
 
 

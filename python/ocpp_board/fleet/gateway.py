@@ -32,13 +32,14 @@ from ocpp_board.fleet.database import (
     Unreachable,
     connect,
     said,
+    seen,
     wakes,
     within,
 )
 from ocpp_board.fleet.plans import knows_period
 from ocpp_board.fleet.replays import Replay, ReplayEnded
 from ocpp_board.fleet.websocket import MOST, SUBPROTOCOL, Link
-from ocpp_board.limits import LONGEST_MESSAGE
+from ocpp_board.limits import FIRST_MOMENT, LONGEST_MESSAGE, MOMENT, PAST_MOMENTS, is_name
 from ocpp_board.messages import HEAD, one_line, parsed
 from ocpp_board.words import add_program, parser_of
 
@@ -69,8 +70,11 @@ UNANSWERED = 16
 LONGEST_ID = 36
 # A batch has so many lines and bytes at most.
 BATCH, BATCH_BYTES = 1000, 4_000_000
-# Seconds: for the database to answer, for a handshake, and without a byte from a station, twice its heartbeat interval.
-ANSWER, HANDSHAKE, SILENCE = 10, 10, 600
+# Seconds: for the database or a replay to answer, for a handshake from its connection on, and without a byte from a
+# station, twice its heartbeat interval; between looks for stations that the plan did not have.
+ANSWER, HANDSHAKE, SILENCE, LOOKS = 10, 10, 600, 0.05
+# Moments that the ledger knows, in seconds since 1970.
+MOMENTS = (FIRST_MOMENT.timestamp(), PAST_MOMENTS.timestamp())
 APPEND = """
 insert into own_log (shard, gateway, token, line)
 select w.shard, $1, w.token, w.line
@@ -81,10 +85,12 @@ STATIONS = """
 select t.shard, t.station from own_station t join own_shard s using (shard)
 where s.moving_to is null and t.retired is null and ($1::int[] is null or s.shard = any($1))
 """
-STATION = """
-select t.shard from own_station t join own_shard s using (shard)
-where t.station = $1 and s.moving_to is null and t.retired is null
+NAMED = """
+select t.shard, t.station from own_station t join own_shard s using (shard)
+where t.station = any($1) and s.moving_to is null and t.retired is null
 """
+# Whether a session's commit waits for a synchronous standby.
+WAITS = "select wait_event = 'SyncRep' from pg_stat_activity where pid = $1"
 
 
 def empty_answer(text: str) -> str | None:
@@ -102,6 +108,16 @@ def empty_answer(text: str) -> str | None:
     return json.dumps([3, number, {}], separators=(",", ":"))
 
 
+def station_in(path: str) -> str:
+    """The station that the path of a request names; nothing where it names none that may be."""
+    try:
+        words = [unquote(part) for part in urlsplit(path).path.split("/")]
+    except ValueError:
+        return ""
+    name = words[2] if len(words) == 3 and words[1] == "ocpp" else ""
+    return name if is_name(name) else ""
+
+
 class Wait(NamedTuple):
     """What waits for its answer: whose it is, its line, and since when."""
 
@@ -116,7 +132,9 @@ class Cell:
     def __init__(self, gateway: "Gateway", dsn: str) -> None:
         self.gateway, self.dsn = gateway, dsn
         self.queue: deque[int] = deque()
-        self.filled, self.woken = asyncio.Event(), asyncio.Event()
+        self.filled, self.woken, self.asked = asyncio.Event(), asyncio.Event(), asyncio.Event()
+        # Stations that came and were not in the plan when it was read.
+        self.sought: dict[str, asyncio.Future[None]] = {}
         self.shards: set[int] = set()
         self.second: Any = None
         self.is_up = False
@@ -124,7 +142,7 @@ class Cell:
         self.last_told = ""
 
     async def run(self) -> None:
-        """Keeps two sessions with the database, one after the other pair."""
+        """Keeps sessions with the database: one appends, one wakes and reads the plan, one looks for strangers."""
         while True:
             sessions: list[Any] = []
             try:
@@ -132,12 +150,15 @@ class Cell:
                     await asyncio.gather(
                         *(
                             connect(self.dsn, application_name=self.gateway.name, **BY_INDEX)
-                            for _ in range(2)
+                            for _ in range(3)
                         )
                     )
                 )
                 await self.open(sessions[1])
-                jobs = [asyncio.create_task(job) for job in (self.append(sessions[0]), self.wake())]
+                jobs = [
+                    asyncio.create_task(job)
+                    for job in (self.append(sessions[0]), self.wake(), self.look(sessions[2]))
+                ]
                 try:
                     done, _ = await asyncio.wait(jobs, return_when=asyncio.FIRST_EXCEPTION)
                     for job in done:
@@ -151,6 +172,9 @@ class Cell:
                 self.is_up = False
                 for session in sessions:
                     session.terminate()
+                for future in self.sought.values():
+                    future.cancel()
+                self.sought.clear()
             await asyncio.sleep(0.2)
 
     def tell_once(self, text: str) -> None:
@@ -199,10 +223,30 @@ class Cell:
             pass  # The session is lost, and the next one reads all.
 
     async def find(self, station: str) -> None:
-        """Looks for one station, which may be new."""
-        row = await self.ask("fetchrow", STATION, station)
-        if row:
-            self.gateway.move_in(self, {station: row["shard"]}, set())
+        """Looks for one station, which may be new. Raises CancelledError where the database is lost meanwhile."""
+        if station not in self.sought:
+            self.sought[station] = asyncio.get_running_loop().create_future()
+            self.asked.set()
+        await asyncio.shield(self.sought[station])
+
+    async def look(self, session: Any) -> None:
+        """Looks for all who came since the last look, so that strangers keep nobody else waiting."""
+        while True:
+            await self.asked.wait()
+            self.asked.clear()
+            sought, self.sought = self.sought, {}
+            try:
+                rows = await within(ANSWER, session, "fetch", NAMED, list(sought))
+                found = {row["station"]: row["shard"] for row in rows}
+                self.gateway.move_in(self, found, set())
+            except BaseException:
+                for future in sought.values():
+                    future.cancel()
+                raise
+            for future in sought.values():
+                if not future.done():
+                    future.set_result(None)
+            await asyncio.sleep(LOOKS)
 
     async def append(self, session: Any) -> None:
         """Appends what waits, batch by batch."""
@@ -231,15 +275,34 @@ class Cell:
                 size += len(wait.line)
         if not tokens:
             return
-        done = await within(
-            ANSWER, session, "execute", APPEND, self.gateway.name, shards, tokens, lines
-        )
+        done = await self.committed(session, shards, tokens, lines)
         self.shards.update(shards)
         self.woken.set()
         if done != f"INSERT 0 {len(tokens)}":
             # A shard is moving. What was appended may be so again.
             await self.load(sorted(set(shards)))
             self.gateway.queue_again(tokens)
+
+    async def committed(
+        self, session: Any, shards: list[int], tokens: list[int], lines: list[str]
+    ) -> str:
+        """Appends lines, and says what was done. Raises what `within` does.
+
+        A commit that waits for a standby is waited for: another session would wait behind it, and one more each time.
+        """
+        job = asyncio.ensure_future(
+            session.execute(APPEND, self.gateway.name, shards, tokens, lines)
+        )
+        job.add_done_callback(seen)
+        while not (await asyncio.wait([job], timeout=ANSWER))[0]:
+            if not await self.ask("fetchval", WAITS, session.get_server_pid()):
+                session.terminate()
+                raise asyncio.TimeoutError(f"no answer in {ANSWER} seconds")
+            self.tell_once(f"{self.dsn}: commits wait for the synchronous standby")
+        if self.last_told:
+            self.tell_once(f"{self.dsn}: it commits")
+            self.last_told = ""
+        return str(job.result())
 
     async def wake(self) -> None:
         """Wakes the shards that were appended to; while it does, the next batch is under way."""
@@ -260,7 +323,8 @@ class StationLink(Link):
         self.server = ServerConnection(subprotocols=[SUBPROTOCOL], max_size=MOST, logger=SILENT)
         super().__init__(self.server)
         self.gateway = gateway
-        self.seen = time.monotonic()
+        self.began = self.seen = time.monotonic()
+        self.is_in = False
         self.unanswered = 0
         self.is_slow = False
 
@@ -278,8 +342,7 @@ class StationLink(Link):
 
     def handshake(self, event: Request | Response) -> None:
         assert isinstance(event, Request)
-        parts = [unquote(part) for part in urlsplit(event.path).path.split("/")]
-        self.name = parts[2] if len(parts) == 3 and parts[1] == "ocpp" else ""
+        self.name = station_in(event.path)
         if self.name in self.gateway.homes:
             self.admit(event)
         else:
@@ -310,6 +373,7 @@ class StationLink(Link):
 
     def admit(self, event: Request) -> None:
         """Lets a station in that offers the subprotocol."""
+        self.is_in = True
         response = self.server.accept(event)
         self.server.send_response(response)
         self.flush()
@@ -369,26 +433,43 @@ class OwnReplay:
         self.asked: deque[tuple[StationLink, str]] = deque()
         self.replay: Replay | None = None
         self.second = 0
+        # Since when the first of these waits.
+        self.since = 0.0
 
     async def run(self) -> None:
         """Keeps a replay running, and hands its answers on."""
         while True:
+            replay: Replay | None = None
             try:
                 replay = await Replay.start(self.program)
                 replay.write(b"limits 1 1 1 1\nstation - -\n")
-                self.replay, self.second = replay, 0
+                self.replay, self.second, self.since = replay, 0, time.monotonic()
                 for _, text in self.asked:
                     self.write(text)
                 while True:
-                    answer = (await replay.answers(1))[0]
+                    answer = await self.next_answer(replay)
+                    self.since = time.monotonic()
                     self.asked.popleft()[0].answer(answer)
             except (ReplayEnded, OSError) as fault:
                 self.replay = None
                 log.warning("%s, and begins anew", fault)
+                if replay:
+                    replay.kill()
                 await asyncio.sleep(0.1)
+
+    async def next_answer(self, replay: Replay) -> bytes:
+        """The next answer. Raises ReplayEnded where one is waited for too long."""
+        job = asyncio.ensure_future(replay.answers(1))
+        while not (await asyncio.wait([job], timeout=1))[0]:
+            if self.asked and self.since < time.monotonic() - ANSWER:
+                job.cancel()
+                raise ReplayEnded(f"the replay {replay.process.pid} hangs")
+        return job.result()[0]
 
     def ask(self, link: StationLink, text: str) -> None:
         """Asks for the answer to a text, which goes to the link."""
+        if not self.asked:
+            self.since = time.monotonic()
         self.asked.append((link, text))
         try:
             self.write(text)
@@ -399,12 +480,10 @@ class OwnReplay:
         """Hands a text to the replay, where that runs."""
         if self.replay is None:
             return
-        now = int(time.time())
-        clock = (
-            time.strftime("now %Y-%m-%dT%H:%M:%SZ\n", time.gmtime(now))
-            if now != self.second
-            else ""
-        )
+        now, clock = int(time.time()), ""
+        # A clock that is wrong by decades is not told: the replay answers with the moment that it has.
+        if now != self.second and MOMENTS[0] <= now < MOMENTS[1]:
+            clock = time.strftime(f"now {MOMENT}\n", time.gmtime(now))
         self.second = now
         self.replay.write(f"{clock}msg - {text}\n".encode())
 
@@ -493,7 +572,9 @@ class Gateway:
                     del self.waiting[token]
                     wait.link.close(1013, "no answer yet, try again")
             for link in list(self.links):
-                if link.seen < now - (SILENCE if link.name else HANDSHAKE):
+                if not link.is_in and link.began < now - HANDSHAKE:
+                    link.transport.abort()
+                elif link.seen < now - SILENCE:
                     link.close(1000, f"nothing came for {SILENCE} seconds")
                     link.cut_later()
 

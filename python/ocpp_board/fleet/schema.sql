@@ -24,6 +24,12 @@
 
 begin;
 set local client_min_messages = warning;
+do $$
+begin
+    if getdatabaseencoding() <> 'UTF8' then
+        raise 'the encoding of this database is %, and has to be UTF8', getdatabaseencoding();
+    end if;
+end $$;
 create extension if not exists postgres_fdw;
 
 do $$
@@ -99,6 +105,18 @@ create table if not exists own_site partition of site (
     constraint "a zone is one that PostgreSQL knows" check (timestamp '2000-01-01' at time zone zone is not null)
 ) for values in (:cell);
 
+-- PostgreSQL reads more as a zone than tools do: abbreviations, offsets, names in other letters.
+create or replace function check_zone() returns trigger language plpgsql as $$
+begin
+    if new.zone <> 'UTC' and not exists (select from pg_timezone_names
+            where name = new.zone and name !~ '^(posix|right)/|^(Factory|localtime|posixrules)$') then
+        raise 'time zone "%" is not in the list of zones, which has names such as Europe/Berlin', new.zone;
+    end if;
+    return new;
+end $$;
+create or replace trigger check_zone before insert or update of zone on own_site
+    for each row execute function check_zone();
+
 create sequence if not exists place_in_plan;
 create table if not exists station (
     cell smallint not null default :cell,
@@ -125,24 +143,29 @@ create index if not exists own_station_shard_place_idx on own_station (shard, pl
 -- Each change of a shard's plan is told, and what the program would refuse is refused here.
 create or replace function plan_changed() returns trigger language plpgsql as $$
 declare
-    shard_number integer := case when tg_op = 'DELETE' then old.shard else new.shard end;
+    shards integer[] := case tg_op when 'INSERT' then array[new.shard] when 'DELETE' then array[old.shard]
+        else array[old.shard, new.shard] end;
+    shard_number integer;
     sums record;
 begin
-    update own_shard set plan = plan + 1 where shard = shard_number;
-    if tg_op <> 'INSERT' then
-        delete from own_board b where shard = shard_number
-            and not exists (select from own_station t where t.shard = b.shard and t.site = b.site);
-    end if;
-    select count(*) as stations, count(distinct site) as sites, coalesce(sum(readings), 0) as readings
-        into sums from own_station where shard = shard_number;
-    if sums.stations > 64 then
-        raise 'shard % would have % stations, and a shard has at most 64', shard_number, sums.stations;
-    elsif sums.sites > 16 then
-        raise 'shard % would have % sites, and a shard has at most 16', shard_number, sums.sites;
-    elsif sums.readings > 1048576 then
-        raise 'the stations of shard % would keep % readings, and may keep at most 1,048,576', shard_number, sums.readings;
-    end if;
-    perform pg_notify('plan', shard_number::text);
+    for shard_number in select distinct number from unnest(shards) as n (number) loop
+        update own_shard set plan = plan + 1 where shard = shard_number;
+        if tg_op <> 'INSERT' then
+            delete from own_board b where shard = shard_number
+                and not exists (select from own_station t where t.shard = b.shard and t.site = b.site);
+        end if;
+        select count(*) as stations, count(distinct site) as sites, coalesce(sum(readings), 0) as readings
+            into sums from own_station where shard = shard_number;
+        if sums.stations > 64 then
+            raise 'shard % would have % stations, and a shard has at most 64', shard_number, sums.stations;
+        elsif sums.sites > 16 then
+            raise 'shard % would have % sites, and a shard has at most 16', shard_number, sums.sites;
+        elsif sums.readings > 1048576 then
+            raise 'the stations of shard % would keep % readings, and may keep at most 1,048,576',
+                shard_number, sums.readings;
+        end if;
+        perform pg_notify('plan', shard_number::text);
+    end loop;
     return null;
 end $$;
 create or replace trigger plan_changed after insert or update or delete on own_station
@@ -238,6 +261,24 @@ create table if not exists own_log partition of log (
         line ~ '^(msg|void|restore|erase) ' and strpos(line, E'\n') = 0 and octet_length(line) <= 262400)
 ) for values in (:cell);
 
+do $$
+begin
+    if not exists (select from pg_constraint where conname = 'a channel has 1 to 63 bytes') then
+        update own_log set gateway = null where octet_length(gateway) not between 1 and 63;
+        alter table own_log add constraint "a channel has 1 to 63 bytes" check (octet_length(gateway) between 1 and 63);
+    end if;
+end $$;
+
+-- Whether lines are of transactions that this server has still to come to, as after a dump that was restored: what is
+-- appended would come in front of them.
+create or replace function log_is_ahead() returns boolean language sql security definer
+    set search_path = public, pg_temp as $$
+    select exists (
+        select from own_shard s
+        left join lateral (select xid from own_log where shard = s.shard order by xid desc, id desc limit 1) l on true
+        where greatest(s.xid, l.xid) >= pg_snapshot_xmax(pg_current_snapshot()));
+$$;
+
 -- An operator's line, which is behind all that came before: operate('void', 'CS-00441', 'TX-2', 3). Whoever listens on a
 -- channel is told its answer there, with the token.
 create or replace function operate(command text, station_name text, transaction_id text, sequence_number bigint,
@@ -252,7 +293,11 @@ begin
         raise 'a transaction id has 1 to 36 characters without blanks, and is not "%"', transaction_id;
     elsif sequence_number not between 0 and 2147483647 then
         raise 'a sequence number is 0 to 2,147,483,647, and not %', sequence_number;
+    elsif octet_length(channel) not between 1 and 63 then
+        raise 'a channel has 1 to 63 bytes, and not %', octet_length(channel);
     end if;
+    -- It is on disk once it is told, whatever the server's settings say.
+    perform set_config('synchronous_commit', 'on', true);
     select s.shard into shard_number from own_station t join own_shard s using (shard)
         where t.station = station_name and s.moving_to is null;
     if shard_number is null then

@@ -61,19 +61,29 @@ cross join lateral (
 ) r
 where r.rows > 0 or r.more
 """
-# Told answers need no disk: what they speak of is on it, and whoever comes after reads the log again.
-TELL = """
-with progress as (
-    update own_shard s set xid = w.xid::xid8, id = w.id
-    from unnest($1::int[], $2::text[], $3::bigint[]) as w (shard, xid, id) where s.shard = w.shard)
-select count(pg_notify(channel, payload)) from unnest($4::text[], $5::text[]) as n (channel, payload)
+TELL = "select count(pg_notify(channel, payload)) from unnest($1::text[], $2::text[]) as n (channel, payload)"
+# What pg_notify refuses: a channel or a payload that can't be, and what its queue has no room for.
+UNTOLD = (asyncpg.DataError, asyncpg.ProgramLimitExceededError)
+# Up to where answers were told. It needs no disk: what they speak of is on it, and whoever comes after reads the log
+# again, and tells at most some answers twice. A row is not written for each answer, since a snapshot that stays open
+# keeps all its versions.
+PROGRESS = """
+update own_shard s set xid = w.xid::xid8, id = w.id
+from unnest($1::int[], $2::text[], $3::bigint[]) as w (shard, xid, id)
+where s.shard = w.shard and (s.xid, s.id) < (w.xid::xid8, w.id)
+"""
+# A session of this worker that was lost may hold locks still, and wait for a standby.
+FORMER = """
+select pg_terminate_backend(pid) from pg_stat_activity
+where application_name = $1 and pid <> pg_backend_pid() and usename = current_user
 """
 # The workers that live, this one among them from its second beat on.
 BEAT = """
 with beat as (
     insert into worker (worker, pid, began, beat, shards)
     select $1, pid, backend_start, clock_timestamp(), $2 from pg_stat_activity where pid = pg_backend_pid()
-    on conflict (worker) do update set beat = clock_timestamp(), shards = $2)
+    on conflict (worker) do update
+        set pid = excluded.pid, began = excluded.began, beat = excluded.beat, shards = excluded.shards)
 select living_workers() as living
 """
 FENCE = """
@@ -100,6 +110,8 @@ SWEEP, SETTLING, FENCING = 20, 5, 5
 # A board that was written is followed by a pause of so many times what that took: answers come first, and where the
 # machine is busy boards are written less often.
 PAUSE = 4
+# Seconds between notes of progress.
+NOTING = 0.5
 # Shards taken at once, and seconds in which the program has to open a plan.
 TAKEN, OPENING_TIME = 16, 60
 
@@ -109,7 +121,7 @@ class Shard:
 
     def __init__(self, row: Any, replay: Replay, sites: list[str], late: Late) -> None:
         self.number, self.plan = row["shard"], row["plan"]
-        self.told = (row["xid"], row["id"])
+        self.told = self.noted = (row["xid"], row["id"])
         self.read = ("0", 0)
         self.replay, self.sites, self.late = replay, sites, late
         # The place and the text of each site's board as it was written last.
@@ -157,7 +169,8 @@ class Session:
         try:
             await self.database.add_listener("wake", self.wake)
             await self.database.add_listener("plan", lambda *_: self.planned.set())
-            for job in (self.beat(), self.read(), self.show()):
+            await self.ask(FORMER, self.words.name)
+            for job in (self.beat(), self.read(), self.show(), self.note()):
                 self.spawn(job)
             await self.lost
         finally:
@@ -363,11 +376,12 @@ class Session:
         shard.lines += row["rows"]
         front = row["silent"]
         parts = zip(row["gateways"][front:], row["tokens"][front:], answers[front:])
-        return (
-            shard,
-            [(gateway, f"{token} {text.decode()}") for gateway, token, text in parts if gateway],
-            row["more"],
-        )
+        told = [
+            (gateway, f"{token} {text.decode()}")
+            for gateway, token, text in parts
+            if gateway and token is not None
+        ]
+        return shard, told, row["more"]
 
     async def replayed(self, shard: Shard, row: Any) -> tuple[list[bytes], bool]:
         """The answers to lines, and whether one reached the replay: those for archived transactions do not."""
@@ -391,25 +405,47 @@ class Session:
         return not rows or rows[0]["plan"] != shard.plan
 
     async def tell(self, answered: list[Answers]) -> None:
-        """Tells answers to the gateways that wait for them, and up to which place of the log that was done."""
+        """Tells answers to the gateways that wait for them."""
         new = [shard for shard, *_ in answered if order(shard.read) > order(shard.told)]
-        if new:
-            channels, payloads = payloads_of(
-                [answer for _, answers, _ in answered for answer in answers]
-            )
-            read = [shard.read for shard in new]
-            numbers = [shard.number for shard in new]
-            await self.ask(
-                TELL, numbers, [xid for xid, _ in read], [id for _, id in read], channels, payloads
-            )
-            for shard, place in zip(new, read):
-                shard.told = place
+        places = [shard.read for shard in new]
+        channels, payloads = payloads_of(
+            [answer for _, answers, _ in answered for answer in answers]
+        )
+        if channels:
+            await self.notify(channels, payloads)
+        for shard, place in zip(new, places):
+            shard.told = place
         for shard, _, more in answered:
             shard.is_answering = False
             if more:
                 self.woken.add(shard.number)
             else:
                 self.loaded(shard)
+
+    async def notify(self, channels: list[str], payloads: list[str]) -> None:
+        """Tells these payloads; one that can't be told costs no other."""
+        try:
+            await self.ask(TELL, channels, payloads)
+        except UNTOLD as fault:
+            if len(channels) == 1:
+                log.warning("answers can't be told on the channel %r: %s", channels[0], fault)
+                return
+            for channel, payload in zip(channels, payloads):
+                await self.notify([channel], [payload])
+
+    async def note(self) -> None:
+        """Notes again and again up to which places answers were told."""
+        while True:
+            await asyncio.sleep(NOTING)
+            new = [shard for shard in self.shards.values() if shard.told != shard.noted]
+            if new:
+                places = [shard.told for shard in new]
+                numbers = [shard.number for shard in new]
+                await self.ask(
+                    PROGRESS, numbers, [xid for xid, _ in places], [number for _, number in places]
+                )
+                for shard, place in zip(new, places):
+                    shard.noted = place
 
     # Boards -----------------------------------------------------------------------------------------------------------
 

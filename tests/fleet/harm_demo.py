@@ -1,0 +1,435 @@
+"""Tries on a fleet of its own what one station, one operator, one host or one setting could stop.
+
+    tests/one fleet.harm_demo ocpp_board
+
+It starts PostgreSQL 15 in a temporary folder, workers and gateways. Then come: channels that PostgreSQL refuses; a
+host of the list that lets nobody in; a server that would lose or spoil what is answered; strangers by the hundred;
+connections that never end their handshake; a gateway's own replay that hangs, and a clock of 1970; a station that
+changes its shard; zones; a snapshot that stays open; a synchronous standby that is gone; a server whose file has
+synchronous_commit off and that is killed. The status is 1 where something is not as it must be.
+"""
+
+import argparse
+import asyncio
+import os
+import re
+import signal
+import subprocess
+import sys
+import time
+from collections.abc import Callable
+from typing import Any
+from zoneinfo import available_timezones
+
+import asyncpg
+
+from ocpp_board.fleet.database import connect
+from tests.fleet.client import Client
+from tests.fleet.fleet import Database, children, ended, tool
+from tests.fleet.trials import Trial, event, parsed, parser_of, tried
+
+STATIONS = 40
+# Seconds that a database, a replay or a handshake has.
+LIMIT = 10
+# A station that never comes has lines in the log here, for which nobody waits.
+APPEND = (
+    "insert into own_log (shard, gateway, token, line) values (0, $1, $2, 'void CS-00000 TX-9 1')"
+)
+# The session in which a gateway looked for a stranger last.
+LOOKING = """
+select pid from pg_stat_activity where application_name like 'gateway_%' and query like '%t.station = %'
+order by query_start desc limit 1
+"""
+OF_GATEWAY = "select count(*) from pg_stat_activity where application_name like 'gateway_%'"
+OF_WORKER = "select count(*) from pg_stat_activity where application_name like 'worker_%'"
+
+
+class Demo(Trial):
+    def __init__(self, words: argparse.Namespace) -> None:
+        super().__init__(words)
+        self.answers: dict[int, str] = {}
+        self.url = ""
+
+    async def open(self) -> None:
+        """Workers and a gateway whose list has a second host, which knows none of their roles."""
+        await self.one_cell()
+        self.other = self.fleet.database("other")
+        self.other.make()
+        self.other.start()
+        ports = [database.port for database in (self.other, self.fleet.databases[0])]
+        await self.fleet.add(self.owner, STATIONS, STATIONS // 2, 0)
+        login = self.fleet.dsn("ledger_worker", *ports)
+        self.workers = [
+            self.fleet.worker("--boards", 0.5, "--hang", 3, dsn=login) for _ in range(2)
+        ]
+        self.process, self.url = await asyncio.to_thread(
+            self.fleet.gateway, self.fleet.dsn("ledger_gateway", *ports)
+        )
+        self.number = 0
+
+    async def owned(self) -> None:
+        """A new session of the owner."""
+        if not self.owner.is_closed():
+            self.owner.terminate()
+        self.owner = await connect(self.fleet.dsn("owner", self.fleet.databases[0].port))
+
+    async def until(self, seconds: float, is_so: Callable[[], Any]) -> bool:
+        """Whether something comes to be so in this time."""
+        end = time.monotonic() + seconds
+        while not await is_so():
+            if time.monotonic() > end:
+                return False
+            await asyncio.sleep(0.05)
+        return True
+
+    async def answered(self, text: str, seconds: float = 5, station: str = "CS-00001") -> None:
+        """Whether a station's event is answered in this time."""
+        self.number += 1
+        message = event(f"T-{self.number}", 0, "Started", "2026-03-01T10:00:00Z", 1000)
+        began, heard = time.monotonic(), "nothing"
+        try:
+            link = await Client.open(self.url, station)
+            if (heard := await link.said(seconds)) == "101":
+                link.send(message.encode())
+                heard = await link.said(seconds)
+            link.transport.abort()
+        except (OSError, asyncio.TimeoutError):
+            pass
+        took = time.monotonic() - began
+        self.check(heard.startswith("[3,"), f"{text}: an event is answered {heard} in {took:.1f} s")
+
+    # What is tried ----------------------------------------------------------------------------------------------------
+
+    async def channels(self) -> None:
+        """A channel of 64 letters."""
+        long = 64 * "c"
+        tries: list[tuple[str, tuple[Any, ...]]] = [
+            ("select operate('void', 'CS-00000', 'TX-9', 1, $1, 1)", (long,)),
+            (APPEND, (long, 1)),
+            (APPEND, ("", 1)),
+        ]
+        for query, values in tries:
+            try:
+                await self.owner.execute(query, *values)
+                self.check(False, f"a channel of {len(values[0])} letters is taken: {query[:20]}")
+            except asyncpg.PostgresError as fault:
+                self.check(True, f"a channel of {len(values[0])} letters: {fault}")
+        await self.owner.execute(
+            'alter table own_log drop constraint if exists "a channel has 1 to 63 bytes"'
+        )
+        await self.owner.add_listener("harm", self.told)
+        before = await self.sessions()
+        for token in range(1, 4):
+            await self.owner.execute(APPEND, "harm", token)
+            await self.owner.execute(APPEND, long, token)
+            await self.owner.execute(APPEND, "harm", None)
+        await self.owner.execute("select pg_notify('wake', '0')")
+
+        async def are_told() -> bool:
+            return len(self.answers) == 3
+
+        are_all = await self.until(5, are_told)
+        await asyncio.sleep(1)
+        after = await self.sessions()
+        self.check(
+            are_all and before == after,
+            f"a channel that can't be told on costs its own answers alone: {self.answers}, sessions of workers "
+            f"{'stay' if before == after else 'were lost'}",
+        )
+        await self.answered("after that")
+
+    def told(self, _session: Any, _pid: int, _channel: str, payload: str) -> None:
+        """A worker told answers."""
+        for line in payload.split("\n"):
+            token, _, answer = line.partition(" ")
+            self.answers[int(token)] = answer
+
+    async def sessions(self) -> list[int]:
+        """The sessions of workers."""
+        query = "select pid from pg_stat_activity where application_name like 'worker_%' order by 1"
+        return [row["pid"] for row in await self.owner.fetch(query)]
+
+    async def hosts(self) -> None:
+        """The other host goes on rejecting them while the database is away."""
+        database = self.fleet.databases[0]
+        await self.answered("a host of the list that lets nobody in")
+        database.kill()
+        await asyncio.sleep(3)
+        database.start()
+        await self.owned()
+        left = [process.poll() for process in (self.process, *self.workers)]
+        self.check(left == [None] * 3, f"while the other host is away they go on: {left}")
+        await self.answered("once it is back")
+
+    def begun(self, login: str) -> str:
+        """How a gateway begins, or why it does not."""
+        command = [*tool("gateway"), "--db", login, "--program", self.fleet.program, "--port", "0"]
+        process = subprocess.Popen(command, stdout=subprocess.PIPE, stderr=subprocess.PIPE)
+        try:
+            _, text = process.communicate(timeout=4)
+        except subprocess.TimeoutExpired:
+            process.kill()
+            return process.communicate()[0].decode().strip()
+        return f"{process.returncode} {text.decode().strip()}"
+
+    async def servers(self) -> None:
+        """Servers that would lose or spoil what is answered."""
+        self.other.fill(2)
+        login = self.fleet.dsn("ledger_gateway", self.other.port)
+        for settings, wanted in (
+            ({"fsync": "off"}, "fsync is off"),
+            ({"full_page_writes": "off"}, "full_page_writes is off"),
+        ):
+            self.other.stop()
+            self.other.start(**settings)
+            text = await asyncio.to_thread(self.begun, login)
+            self.check(text.startswith("2 ") and wanted in text, f"{settings}: {text}")
+        self.other.stop()
+        self.other.start()
+        self.other.psql("ledger", "-c", "insert into own_shard (shard, xid) values (0, '1000000')")
+        text = await asyncio.to_thread(self.begun, login)
+        self.check(text.startswith("2 ") and "still to come to" in text, f"a dump: {text}")
+        self.other.psql(
+            "postgres", "-c",
+            "create database odd encoding 'SQL_ASCII' template template0 locale 'C'",
+        )  # fmt: skip
+        text = await asyncio.to_thread(
+            self.begun, self.fleet.dsn("ledger_gateway", self.other.port, database="odd")
+        )
+        self.check(text.startswith("2 ") and "has to be UTF8" in text, f"an encoding: {text}")
+        try:
+            self.other.run_schema("odd")
+            self.check(False, "the schema is made in a database of another encoding")
+        except subprocess.CalledProcessError:
+            self.check(True, "the schema is not made in a database of another encoding")
+        self.other.stop()
+
+    async def strangers(self) -> None:
+        """Stations that nobody knows, and paths that name none."""
+        for path in ("%00", "CS%2000", "a/b", 49 * "x", "%ff"):
+            heard = await (await Client.open(self.url, path)).said()
+            self.check(heard.startswith("404 "), f"the path /ocpp/{path[:9]}: {heard}")
+        host, port = self.url.removeprefix("ws://").removesuffix("/ocpp").split(":")
+        reader, writer = await asyncio.open_connection(host, int(port))
+        writer.write(
+            b"GET //[x HTTP/1.1\r\nHost: a\r\nUpgrade: websocket\r\nConnection: Upgrade\r\n"
+            b"Sec-WebSocket-Version: 13\r\nSec-WebSocket-Key: AAAAAAAAAAAAAAAAAAAAAA==\r\n\r\n"
+        )
+        try:
+            line = await asyncio.wait_for(reader.readline(), 5)
+        except (OSError, asyncio.TimeoutError):
+            line = b""
+        self.check(b" 404 " in line, f"the path //[x: {line!r}")
+        writer.close()
+        await self.looked_for()
+
+    async def looked_for(self) -> None:
+        """Strangers for whose names the database takes 4 seconds: they wait, and nobody else does."""
+        await (await Client.open(self.url, "NOBODY")).said()
+        pid = await self.owner.fetchval(LOOKING)
+        os.kill(pid, signal.SIGSTOP)
+        try:
+            links = [await Client.open(self.url, f"NOBODY-{number}") for number in range(30)]
+            waits = []
+            for _ in range(6):
+                began = time.monotonic()
+                await self.answered("while 30 strangers are looked for")
+                waits.append(time.monotonic() - began)
+        finally:
+            os.kill(pid, signal.SIGCONT)
+        self.check(max(waits) < 1.5, f"the longest wait for these is {max(waits):.2f} s")
+        heard_all = [await link.said() for link in links]
+        self.check(
+            all(heard.startswith("404 ") for heard in heard_all), f"strangers: {heard_all[0]}"
+        )
+
+    async def handshakes(self) -> None:
+        """A handshake of which a byte comes each second."""
+        host, port = self.url.removeprefix("ws://").removesuffix("/ocpp").split(":")
+        reader, writer = await asyncio.open_connection(host, int(port))
+        began = time.monotonic()
+        try:
+            for byte in b"GET /ocpp/CS-00001 HTTP/1.1":
+                writer.write(bytes([byte]))
+                await asyncio.sleep(1)
+                if reader.at_eof() or time.monotonic() > began + LIMIT + 5:
+                    break
+        except OSError:
+            pass
+        took = time.monotonic() - began
+        self.check(took < LIMIT + 4, f"a slow handshake is cut after {took:.0f} s")
+        writer.close()
+
+    async def replay(self) -> None:
+        """The gateway's own replay hangs."""
+        link = await Client.open(self.url, "CS-00002")
+        await link.said()
+        own = children(self.process.pid)
+        os.kill(own[0], signal.SIGSTOP)
+        began = time.monotonic()
+        link.send(b'[2,"1","Heartbeat",{}]')
+        try:
+            heard = await link.said(LIMIT + 8)
+        except asyncio.TimeoutError:
+            heard = "nothing"
+            os.kill(own[0], signal.SIGCONT)
+        took = time.monotonic() - began
+        self.check(heard.startswith('[3,"1",'), f"its replay hangs: {heard} after {took:.0f} s")
+
+    async def clock(self) -> None:
+        """A gateway whose clock is before 2000."""
+        command = [
+            sys.executable, "-c",
+            "import sys, time; real = time.time; time.time = lambda: real() - 1_700_000_000\n"
+            "from ocpp_board.cli import main; sys.argv[0] = 'ocpp-board'; sys.exit(main())",
+        ]  # fmt: skip
+        process = self.fleet.start(
+            *command, "gateway", "--db", self.fleet.dsn("ledger_gateway"), "--program",
+            self.fleet.program, "--port", 0, stdout=subprocess.PIPE,
+        )  # fmt: skip
+        assert process.stdout
+        words = (await asyncio.to_thread(process.stdout.readline)).decode().split()
+        link = await Client.open(f"ws://{words[1]}/ocpp", "CS-00003")
+        await link.said()
+        heard = []
+        for number in (1, 2):
+            link.send(f'[2,"{number}","Heartbeat",{{}}]'.encode())
+            try:
+                heard.append(await link.said(5))
+            except asyncio.TimeoutError:
+                heard.append("nothing")
+        self.check(
+            [text[:21] for text in heard] == ['[3,"1",{"currentTime"', '[3,"2",{"currentTime"'],
+            f"a clock of 1972: {heard}",
+        )
+        process.kill()
+
+    async def plan(self) -> None:
+        """A station that changes its shard, and zones."""
+        await self.owner.execute("select add_station(1, 'site-1', 'NEW')")
+        query = "select plan from own_shard where shard < 2 order by shard"
+        before = [row["plan"] for row in await self.owner.fetch(query)]
+        await self.owner.execute(
+            "update own_station set shard = 0, site = 'site-0' where station = 'NEW'"
+        )
+        after = [row["plan"] for row in await self.owner.fetch(query)]
+        self.check(
+            all(new > old for new, old in zip(after, before)),
+            f"a station that changes its shard tells both: plans {before}, then {after}",
+        )
+        await self.answered("in its new shard", station="NEW")
+        names = {
+            row["name"] for row in await self.owner.fetch("select name from pg_timezone_names")
+        }
+        odd = sorted(await self.taken([*names - available_timezones(), "CET-1", "europe/berlin"]))
+        self.check(not odd, f"zones that Python does not have are refused: {odd}")
+        some = ["UTC", "Europe/Berlin", "America/Argentina/Buenos_Aires"]
+        self.check(await self.taken(some) == some, f"and others are taken: {some}")
+
+    async def taken(self, zones: list[str]) -> list[str]:
+        """Which of these zones a site may have."""
+        found = []
+        for zone in zones:
+            try:
+                await self.owner.execute("update own_site set zone = $1 where shard = 0", zone)
+                found.append(zone)
+            except asyncpg.PostgresError:
+                pass
+        await self.owner.execute("update own_site set zone = 'UTC'")
+        return found
+
+    async def snapshot(self) -> None:
+        """A snapshot that stays open while stations send."""
+        reader = await connect(self.fleet.dsn("owner", self.fleet.databases[0].port))
+        await reader.execute(
+            "set idle_in_transaction_session_timeout = 0; begin isolation level repeatable read; "
+            "select count(*) from own_shard"
+        )
+        query = "select n_tup_upd from pg_stat_user_tables where relname = 'own_shard'"
+        await asyncio.sleep(1)
+        before = await self.owner.fetchval(query)
+        count, seconds = await self.load(8)
+        await asyncio.sleep(1.5)
+        written = await self.owner.fetchval(query) - before
+        await reader.execute("rollback")
+        await reader.close()
+        self.check(
+            count > 500 and written < 10 * (seconds + 3),
+            f"own_shard had {written} versions written for {count} answers in {seconds:.0f} s",
+        )
+
+    async def load(self, seconds: float) -> tuple[int, float]:
+        """Stations that send for about so many seconds: how many messages, in which time."""
+        first = await self.fleet.add(self.owner, STATIONS, STATIONS // 2, 2 + self.number * 2)
+        self.number += 1
+        events = int(150 * seconds / STATIONS)
+        began = time.monotonic()
+        process = self.fleet.load(
+            [self.url], first, STATIONS, "--events", events, "--rate", 150, "--seconds", 60
+        )
+        status, text = await ended(process)
+        self.check(status == 0, text)
+        found = re.match(r"(\d+) answered", text)
+        return int(found[1]) if found else 0, time.monotonic() - began
+
+    async def standby(self) -> None:
+        """A synchronous standby that is gone for 25 seconds."""
+        await self.set("synchronous_standby_names", "gone")
+        before = [await self.owner.fetchval(query) for query in (OF_GATEWAY, OF_WORKER)]
+        link = await Client.open(self.url, "CS-00004")
+        await link.said()
+        link.send(event("Gone", 0, "Started", "2026-03-01T10:00:00Z", 1000).encode())
+        self.workers.pop().kill()
+        self.workers.append(self.fleet.worker("--hang", 3))
+        await asyncio.sleep(25)
+        after = [await self.owner.fetchval(query) for query in (OF_GATEWAY, OF_WORKER)]
+        self.check(
+            after[0] <= before[0] and after[1] <= before[1] + 1,
+            f"sessions of the gateway and of workers: {before}, and {after} after 25 s",
+        )
+        await self.set("synchronous_standby_names", "")
+        await self.answered("once it is no longer waited for", 15)
+
+    async def set(self, name: str, value: str) -> None:
+        """Changes a setting of the server, whose commits do not wait for that."""
+        await self.owner.execute("set synchronous_commit = local")
+        await self.owner.execute(f"alter system set {name} = '{value}'")
+        await self.owner.execute("select pg_reload_conf()")
+        await asyncio.sleep(0.5)
+
+    async def crash(self) -> None:
+        """Servers whose file has synchronous_commit off are killed behind answers."""
+        database: Database = self.fleet.databases[0]
+        await self.set("synchronous_commit", "off")
+        await self.set("wal_writer_delay", "10000")
+        for process in (self.process, *self.workers):
+            process.kill()
+        self.workers = [self.fleet.worker("--boards", 0.5)]
+        login = self.fleet.dsn("ledger_gateway", database.port)
+        self.process, self.url = await asyncio.to_thread(self.fleet.gateway, login)
+        await self.answered("with synchronous_commit off in the server's file")
+        await self.load(4)
+        database.kill()
+        database.start()
+        await self.owned()
+        differ = await self.fleet.compare(self.owner, 1_000)
+        self.check(not differ, f"after a kill every answered message is in the log {differ or ''}")
+
+    async def run(self) -> None:
+        await self.open()
+        for job in (
+            self.channels, self.hosts, self.servers, self.strangers, self.handshakes, self.replay,
+            self.clock, self.plan, self.snapshot, self.standby, self.crash,
+        ):  # fmt: skip
+            await job()
+        await self.owner.close()
+
+
+def main() -> int:
+    """Tries it, and gives the exit status."""
+    words = parsed(parser_of(__doc__))
+    return tried("harm", lambda: Demo(words))
+
+
+if __name__ == "__main__":
+    sys.exit(main())
