@@ -25,8 +25,8 @@ from ocpp_board.fleet.plans import Plan, knows_period
 
 TOP = Path(__file__).resolve().parent.parent.parent
 SCHEMA = TOP / "python/ocpp_board/fleet/schema.sql"
-# As version 0.3.0 had it, for trying that a database of that is migrated.
-OLD_SCHEMA = TOP / "tests/fleet/schema-0.3.0.sql"
+# As it was before stations could be retired, for trying that such a database is migrated.
+OLD_SCHEMA = TOP / "tests/fleet/old-schema.sql"
 BIN = Path("/usr/lib/postgresql/15/bin")
 
 

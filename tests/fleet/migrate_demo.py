@@ -1,8 +1,8 @@
-"""Brings a database that the schema of 0.3.0 made, with data in it, to the schema of today, and goes on with it.
+"""Brings a database that an earlier schema made, with data in it, to the schema of today, and goes on with it.
 
     tests/one fleet.migrate_demo ocpp_board
 
-It starts PostgreSQL 15 in a temporary folder, makes one database by tests/fleet/schema-0.3.0.sql and one by
+It starts PostgreSQL 15 in a temporary folder, makes one database by tests/fleet/old-schema.sql and one by
 schema.sql, fills the first and runs schema.sql there twice. The two then have to be alike, no row may have changed,
 and a closing has to find what the older version archived. The status is 1 where something is not as it must be.
 """
@@ -109,7 +109,7 @@ class Demo(ClosingTrial):
             self.fleet.databases[0].run_schema("ledger")
         self.check(
             await self.rows(columns) == before,
-            f"schema.sql twice over a database of 0.3.0: {sum(map(len, before.values()))} rows as before",
+            f"schema.sql twice over a database of an earlier one: {sum(map(len, before.values()))} rows as before",
         )
         differ = [
             text
