@@ -21,7 +21,6 @@ APPEND = "insert into own_log (shard, gateway, token, line) values ($1, $2, $3, 
 BLOCKED = """
 select count(*) from pg_stat_activity where wait_event_type = 'Lock' and application_name like 'ocpp-board %'
 """
-WAITING = "select count(*) from own_log l join own_shard s using (shard) where (l.xid, l.id) > (s.xid, s.id)"
 
 
 def local(text: str) -> datetime:
@@ -95,7 +94,7 @@ class ClosingTrial(Trial):
             await self.owner.execute(APPEND, shard, CHANNEL, len(self.asked), line)
         shards = " ".join(map(str, set(self.homes.values())))
         await self.owner.execute("select pg_notify('wake', $1)", shards)
-        await self.until(WAITING, 0)
+        await self.fleet.until_told(self.owner)
         tokens = range(front + 1, len(self.asked) + 1)
         return [self.answers.get(token, "no answer") for token in tokens]
 

@@ -237,6 +237,12 @@ class Demo(Trial):
         await self.deleted_row()
 
     async def compaction(self) -> None:
+        # What a gateway answered again is not in the log: these are as of stations that came to another gateway.
+        await self.owner.execute(
+            "insert into own_log (shard, line) select shard, line from own_log where shard < 4 and id % 20 = 0"
+        )
+        await self.owner.execute("select pg_notify('wake', '0 1 2 3')")
+        await self.fleet.until_told(self.owner)
         before = await self.owner.fetchval("select count(*) from own_log")
         command = [
             *tool("compact"),

@@ -27,6 +27,7 @@ TOP = Path(__file__).resolve().parent.parent.parent
 SCHEMA = TOP / "python/ocpp_board/fleet/schema.sql"
 # As it was before stations could be retired, for trying that such a database is migrated.
 OLD_SCHEMA = TOP / "tests/fleet/old-schema.sql"
+UNTOLD = "select count(*) from own_log l join own_shard s using (shard) where (l.xid, l.id) > (s.xid, s.id)"
 BIN = Path("/usr/lib/postgresql/15/bin")
 
 
@@ -353,6 +354,12 @@ class Fleet:
                 numbers = {key: int(value) for key, value in row.items() if key in NUMBERS[kind]}
                 found[row["station"], kind, name] = numbers
         return found
+
+    async def until_told(self, owner: Any, seconds: float = 20) -> None:
+        """Waits until the log's lines are answered, for so many seconds at most."""
+        end = time.monotonic() + seconds
+        while await owner.fetchval(UNTOLD) and time.monotonic() < end:
+            await asyncio.sleep(0.02)
 
     async def compared(self, owner: Any, shard: int = 0, seconds: float = 15) -> list[str]:
         """What differs, once boards have had the time to be written."""

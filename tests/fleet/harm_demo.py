@@ -2,11 +2,12 @@
 
     tests/one fleet.harm_demo ocpp_board
 
-It starts PostgreSQL 15 in a temporary folder, workers and gateways. Then come: channels that PostgreSQL refuses; a
-host of the list that lets nobody in; a server that would lose or spoil what is answered; strangers by the hundred;
-connections that never end their handshake; a gateway's own replay that hangs, and a clock of 1970; a station that
-changes its shard; zones; a snapshot that stays open; a synchronous standby that is gone; a server whose file has
-synchronous_commit off and that is killed. The status is 1 where something is not as it must be.
+It starts PostgreSQL 15 in a temporary folder, workers and gateways. Then come: a host of the list that lets nobody
+in; a server that would lose or spoil what is answered; strangers by the hundred; connections that never end their
+handshake; a gateway's own replay that hangs, and a clock of 1972; a station that changes its shard; zones; a snapshot
+that stays open; a station that sends one event again and again, or long ones without end; a synchronous standby that
+is gone; a server whose file has synchronous_commit off and that is killed; a log of more than a replay reads;
+channels that PostgreSQL refuses. The status is 1 where something is not as it must be.
 """
 
 import argparse
@@ -40,6 +41,7 @@ LOOKING = """
 select pid from pg_stat_activity where application_name like 'gateway_%' and query like '%t.station = %'
 order by query_start desc limit 1
 """
+COUNT = "select count(*) from own_log where line like 'msg ' || $1 || ' %'"
 OF_GATEWAY = "select count(*) from pg_stat_activity where application_name like 'gateway_%'"
 OF_WORKER = "select count(*) from pg_stat_activity where application_name like 'worker_%'"
 
@@ -276,16 +278,17 @@ class Demo(Trial):
         took = time.monotonic() - began
         self.check(heard.startswith('[3,"1",'), f"its replay hangs: {heard} after {took:.0f} s")
 
+    def patched(self, code: str, *words: object, **more: Any) -> subprocess.Popen[bytes]:
+        """A tool that begins with this code."""
+        code += "\nimport sys; from ocpp_board.cli import main; sys.argv[0] = 'ocpp-board'; sys.exit(main())"
+        return self.fleet.start(sys.executable, "-c", code, *words, **more)
+
     async def clock(self) -> None:
         """A gateway whose clock is before 2000."""
-        command = [
-            sys.executable, "-c",
-            "import sys, time; real = time.time; time.time = lambda: real() - 1_700_000_000\n"
-            "from ocpp_board.cli import main; sys.argv[0] = 'ocpp-board'; sys.exit(main())",
-        ]  # fmt: skip
-        process = self.fleet.start(
-            *command, "gateway", "--db", self.fleet.dsn("ledger_gateway"), "--program",
-            self.fleet.program, "--port", 0, stdout=subprocess.PIPE,
+        process = self.patched(
+            "import time; real = time.time; time.time = lambda: real() - 1_700_000_000",
+            "gateway", "--db", self.fleet.dsn("ledger_gateway"), "--program", self.fleet.program,
+            "--port", 0, stdout=subprocess.PIPE,
         )  # fmt: skip
         assert process.stdout
         words = (await asyncio.to_thread(process.stdout.readline)).decode().split()
@@ -415,11 +418,89 @@ class Demo(Trial):
         differ = await self.fleet.compare(self.owner, 1_000)
         self.check(not differ, f"after a kill every answered message is in the log {differ or ''}")
 
+    async def flood(self) -> None:
+        """A station that sends one event again and again, and one that sends long ones."""
+        link = await Client.open(self.url, "CS-00005")
+        await link.said()
+        text = event("Again", 0, "Started", "2026-03-01T10:00:00Z", 1000)
+        heard = set()
+        for _ in range(50):
+            link.send(text.encode())
+            heard.add(await link.said())
+        lines = await self.owner.fetchval(COUNT, "CS-00005")
+        self.check(
+            heard == {'[3,"Again-0",{}]'} and lines == 1,
+            f"one event 50 times: answered {heard}, and {lines} line in the log",
+        )
+        link = await Client.open(self.url, "CS-00006")
+        await link.said()
+        began, sent = time.monotonic(), 0
+        while time.monotonic() < began + 10:
+            long = event(f"Long-{sent}", 0, "Started", "2026-03-01T10:00:00Z", 1000)
+            filler = 262_000 - len(long)
+            link.send(long.replace('"seqNo"', f'"x":"{filler * "x"}","seqNo"').encode())
+            try:
+                await link.said(2)
+            except asyncio.TimeoutError:
+                break
+            sent += 1
+        self.check(10 < sent < 25, f"long events one after the other: {sent} in 10 s")
+        await self.answered("beside these")
+        link.transport.abort()
+
+    async def full_log(self) -> None:
+        """A log of more than a replay reads: by limits that are made small."""
+        for process in self.workers:
+            process.kill()
+        await self.owner.execute("select add_station(900, 'full', 'FULL')")
+        lines = [
+            f"msg FULL {event(f'T-{number % 40}', number // 40, 'Updated', '2026-03-01T10:00:00Z', 1000)}"
+            for number in range(200)
+        ]
+        texts = [line for line in lines for _ in range(3)] + ["void FULL T-1 1", "void FULL T-9 9"]
+        for text in texts:
+            await self.owner.execute("insert into own_log (shard, line) values (900, $1)", text)
+        self.workers = [self.fleet.worker("--boards", 0.5)]
+        board = "select text from own_board where shard = 900"
+
+        async def is_shown() -> bool:
+            return "voided=1" in (await self.owner.fetchval(board) or "")
+
+        self.check(await self.until(20, is_shown), "a board of a log with repeats")
+        before = await self.owner.fetchval(board)
+        size = sum(len(text) + 1 for text in texts)
+        words = ("--db", self.fleet.dsn("owner", self.fleet.databases[0].port), "--program")
+        process = self.patched(
+            f"import ocpp_board.fleet.compact as one; one.PIECE = {size // 2}",
+            "compact", *words, self.fleet.program, "--shard", 900, stdout=-1, stderr=-2,
+        )  # fmt: skip
+        status, said = await ended(process)
+        self.check(status == 0 and "400 repeats" in said, f"compacted in parts: {said}")
+        for text in lines[:150]:
+            await self.owner.execute("insert into own_log (shard, line) values (900, $1)", text)
+        self.workers.pop().kill()
+        dsn = self.fleet.dsn("ledger_worker", self.fleet.databases[0].port)
+        self.workers.append(
+            self.patched(
+                f"import ocpp_board.fleet.worker as one; one.LONGEST_SCRIPT = {size // 2}",
+                "worker", "--db", dsn, "--program", self.fleet.program, "--boards", 0.5,
+            )  # fmt: skip
+        )
+
+        async def is_compacted() -> bool:
+            return bool(await self.owner.fetchval(COUNT, "FULL") == 200)
+
+        self.check(await self.until(20, is_compacted), "a log that is nearly full is compacted")
+        log = (self.fleet.folder / "parts.log").read_text()
+        self.check("shard 900: its log has" in log, "and that is told")
+        self.check(await self.owner.fetchval(board) == before, "its board is as before")
+
     async def run(self) -> None:
         await self.open()
         for job in (
-            self.channels, self.hosts, self.servers, self.strangers, self.handshakes, self.replay,
-            self.clock, self.plan, self.snapshot, self.standby, self.crash,
+            self.hosts, self.servers, self.strangers, self.handshakes, self.replay, self.clock,
+            self.plan, self.snapshot, self.flood, self.standby, self.crash, self.full_log,
+            self.channels,
         ):  # fmt: skip
             await job()
         await self.owner.close()

@@ -14,7 +14,15 @@ from ocpp_board.fleet.close_day import differences  # noqa: E402
 from ocpp_board.fleet.database import Fault, places, said, wakes  # noqa: E402
 from ocpp_board.fleet.events import citrine_event, event_of, maeve_event  # noqa: E402
 from ocpp_board.fleet.figures import added, figures, joined, new_rows, periods  # noqa: E402
-from ocpp_board.fleet.gateway import empty_answer  # noqa: E402
+from ocpp_board.fleet.compact import pieces  # noqa: E402
+from ocpp_board.fleet.gateway import (
+    BURST,
+    BYTES,
+    EVENTS,
+    Pace,
+    empty_answer,
+    station_in,
+)  # noqa: E402
 from ocpp_board.fleet.lines import (  # noqa: E402
     Unreadable,
     is_before,
@@ -202,6 +210,29 @@ def test_lines_for_archived_transactions_are_found() -> None:
     assert asyncio.run(late.places(fetch, texts)) == found
     assert asked == [{("A", "t1"), ("A", "t2")}]
     assert asyncio.run(Late(0, {"A": station("A")}, False).places(fetch, texts)) == {}
+
+
+def test_the_station_of_a_path() -> None:
+    assert station_in("/ocpp/CS-1") == "CS-1" and station_in("/ocpp/CS%2D1?x=1") == "CS-1"
+    for path in ("//[x", "/ocpp/%00", "/ocpp/", "/ocpp/a/b", "/CS-1", f"/ocpp/{49 * 'x'}"):
+        assert station_in(path) == ""
+
+
+def test_a_station_waits_above_its_pace() -> None:
+    pace, now = Pace(), 1_000.0
+    assert all(pace.wait(100, now) == 0 for _ in range(BURST * EVENTS))
+    assert pace.wait(100, now) == pytest.approx(1 / EVENTS)
+    assert pace.wait(100, now + BURST) == 0
+    assert pace.wait(BYTES * (BURST + 5), now + 3_600) == pytest.approx(5)
+
+
+def test_pieces_of_a_log_have_so_many_bytes_or_one_line() -> None:
+    assert list(pieces([], 9)) == [(0, 0)]
+    assert list(pieces(["aaa", "bbb", "c", 20 * "d", "e"], 8)) == [(0, 2), (2, 3), (3, 4), (4, 5)]
+    assert list(pieces(["é", "é"], 6)) == [(0, 2)] and list(pieces(["é", "é"], 5)) == [
+        (0, 1),
+        (1, 2),
+    ]
 
 
 def test_refusals_for_want_of_room() -> None:

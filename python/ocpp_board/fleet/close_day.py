@@ -30,9 +30,8 @@ from typing import Any, NamedTuple
 from zoneinfo import ZoneInfo
 
 from ocpp_board.energies import Flow, flow_of
-from ocpp_board.fleet import parts
 from ocpp_board.fleet.archives import ARCHIVED, packed, unpacked, widened
-from ocpp_board.fleet.compact import READ, answered, boards
+from ocpp_board.fleet import compact, parts
 from ocpp_board.fleet.database import Fault, connect, said
 from ocpp_board.fleet.figures import Figures, Flows, added, figures, periods
 from ocpp_board.fleet.lines import (
@@ -196,7 +195,7 @@ class Closing:
         names = set(self.names())
         rows = [
             row
-            for row in await self.fetch(READ, mark["xid"], mark["id"])
+            for row in await self.fetch(compact.READ, mark["xid"], mark["id"])
             if station_of(row["line"]) in names
         ]
         return mark, rows
@@ -211,14 +210,14 @@ class Closing:
 
     async def replayed(self, lines: list[str]) -> Figures:
         """The figures of the site's stations after these lines."""
-        made = await boards(self.words.program, self.plan(lines), lines)
-        return figures(made[0].decode()) if made else {}
+        made = await compact.replayed(self.words.program, self.plan(lines), lines)
+        return figures(made.boards[0].decode()) if made.boards else {}
 
     async def sorted_out(self, rows: list[Any], front: list[str]) -> list[Line]:
         """What these lines do behind those in front, which all have to change something."""
         lines = front + [row["line"] for row in rows]
         plan = self.plan(lines if front else [])
-        answers = await answered(self.words.program, plan, lines)
+        answers = (await compact.replayed(self.words.program, plan, lines)).answers
         if not all(is_change for _, is_change in answers[: len(front)]):
             raise Fault(f"site {self.site}: what was archived is not taken again")
         return [

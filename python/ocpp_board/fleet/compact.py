@@ -6,11 +6,12 @@ The log up to where answers were told is replayed under the plan's limits, and a
 total is asked for. A message that was taken and left the total as it was is a repeat, since each accepted change
 counts in it. What was refused stays, since it tells of a conflict; so does what came for archived transactions, which
 the next closing takes. Before anything is removed the lines that are
-left are replayed, and their boards must be the same.
+left are replayed, and their boards must be the same. A log of more than a replay reads is replayed in parts.
 """
 
 import argparse
-from collections.abc import Sequence
+from collections.abc import Iterator, Sequence
+from typing import NamedTuple
 
 from ocpp_board.fleet import parts
 from ocpp_board.fleet.archives import Late
@@ -18,6 +19,7 @@ from ocpp_board.fleet.database import Fault, connect
 from ocpp_board.fleet.lines import is_repeat, station_of
 from ocpp_board.fleet.plans import Plan, knows_period
 from ocpp_board.fleet.replays import Replay
+from ocpp_board.limits import LONGEST_SCRIPT
 from ocpp_board.words import add_program, parser_of
 
 NAME = "ocpp-board compact"
@@ -27,47 +29,85 @@ READ = """
 select l.xid::text, l.id, l.at, l.line from own_log l where l.shard = $1 and (l.xid, l.id) <= ($2::text::xid8, $3)
 order by l.xid, l.id
 """
-# Not under limits other than those that it was found under.
-REMOVE = """
-delete from own_log l using unnest($2::text[], $3::bigint[]) as g (xid, id)
-where l.shard = $1 and l.xid = g.xid::xid8 and l.id = g.id and $4 = (select plan from own_shard where shard = $1)
-"""
+# Not under limits other than those that they were found under.
+REMOVE = "select remove_repeats($1, $2, $3, $4)"
+# Bytes of a log that are handed to one replay, which reads three times as many with totals and what came before; and
+# those that are handed to it at once.
+PIECE, BLOCK_BYTES = LONGEST_SCRIPT // 3, 1 << 20
 
 
-async def boards(program: str, plan: Plan, lines: list[str]) -> list[bytes]:
-    """The boards of a plan's sites after these lines. Raises ReplayEnded."""
-    replay = await Replay.start(program)
-    try:
-        await replay.open(plan)
-        replay.write("".join(line + "\n" for line in lines).encode())
-        await replay.answers(len(lines))
-        return [await replay.board(site) for site in plan.sites]
-    finally:
-        replay.kill()
+def pieces(lines: list[str], most: int) -> Iterator[tuple[int, int]]:
+    """The fronts and ends of parts of these lines that have so many bytes at most, or one line."""
+    front = size = 0
+    for place, line in enumerate(lines):
+        size += len(line.encode()) + 1
+        if size > most and place > front:
+            yield front, place
+            front, size = place, len(line.encode()) + 1
+    yield front, len(lines)
 
 
-async def answered(program: str, plan: Plan, lines: list[str]) -> list[tuple[bytes, bool]]:
-    """The answer to each line, and whether it changed its station."""
-    replay, found = await Replay.start(program), list[tuple[bytes, bool]]()
-    try:
-        await replay.open(plan)
-        replay.write("".join(f"total {station}\n" for station in plan.stations).encode())
-        totals = dict(zip(plan.stations, await replay.answers(len(plan.stations))))
-        for front in range(0, len(lines), 500):
-            part = lines[front : front + 500]
+class Piece:
+    """A replay of a part of a log, behind the lines of what came before it that changed something."""
+
+    def __init__(self, replay: Replay, plan: Plan) -> None:
+        self.replay, self.plan = replay, plan
+        self.totals: dict[str, bytes] = {}
+
+    async def open(self, kept: list[str]) -> None:
+        """Begins with the lines that are known to change something. Raises Fault where they don't."""
+        await self.replay.open(self.plan)
+        for front, end in pieces(kept, BLOCK_BYTES):
+            part = kept[front:end]
+            self.replay.write("".join(line + "\n" for line in part).encode())
+            answers = await self.replay.answers(len(part))
+            if not all(answer.startswith((b"[3,", b"accepted ")) for answer in answers):
+                raise Fault("a line that was taken once is not taken again")
+        self.replay.write("".join(f"total {name}\n" for name in self.plan.stations).encode())
+        totals = await self.replay.answers(len(self.plan.stations))
+        self.totals = dict(zip(self.plan.stations, totals))
+
+    async def answered(self, lines: list[str]) -> list[tuple[bytes, bool]]:
+        """The answer to each of these lines, and whether it changed its station."""
+        found = list[tuple[bytes, bool]]()
+        for front, end in pieces(lines, BLOCK_BYTES):
+            part = lines[front:end]
             stations = [station_of(line) for line in part]
-            replay.write(
-                "".join(
-                    f"{line}\ntotal {station}\n" for line, station in zip(part, stations)
-                ).encode()
-            )
-            answers = await replay.answers(2 * len(part))
+            pairs = (f"{line}\ntotal {name}\n" for line, name in zip(part, stations))
+            self.replay.write("".join(pairs).encode())
+            answers = await self.replay.answers(2 * len(part))
             for station, answer, total in zip(stations, answers[::2], answers[1::2]):
-                found.append((answer, totals.get(station) != total))
-                totals[station] = total
-    finally:
-        replay.kill()
-    return found
+                found.append((answer, self.totals.get(station) != total))
+                self.totals[station] = total
+        return found
+
+
+class Replayed(NamedTuple):
+    """What a log says: the answer to each line with whether it changed its station, and the boards of the sites."""
+
+    answers: list[tuple[bytes, bool]]
+    boards: list[bytes]
+
+
+async def replayed(program: str, plan: Plan, lines: list[str]) -> Replayed:
+    """Replays a log of any length: of more than a replay reads in parts, each behind what changed something before.
+
+    Raises ReplayEnded, and Fault where what changed something is more than a replay reads.
+    """
+    found, kept, shown = list[tuple[bytes, bool]](), list[str](), list[bytes]()
+    for front, end in pieces(lines, PIECE):
+        if front and sum(len(line.encode()) + 1 for line in kept) > PIECE:
+            raise Fault(f"the lines that changed something have more than {PIECE:,} bytes")
+        piece = Piece(await Replay.start(program), plan)
+        try:
+            await piece.open(kept)
+            answers = await piece.answered(lines[front:end])
+            shown = [await piece.replay.board(site) for site in plan.sites]
+        finally:
+            piece.replay.kill()
+        kept += [line for line, (_, is_change) in zip(lines[front:end], answers) if is_change]
+        found += answers
+    return Replayed(found, shown)
 
 
 async def compact(words: argparse.Namespace) -> None:
@@ -87,20 +127,14 @@ async def compact(words: argparse.Namespace) -> None:
         session.fetch, [row["line"] for row in rows]
     )
     rows = [row for place, row in enumerate(rows) if place not in late]
-    answers = await answered(words.program, plan, [row["line"] for row in rows])
-    gone = [row for row, answer in zip(rows, answers) if is_repeat(*answer)]
+    whole = await replayed(words.program, plan, [row["line"] for row in rows])
+    gone = [row for row, answer in zip(rows, whole.answers) if is_repeat(*answer)]
     places = {(row["xid"], row["id"]) for row in gone}
     left = [row["line"] for row in rows if (row["xid"], row["id"]) not in places]
-    if await boards(words.program, plan, [row["line"] for row in rows]) != await boards(
-        words.program, plan, left
-    ):
+    if whole.boards != (await replayed(words.program, plan, left)).boards:
         raise Fault(f"shard {words.shard}: the boards would change, so nothing was removed")
     xids, ids = [row["xid"] for row in gone], [row["id"] for row in gone]
-    done = await session.execute(REMOVE, words.shard, xids, ids, mark["plan"])
-    if done != f"DELETE {len(gone)}":
-        raise Fault(
-            f"shard {words.shard}: its plan or its log was changed meanwhile; removed: {done}"
-        )
+    await session.execute(REMOVE, words.shard, mark["plan"], xids, ids)
     await session.close()
     print(f"shard {words.shard}: {len(rows)} lines, {len(gone)} repeats removed, boards as before")
 

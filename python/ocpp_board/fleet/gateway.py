@@ -10,6 +10,7 @@ stations send again what has no answer.
 
 import argparse
 import asyncio
+import hashlib
 import http
 import json
 import logging
@@ -73,6 +74,11 @@ BATCH, BATCH_BYTES = 1000, 4_000_000
 # Seconds: for the database or a replay to answer, for a handshake from its connection on, and without a byte from a
 # station, twice its heartbeat interval; between looks for stations that the plan did not have.
 ANSWER, HANDSHAKE, SILENCE, LOOKS = 10, 10, 600, 0.05
+# What a station may have appended: events and bytes a second, and for how many seconds at once.
+EVENTS, BYTES, BURST = 20, 65_536, 60
+# Seconds for which an event that was accepted last is answered again without being appended. Not for ever: an operator
+# may have erased it.
+REPEATED = 60
 # Moments that the ledger knows, in seconds since 1970.
 MOMENTS = (FIRST_MOMENT.timestamp(), PAST_MOMENTS.timestamp())
 APPEND = """
@@ -118,12 +124,33 @@ def station_in(path: str) -> str:
     return name if is_name(name) else ""
 
 
+class Pace:
+    """How much of a station is appended: BURST seconds' worth at once, and else so many events and bytes a second."""
+
+    def __init__(self) -> None:
+        self.due = 0.0
+
+    def wait(self, size: int, now: float) -> float:
+        """For how long no more of its messages are read, behind one of so many bytes."""
+        self.due = max(self.due, now - BURST) + max(1 / EVENTS, size / BYTES)
+        return max(0.0, self.due - now)
+
+
+def digest(text: str) -> bytes:
+    """By what a text is known again."""
+    return hashlib.blake2b(text.encode(), digest_size=16).digest()
+
+
 class Wait(NamedTuple):
-    """What waits for its answer: whose it is, its line, and since when."""
+    """What waits for its answer: whose it is, its text, and since when."""
 
     link: "StationLink"
-    line: str
+    text: str
     since: float
+
+    def line(self) -> str:
+        """Its line of the log."""
+        return f"msg {self.link.name} {self.text}"
 
 
 class Cell:
@@ -271,8 +298,8 @@ class Cell:
             if wait and self.is_home(wait.link.name):
                 tokens.append(token)
                 shards.append(self.gateway.homes[wait.link.name][1])
-                lines.append(wait.line)
-                size += len(wait.line)
+                lines.append(wait.line())
+                size += len(wait.text)
         if not tokens:
             return
         done = await self.committed(session, shards, tokens, lines)
@@ -326,7 +353,10 @@ class StationLink(Link):
         self.began = self.seen = time.monotonic()
         self.is_in = False
         self.unanswered = 0
-        self.is_slow = False
+        # Why no messages are read: the station reads too slowly, or sends too much.
+        self.is_slow = self.is_paced = False
+        # What was accepted last, its answer, and when.
+        self.last = (b"", b"", 0.0)
 
     def connection_made(self, transport: asyncio.BaseTransport) -> None:
         super().connection_made(transport)
@@ -396,18 +426,49 @@ class StationLink(Link):
             return None
         head = HEAD.match(text)
         if head[1] == "TransactionEvent" if head else "TransactionEvent" in text or "\\" in text:
-            self.gateway.keep(self, one_line(text))
+            self.keep(one_line(text))
         elif head and head[1] in NOTIFICATIONS and (answer := empty_answer(text)):
             self.answer(answer.encode())
         else:
             self.gateway.own.ask(self, one_line(text))
         return None
 
-    def answer(self, answer: bytes) -> None:
-        """Sends what the ledger answered."""
-        if self.unanswered == UNANSWERED and not self.is_slow and not self.is_lost:
+    def keep(self, text: str) -> None:
+        """Has an event appended, or answers one that was accepted right before; above its pace the station waits."""
+        known, answer, since = self.last
+        if known == digest(text) and since > time.monotonic() - REPEATED:
+            return self.answer(answer)
+        self.gateway.keep(self, text)
+        pace = self.gateway.paces.setdefault(self.name, Pace())
+        if (wait := pace.wait(len(text), time.monotonic())) > 0 and not self.is_paced:
+            self.is_paced = True
+            self.transport.pause_reading()
+            asyncio.get_running_loop().call_later(wait, self.paced)
+        return None
+
+    def paced(self) -> None:
+        """The station waited for long enough."""
+        self.is_paced = False
+        self.resume()
+
+    def resume(self) -> None:
+        """Reads again, where nothing speaks against it."""
+        is_full = self.unanswered >= UNANSWERED
+        if not (self.is_slow or self.is_paced or is_full or self.is_lost):
             self.transport.resume_reading()
+
+    def accepted(self, text: str, answer: bytes) -> None:
+        """Sends what the ledger answered to an event."""
+        if answer.startswith(b"[3,"):
+            self.last = (digest(text), answer, time.monotonic())
+        self.answer(answer)
+
+    def answer(self, answer: bytes) -> None:
+        """Sends an answer."""
+        was_full = self.unanswered >= UNANSWERED
         self.unanswered -= 1
+        if was_full:
+            self.resume()
         if answer.startswith(b"fault "):
             answer = b'[4,"-1","InternalError","' + answer[6:] + b'",{}]'
         if answer != b"silent":
@@ -421,8 +482,7 @@ class StationLink(Link):
     def resume_writing(self) -> None:
         """The station reads again."""
         self.is_slow = False
-        if self.unanswered < UNANSWERED:
-            self.transport.resume_reading()
+        self.resume()
 
 
 class OwnReplay:
@@ -499,6 +559,7 @@ class Gateway:
         # Where each station's events go: its cell and its shard.
         self.homes: dict[str, tuple[Cell, int]] = {}
         self.waiting: dict[int, Wait] = {}
+        self.paces: dict[str, Pace] = {}
         self.links: set[StationLink] = set()
         self.jobs: set[asyncio.Task[None]] = set()
         self.token = 0
@@ -512,7 +573,7 @@ class Gateway:
     def keep(self, link: StationLink, text: str) -> None:
         """Takes an event, which waits for its answer."""
         self.token += 1
-        self.waiting[self.token] = Wait(link, f"msg {link.name} {text}", time.monotonic())
+        self.waiting[self.token] = Wait(link, text, time.monotonic())
         self.queue(self.token)
 
     def queue(self, token: int) -> None:
@@ -559,7 +620,7 @@ class Gateway:
         for line in payload.split("\n"):
             token, _, answer = line.partition(" ")
             if wait := self.waiting.pop(int(token), None):
-                wait.link.answer(answer.encode())
+                wait.link.accepted(wait.text, answer.encode())
 
     async def give_up(self) -> None:
         """Closes the connections of stations that wait for too long, which come again and send again, and of those

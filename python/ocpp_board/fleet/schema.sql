@@ -91,6 +91,8 @@ create table if not exists own_shard partition of shard (
     check (shard >= 0)
 ) for values in (:cell) with (fillfactor = 50);
 
+alter table shard add column if not exists bytes bigint not null default 0;     -- of its log; a script has 1 GiB at most
+
 create table if not exists site (
     cell smallint not null default :cell,
     shard integer not null,
@@ -667,6 +669,27 @@ create or replace function reserve_shard(shard_number integer) returns boolean l
     select pg_try_advisory_lock(3, shard_number);
 $$;
 
+-- Removes repeats that were found under this plan. Whoever holds the shard begins a replay anew, from fewer lines.
+create or replace function remove_repeats(shard_number integer, found_plan bigint, xids text[], ids bigint[])
+    returns void language plpgsql security definer set search_path = public, pg_temp as $$
+declare
+    removed bigint;
+begin
+    update own_shard set plan = plan + 1
+        where shard = shard_number and plan = found_plan and moving_to is null and cardinality(ids) > 0;
+    if not found and cardinality(ids) > 0 then
+        raise 'shard %: its plan was changed meanwhile, so nothing was removed', shard_number;
+    end if;
+    delete from own_log l using unnest(xids, ids) as g (xid, id)
+        where l.shard = shard_number and l.xid = g.xid::xid8 and l.id = g.id and l.line like 'msg %';
+    get diagnostics removed = row_count;
+    if removed <> cardinality(ids) then
+        raise 'shard %: its log was changed meanwhile, so nothing was removed', shard_number;
+    end if;
+    perform pg_notify('plan', shard_number::text);
+end $$;
+revoke execute on function remove_repeats(integer, bigint, text[], bigint[]) from public;
+
 -- Roles --------------------------------------------------------------------------------------------------------------
 
 -- A gateway sees the plan and inserts `msg` lines; it reads, changes and removes nothing.
@@ -684,7 +707,9 @@ grant select, insert, update on fed to ledger_feed;
 grant select, insert, delete on stray to ledger_feed;
 
 grant select on own_log, own_closing, own_archived_transaction, own_archived_lines to ledger_worker;
-grant update (taken, xid, id) on own_shard to ledger_worker;
+grant update (taken, xid, id, bytes) on own_shard to ledger_worker;
+-- It compacts a shard whose log is nearly full.
+grant execute on function remove_repeats(integer, bigint, text[], bigint[]) to ledger_worker;
 grant select, insert, update, delete on own_board, own_board_station, own_board_period, own_board_transaction,
     own_board_gap, worker to ledger_worker;
 

@@ -36,6 +36,8 @@ from ocpp_board.fleet.database import (
 from ocpp_board.fleet.figures import new_rows
 from ocpp_board.fleet.plans import Plan, knows_period
 from ocpp_board.fleet.replays import Replay, ReplayEnded
+from ocpp_board.limits import LONGEST_SCRIPT
+from ocpp_board.processes import run_tool
 from ocpp_board.words import add_program, parser_of
 
 log = logging.getLogger(__name__)
@@ -68,8 +70,8 @@ UNTOLD = (asyncpg.DataError, asyncpg.ProgramLimitExceededError)
 # again, and tells at most some answers twice. A row is not written for each answer, since a snapshot that stays open
 # keeps all its versions.
 PROGRESS = """
-update own_shard s set xid = w.xid::xid8, id = w.id
-from unnest($1::int[], $2::text[], $3::bigint[]) as w (shard, xid, id)
+update own_shard s set xid = w.xid::xid8, id = w.id, bytes = w.bytes
+from unnest($1::int[], $2::text[], $3::bigint[], $4::bigint[]) as w (shard, xid, id, bytes)
 where s.shard = w.shard and (s.xid, s.id) < (w.xid::xid8, w.id)
 """
 # A session of this worker that was lost may hold locks still, and wait for a standby.
@@ -126,7 +128,8 @@ class Shard:
         self.replay, self.sites, self.late = replay, sites, late
         # The place and the text of each site's board as it was written last.
         self.shown: dict[str, tuple[tuple[str, int], str]] = {}
-        self.began, self.lines = asyncio.get_running_loop().time(), 0
+        self.began = asyncio.get_running_loop().time()
+        self.lines = self.bytes = 0
         self.changed, self.due = True, 0.0
         self.is_loaded = self.is_answering = False
         self.busy = asyncio.Lock()
@@ -374,6 +377,7 @@ class Session:
             return None
         shard.read, shard.changed = (row["xid"], row["id"]), shard.changed or is_live
         shard.lines += row["rows"]
+        self.weigh(shard, len(row["text"].encode()) + 1)
         front = row["silent"]
         parts = zip(row["gateways"][front:], row["tokens"][front:], answers[front:])
         told = [
@@ -382,6 +386,28 @@ class Session:
             if gateway and token is not None
         ]
         return shard, told, row["more"]
+
+    def weigh(self, shard: Shard, size: int) -> None:
+        """Counts so many bytes of the shard's log. It is told where that is half full, and compacted where nearly."""
+        had, shard.bytes = shard.bytes, shard.bytes + size
+        for part, is_nearly in ((LONGEST_SCRIPT // 2, False), (LONGEST_SCRIPT * 9 // 10, True)):
+            if had < part <= shard.bytes:
+                log.warning(
+                    "shard %d: its log has %s bytes of %s",
+                    *(shard.number, f"{shard.bytes:,}", f"{LONGEST_SCRIPT:,}"),
+                )
+                if is_nearly:
+                    self.spawn(self.compact(shard.number))
+
+    async def compact(self, number: int) -> None:
+        """Compacts a shard in a process of its own; its plan then changes, and its replay begins anew."""
+        words = ["--db", self.words.db, "--program", self.words.program, "--shard", str(number)]
+        made = await asyncio.to_thread(run_tool, "compact", words, b"")
+        told = made.stderr.decode("utf-8", "replace").strip().splitlines()[-1:]
+        if made.returncode:
+            log.error("shard %d: not compacted: %s", number, *(told or ["it ended"]))
+        else:
+            log.info("shard %d: compacted", number)
 
     async def replayed(self, shard: Shard, row: Any) -> tuple[list[bytes], bool]:
         """The answers to lines, and whether one reached the replay: those for archived transactions do not."""
@@ -441,9 +467,8 @@ class Session:
             if new:
                 places = [shard.told for shard in new]
                 numbers = [shard.number for shard in new]
-                await self.ask(
-                    PROGRESS, numbers, [xid for xid, _ in places], [number for _, number in places]
-                )
+                sizes = [shard.bytes for shard in new]
+                await self.ask(PROGRESS, numbers, *map(list, zip(*places)), sizes)
                 for shard, place in zip(new, places):
                     shard.noted = place
 
