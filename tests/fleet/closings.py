@@ -4,7 +4,8 @@ import argparse
 import asyncio
 import subprocess
 import time
-from collections.abc import Sequence
+from collections.abc import AsyncIterator, Sequence
+from contextlib import asynccontextmanager
 from datetime import datetime, timedelta, timezone
 from pathlib import Path
 from typing import Any
@@ -119,24 +120,35 @@ class ClosingTrial(Trial):
             self.fleet.start(*self.command(day, **more), stdout=-1, stderr=subprocess.STDOUT)
         )
 
+    @asynccontextmanager
+    async def held(self, table: str, mode: str, login: str = "") -> AsyncIterator[None]:
+        """A table that is locked meanwhile."""
+        lock = await connect(login or self.fleet.dsn("owner"))
+        await lock.execute(
+            f"set idle_in_transaction_session_timeout = 0; begin; lock table {table} in {mode} mode"
+        )
+        try:
+            yield
+        finally:
+            await lock.execute("rollback")
+            await lock.close()
+
+    async def blocked(self, command: list[str]) -> tuple[subprocess.Popen[bytes], bool]:
+        """A command that begins, and whether it came to wait for a table."""
+        process = self.fleet.start(*command, stdout=-1, stderr=subprocess.STDOUT)
+        end, count = time.monotonic() + 15, 0
+        while not count and time.monotonic() < end and process.poll() is None:
+            await asyncio.sleep(0.05)
+            count = await self.owner.fetchval(BLOCKED)
+        return process, count == 1
+
     async def killed(self, command: list[str], table: str, mode: str, login: str = "") -> bool:
         """Kills a command once it waits for this table. Whether it came to that."""
-        lock = await connect(login or self.fleet.dsn("owner"))
-        transaction = lock.transaction()
-        await transaction.start()
-        await lock.execute(
-            f"set idle_in_transaction_session_timeout = 0; lock table {table} in {mode} mode"
-        )
-        process = self.fleet.start(*command, stdout=-1, stderr=subprocess.STDOUT)
-        end, blocked = time.monotonic() + 15, 0
-        while not blocked and time.monotonic() < end and process.poll() is None:
-            await asyncio.sleep(0.05)
-            blocked = await self.owner.fetchval(BLOCKED)
-        process.kill()
-        process.wait()
-        await transaction.rollback()
-        await lock.close()
-        return bool(blocked == 1)
+        async with self.held(table, mode, login):
+            process, was_blocked = await self.blocked(command)
+            process.kill()
+            process.wait()
+        return was_blocked
 
     async def same(self, text: str, day: str) -> None:
         """Whether boards and archives together are the whole, and what is settled its periods up to the day."""

@@ -77,6 +77,16 @@ class Demo(ClosingTrial):
         text = await self.refused("select retire_station('L1', current_date + 1)")
         self.check("still to come" in text, f"retired tomorrow: {text}")
         text = await self.refused("select retire_station('L1')")
+        await self.owner.execute("update own_station set retired = null where station = 'L1'")
+        async with self.held("own_closing", "exclusive"):
+            command = self.command("2026-03-03", "leaving")
+            process, was_blocked = await self.blocked(command)
+            text = await self.refused("select retire_station('L1')")
+        status, said = await ended(process)
+        self.check(
+            was_blocked and not text and status == 2 and "nothing was taken" in said,
+            f"a station is retired while a closing is under way: {said}",
+        )
         _, url = await asyncio.to_thread(self.fleet.gateway)
         heard = [await (await Client.open(url, name)).said() for name in ("L1", "L2")]
         self.check(

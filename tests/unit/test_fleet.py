@@ -11,18 +11,19 @@ pytest.importorskip("websockets")
 from ocpp_board.energies import Flow  # noqa: E402
 from ocpp_board.fleet.archives import Late, packed, unpacked, widened  # noqa: E402
 from ocpp_board.fleet.close_day import differences  # noqa: E402
-from ocpp_board.fleet.database import Fault, places, said, wakes  # noqa: E402
+from ocpp_board.fleet import database  # noqa: E402
+from ocpp_board.fleet.database import Fault, Unreachable, places, said, wakes  # noqa: E402
 from ocpp_board.fleet.events import citrine_event, event_of, maeve_event  # noqa: E402
 from ocpp_board.fleet.figures import added, figures, joined, new_rows, periods  # noqa: E402
 from ocpp_board.fleet.compact import pieces  # noqa: E402
-from ocpp_board.fleet.gateway import (
+from ocpp_board.fleet.gateway import (  # noqa: E402
     BURST,
     BYTES,
     EVENTS,
     Pace,
     empty_answer,
     station_in,
-)  # noqa: E402
+)
 from ocpp_board.fleet.lines import (  # noqa: E402
     Unreadable,
     is_before,
@@ -61,6 +62,32 @@ def test_places_of_an_address() -> None:
             places(wrong)
     with pytest.raises(Fault, match="a password in --db"):
         places("postgresql://u:secret@a/ledger")
+
+
+def test_a_refused_login_is_a_fault_where_every_host_gives_it(
+    monkeypatch: pytest.MonkeyPatch,
+) -> None:
+    hosts: dict[str, Exception | None] = {"a": Fault("a lets nobody in"), "b": Unreachable("b")}
+
+    async def enter(host: str, *_words: object) -> str:
+        if fault := hosts[host]:
+            raise fault
+        return host
+
+    def connected() -> object:
+        return asyncio.run(database.connect("postgresql://u@a,b/ledger"))
+
+    monkeypatch.setattr(database, "enter", enter)
+    with pytest.raises(Unreachable, match="a lets nobody in"):
+        connected()
+    hosts["b"] = Fault("b lets nobody in")
+    with pytest.raises(Fault):
+        connected()
+    hosts["b"] = None
+    assert connected() == "b"
+    hosts["b"] = Fault("b lets nobody in")
+    with pytest.raises(Unreachable, match="b lets nobody in"):
+        connected()
 
 
 def test_payloads_of_wakes_fit() -> None:
