@@ -1,6 +1,7 @@
 """Tries on a fleet of its own what one station, one operator, one host or one setting could stop.
 
     tests/one fleet.harm_demo ocpp_board
+    tests/one fleet.harm_demo ocpp_board --big      with a log of more than 1 GiB, for which it takes 4 GiB of memory
 
 It starts PostgreSQL 15 in a temporary folder, workers and gateways. Then come: a host of the list that lets nobody
 in; a server that would lose or spoil what is answered; strangers by the hundred; connections that never end their
@@ -40,6 +41,9 @@ APPEND = (
 LOOKING = """
 select pid from pg_stat_activity where application_name like 'gateway_%' and query like '%t.station = %'
 order by query_start desc limit 1
+"""
+FILL = """
+insert into own_log (shard, line) select 901, $1 || repeat('x', $2) || $3 from generate_series(1, 4200)
 """
 COUNT = "select count(*) from own_log where line like 'msg ' || $1 || ' %'"
 OF_GATEWAY = "select count(*) from pg_stat_activity where application_name like 'gateway_%'"
@@ -495,6 +499,28 @@ class Demo(Trial):
         self.check("shard 900: its log has" in log, "and that is told")
         self.check(await self.owner.fetchval(board) == before, "its board is as before")
 
+    async def big_log(self) -> None:
+        """A log of more than 1 GiB, of one event that came again and again."""
+        for process in self.workers:
+            process.kill()
+        await self.owner.execute("select add_station(901, 'big', 'BIG')")
+        text = event("Big", 0, "Started", "2026-03-01T10:00:00Z", 1000)
+        front, back = f"msg BIG {text}".split('"seqNo"')
+        await self.owner.execute(FILL, front + '"x":"', 262_000 - len(text), f'","seqNo"{back}')
+        await self.owner.execute(
+            "update own_shard set (xid, id) = (select xid, id from own_log where shard = 901 "
+            "order by xid desc, id desc limit 1) where shard = 901"
+        )
+        size = await self.owner.fetchval(
+            "select sum(octet_length(line)) from own_log where shard = 901"
+        )
+        command = [*tool("compact"), "--db", self.fleet.dsn("owner", self.fleet.databases[0].port)]
+        words = ("--program", self.fleet.program, "--shard", 901)
+        status, said = await ended(self.fleet.start(*command, *words, stdout=-1, stderr=-2))
+        self.check(
+            status == 0 and "4199 repeats removed" in said, f"a log of {size:,} bytes: {said}"
+        )
+
     async def run(self) -> None:
         await self.open()
         for job in (
@@ -503,12 +529,16 @@ class Demo(Trial):
             self.channels,
         ):  # fmt: skip
             await job()
+        if self.words.big:
+            await self.big_log()
         await self.owner.close()
 
 
 def main() -> int:
     """Tries it, and gives the exit status."""
-    words = parsed(parser_of(__doc__))
+    parser = parser_of(__doc__)
+    parser.add_argument("--big", action="store_true", help="tries a log of more than 1 GiB, too")
+    words = parsed(parser)
     return tried("harm", lambda: Demo(words))
 
 

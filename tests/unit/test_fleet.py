@@ -9,7 +9,7 @@ pytest.importorskip("asyncpg")
 pytest.importorskip("websockets")
 
 from ocpp_board.energies import Flow  # noqa: E402
-from ocpp_board.fleet.archives import Late, packed, unpacked, widened  # noqa: E402
+from ocpp_board.fleet.archives import LATER, Late, packed, unpacked, widened  # noqa: E402
 from ocpp_board.fleet.close_day import differences  # noqa: E402
 from ocpp_board.fleet import database  # noqa: E402
 from ocpp_board.fleet.database import Fault, Unreachable, places, said, wakes  # noqa: E402
@@ -34,7 +34,7 @@ from ocpp_board.fleet.lines import (  # noqa: E402
     transaction_of,
 )
 from ocpp_board.fleet.page import fields_of  # noqa: E402
-from ocpp_board.fleet.page_texts import Words, Wrong  # noqa: E402
+from ocpp_board.fleet.page_texts import Words, Wrong, answer_page, question_page  # noqa: E402
 from ocpp_board.fleet.plans import Plan  # noqa: E402
 from ocpp_board.fleet.worker import order, payloads_of  # noqa: E402
 from ocpp_board.messages import Refused  # noqa: E402
@@ -243,6 +243,15 @@ def test_the_station_of_a_path() -> None:
     assert station_in("/ocpp/CS-1") == "CS-1" and station_in("/ocpp/CS%2D1?x=1") == "CS-1"
     for path in ("//[x", "/ocpp/%00", "/ocpp/", "/ocpp/a/b", "/CS-1", f"/ocpp/{49 * 'x'}"):
         assert station_in(path) == ""
+
+
+def test_the_page_tells_what_a_closing_will_do() -> None:
+    words = Words("void", "A", "T1", "3")
+    row = {"site": "north", "transaction": None, "is_archived": True}
+    assert b"in the archive of a closed day" in question_page(words, row, "token")
+    assert b"no such session" in question_page(words, row | {"is_archived": False}, "token")
+    assert b"next closing does it" in answer_page(words, LATER.decode(), "north")
+    assert b"It is done" in answer_page(words, "accepted 3", "north")
 
 
 def test_a_station_waits_above_its_pace() -> None:
