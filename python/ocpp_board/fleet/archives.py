@@ -48,11 +48,14 @@ def unpacked(data: bytes) -> list[str]:
 
 def widened(row: Mapping[str, Any], lines: list[str]) -> dict[str, Any]:
     """A station's row with limits that take these lines of its, whatever they were."""
-    needs = {
-        "transactions": len({transaction_of(line) for line in lines}),
-        "events": len(lines),
-        "readings": sum(map(readings_of, lines)),
-    }
+    names = set[Transaction | None]()
+    for line in lines:
+        names.update(may_name(line) or [transaction_of(line)])
+    # Most values are of no register; lines are read where that matters.
+    readings = sum(line.count('"value"') for line in lines)
+    if readings > row["readings"]:
+        readings = sum(map(readings_of, lines))
+    needs = {"transactions": len(names), "events": len(lines), "readings": readings}
     wide = {name: min(number, GREATEST_LIMITS[name]) for name, number in needs.items()}
     return {**row, **{name: max(row[name], number) for name, number in wide.items()}}
 

@@ -173,14 +173,10 @@ class Cell:
         while True:
             sessions: list[Any] = []
             try:
-                sessions = list(
-                    await asyncio.gather(
-                        *(
-                            connect(self.dsn, application_name=self.gateway.name, **BY_INDEX)
-                            for _ in range(3)
-                        )
-                    )
-                )
+                # One after the other: of several at once, one that fails would leave the others behind.
+                for _ in range(3):
+                    name = self.gateway.name
+                    sessions.append(await connect(self.dsn, application_name=name, **BY_INDEX))
                 await self.open(sessions[1])
                 jobs = [
                     asyncio.create_task(job)
