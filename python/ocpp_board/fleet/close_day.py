@@ -56,6 +56,8 @@ where l.shard = $1 and l.xid = g.xid::xid8 and l.id = g.id
 """
 # Its worker begins a replay anew from what is left; the plan that lines were replayed under is still that.
 REPLAN = "update own_shard set plan = plan + 1 where shard = $1 and plan = $2 and moving_to is null"
+# The same where lines came to be known: it tells the worker.
+ANEW = "with one as (update own_shard set plan = plan + 1 where shard = $1) select pg_notify('plan', $1::text)"
 BEFORE = "select day, period from own_closing where shard = $1 and site = $2 order by closing"
 # What an earlier version archived, whose lines are in its files alone.
 UNPACKED = """
@@ -183,15 +185,18 @@ class Closing:
         """The site's stations, those among them that are retired."""
         return [row["station"] for row in self.stations]
 
-    async def read(self) -> tuple[Any, list[Any]]:
-        """Up to where answers were told, and the lines of the site's stations up to there."""
+    async def reserve(self) -> None:
+        """Keeps others from moving, compacting or closing the shard, and reads the site's stations."""
         if not await self.session.fetchval("select reserve_shard($1)", self.shard):
             raise Fault(
                 f"shard {self.shard} is being moved, compacted or closed by another program"
             )
-        mark = (await self.fetch("select plan, xid::text, id from own_shard where shard = $1"))[0]
         query = "select * from own_station where shard = $1 and site = $2 order by place"
         self.stations = [dict(row) for row in await self.fetch(query, self.site)]
+
+    async def read(self) -> tuple[Any, list[Any]]:
+        """Up to where answers were told, and the lines of the site's stations up to there."""
+        mark = (await self.fetch("select plan, xid::text, id from own_shard where shard = $1"))[0]
         names = set(self.names())
         rows = [
             row
@@ -278,11 +283,13 @@ class Closing:
             except OSError as fault:
                 log.warning("%s; what comes for its transactions can't be taken", said(fault))
                 continue
-            place = [(self.shard, row["site"], row["closing"], *one) for one, row in rows.items()]
+            places = [(self.shard, row["site"], row["closing"], *one) for one, row in rows.items()]
             texts = [packed(lines[one]) for one in rows]
-            await self.session.executemany(
-                PACKED, [(*head, text) for head, text in zip(place, texts)]
-            )
+            async with self.session.transaction():
+                await self.session.executemany(
+                    PACKED, [(*place, text) for place, text in zip(places, texts)]
+                )
+                await self.session.execute(ANEW, self.shard)
 
     async def archived(self, rows: list[Any]) -> dict[Transaction, list[str]]:
         """The archived transactions that these rows are of, with their lines. Raises Fault where these are missing."""
@@ -341,6 +348,8 @@ class Closing:
 
     async def run(self, day: date) -> str:
         """Closes the day, and says in one line what that was."""
+        await self.reserve()
+        await self.pack()
         mark, rows = await self.read()
         before = await self.fetch(BEFORE, self.site)
         if before and before[-1]["period"] != self.period:
@@ -349,7 +358,6 @@ class Closing:
                 f"{self.period}: give its stations to a site of another name"
             )
         day = max([day, *(row["day"] for row in before)])
-        await self.pack()
         log_lines = await self.sorted_all(rows, day)
         leaving, refused = log_lines.leaving(), log_lines.refused()
         head = (self.shard, self.site, len(before) + 1)
