@@ -569,10 +569,32 @@ def left_out_lines(program: str) -> None:
     )
     with folder() as journal:
         journal.write_bytes(script)
-        with restored(program, journal, told) as server:
+        with restored(program, journal, told, "--allow-left-out") as server:
             server.answers("total A", TWO + "\n")
             server.ends(board("north", {"A": 2}))
         holds(journal, script + RUN)
+
+
+def lost_lines_end_the_server(program: str) -> None:
+    """A script with a line that left nothing, and that no kill cut, is served only where that is allowed."""
+    script = b"station north A\nmsg A " + FIRST + b"\nmsg B " + FIRST + b"\n"
+    told = b"left out 3 fault UnknownStation\n"
+    ended = subprocess.run(
+        [program, "serve", "--live", "--journal", "--restore"],
+        input=script + LISTEN,
+        capture_output=True,
+        timeout=LONGEST_WAIT,
+    )
+    if (ended.returncode, ended.stdout, ended.stderr) != (1, b"", told + b"fault LeftOut\n"):
+        raise Differs(f"status {ended.returncode}, {ended.stdout!r}, {ended.stderr!r}")
+    with folder() as journal:
+        journal.write_bytes(script)
+        with restored(program, journal, f"{told.decode()}restored 1\n", "--allow-left-out") as server:
+            server.ends(board("north", {"A": 1}))
+        # A station is added by its declaration in front of the journal.
+        journal.write_bytes(b"station north B\n" + script)
+        with restored(program, journal, "restored 2\n") as server:
+            server.ends(board("north", {"B": 1, "A": 1}))
 
 
 def declarations_written_once(program: str) -> None:
@@ -696,6 +718,7 @@ SCENES: tuple[Callable[[str], None], ...] = (
     quiet_messages,
     restored_lines_are_not_written_again,
     left_out_lines,
+    lost_lines_end_the_server,
     declarations_written_once,
     comment_after_a_cut_line,
     kill_and_restore,

@@ -1,9 +1,10 @@
 -- What a restored script was read up to, and what it leaves.
-use Rattle.std.specs.Prelude.{◌≡◌, ◌≢◌, ℕ, List, [], ◌∷◌, ◌++◌, All, Some, codes}
-use Rattle.std.specs.Io.BufRead.{strip_last}
-use Rattle.script_lines.specs.Lines.{HasNoFeed, lines_of}
+use Rattle.std.specs.Prelude.{◌≡◌, ◌≢◌, ◌&&◌, ◌||◌, ℕ, Bool, true, false, eqb, not, List, [], ◌∷◌, ◌++◌, All, None, Some, codes}
+use Rattle.std.specs.Io.BufRead.{ends_with_byte, strip_last}
+use Rattle.std.specs.List.{ends_with, starts_with}
+use Rattle.script_lines.specs.Lines.{HasNoFeed, Line, lines_of}
 use Rattle.script_lines.specs.Ranges.{longest_line}
-use Rattle.script_ledgers.specs.Script.{start, script_after}
+use Rattle.script_ledgers.specs.Script.{Script, line_step, start, script_after}
 use Rattle.site_desk.specs.declared.plan.SitePlan.{SitePlan}
 use Rattle.site_desk.specs.declared.plan.StationPlan.{StationPlan}
 use Rattle.station_cell.specs.Cell.{Cell}
@@ -16,17 +17,48 @@ pub record IsListen (bytes : List ℕ) : Type 0 where
   pub is : bytes ≡ raw ++ 10 ∷ []
   pub last : strip_last 13 raw ≡ codes "listen"
 
--- The script ends with `#` and a line feed. Where a kill cut its last line, they make of that part a line that says nothing.
-abbrev pub IsMarked : List ℕ → Type 0
-IsMarked read = (front : List ℕ) × (read ≡ front ++ 35 ∷ 10 ∷ [])
+-- Whether a line ends with `#`. One that is too long doesn't.
+abbrev pub is_marked : Line → Bool
+is_marked None = false
+is_marked (Some bytes) = ends_with_byte 35 bytes
+
+-- Whether the last of these lines ends with `#`; where there are none, what was so before.
+abbrev pub marked_by : Bool → List Line → Bool
+marked_by before [] = before
+marked_by before (line ∷ lines) = marked_by (is_marked line) lines
+
+-- Whether a line ends as one does that a kill cut: with the mark of a restore, or with the next run's first line.
+abbrev pub is_cut : Line → Bool
+is_cut None = false
+is_cut (Some bytes) = ends_with_byte 35 bytes || ends_with eqb bytes (codes "# a run of ocpp_board begins")
+
+-- Whether the answer to a line says that it left nothing: a fault, a refusal or a CALLERROR.
+abbrev pub leaves_nothing : List ℕ → Bool
+leaves_nothing reply = starts_with eqb reply (codes "fault ") || (starts_with eqb reply (codes "refused ") || starts_with eqb reply (codes "[4,"))
+
+-- Whether a line with this answer is lost: it left nothing, and no kill cut it.
+abbrev pub is_lost : List ℕ → Line → Bool
+is_lost reply line = leaves_nothing reply && not (is_cut line)
+
+-- Whether one of these lines is lost.
+abbrev pub loses : Script → List Line → Bool
+loses s [] = false
+loses s (line ∷ lines) = is_lost (line_step s line).1 line || loses (line_step s line).0 lines
 
 -- No line of the script is `listen`.
 abbrev pub HasNoListen : ℕ → List ℕ → Type 0
 HasNoListen most read = All (λ line. line ≢ Some (codes "listen")) (lines_of most read)
 
--- The script was read, and its stations have the contents of these cells. It ends with a mark, and has no line `listen`.
-pub record IsRestored (read : List ℕ) (sites : List SitePlan) (stations : List StationPlan) (cells : List Cell) : Type 0 where
+-- The script was read, and its stations have the contents of these cells. Its last line ends with `#`, none is `listen`, and `lost` says whether one is lost.
+pub record IsRestored (read : List ℕ) (lost : Bool) (sites : List SitePlan) (stations : List StationPlan) (cells : List Cell) : Type 0 where
   pub whole : EndsWhole read
-  pub marked : IsMarked read
+  pub marked : marked_by false (lines_of longest_line read) ≡ true
   pub no_listen : HasNoListen longest_line read
+  pub loses : lost ≡ loses start (lines_of longest_line read)
   pub shows : Shows (script_after start (lines_of longest_line read)) sites stations cells
+
+-- The script was read, and its last line doesn't end with `#`.
+pub record IsUnmarked (read : List ℕ) : Type 0 where
+  pub whole : EndsWhole read
+  pub unmarked : marked_by false (lines_of longest_line read) ≡ false
+  pub no_listen : HasNoListen longest_line read

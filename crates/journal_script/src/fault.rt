@@ -24,6 +24,11 @@ pub enum RestoreFault {
 }
 
 impl From<AllocError> for RestoreFault {
+    ghost use Rattle.std.specs.Prelude.{◌≢◌};
+    ghost use Rattle.journal_script.specs.declared.fault.RestoreFault.TheVariants.{NotMarked};
+
+    ghost from_gives = { λ error e. e ≢ NotMarked };
+
     fn from(_error: AllocError) -> RestoreFault {
         RestoreFault::OutOfMemory
     }

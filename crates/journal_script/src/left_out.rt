@@ -1,32 +1,95 @@
+ghost use Rattle.std.specs.Prelude.{◌≡◌, ◌||◌, false};
+ghost use Rattle.std.specs.Io.BufRead.{ends_with_byte};
+ghost use Rattle.script_lines.specs.Lines.{line_bytes};
+ghost use Rattle.journal_script.specs.Restoring.{is_cut, is_lost, is_marked, leaves_nothing};
+
 use itoa::Buffer;
 use std::io::Write;
+
+// How a run's first line ends, which makes one line of itself and of what a kill left before it.
+const RUN: &[u8] = b"# a run of ocpp_board begins";
 
 // Counts the lines of a script, and tells those whose answers say that nothing was taken.
 #[derive(Drop)]
 pub(crate) struct LeftOut {
-    lines: u64,
+    pub(crate) lines: u64,
+    // Whether the last line ends with `#`.
+    pub(crate) is_marked: bool,
+    // Whether a line is lost: nothing of it was taken, and no kill cut it.
+    pub(crate) has_lost: bool,
 }
 
 impl LeftOut {
-    pub(crate) fn new() -> Self {
-        LeftOut { lines: 0 }
+    pub(crate) fn new() -> Self
+        ensures marked { result.is_marked ≡ false }
+        ensures lost { result.has_lost ≡ false }
+    {
+        LeftOut {
+            lines: 0,
+            is_marked: false,
+            has_lost: false,
+        }
     }
 
     // Counts one line more, and tells it where this answer to it is a fault, a refusal or a CALLERROR. Whether that
     // can be written does not matter.
-    pub(crate) fn tell<T: Write>(&mut self, told: &mut T, reply: &[u8]) {
+    pub(crate) fn tell<T: Write>(&mut self, told: &mut T, line: Option<&[u8]>, reply: &[u8])
+        ensures marked { self.new.is_marked ≡ is_marked (line_bytes line.entry) }
+        ensures lost { self.new.has_lost ≡ (self.old.has_lost || is_lost reply.now (line_bytes line.entry)) }
+    {
         self.lines = self.lines.wrapping_add(1);
-        if is_left_out(reply) {
-            let mut digits = Buffer::new();
-            let number = digits.format(self.lines);
-            let _ = told.write_all(b"left out ");
-            let _ = told.write_all(number.as_bytes());
-            let _ = told.write_all(b" ");
-            let _ = told.write_all(reply);
+        self.is_marked = is_marked(line);
+        let leaves_nothing = leaves_nothing(reply);
+        self.has_lost = self.has_lost || (leaves_nothing && !is_cut(line));
+        if leaves_nothing {
+            tell_line(told, self.lines, reply);
         }
     }
 }
 
-fn is_left_out(reply: &[u8]) -> bool {
+// Tells a line by its number, and the answer to it.
+fn tell_line<T: Write>(told: &mut T, number: u64, reply: &[u8]) {
+    let mut digits = Buffer::new();
+    let number = digits.format(number);
+    let _ = told.write_all(b"left out ");
+    let _ = told.write_all(number.as_bytes());
+    let _ = told.write_all(b" ");
+    let _ = told.write_all(reply);
+}
+
+// Tells whether an answer is a fault, a refusal or a CALLERROR.
+fn leaves_nothing(reply: &[u8]) -> bool
+    ensures { result ≡ leaves_nothing reply.now }
+{
     reply.starts_with(b"fault ") || reply.starts_with(b"refused ") || reply.starts_with(b"[4,")
+}
+
+// Tells whether a line ends with `#`.
+fn is_marked(line: Option<&[u8]>) -> bool
+    ensures { result ≡ is_marked (line_bytes line.entry) }
+{
+    match line {
+        Some(bytes) => ends_with_mark(bytes),
+        None => false,
+    }
+}
+
+// Tells whether a line ends as one does that a kill cut.
+fn is_cut(line: Option<&[u8]>) -> bool
+    ensures { result ≡ is_cut (line_bytes line.entry) }
+{
+    match line {
+        Some(bytes) => ends_with_mark(bytes) || bytes.ends_with(RUN),
+        None => false,
+    }
+}
+
+// Tells whether the bytes end with `#`.
+fn ends_with_mark(bytes: &[u8]) -> bool
+    ensures { result ≡ ends_with_byte 35 bytes.now }
+{
+    match bytes {
+        [.., b'#'] => true,
+        _ => false,
+    }
 }

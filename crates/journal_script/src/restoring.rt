@@ -1,18 +1,15 @@
-ghost use Rattle.std.specs.Prelude.{◌≡◌, ◌↔◌, ℕ, ◌+◌, ◌<◌, ◌≤◌, ◌^◌, true, false, List, ◌++◌, codes, length, None, Some, IsTrue, IfErr, IfOk, OnOk};
-ghost use Rattle.std.specs.Io.BufRead.{ends_with_byte};
+ghost use Rattle.std.specs.Prelude.{◌≡◌, ◌≢◌, ◌↔◌, ℕ, ◌+◌, ◌<◌, ◌≤◌, ◌^◌, true, false, List, ◌++◌, codes, length, None, Some, IsTrue, IfErr, IfOk, OnOk};
 ghost use Rattle.std.specs.Io.KnownBytes.{Consumes};
 ghost use Rattle.script_ledgers.specs.Drafts.{planned};
 ghost use Rattle.script_ledgers.specs.Running.{posts_in, running};
-ghost use Rattle.script_ledgers.specs.Script.{line_step, opening};
+ghost use Rattle.script_ledgers.specs.Script.{opening};
 ghost use Rattle.script_lines.specs.LineMeaning.{line_meaning};
 ghost use Rattle.script_lines.specs.Lines.{line_bytes};
-ghost use Rattle.script_lines.specs.Reading.{line_of};
-ghost use Rattle.script_lines.specs.declared.line_reader.LineEnd.TheVariants.{Feed};
 ghost use Rattle.site_book.specs.Tables.{HasTable, NamedBy};
 ghost use Rattle.site_desk.specs.Plan.{plan_fault};
 ghost use Rattle.site_desk.specs.Roster.{AreCellsOf};
-ghost use Rattle.journal_script.specs.Reading.{GoesOn, HoldsMark, ReadsLine, Stops};
-ghost use Rattle.journal_script.specs.Restoring.{IsListen, IsRestored};
+ghost use Rattle.journal_script.specs.Reading.{GoesOn, Left, ReadsLine, StopsAt, held_line, read_line, standing};
+ghost use Rattle.journal_script.specs.Restoring.{IsListen, IsRestored, IsUnmarked};
 
 use crate::fault::RestoreFault;
 use crate::left_out::LeftOut;
@@ -37,6 +34,9 @@ pub struct Restored {
     pub cells: Vec<StationCell>,
     /// For each station, in the plan's order, the one pass of its cell, which the script's changes count for.
     pub passes: Vec<Pass>,
+    /// Whether a line is lost: it was left out, and it does not end as a line does that a kill cut, with `#` or with the
+    /// first line of the next run.
+    pub has_lost: bool,
 }
 
 /// Reads a script up to the line `listen`, of which nothing is read beyond its line feed, and takes its declarations
@@ -51,8 +51,9 @@ pub fn restore<X: AllocGlobal + Threads, R: BufRead, T: Write>(
     reader: &mut R,
     told: &mut T,
 ) -> Result<Restored, RestoreFault>
-    ensures restored { IfOk result (λ r. (read last : List ℕ) × Consumes (R.remaining reader.old) (R.remaining reader.new) (read ++ last) × IsListen last × IsRestored read r.draft.sites r.draft.stations r.cells.items) }
+    ensures restored { IfOk result (λ r. (read last : List ℕ) × Consumes (R.remaining reader.old) (R.remaining reader.new) (read ++ last) × IsListen last × IsRestored read r.has_lost r.draft.sites r.draft.stations r.cells.items) }
     ensures makes_desk { IfOk result (λ r. (plan_fault r.draft.sites r.draft.stations ≡ None) × AreCellsOf r.draft.sites r.draft.stations r.cells.items) }
+    ensures unmarked { IfErr result (λ e. e ≡ RestoreFault.NotMarked → (read last : List ℕ) × Consumes (R.remaining reader.old) (R.remaining reader.new) (read ++ last) × IsListen last × IsUnmarked read) }
 {
     let alloc = rt.alloc();
     let mut draft = Draft::new();
@@ -60,7 +61,13 @@ pub fn restore<X: AllocGlobal + Threads, R: BufRead, T: Write>(
     let mut left_out = LeftOut::new();
     let opens = declare(rt, &mut draft, &mut lines, &mut left_out, reader, told)?;
     let tables = Tables::make(alloc, draft.plan().sites.len() as u16)?;
-    go_on::<Brand, X, R, T>(rt, tables, draft, lines, left_out, opens, reader, told)
+    let (restored, is_marked) = go_on::<Brand, X, R, T>(
+        rt, tables, draft, lines, left_out, opens, reader, told,
+    )?;
+    if !is_marked {
+        return Err(RestoreFault::NotMarked);
+    }
+    Ok(restored)
 }
 
 // Takes the declarations, up to the line `listen` or to one that opens the ledgers, which `lines` holds then.
@@ -73,9 +80,10 @@ fn declare<X: AllocGlobal, R: BufRead, T: Write>(
     told: &mut T,
 ) -> Result<bool, RestoreFault>
     requires short { lines.old.max_line_bytes < 2 ^ 62 }
-    ensures run { IfOk result (λ opens. Stops lines.old.max_line_bytes lines.old.room lines.new.room opens (planned draft.old) (planned draft.new) (R.remaining reader.old) (R.remaining reader.new) lines.old.held.items lines.new.held.items) }
-    ensures opening { IfOk result (λ opens. opens ≡ true → opening (line_meaning (line_of Feed lines.old.max_line_bytes lines.new.held.items)) ≡ true) }
+    ensures run { IfOk result (λ opens. StopsAt opens lines.old lines.new (standing (planned draft.old) left_out.old) (standing (planned draft.new) left_out.new) (R.remaining reader.old) (R.remaining reader.new)) }
+    ensures opening { IfOk result (λ opens. opens ≡ true → opening (line_meaning (held_line lines.new)) ≡ true) }
     ensures max_line_bytes { lines.new.max_line_bytes ≡ lines.old.max_line_bytes }
+    ensures fails { IfErr result (λ e. e ≢ RestoreFault.NotMarked) }
 {
     let mut reply = Vec::new(rt.alloc());
     'lines: loop {
@@ -86,14 +94,15 @@ fn declare<X: AllocGlobal, R: BufRead, T: Write>(
         match draft.answer(lines.line(LineEnd::Feed), &mut reply)? {
             LineOutcome::Opens => return Ok(true),
             LineOutcome::Answered => {
-                left_out.tell(told, &reply);
+                left_out.tell(told, lines.line(LineEnd::Feed), &reply);
                 continue 'lines;
             }
         }
     }
 }
 
-// Opens the ledgers, takes the line that `lines` holds, where it opened them, and those up to `listen`.
+// Opens the ledgers, takes the line that `lines` holds, where it opened them, and those up to `listen`. Gives what that
+// leaves, and whether the line before `listen` ends with `#`.
 fn go_on<J: Naming, X: AllocGlobal + Threads, R: BufRead, T: Write>(
     rt: &X,
     tables: Tables,
@@ -103,27 +112,29 @@ fn go_on<J: Naming, X: AllocGlobal + Threads, R: BufRead, T: Write>(
     opens: bool,
     reader: &mut R,
     told: &mut T,
-) -> Result<Restored, RestoreFault>
+) -> Result<(Restored, bool), RestoreFault>
     requires named { NamedBy J.table tables }
     requires there { (site : ℕ) → site < length draft.sites → HasTable tables site }
     requires short { lines.max_line_bytes < 2 ^ 61 }
     requires few { lines.room < 2 ^ 61 }
-    requires opening { opens ≡ true → opening (line_meaning (line_of Feed lines.max_line_bytes lines.held.items)) ≡ true }
-    ensures goes { IfOk result (λ r. GoesOn opens lines.max_line_bytes lines.room (planned draft) lines.held.items (R.remaining reader.old) (R.remaining reader.new) r.draft.sites r.draft.stations r.cells.items) }
-    ensures makes_desk { IfOk result (λ r. (plan_fault r.draft.sites r.draft.stations ≡ None) × AreCellsOf r.draft.sites r.draft.stations r.cells.items) }
+    requires opening { opens ≡ true → opening (line_meaning (held_line lines)) ≡ true }
+    ensures goes { IfOk result (λ r. GoesOn opens lines (standing (planned draft) left_out) (R.remaining reader.old) (R.remaining reader.new) (λ s. Left s r.0.draft.sites r.0.draft.stations r.0.cells.items r.0.has_lost r.1)) }
+    ensures makes_desk { IfOk result (λ r. (plan_fault r.0.draft.sites r.0.draft.stations ≡ None) × AreCellsOf r.0.draft.sites r.0.draft.stations r.0.cells.items) }
+    ensures fails { IfErr result (λ e. e ≢ RestoreFault.NotMarked) }
 {
     let (mut lines, mut left_out) = (lines, left_out);
     let mut ledgers = Ledgers::<J>::open(rt, tables, draft)?;
     if opens {
         run_from(rt, &mut ledgers, &mut lines, &mut left_out, reader, told)?;
     }
-    Ok(parts_of(ledgers))
+    Ok((parts_of(ledgers, left_out.has_lost), left_out.is_marked))
 }
 
 // What ledgers leave.
-fn parts_of<J: Naming>(ledgers: Ledgers<J>) -> Restored
+fn parts_of<J: Naming>(ledgers: Ledgers<J>, has_lost: bool) -> Restored
     ensures draft { result.draft ≡ ledgers.draft }
     ensures cells { result.cells.items ≡ ledgers.cells.items }
+    ensures lost { result.has_lost ≡ has_lost }
     ensures makes_desk { (plan_fault result.draft.sites result.draft.stations ≡ None) × AreCellsOf result.draft.sites result.draft.stations result.cells.items }
 {
     let (draft, cells, passes) = ledgers.into_parts();
@@ -131,6 +142,7 @@ fn parts_of<J: Naming>(ledgers: Ledgers<J>) -> Restored
         draft,
         cells,
         passes,
+        has_lost,
     }
 }
 
@@ -145,7 +157,8 @@ fn run_from<J: Naming, X: AllocGlobal + Threads, R: BufRead, T: Write>(
 ) -> Result<(), RestoreFault>
     requires short { lines.old.max_line_bytes < 2 ^ 62 }
     requires few { posts_in ledgers.old.books.items + 1 + lines.old.room < 2 ^ 62 }
-    ensures { OnOk result (Stops lines.old.max_line_bytes lines.old.room lines.new.room false (line_step (running ledgers.old.draft ledgers.old.cells.items) (line_of Feed lines.old.max_line_bytes lines.old.held.items)).0 (running ledgers.new.draft ledgers.new.cells.items) (R.remaining reader.old) (R.remaining reader.new) lines.old.held.items lines.new.held.items) }
+    ensures runs { OnOk result (StopsAt false lines.old lines.new (read_line (standing (running ledgers.old.draft ledgers.old.cells.items) left_out.old) (held_line lines.old)) (standing (running ledgers.new.draft ledgers.new.cells.items) left_out.new) (R.remaining reader.old) (R.remaining reader.new)) }
+    ensures fails { IfErr result (λ e. e ≢ RestoreFault.NotMarked) }
 {
     take(rt, ledgers, lines, left_out, told)?;
     run(rt, ledgers, lines, left_out, reader, told)
@@ -162,7 +175,8 @@ fn run<J: Naming, X: AllocGlobal + Threads, R: BufRead, T: Write>(
 ) -> Result<(), RestoreFault>
     requires short { lines.old.max_line_bytes < 2 ^ 62 }
     requires few { posts_in ledgers.old.books.items + lines.old.room < 2 ^ 62 }
-    ensures { OnOk result (Stops lines.old.max_line_bytes lines.old.room lines.new.room false (running ledgers.old.draft ledgers.old.cells.items) (running ledgers.new.draft ledgers.new.cells.items) (R.remaining reader.old) (R.remaining reader.new) lines.old.held.items lines.new.held.items) }
+    ensures runs { OnOk result (StopsAt false lines.old lines.new (standing (running ledgers.old.draft ledgers.old.cells.items) left_out.old) (standing (running ledgers.new.draft ledgers.new.cells.items) left_out.new) (R.remaining reader.old) (R.remaining reader.new)) }
+    ensures fails { IfErr result (λ e. e ≢ RestoreFault.NotMarked) }
 {
     'lines: loop {
         if ledgers.look(rt, lines, reader).is_err() {
@@ -185,57 +199,26 @@ fn take<J: Naming, X: AllocGlobal, T: Write>(
     told: &mut T,
 ) -> Result<(), RestoreFault>
     requires few { posts_in ledgers.old.books.items < 2 ^ 62 }
-    ensures step { OnOk result (running ledgers.new.draft ledgers.new.cells.items ≡ (line_step (running ledgers.old.draft ledgers.old.cells.items) (line_of Feed lines.now.max_line_bytes lines.now.held.items)).0) }
+    ensures step { OnOk result (standing (running ledgers.new.draft ledgers.new.cells.items) left_out.new ≡ read_line (standing (running ledgers.old.draft ledgers.old.cells.items) left_out.old) (held_line lines.now)) }
     ensures posts { OnOk result (posts_in ledgers.new.books.items ≤ posts_in ledgers.old.books.items + 1) }
+    ensures fails { IfErr result (λ e. e ≢ RestoreFault.NotMarked) }
 {
     let mut reply = Vec::new(rt.alloc());
     ledgers.answer(lines.line(LineEnd::Feed), &mut reply)?;
-    left_out.tell(told, &reply);
+    left_out.tell(told, lines.line(LineEnd::Feed), &reply);
     Ok(())
 }
 
-// Reads the next line; false where it is `listen`, before which the line that was held has to end with `#`.
+// Reads the next line; false where it is `listen`.
 fn next<R: BufRead>(lines: &mut LineReader, reader: &mut R) -> Result<bool, RestoreFault>
     requires { lines.old.max_line_bytes < 2 ^ 62 }
     ensures reads { IfOk result (λ more. (bytes : List ℕ) × Consumes (R.remaining reader.old) (R.remaining reader.new) bytes × ReadsLine lines.old.max_line_bytes lines.old.room lines.new.room more bytes lines.new.held.items) }
-    ensures marked { IfOk result (λ more. more ≡ false → HoldsMark lines.old.max_line_bytes lines.old.held.items) }
-    ensures unmarked { IfErr result (λ e. e ≡ RestoreFault.NotMarked → HoldsMark lines.old.max_line_bytes lines.old.held.items → ⊥) }
     ensures max_line_bytes { lines.new.max_line_bytes ≡ lines.old.max_line_bytes }
+    ensures fails { IfErr result (λ e. e ≢ RestoreFault.NotMarked) }
 {
-    let is_marked = holds_mark(lines);
     match lines.next_line(reader, &mut io::sink())? {
-        LineEnd::Feed => reads_on(is_listen(lines.line(LineEnd::Feed)), is_marked),
+        LineEnd::Feed => Ok(!is_listen(lines.line(LineEnd::Feed))),
         LineEnd::Input => Err(RestoreFault::NotRestored),
-    }
-}
-
-// Tells whether the line that was read last ends with `#`; one that is not held to its end does not.
-fn holds_mark(lines: &LineReader) -> bool
-    ensures { IsTrue result ↔ HoldsMark lines.now.max_line_bytes lines.now.held.items }
-{
-    lines.held.len() <= lines.max_line_bytes && ends_with_mark(&lines.held)
-}
-
-// Tells whether the bytes end with `#`.
-fn ends_with_mark(bytes: &[u8]) -> bool
-    ensures { result ≡ ends_with_byte 35 bytes.now }
-{
-    match bytes {
-        [.., b'#'] => true,
-        _ => false,
-    }
-}
-
-// Tells whether a script goes on behind a line.
-fn reads_on(is_listen: bool, is_marked: bool) -> Result<bool, RestoreFault>
-    ensures on { IfOk result (λ more. more ≡ true → is_listen ≡ false) }
-    ensures stops { IfOk result (λ more. more ≡ false → (is_listen ≡ true) × (is_marked ≡ true)) }
-    ensures refuses { IfErr result (λ e. is_marked ≡ false) }
-{
-    match (is_listen, is_marked) {
-        (false, _) => Ok(true),
-        (true, true) => Ok(false),
-        (true, false) => Err(RestoreFault::NotMarked),
     }
 }
 

@@ -1,6 +1,7 @@
 -- A comment behind a script changes nothing of what it leaves.
-use Rattle.std.proofs.Common.{◌≡◌, ℕ, List, [], ◌∷◌, ◌++◌, Some, inr, refl, sym, ap, subst, ◌∙◌, append_assoc}
+use Rattle.std.proofs.Common.{◌≡◌, ◌&&◌, ℕ, Bool, true, false, not, List, [], ◌∷◌, ◌++◌, Some, inr, refl, sym, ap, subst, ◌∙◌, append_assoc}
 use Rattle.std.specs.Prelude.{codes}
+use Rattle.std.proofs.lemmas.Bool.{false≢true}
 use Rattle.script_lines.specs.LineMeaning.{line_meaning, nothing}
 use Rattle.script_lines.specs.Lines.{lines_of}
 use Rattle.script_lines.specs.Ranges.{longest_line}
@@ -37,8 +38,19 @@ pub comment_whole : (read : List ℕ) → EndsWhole (read ++ run_begins)
 comment_whole read = inr (read ++ words, sym (append_assoc read words (10 ∷ [])))
 
 -- what a script leaves, it leaves with the comment behind it
-pub restored_after : (read : List ℕ) (sites : List SitePlan) (stations : List StationPlan) (cells : List Cell) → IsRestored read sites stations cells → Leaves (read ++ run_begins) sites stations cells
-restored_after read sites stations cells r = record {
+pub restored_after : (read : List ℕ) (lost : Bool) (sites : List SitePlan) (stations : List StationPlan) (cells : List Cell) → IsRestored read lost sites stations cells → Leaves (read ++ run_begins) sites stations cells
+restored_after read lost sites stations cells r = record {
   whole = comment_whole read;
   shows = subst (λ s. Shows s sites stations cells) (sym (comment_after read r.whole)) r.shows;
 }
+
+-- what is served although it may not be is not lost
+pub kept_unless : (lost allows : Bool) → (lost && not allows) ≡ false → allows ≡ false → lost ≡ false
+kept_unless true true e f = f
+kept_unless true false e f = e
+kept_unless false allows e f = refl
+
+pub lost_so : (lost allows : Bool) → (lost && not allows) ≡ true → (lost ≡ true) × (allows ≡ false)
+lost_so true true e = absurd (false≢true e)
+lost_so true false e = (refl, refl)
+lost_so false allows e = absurd (false≢true e)

@@ -11,6 +11,8 @@ pub enum JournalFault {
     Service(ServiceFault),
     /// What it was to begin with is not restored.
     Restore(RestoreFault),
+    /// A line of what it was to begin with is lost: it was left out, and no kill cut it.
+    LeftOut,
 }
 
 impl Display for JournalFault {
@@ -18,17 +20,28 @@ impl Display for JournalFault {
         match self {
             JournalFault::Service(fault) => fault.fmt(f),
             JournalFault::Restore(fault) => fault.fmt(f),
+            JournalFault::LeftOut => f.write_str("LeftOut"),
         }
     }
 }
 
 impl From<ServiceFault> for JournalFault {
+    ghost use Rattle.std.specs.Prelude.{◌≡◌};
+    ghost use Rattle.journal_server.specs.declared.fault.JournalFault.TheVariants.{Service};
+
+    ghost from_gives = { λ fault e. e ≡ Service fault };
+
     fn from(fault: ServiceFault) -> JournalFault {
         JournalFault::Service(fault)
     }
 }
 
 impl From<RestoreFault> for JournalFault {
+    ghost use Rattle.std.specs.Prelude.{◌≡◌};
+    ghost use Rattle.journal_server.specs.declared.fault.JournalFault.TheVariants.{Restore};
+
+    ghost from_gives = { λ fault e. e ≡ Restore fault };
+
     fn from(fault: RestoreFault) -> JournalFault {
         JournalFault::Restore(fault)
     }

@@ -13,7 +13,7 @@
 //!
 //! ```text
 //! serve_journalled(rt, &plan, live, stdin, stdout, &mut stderr, lines)?    // standard output is the journal
-//! serve_restored(rt, live, stdin, stdout, &mut stderr, lines)?             // standard input begins with a journal
+//! serve_restored(rt, restoring, stdin, stdout, &mut stderr, lines)?             // standard input begins with a journal
 //! ```
 #![tactic(auto)]
 
@@ -28,5 +28,5 @@ mod speech;
 
 pub use fault::JournalFault;
 pub use run::Served;
-pub use serve::{serve_journalled, serve_restored};
+pub use serve::{Restoring, serve_journalled, serve_restored};
 pub use speech::ScriptSpeech;

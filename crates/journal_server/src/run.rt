@@ -7,7 +7,6 @@ ghost use Rattle.site_desk.specs.Plan.{plan_fault};
 ghost use Rattle.site_desk.specs.Roster.{AreCellsOf, AreNewPlaces};
 ghost use Rattle.journal_server.specs.Served.{IsEnded, IsItsScript, Leaves};
 
-use crate::fault::JournalFault;
 use crate::mail::{Mail, MailOrders, read_all};
 use crate::serving::Serving;
 use crate::speech::ScriptSpeech;
@@ -64,7 +63,7 @@ pub(crate) fn run_restored<
     journal: BufWriter<W>,
     told: &mut T,
     lines: L,
-) -> Result<Served<W>, JournalFault>
+) -> Result<Served<W>, ServiceFault>
     requires faultless { plan_fault restored.draft.sites restored.draft.stations ≡ None }
     requires cells { AreCellsOf restored.draft.sites restored.draft.stations restored.cells.items }
     requires empty { writer_buffer journal ≡ [] }
@@ -77,6 +76,7 @@ pub(crate) fn run_restored<
         draft,
         cells,
         passes,
+        has_lost: _,
     } = restored;
     let tables = Tables::make(alloc, draft.plan().sites.len() as u16)?;
     let blank = Blank::new(alloc)?;
@@ -141,7 +141,7 @@ fn run_over<
     journal: BufWriter<W>,
     told: &mut T,
     lines: L,
-) -> Result<Served<W>, JournalFault>
+) -> Result<Served<W>, ServiceFault>
     requires named { NamedBy J.table tables }
     requires there { (site : ℕ) → site < length plan.now.sites.items → HasTable tables site }
     requires table { blank ≡ K.table }
@@ -215,7 +215,7 @@ fn end_run<J: Naming, K: Ties + Opening, W: Write + Drop>(
     passes: Vec<Pass>,
     viewers: Vec<Viewer<J>>,
     ended: Result<(), ServiceFault>,
-) -> Result<Served<W>, JournalFault>
+) -> Result<Served<W>, ServiceFault>
     requires opened { AreNewPlaces plan.now.sites.items plan.now.stations.items kept.stations }
     requires sites { kept.sites ≡ length plan.now.sites.items }
     requires faultless { plan_fault plan.now.sites.items plan.now.stations.items ≡ None }
@@ -225,10 +225,10 @@ fn end_run<J: Naming, K: Ties + Opening, W: Write + Drop>(
     let mut boards = Vec::new(alloc);
     let closed = match kept.close(passes, viewers, Vec::new(alloc)) {
         Ok(closed) => closed,
-        Err(refused) => return Err(JournalFault::Service(ServiceFault::from(refused.fault))),
+        Err(refused) => return Err(ServiceFault::from(refused.fault)),
     };
     if let Err(_fault) = write_boards(alloc, plan, &closed.closed, &mut boards) {
-        return Err(JournalFault::Service(ServiceFault::OutOfMemory));
+        return Err(ServiceFault::OutOfMemory);
     }
     Ok(Served {
         journal: closed.writer,

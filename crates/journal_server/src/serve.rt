@@ -1,18 +1,21 @@
 //! Servers with a journal: one that begins anew, and one that is restored.
-ghost use Rattle.std.specs.Prelude.{◌≡◌, [], None, IfOk};
+ghost use Rattle.std.specs.Prelude.{◌≡◌, ◌&&◌, [], false, true, not, None, IfErr, IfOk};
 ghost use Rattle.std.specs.Io.Buffered.{writer_buffer, writer_contents, writer_inner};
 ghost use Rattle.std.specs.Io.KnownBytes.{Appends};
-ghost use Rattle.journal_script.specs.Restoring.{IsRestored};
+ghost use Rattle.journal_script.specs.Restoring.{IsRestored, IsUnmarked, loses};
+ghost use Rattle.script_ledgers.specs.Script.{start};
+ghost use Rattle.script_lines.specs.Lines.{lines_of};
+ghost use Rattle.script_lines.specs.Ranges.{longest_line};
 ghost use Rattle.site_desk.specs.Plan.{plan_fault};
 ghost use Rattle.site_desk.specs.Roster.{AreCellsOf};
-ghost use Rattle.journal_server.specs.Served.{IsNewRun, IsRestoredRun};
+ghost use Rattle.journal_server.specs.Served.{IsNewRun, IsRefused, IsRestoredRun};
 
 use crate::declared::{RUN, journal_head};
 use crate::fault::JournalFault;
 use crate::run::{Served, run_restored};
 use crate::same::is_declared;
 use itoa::Buffer;
-use journal_script::{Restored, restore};
+use journal_script::{RestoreFault, Restored, restore};
 use live_server::Live;
 use site_desk::{Plan, StationCell};
 use site_server::ServiceFault;
@@ -25,6 +28,15 @@ use std::time::Clock;
 
 // What ends a script that is restored.
 const LISTEN: &[u8] = b"listen\n";
+
+/// What a server that is restored is asked to do.
+#[derive(Clone, Copy, Debug)]
+pub struct Restoring {
+    /// As a server that lives.
+    pub live: Live,
+    /// Whether it serves although a line of what it begins with is lost.
+    pub allows_left_out: bool,
+}
 
 /// Serves a plan's stations as [`serve_live`](live_server::serve_live) does, and writes a journal: a comment, the plan's
 /// declarations, and the line of each accepted change, which the writer behind the buffer took before the change is
@@ -67,13 +79,18 @@ pub fn serve_journalled<
         return Err(JournalFault::Service(ServiceFault::Torn));
     }
     let journal = begin(journal, head.as_slice())?;
-    run_restored(rt, restored, live, input, journal, told, lines)
+    let served = run_restored(rt, restored, live, input, journal, told, lines)?;
+    Ok(served)
 }
 
 /// Serves the stations of a script as [`serve_journalled`] serves those of a plan: it restores the script with which the
 /// input begins, up to the line `listen`, and goes on behind it. Restored lines are not written again, nor are the
 /// declarations. A line that left nothing is told as `left out <line number> <answer>`, and then how many changes the
 /// stations hold, as `restored <n>`. An operator's lines follow on the input.
+///
+/// Where a line is lost, which is one that left nothing and that no kill cut, it ends with `LeftOut` before anything is
+/// written or listened on, unless it is asked to serve all the same: what the stations hold is less than the script tells
+/// then, as where a declaration is missing.
 pub fn serve_restored<
     R: AllocGlobal
         + Threads
@@ -90,35 +107,48 @@ pub fn serve_restored<
     L: Write + Send + Drop,
 >(
     rt: &R,
-    live: Live,
+    restoring: Restoring,
     mut input: I,
     journal: BufWriter<W>,
     told: &mut T,
     lines: L,
 ) -> Result<Served<W>, JournalFault>
-    ensures { IfOk result (λ s. IsRestoredRun (I.remaining input) (writer_contents W.contents journal)
+    ensures serves { IfOk result (λ s. IsRestoredRun restoring.allows_left_out (I.remaining input) (writer_contents W.contents journal)
         (W.contents (writer_inner s.journal)) (writer_buffer s.journal) s.is_broken s.boards.items) }
+    ensures unmarked { IfErr result (λ e. e ≡ JournalFault.Restore RestoreFault.NotMarked → IsRefused (I.remaining input) (λ read. IsUnmarked read)) }
+    ensures left_out { IfErr result (λ e. e ≡ JournalFault.LeftOut → (restoring.allows_left_out ≡ false) × IsRefused (I.remaining input) (λ read. loses start (lines_of longest_line read) ≡ true)) }
 {
     let restored = restore(rt, &mut input, told)?;
+    if is_refused(restored.has_lost, restoring.allows_left_out) {
+        return Err(JournalFault::LeftOut);
+    }
     tell_restored(told, restored.cells.as_slice());
     let journal = begin(journal, RUN)?;
-    run_restored(rt, restored, live, input, journal, told, lines)
+    let served = run_restored(rt, restored, restoring.live, input, journal, told, lines)?;
+    Ok(served)
+}
+
+// Tells whether a script is refused, by whether a line of it is lost and whether that is allowed.
+fn is_refused(has_lost: bool, allows_left_out: bool) -> bool
+    ensures { result ≡ (has_lost && not allows_left_out) }
+{
+    has_lost && !allows_left_out
 }
 
 // Writes how a run begins, of which nothing is left in the buffer then.
 fn begin<W: Write + Drop>(
     mut journal: BufWriter<W>,
     head: &[u8],
-) -> Result<BufWriter<W>, JournalFault>
+) -> Result<BufWriter<W>, ServiceFault>
     ensures begins { IfOk result (λ w. Appends (writer_contents W.contents journal) (W.contents (writer_inner w)) head.now) }
     ensures handed_on { IfOk result (λ w. writer_buffer w ≡ []) }
 {
     if journal.write_all(head).is_err() {
-        return Err(JournalFault::Service(ServiceFault::WriteFault));
+        return Err(ServiceFault::WriteFault);
     }
     match journal.flush() {
         Ok(()) => Ok(journal),
-        Err(_) => Err(JournalFault::Service(ServiceFault::WriteFault)),
+        Err(_) => Err(ServiceFault::WriteFault),
     }
 }
 
@@ -137,7 +167,7 @@ fn tell_restored<T: Write>(told: &mut T, cells: &[StationCell]) {
 
 // What the head of a journal leaves: the stations that it declares, without events.
 fn restore_declared<R: AllocGlobal + Threads>(rt: &R, head: &[u8]) -> Result<Restored, JournalFault>
-    ensures restored { IfOk result (λ r. IsRestored head.now r.draft.sites r.draft.stations r.cells.items) }
+    ensures restored { IfOk result (λ r. IsRestored head.now r.has_lost r.draft.sites r.draft.stations r.cells.items) }
     ensures makes_desk { IfOk result (λ r. (plan_fault r.draft.sites r.draft.stations ≡ None) × AreCellsOf r.draft.sites r.draft.stations r.cells.items) }
 {
     let mut text = Vec::with_capacity(rt.alloc(), head.len().saturating_add(LISTEN.len()))?;

@@ -20,7 +20,7 @@ IsAskable Replay = ⊤
 IsAskable (Serve plan service) = (1 ≤ service.connections) × (service.connections ≤ 64)
 IsAskable (ServeLive plan live) = ⊤
 IsAskable (ServeJournalled plan live) = ⊤
-IsAskable (ServeRestored live journalled) = ⊤
+IsAskable (ServeRestored restoring journalled) = ⊤
 IsAskable (Simulate stations events) = IsSimulated stations events
 
 -- An option gives this number: what its text says, where that is a decimal below this power of 2, and the other where it has no text.
@@ -60,7 +60,7 @@ is_live Replay = false
 is_live (Serve plan service) = false
 is_live (ServeLive plan live) = true
 is_live (ServeJournalled plan live) = true
-is_live (ServeRestored live journalled) = true
+is_live (ServeRestored restoring journalled) = true
 is_live (Simulate stations events) = false
 
 -- What the options of `serve` ask for where it does not live.
@@ -94,7 +94,7 @@ AsksServe found Replay = ⊥
 AsksServe found (Serve plan service) = AsksService found service × AsksPlan found service.glances plan
 AsksServe found (ServeLive plan live) = AsksLive found live × AsksPlan found live.glances plan × AsksKept found false false
 AsksServe found (ServeJournalled plan live) = AsksLive found live × AsksPlan found live.glances plan × AsksKept found true false
-AsksServe found (ServeRestored live journalled) = AsksLive found live × AsksKept found journalled true
+AsksServe found (ServeRestored restoring journalled) = AsksLive found restoring.live × AsksKept found journalled true × IsFlag found (codes "allow-left-out") restoring.allows_left_out
 AsksServe found (Simulate stations events) = ⊥
 
 -- A simulation is asked for.
@@ -103,7 +103,7 @@ AsksSimulate found Replay = ⊥
 AsksSimulate found (Serve plan service) = ⊥
 AsksSimulate found (ServeLive plan live) = ⊥
 AsksSimulate found (ServeJournalled plan live) = ⊥
-AsksSimulate found (ServeRestored live journalled) = ⊥
+AsksSimulate found (ServeRestored restoring journalled) = ⊥
 AsksSimulate found (Simulate stations events) = GivesWithin found (codes "stations") 16 2 1 64 stations × GivesWithin found (codes "events") 32 3 2 64 events
 
 -- The command of this name is asked for: `serve` and `sim` by their options, and else a replay.

@@ -67,13 +67,14 @@ With --journal standard output is a script of the declarations and of each accep
 is out before its answer; all else goes to standard error. With --restore standard input begins
 with such a script, up to a line `listen`; the line before that has to end with `#`, which spoils
 what a kill may have left of a line. `left out <line> <answer>` tells a line that changed nothing,
-and `restored <n>` how many changes the stations hold.
+and `restored <n>` how many changes the stations hold. Where such a line is not one that a kill cut,
+the server ends with `fault LeftOut`, but with --allow-left-out.
   ocpp_board serve --live --journal --port 9000 north/CS-01 north/CS-02 >> journal < orders
   { cat journal; printf '#\nlisten\n'; tail -n 0 -f orders; } |
     ocpp_board serve --live --journal --restore --port 9000 >> journal
 
 Exit status: 0; 1 with `fault <name>` (ListenFailed, ReadFault, WriteFault, OutOfMemory,
-Torn, NotRestored, NotMarked, TooMuchInput); 2 for a fault of the arguments, or with `fault BadStation`, `fault PlanLimit` or `fault StationTwice`.
+Torn, NotRestored, NotMarked, LeftOut, TooMuchInput); 2 for a fault of the arguments, or with `fault BadStation`, `fault PlanLimit` or `fault StationTwice`.
 A second line tells the cause: the word, the station, or the system's words for the port.";
 
 const SIM_EXAMPLE: &str = "\
@@ -149,6 +150,7 @@ fn with_life<'a>(alloc: Global, command: Command<'a>) -> Result<Command<'a>, All
     let command = command.arg(live_option(alloc)?)?;
     let command = command.arg(journal_option(alloc)?)?;
     let command = command.arg(restore_option(alloc)?)?;
+    let command = command.arg(allow_left_out_option(alloc)?)?;
     let command = command.arg(log_option(alloc)?)?;
     command.arg(board_port_option(alloc)?)
 }
@@ -219,6 +221,14 @@ fn restore_option<'a>(alloc: Global) -> Result<Arg<'a>, AllocError> {
         .conflicts_with("stations")?
         .conflicts_with("period")?
         .requires_arg("live")
+}
+
+fn allow_left_out_option<'a>(alloc: Global) -> Result<Arg<'a>, AllocError> {
+    Arg::new(alloc, "allow-left-out")
+        .long("allow-left-out")
+        .action(ArgAction::SetTrue)
+        .help("With --restore, serve although a line of the script is lost")
+        .requires_arg("restore")
 }
 
 fn log_option<'a>(alloc: Global) -> Result<Arg<'a>, AllocError> {

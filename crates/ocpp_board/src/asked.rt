@@ -5,6 +5,7 @@ ghost use Rattle.ocpp_board.specs.Arguments.{AsksLive, AsksPeriod, AsksPlan, Ask
 
 use crate::station_words::{WordFault, plan_of};
 use clap::ArgMatches;
+use journal_server::Restoring;
 use ledger_model::{MAX_STATIONS, Period};
 use live_server::Live;
 use site_desk::Plan;
@@ -24,7 +25,7 @@ pub enum Asked<'a> {
     /// The same, with a journal on standard output.
     ServeJournalled(Result<Plan, WordFault<'a>>, Live),
     /// To serve the stations of a script that standard input begins with, and whether with a journal.
-    ServeRestored(Live, bool),
+    ServeRestored(Restoring, bool),
     /// To play so many simulated stations, 1 to 64, each with so many events, 2 to 64.
     Simulate(u16, u32),
 }
@@ -52,7 +53,12 @@ fn live_asked<'a>(matches: &ArgMatches<'a>) -> Asked<'a>
     let live = live_of(matches);
     let is_journalled = matches.get_flag("journal");
     if matches.get_flag("restore") {
-        Asked::ServeRestored(live, is_journalled)
+        let allows_left_out = matches.get_flag("allow-left-out");
+        let restoring = Restoring {
+            live,
+            allows_left_out,
+        };
+        Asked::ServeRestored(restoring, is_journalled)
     } else if is_journalled {
         Asked::ServeJournalled(plan_asked(matches, live.glances), live)
     } else {

@@ -7,7 +7,7 @@ use crate::station_words::WordFault;
 use clap::Error;
 use clap::error::ErrorKind;
 use desk_report::write_out;
-use journal_server::{JournalFault, Served, serve_journalled, serve_restored};
+use journal_server::{JournalFault, Restoring, Served, serve_journalled, serve_restored};
 use ledger_model::{MAX_SITES, MAX_STATIONS};
 use live_server::{Live, serve_live};
 use script_replay::{ReplayFault, replay_buffered};
@@ -82,8 +82,8 @@ fn run_asked<
         Asked::ServeJournalled(plan, live) => {
             journalled_on(rt, plan, live, reader, writer, errors, lines)
         }
-        Asked::ServeRestored(live, is_journalled) => {
-            restored_on(rt, live, is_journalled, reader, writer, errors, lines)
+        Asked::ServeRestored(restoring, is_journalled) => {
+            restored_on(rt, restoring, is_journalled, reader, writer, errors, lines)
         }
         Asked::Simulate(stations, events) => tell_end(
             errors,
@@ -203,7 +203,7 @@ fn restored_on<
     L: Write + Send + Drop,
 >(
     rt: &X,
-    live: Live,
+    restoring: Restoring,
     is_journalled: bool,
     reader: R,
     mut writer: BufWriter<W>,
@@ -212,16 +212,16 @@ fn restored_on<
 ) -> u8 {
     let plan = Plan::new();
     if is_journalled {
-        let served = serve_restored(rt, live, reader, writer, errors, lines);
+        let served = serve_restored(rt, restoring, reader, writer, errors, lines);
         let ended = end_journalled(served, errors);
-        return tell_journalled(errors, &plan, live.port, ended);
+        return tell_journalled(errors, &plan, restoring.live.port, ended);
     }
     let Ok(nowhere) = BufWriter::with_capacity(rt.alloc(), 0, io::sink()) else {
         return tell_fault(errors, ServiceFault::OutOfMemory, STOPPED);
     };
-    let served = serve_restored(rt, live, reader, nowhere, &mut writer, lines);
+    let served = serve_restored(rt, restoring, reader, nowhere, &mut writer, lines);
     let ended = end_journalled(served, &mut writer);
-    tell_journalled(errors, &plan, live.port, ended)
+    tell_journalled(errors, &plan, restoring.live.port, ended)
 }
 
 // Writes the boards that a server with a journal leaves, and tells how its operator's lines ended. What the writer of
@@ -253,7 +253,7 @@ fn tell_journalled<E: Write>(
     match ended {
         Ok(ended) => tell_server(errors, plan, port, ended),
         Err(JournalFault::Service(fault)) => tell_server(errors, plan, port, Err(fault)),
-        Err(JournalFault::Restore(fault)) => tell_fault(errors, fault, STOPPED),
+        Err(fault) => tell_fault(errors, fault, STOPPED),
     }
 }
 

@@ -1,11 +1,12 @@
 use Rattle.std.proofs.Common.{◌≡◌}
 use Rattle.script_ledgers.specs.Drafts.{planned}
+use Rattle.journal_script.specs.Reading.{standing}
 use Rattle.journal_script.proofs.LinesRead.{Goes}
 use Rattle.journal_script.proofs.restoring.declare.Given as goal
 
 abbrev pub invariant-lines : goal.invariant-lines
 invariant-lines g l =
-    Goes l.fn.lines.max_line_bytes l.fn.lines.room l.lines.room (planned l.fn.draft) (planned l.draft) (g.R.Read.remaining l.fn.reader) (g.R.Read.remaining l.reader) l.fn.lines.held.items l.lines.held.items
+    Goes l.fn.lines.max_line_bytes l.fn.lines.room l.lines.room (standing (planned l.fn.draft) l.fn.left_out) (standing (planned l.draft) l.left_out) (g.R.Read.remaining l.fn.reader) (g.R.Read.remaining l.reader)
     × (l.lines.max_line_bytes ≡ l.fn.lines.max_line_bytes)
 
 abbrev pub decreases-lines : goal.decreases-lines

@@ -1,7 +1,6 @@
 use Rattle.std.proofs.Common.{◌≡◌, true, sym, subst, ◌∙◌, rules}
 use Rattle.std.specs.Io.Buffered.{writer_contents}
 use Rattle.std.specs.Io.KnownBytes.{Appends}
-use Rattle.desk_report.proofs.ClosedSites.{value_told}
 use Rattle.journal_server.specs.Served.{Declares, IsItsScript}
 use Rattle.journal_server.proofs.serve.serve_journalled.Goals as goal
 
@@ -10,14 +9,13 @@ returns g c =
     let begun = g.W.Write.contents c.in_ok-journal.journal.inner in
     let sites = c.in_ok-restored.restored.draft.sites in
     let firsts = c.in_ok-restored.restored.cells.items in
+    let served = c.in_ok-served.served in
     let same : c.as_slice-3.result.now ≡ c.as_slice.result.now = c.as_slice-3.ensures.value ∙ sym c.as_slice.ensures.value in
     let told : c.is_declared.result ≡ true = search rules in
     let declares = subst (λ x. Declares c.args.plan.now.sites.items x firsts) c.plan.ensures.sites
     (subst (Declares c.args.plan.now.sites.items c.plan.result.now.sites.items) c.as_slice-2.ensures.value (c.is_declared.ensures.sites told)) in
-    value_told c.run_restored.result _ _
-    (λ s h.
     let own = c.in_ok-restored.ensures.restored in
-    let ran = h c.as_slice.result.now (record { whole = own.whole; shows = own.shows }) in
+    let ran = c.in_ok-served.ensures c.as_slice.result.now (record { whole = own.whole; shows = own.shows }) in
     record {
       head = c.as_slice.result.now;
       begun = begun;
@@ -25,7 +23,6 @@ returns g c =
       read = sites;
       firsts = firsts;
       declares = declares;
-      script = subst (λ x. IsItsScript c.as_slice.result.now sites x firsts begun (g.W.Write.contents s.journal.inner) s.journal.buf.items s.is_broken s.boards.items)
+      script = subst (λ x. IsItsScript c.as_slice.result.now sites x firsts begun (g.W.Write.contents served.journal.inner) served.journal.buf.items served.is_broken served.boards.items)
           (sym c.plan.ensures.stations ∙ c.is_declared.ensures.stations told) ran;
-    })
-    c.run_restored.ensures
+    }
