@@ -589,7 +589,9 @@ def lost_lines_end_the_server(program: str) -> None:
         raise Differs(f"status {ended.returncode}, {ended.stdout!r}, {ended.stderr!r}")
     with folder() as journal:
         journal.write_bytes(script)
-        with restored(program, journal, f"{told.decode()}restored 1\n", "--allow-left-out") as server:
+        with restored(
+            program, journal, f"{told.decode()}restored 1\n", "--allow-left-out"
+        ) as server:
             server.ends(board("north", {"A": 1}))
         # A station is added by its declaration in front of the journal.
         journal.write_bytes(b"station north B\n" + script)
