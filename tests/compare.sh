@@ -13,6 +13,8 @@ top=$(cd "$(dirname "$0")/.." && pwd) && cd "$top/tests/tools" || exit
 export days=../../examples
 export board=$top/python/ocpp-board
 one=$top/tests/one
+# When the pages that are compared were written.
+written=2026-03-02T20:00:00Z
 made=$(mktemp -d) || exit
 trap 'rm -r "$made"' EXIT
 different=0
@@ -97,6 +99,22 @@ with_program() {
     tells 2 "the script is compressed by gzip" "$board" live --program "$program" --out "$made/live" "$made/day.script.gz" < /dev/null
     tells 2 "No such file or directory" "$board" live --program ./nowhere --out "$made/live" forms/ocpp.script
 
+    # Two sessions of each kind of trouble: each is in the tables and on the pages, and counted there.
+    "$board" traffic 2 troubles > "$made/troubles.script"
+    gives 0 tables/troubles.text bash -c '"$1" replay < "$2" | grep -v "^.3,"' _ "$program" "$made/troubles.script"
+    for zone in UTC Europe/Berlin; do
+        made_by "$board" tables --script "$made/troubles.script" --program "$program" --written $written --oldest 3600 \
+            --tz $zone --out "$made/troubles.${zone##*/}" tables/troubles.text
+    done
+    for name in troubles.UTC.findings troubles.UTC.transactions troubles.Berlin.findings troubles.Berlin.transactions; do
+        as_stored "tables/$name.csv" "$made/$name.csv"
+    done
+    holds tables/troubles.said
+    tells 2 "No such file or directory" "$board" tables --script nowhere.script --program "$program" --out "$made/x" \
+        tables/troubles.text
+    tells 2 "No such file or directory" "$board" tables --script "$made/troubles.script" --program ./nowhere \
+        --out "$made/x" tables/troubles.text
+
     # 50 events of each of two stations: a session of 48 and one of 2, in each of which all but the first rise by 250 Wh.
     gives 0 forms/traffic.text bash -c '"$board" traffic 100 --stations 2 | "$1" replay | grep -v "^.3,"' _ "$program"
 }
@@ -178,7 +196,7 @@ fi
 
 # The boards become tables and pages, in UTC and in a zone whose days have 23 and 25 hours.
 for day in day site_day; do
-    made_by "$board" tables --out "$made/$day" "$days/$day.expected"
+    made_by "$board" tables --written $written --out "$made/$day" "$days/$day.expected"
     for stored in "$days/$day".*.csv "$days/$day.html" "$days/$day".*.html; do
         as_stored "$stored" "$made/$(basename "$stored")"
     done
@@ -194,16 +212,26 @@ holds tables/exports.said
 made_by "$board" tables --tz Europe/Berlin --day 2026-03-29 --out "$made/one" tables/berlin.text
 grep -E '^board|:00Z,2026-03-29T' tables/berlin.periods.csv > "$made/one.rows"
 diff "$made/one.rows" "$made/one.periods.csv" || differs "a day of tables/berlin.periods.csv"
+# Labels, contrast and links of all pages that were made.
+if "$one" page_check "$made"/*.html > "$made/checked"; then
+    tail -n 1 "$made/checked"
+else
+    cat "$made/checked"
+    differs "the check of the pages"
+fi
 gives 1 tables/broken "$board" tables --out "$made/broken" tables/broken.text
 tells 1 "the text ends, and no board began in it" "$board" tables --out "$made/noise" "$days/day.jsonl"
 tells 2 "the text is compressed by gzip" "$board" tables --out "$made/noise" "$made/day.jsonl.gz"
 tells 2 "No such file or directory" "$board" tables --out "$made/nowhere/x" "$days/day.expected"
 tells 2 "no time zone of this system: 'Mars'" "$board" tables --tz Mars --out "$made/x" "$days/day.expected"
+tells 2 "no time such as 2026-03-01T10:00:00Z: '2026-03-01T10:00:00'" \
+    "$board" tables --written 2026-03-01T10:00:00 --out "$made/x" "$days/day.expected"
 tells 2 "--from is after --to" "$board" tables --from 2026-03-02 --to 2026-03-01 --out "$made/x" "$days/day.expected"
 tells 2 "File too large" bash -c 'ulimit -f 8; "$board" tables --out "$1" "$days/day.expected"' _ "$made/full"
 # Traffic for measuring, and the clients' words.
 gives 0 forms/traffic.script "$board" traffic 3
 tells 2 "N is from 0 to 1,048,576" "$board" traffic 1048577
+tells 2 "N is from 0 to 1000 with troubles" "$board" traffic 1001 troubles
 tells 2 "200,000 events need 4 to 64 stations" "$board" traffic 200000 --stations 3
 tells 2 "No space left on device" bash -c '"$board" traffic 10 > /dev/full'
 gives 0 - "$days/clients/station.py" --help

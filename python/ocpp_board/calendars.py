@@ -46,12 +46,16 @@ class Calendar:
         """From when to when a period is, and from when in UTC as another cell; the end of a day is 24:00."""
         end = self.time(start + timedelta(seconds=seconds))
         beside = "" if self.is_utc else f"<td>{start:%H:%M}"
-        return f"{self.time(start)} to {'24:00' if end == '00:00' else end}{beside}"
+        return f"{self.time(start)}\N{EN DASH}{'24:00' if end == '00:00' else end}{beside}"
 
     def cells_of(self, start: datetime) -> list[str]:
         """A period's first moment in UTC, and in the zone where that is another, for the CSV file."""
         local = [] if self.is_utc else [start.astimezone(self.zone).isoformat()]
         return [start.strftime(MOMENT), *local]
+
+    def local(self, moment: datetime) -> datetime:
+        """A moment in the zone."""
+        return moment.astimezone(self.zone)
 
     def said(self) -> str:
         """Which zone it is, as the beginning of a sentence."""

@@ -7,8 +7,9 @@ skipped and counted. It writes
 
     NAME.periods.csv        the energy of each settlement period, of each site and of each station
     NAME.transactions.csv   the transactions of each station, with their gaps (missing seqNo)
-    NAME.html               the figures of each board, its stations, days and sessions; what is missing or voided
+    NAME.html               the figures of each board, its problems, days, stations and sessions
     NAME.<day>.html         a page for each day: bars and a table for each site and each station
+    NAME.<n>.html, NAME.<day>.<n>.html     what these have no room for
 
 In the CSV files energies are whole mWh (milliwatt-hours), and the same in kWh. Times are UTC; with --tz
 the days and hours are those of that zone, and UTC stands beside. `board` counts the boards of the text,
@@ -23,10 +24,18 @@ again as `up`. `export up` and `export down` are the same of the export register
 back have. The net energy, which the pages show, is what was imported less what was exported: `up` less
 `down`, less `export up` and more `export down`.
 
-A board has no times of transactions: how long a session was is told in sequence numbers, from its first
-to its last. Where no number is missing and a session is still not complete, one board doesn't tell
-whether its end is yet to come or a start or an end is misplaced; an earlier board of the same station in
-the text may tell, and then the table does.
+A board has no times of transactions. With --script the tool replays the script that the text is of, and takes
+from its messages when each session began and ended, what its registers read first and last, and why it stopped:
+these stand on the pages and in NAME.transactions.csv, for comparing with bills. It looks at the quality of the data,
+too, and writes
+
+    NAME.findings.csv       what is doubtful in which session: its name, how often, when first, and what it means
+
+    ocpp-board tables --script SCRIPT --program ocpp_board --out NAME TEXT
+
+Where no number is missing and a session is still not complete, one board doesn't tell whether its end is yet to
+come or a start or an end is misplaced; an earlier board of the same station in the text may tell, and then the
+table does.
 
 --follow reads a board from a server that lives, `ocpp_board serve --live --board-port 9080 ..`, again and again,
 and writes the files anew each time; the pages draw themselves anew as often:
@@ -39,40 +48,66 @@ error with their numbers, and the page says where it is not whole.
 """
 
 import argparse
+import contextlib
 import csv
 import logging
 import re
 import shutil
 import tempfile
 import time
-from collections.abc import Sequence
-from datetime import date, timezone
+from collections.abc import Callable, Iterable, Sequence
+from dataclasses import replace
+from datetime import date, datetime, timezone
 from typing import IO, NoReturn, TextIO
 from urllib.request import urlopen
 
-from ocpp_board.board_pages import DayPages, Index, Layout
-from ocpp_board.boards import Part, Reader, Session
+from ocpp_board.answered import Answered, answered
+from ocpp_board.board_pages import Boards, DayPages, Index, Layout
+from ocpp_board.boards import Part, Reader, Session, Sink
 from ocpp_board.calendars import Calendar
 from ocpp_board.energies import Flow, kwh_of
 from ocpp_board.escapes import csv_cell
+from ocpp_board.limits import MOMENT
 from ocpp_board.progress import Progress
+from ocpp_board.session_times import Registers
 from ocpp_board.sources import is_gzip, opened
 from ocpp_board.statuses import Mistaken, Status, ended
-from ocpp_board.words import parsed, parser_of, zone
+from ocpp_board.told import Told
+from ocpp_board.words import add_program, parsed, parser_of, zone
 
 log = logging.getLogger(__name__)
 
-# Seconds that a server may take to answer.
+# Seconds that a server may take to answer, and times of waiting after which its board is too old.
 LONGEST_ANSWER = 30
+LATE = 3
 SECONDS = re.compile("[1-9][0-9]{0,4}")
 ENDING = """\
-One station at a time is held in memory, the periods of one site, and a line for each session. Pages of days that
-an earlier run wrote and this one has not stay. Exit status: 0; 1 when the text has no board, a line of a board could
-not be read or a board has no end; 2 when the words are wrong or a file can't be read or written."""
+One board at a time is held in memory, a line for each session, and with --script half a kilobyte for each event.
+Pages of days that an earlier run wrote and this one has not stay. Exit status: 0; 1 when the text has no board, a line
+of a board could not be read or a board has no end; 2 when the words are wrong or a file can't be read or written."""
+
+
+def moments(calendar: Calendar, at: datetime | None) -> list[str]:
+    """The cells of a moment: in UTC, and in the zone where that is another."""
+    if at is None:
+        return [""] if calendar.is_utc else ["", ""]
+    local = [] if calendar.is_utc else [calendar.local(at).isoformat(timespec="seconds")]
+    return [at.strftime(MOMENT), *local]
+
+
+def moment_heads(calendar: Calendar, name: str) -> list[str]:
+    """The heads of the columns of a moment."""
+    return [f"{name} (UTC)", *([] if calendar.is_utc else [f"{name} ({calendar.name})"])]
+
+
+def registers(read: Registers | None) -> list[str]:
+    """The cells of what a register read first and last."""
+    return [kwh_of(mwh) for mwh in read] if read else ["", ""]
 
 
 class Tables:
-    """The two CSV files, as a sink of boards. `raw`: names and ids stand there as they are."""
+    """The CSV files of periods and of transactions, as a sink of boards. `raw`: names and ids stand there as they are.
+    `has_times`: messages were told, which have the times of sessions."""
 
     FLOWS = [
         "up (mWh)",
@@ -84,7 +119,7 @@ class Tables:
         "export up (kWh)",
         "export down (kWh)",
     ]
-    PERIODS = ["board", "level", "site", "station", "seconds", "period start (UTC)"]
+    PERIODS = ["board", "level", "site", "station", "seconds"]
     TRANSACTIONS = [
         "board",
         "site",
@@ -98,20 +133,38 @@ class Tables:
         "missing",
         "gaps (from..to)",
     ]
+    REGISTERS = [
+        "first register (kWh)",
+        "last register (kWh)",
+        "first export register (kWh)",
+        "last export register (kWh)",
+    ]
 
     def __init__(
-        self, periods: TextIO, transactions: TextIO, raw: bool, calendar: Calendar
+        self,
+        periods: TextIO,
+        transactions: TextIO,
+        raw: bool,
+        calendar: Calendar,
+        has_times: bool = False,
     ) -> None:
-        self.raw, self.calendar = raw, calendar
+        self.raw, self.calendar, self.has_times = raw, calendar, has_times
         self.number, self.site = 0, ""
         self.periods = csv.writer(periods, lineterminator="\n")
         self.transactions = csv.writer(transactions, lineterminator="\n")
-        local = [] if calendar.is_utc else [f"period start ({calendar.name})"]
-        self.periods.writerow([*self.PERIODS, *local, *self.FLOWS])
-        self.transactions.writerow([*self.TRANSACTIONS, *self.FLOWS, "state"])
+        starts = moment_heads(calendar, "period start")
+        self.periods.writerow([*self.PERIODS, *starts, *self.FLOWS])
+        self.transactions.writerow([*self.TRANSACTIONS, *self.FLOWS, "state", *self.time_heads()])
+
+    def time_heads(self) -> list[str]:
+        """The heads of the columns that boards don't tell."""
+        if not self.has_times:
+            return []
+        ends = [head for name in ("start", "end") for head in moment_heads(self.calendar, name)]
+        return [*ends, "duration (s)", *self.REGISTERS, "stopped reason", "findings"]
 
     def cell(self, text: str) -> str:
-        """A name or an id."""
+        """A text from outside: a name, an id or a reason."""
         return text if self.raw else csv_cell(text)
 
     @staticmethod
@@ -132,7 +185,8 @@ class Tables:
             front = [self.number, level, self.site, station, p.seconds]
             self.periods.writerow([*front, *self.calendar.cells(p.start), *self.flows(p.flow)])
         for t in part.sessions:
-            self.transactions.writerow([self.number, self.site, station, *self.session(t)])
+            row = [self.number, self.site, station, *self.session(t), *self.times(t)]
+            self.transactions.writerow(row)
 
     def session(self, t: Session) -> list[int | str]:
         """The cells of a session."""
@@ -144,6 +198,54 @@ class Tables:
             *self.flows(t.flow),
             t.state,
         ]
+
+    def times(self, t: Session) -> list[int | str]:
+        """The cells of what the messages tell of a session."""
+        if not self.has_times or t.times is None:
+            return []
+        times = t.times
+        seconds: int | str = "" if times.seconds is None else times.seconds
+        return [
+            *moments(self.calendar, times.start),
+            *moments(self.calendar, times.end),
+            seconds,
+            *registers(times.imported),
+            *registers(times.exported),
+            self.cell(times.reason),
+            "; ".join(one.kind.label for one in t.findings),
+        ]
+
+    def end(self) -> None:
+        """The board ends."""
+
+
+class Findings:
+    """The CSV file of findings, as a sink of boards."""
+
+    def __init__(self, file: TextIO, raw: bool, calendar: Calendar) -> None:
+        self.raw, self.calendar = raw, calendar
+        self.number, self.site = 0, ""
+        self.rows = csv.writer(file, lineterminator="\n")
+        first = moment_heads(calendar, "first")
+        front = ["board", "site", "station", "transaction", "finding", "times"]
+        self.rows.writerow([*front, *first, "detail", "meaning"])
+
+    def cell(self, text: str) -> str:
+        """A text from outside."""
+        return text if self.raw else csv_cell(text)
+
+    def board(self, number: int, site: str, line: int) -> None:
+        """A board begins."""
+        self.number, self.site = number, self.cell(site)
+
+    def part(self, part: Part) -> None:
+        """The rows of a station."""
+        for t in part.sessions:
+            front = [self.number, self.site, self.cell(part.name), self.cell(t.tx)]
+            for one in t.findings:
+                first = moments(self.calendar, one.first)
+                told = [one.kind.label, one.times, *first, self.cell(one.detail), one.kind.meaning]
+                self.rows.writerow([*front, *told])
 
     def end(self) -> None:
         """The board ends."""
@@ -165,6 +267,33 @@ def add_days(parser: argparse.ArgumentParser) -> None:
     )
     parser.add_argument(
         "--to", dest="last", metavar="DAY", type=day, default=date.max, help="no day after it"
+    )
+
+
+def moment_word(text: str) -> datetime:
+    """A moment with its offset from UTC. Raises ArgumentTypeError."""
+    try:
+        at = datetime.fromisoformat(text)
+    except ValueError:
+        at = None
+    if at is None or at.tzinfo is None:
+        raise argparse.ArgumentTypeError(f"no time such as 2026-03-01T10:00:00Z: {text!r}")
+    return at
+
+
+def add_moments(parser: argparse.ArgumentParser) -> None:
+    """The options that say when pages are written, and how old their data may be."""
+    parser.add_argument(
+        "--written",
+        metavar="TIME",
+        type=moment_word,
+        help="the time that pages tell as that of their writing (default: now)",
+    )
+    parser.add_argument(
+        "--oldest",
+        metavar="SECONDS",
+        type=int,
+        help="how old data may be when pages are written; they tell where it is older",
     )
 
 
@@ -194,44 +323,79 @@ def arguments(argv: Sequence[str], prog: str) -> argparse.Namespace:
     parser.add_argument(
         "--raw", action="store_true", help="write names and ids into the CSV files as they are"
     )
+    parser.add_argument(
+        "--script",
+        metavar="SCRIPT",
+        help="the script that the text is of: times of sessions and findings are taken from its messages",
+    )
+    add_program(parser)
+    add_moments(parser)
     words = parsed(parser, argv)
     if words.day:
         words.first = words.last = words.day
     if words.first > words.last:
         parser.error("--from is after --to")
-    if words.follow and (not SECONDS.fullmatch(words.follow[1]) or words.text != "-"):
-        parser.error("--follow takes an address and seconds, 1 to 99999, and no text")
+    if words.follow and (
+        not SECONDS.fullmatch(words.follow[1]) or words.text != "-" or words.script
+    ):
+        parser.error("--follow takes an address and seconds, 1 to 99999, and no text or script")
     return words
 
 
 def follow(words: argparse.Namespace, url: str, seconds: int) -> NoReturn:
-    """Writes the files anew every so many seconds. Where the server is not there the files stay as they are."""
-    while True:
-        with tempfile.TemporaryFile() as text:
+    """Writes the files anew every so many seconds. Where the server is not there, those of the board before, which tell
+    that it is too old when it is."""
+    words.oldest = LATE * seconds if words.oldest is None else words.oldest
+    got: datetime | None = None
+    with tempfile.TemporaryFile() as text:
+        while True:
             try:
                 with urlopen(url, timeout=LONGEST_ANSWER) as answer:
+                    text.truncate(text.seek(0))
                     shutil.copyfileobj(answer, text)
+                got = datetime.now(timezone.utc)
             except (OSError, ValueError) as fault:
                 log.error("%s: %s", url, fault)
-            else:
+            if got:
                 text.seek(0)
-                write_files(words, text, seconds)
-        time.sleep(seconds)
+                write_files(words, text, replace(layout_of(words), refresh=seconds, until=got))
+            time.sleep(seconds)
 
 
-def write_files(words: argparse.Namespace, text: IO[bytes], refresh: int | None = None) -> int:
-    """Writes the files of a text, and gives the exit status. `refresh`: seconds until browsers draw pages anew."""
-    layout = Layout(words.out, Calendar(words.tz, words.first, words.last), refresh)
-    with (
-        open(f"{words.out}.periods.csv", "w", encoding="utf-8", newline="") as periods,
-        open(f"{words.out}.transactions.csv", "w", encoding="utf-8", newline="") as transactions,
-    ):
-        tables = Tables(periods, transactions, words.raw, layout.calendar)
-        days, index = DayPages(layout), Index(layout)
-        reader = Reader([tables, days, index], Progress(text))
+def layout_of(words: argparse.Namespace) -> Layout:
+    """Where the files go and what pages tell, by the words."""
+    calendar = Calendar(words.tz, words.first, words.last)
+    written = words.written or datetime.now(timezone.utc)
+    return Layout(words.out, calendar, written, oldest=words.oldest)
+
+
+def hand_on(messages: Iterable[Answered], takers: Sequence[Callable[[Answered], None]]) -> None:
+    """Hands each message with its answer to all takers."""
+    for message in messages:
+        for take in takers:
+            take(message)
+
+
+def write_files(
+    words: argparse.Namespace, text: IO[bytes], layout: Layout, told: Told | None = None
+) -> int:
+    """Writes the files of a text, and gives the exit status. `told`: what the messages tell besides."""
+
+    def file(name: str) -> TextIO:
+        path = f"{words.out}.{name}.csv"
+        return files.enter_context(open(path, "w", encoding="utf-8", newline=""))
+
+    days, index = DayPages(layout), Index(layout)
+    with contextlib.ExitStack() as files:
+        csv_files = file("periods"), file("transactions")
+        sinks: list[Sink] = [Tables(*csv_files, words.raw, layout.calendar, told is not None)]
+        if told:
+            sinks.append(Findings(file("findings"), words.raw, layout.calendar))
+        sinks.append(Boards([days.add, index.add]))
+        reader = Reader(sinks, Progress(text), told)
         reader.read(text)
         days.close()
-        index.close(reader.counts["boards"] > 0)
+        index.close()
     reader.tell()
     return Status.TOLD if reader.counts["unread"] else Status.DONE
 
@@ -243,7 +407,13 @@ def run(words: argparse.Namespace) -> int:
     with opened(words.text) as text:
         if is_gzip(text):
             raise Mistaken("the text is compressed by gzip: gunzip -c TEXT | ocpp-board tables")
-        return write_files(words, text)
+        layout = layout_of(words)
+        if words.script is None:
+            return write_files(words, text, layout)
+        told = Told()
+        with opened(words.script) as script:
+            hand_on(answered(words.program, script), [told.take])
+        return write_files(words, text, replace(layout, until=told.until()), told)
 
 
 def main(argv: Sequence[str], prog: str) -> int:
