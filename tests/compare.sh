@@ -212,13 +212,16 @@ holds tables/exports.said
 made_by "$board" tables --tz Europe/Berlin --day 2026-03-29 --out "$made/one" tables/berlin.text
 grep -E '^board|:00Z,2026-03-29T' tables/berlin.periods.csv > "$made/one.rows"
 diff "$made/one.rows" "$made/one.periods.csv" || differs "a day of tables/berlin.periods.csv"
-# Labels, contrast and links of all pages that were made.
+# Labels, contrast and links of all pages that were made, and how wide they are on a phone, names and numbers being long.
+made_by "$board" tables --tz America/Argentina/ComodRivadavia --out "$made/long" tables/long.text
 if "$one" page_check "$made"/*.html > "$made/checked"; then
     tail -n 1 "$made/checked"
 else
     cat "$made/checked"
     differs "the check of the pages"
 fi
+"$one" page_width "$made"/*.html
+case $? in 0 | 77) ;; *) differs "pages on a phone" ;; esac
 gives 1 tables/broken "$board" tables --out "$made/broken" tables/broken.text
 tells 1 "the text ends, and no board began in it" "$board" tables --out "$made/noise" "$days/day.jsonl"
 tells 2 "the text is compressed by gzip" "$board" tables --out "$made/noise" "$made/day.jsonl.gz"

@@ -31,6 +31,7 @@ from ocpp_board.pages import (
     explained,
     flow_heads,
     head,
+    kept,
     link,
     moment,
     refused_banner,
@@ -209,12 +210,17 @@ class Series:
             self.put(number, ("" if number == before else site_head(board, number == first)) + text)
         return self.path_of(first)
 
-    def links(self) -> str:
-        """Links to all pages, where there are several."""
+    def links(self, here: int, where: str) -> str:
+        """Links from the page of this number to the others, where there are several. `where` they stand on it."""
         if len(self.pages) == 1:
             return ""
-        names = [link(page.path, f"page {number}") for number, page in enumerate(self.pages, 1)]
-        return f'<nav aria-label="Pages">{" ".join(names)}</nav>\n'
+        names = [
+            f'<b aria-current="page">{number}</b>'
+            if number == here
+            else link(page.path, str(number))
+            for number, page in enumerate(self.pages, 1)
+        ]
+        return f'<nav aria-label="Pages, {where}"><span>Page</span> {" ".join(names)}</nav>\n'
 
 
 def site_head(board: Board, is_first: bool) -> str:
@@ -225,6 +231,11 @@ def site_head(board: Board, is_first: bool) -> str:
         f'<h2 class="site"{label}>Site {escape(board.site.name)}{on}</h2>\n'
         f'<p class="site soft">Board {board.number:,} of the text, from its line {board.line:,} on.</p>\n'
     )
+
+
+def page_of(number: int) -> str:
+    """The end of the title of a page, where it is not the first one."""
+    return "" if number == 1 else f", page {number:,}"
 
 
 def weekday(day: date) -> str:
@@ -323,9 +334,10 @@ class DayPages:
             heads: Heads = ["Station", net, *(Column(head, "wide") for head in others), NET_BAR]
             said = (
                 '<p class="soft">The pictures of all stations have one scale on all days, to '
-                f"{scale.label(scale.up)} kWh; that of the site goes to {site_scale.label(site_scale.up)} kWh.</p>\n"
+                f"{scale.said()}; that of the site goes to {site_scale.said()}.</p>\n"
             )
-            return site + said + "".join(table(f"Stations on {day}, kWh", heads, rows))
+            text = "".join(table(f"Stations on {kept(str(day))}, kWh", heads, rows))
+            return site + said + across(f"Stations on {day}", text)
 
         series.put_board(board, front, sections)
 
@@ -346,15 +358,15 @@ class DayPages:
                 for where in ("above", "below")
             )
             told = self.layout.stamp(self.until) + said
-            begin = self.layout.head(
-                f"{self.names.title()},",
-                told,
-                above + series.links(),
-                self.names.is_one,
-                f"{weekday(day)} {day}",
-            )
-            for page in series.pages:
-                page.frame(begin, below + explained(BARS) + FOOT)
+            for number, page in enumerate(series.pages, 1):
+                begin = self.layout.head(
+                    f"{self.names.title()},",
+                    told,
+                    above + series.links(number, "above"),
+                    self.names.is_one,
+                    f"{weekday(day)} {day}{page_of(number)}",
+                )
+                page.frame(begin, series.links(number, "below") + below + explained(BARS) + FOOT)
 
 
 NET_BAR = Column("Net as a bar", "bar wide", True)
@@ -459,16 +471,17 @@ class Index:
             + "".join(figures(board.site.total, has_export))
             + self.problems(list(problems_of(board.stations)), links)
             + self.days(board.site, has_export)
-            + "<h3>Stations</h3>\n"
-            + "".join(
-                table(
-                    "Stations of the site, those with troubles first",
-                    self.station_heads(has_export),
-                    (self.station_row(part, links[part.name], has_export) for part in stations),
-                )
-            )
+            + self.stations(stations, links, has_export)
             + "</section>\n"
         )
+
+    @classmethod
+    def stations(cls, stations: list[Part], links: dict[str, str], has_export: bool) -> str:
+        """The table of a site's stations."""
+        rows = (cls.station_row(part, links[part.name], has_export) for part in stations)
+        caption = "Stations of the site, those with troubles first"
+        text = "".join(table(caption, cls.station_heads(has_export), rows))
+        return "<h3>Stations</h3>\n" + across("Stations", text)
 
     @staticmethod
     def problems(problems: list[Problem], links: dict[str, str]) -> str:
@@ -521,7 +534,8 @@ class Index:
         exports = (Column(head, "wide") for head in (*others[2:], "Periods"))
         heads: Heads = ["Day", net, *others[:2], *exports, NET_BAR]
         caption = "Energy by day, kWh, the last day first. The bars have one scale."
-        return "<h3>Days</h3>\n" + "".join(table(caption, heads, rows, kind="plain days"))
+        text = "".join(table(caption, heads, rows, kind="plain days"))
+        return "<h3>Days</h3>\n" + across("Days", text)
 
     @classmethod
     def station_heads(cls, has_export: bool) -> Heads:
@@ -565,11 +579,12 @@ class Index:
         if self.names.boards > 1:
             caption = "Boards of the text, in their order"
             sites = f"<h2>Sites</h2>\n{across('Sites', ''.join(table(caption, SITES, self.rows)))}"
-        nav = self.series.links()
         for number, page in enumerate(self.series.pages, 1):
-            title = self.names.title() + ("" if number == 1 else f", page {number}")
-            begin = layout.head(title, said, nav, self.names.is_one)
-            page.frame(begin + (sites if number == 1 else ""), explained(BARS, SESSIONS) + FOOT)
+            title = f"{self.names.title()}{page_of(number)}"
+            above, below = (self.series.links(number, where) for where in ("above", "below"))
+            begin = layout.head(title, said, above, self.names.is_one)
+            end = below + explained(BARS, SESSIONS) + FOOT
+            page.frame(begin + (sites if number == 1 else ""), end)
 
 
 # The least of what `trouble_of` gives for a station without any.

@@ -8,7 +8,7 @@ from html import escape
 from ocpp_board.boards import Part, Period, Session, Total
 from ocpp_board.calendars import Calendar
 from ocpp_board.energies import kwh, share, sum_of
-from ocpp_board.pages import MARK, Row, across, cells_of, flow_heads, ranges, table
+from ocpp_board.pages import MARK, Row, across, cells_of, flow_heads, kept, ranges, table
 from ocpp_board.pictures import Scale, picture, strip
 from ocpp_board.quality import Finding, Kind
 from ocpp_board.session_times import Registers, duration
@@ -117,7 +117,7 @@ def periods_of(
     """The table of a day's periods, whose rows leave out what HTML lets be left out: pages have many."""
     zone = "UTC" if calendar.is_utc else calendar.name
     beside = "" if calendar.is_utc else '<th scope="col">From (UTC)'
-    yield f'<table class="plain periods"><caption>{day}, kWh</caption>\n'
+    yield f'<table class="plain periods"><caption>{kept(str(day))}, kWh</caption>\n'
     yield (
         f'<thead><tr><th scope="col">Period ({zone}){beside}'
         + "".join(f'<th scope="col">{head}' for head in flow_heads(has_export))
@@ -132,7 +132,7 @@ def periods_of(
     yield "</tbody></table>\n"
 
 
-def said_of(whose: str, day: date, periods: list[Period], has_export: bool) -> str:
+def said_of(whose: str, day: str, periods: list[Period], has_export: bool) -> str:
     """What a day's periods come to, in one sentence."""
     flow = sum_of(p.flow for p in periods)
     count = "1 period" if len(periods) == 1 else f"{len(periods):,} periods"
@@ -154,10 +154,10 @@ def day_of_part(
 ) -> Iterator[str]:
     """A day's picture of a site or a station, with the table beside it."""
     whose = f"{kind} {escape(name)}"
-    said = said_of(whose, day, periods, has_export)
+    said, shown = (said_of(whose, text, periods, has_export) for text in (str(day), kept(str(day))))
     yield f'<section aria-labelledby="{label}">\n<h3 id="{label}">{whose}</h3>\n<div class="day">\n<figure>\n'
     yield from picture(f"Bars. {said}. The table has the numbers.", day, periods, scale, calendar)
-    yield f"<figcaption>{said}</figcaption>\n</figure>\n"
+    yield f"<figcaption>{shown}</figcaption>\n</figure>\n"
     yield f'<div class="scroll" role="group" tabindex="0" aria-label="Periods of {whose} on {day}">\n'
     yield from periods_of(day, periods, calendar, has_export)
     yield "</div>\n</div>\n</section>\n"
@@ -183,7 +183,7 @@ def state_text(t: Session) -> str:
 
 def when(at: datetime | None, calendar: Calendar) -> str:
     """A moment in a cell, to the second."""
-    return f"{calendar.local(at):%Y-%m-%d %H:%M:%S}" if at else UNKNOWN
+    return kept(f"{calendar.local(at):%Y-%m-%d %H:%M:%S}") if at else UNKNOWN
 
 
 def register_text(registers: Registers | None) -> str:
@@ -249,7 +249,7 @@ def sections_of(part: Part, label: str, calendar: Calendar, has_export: bool) ->
             for e in part.evses
         )
         heads = ["EVSE", *flow_heads(has_export)]
-        evses = "".join(table("Energy by EVSE, kWh", heads, rows))
+        evses = across(f"EVSEs of {name}", "".join(table("Energy by EVSE, kWh", heads, rows)))
     none = "" if part.sessions else "<p>It shows no session.</p>\n"
     yield (
         f'<section aria-labelledby="{label}">\n<h3 id="{label}">Station {name}</h3>\n{warning}'
@@ -268,7 +268,7 @@ def sections_of(part: Part, label: str, calendar: Calendar, has_export: bool) ->
             title += f", {first + 1:,} to {first + len(some):,} of {len(sessions):,}"
         rows = (session_row(t, calendar, has_export) for t in some)
         yield (
-            f'<section aria-labelledby="{label}-{first}">\n<h4 id="{label}-{first}">{title}</h4>\n'
+            f'<section aria-labelledby="{label}-{first}">\n<h3 class="sub" id="{label}-{first}">{title}</h3>\n'
             + across(title, "".join(table(caption, heads, rows, cards=True)))
             + "</section>\n"
         )

@@ -15,9 +15,9 @@ STYLE = """
 --rise:#6fb1ef;--fall:#ff9d5c;--out:#79cf82;--link:#9ec5ff;--bad:#ff8a80}}
 *{box-sizing:border-box}
 body{margin:0 auto;max-width:84rem;padding:1rem;font:1rem/1.45 system-ui,sans-serif;color:var(--ink);
-background:var(--paper)}
+background:var(--paper);overflow-wrap:break-word}
 h1{font-size:1.6rem;margin:.5rem 0}h2{font-size:1.35rem;border-bottom:2px solid var(--ink);margin-top:2.5rem}
-h3{font-size:1.15rem;margin:2rem 0 .5rem}h4{font-size:1rem;margin:1.5rem 0 .5rem}h1,h2,h3,h4{overflow-wrap:anywhere}
+h3{font-size:1.15rem;margin:2rem 0 .5rem}h3.sub{font-size:1rem;margin:1.5rem 0 .5rem}h1,h2,h3{overflow-wrap:anywhere}
 time,.whole,.periods tbody th{white-space:nowrap}.stamp,.soft{color:var(--soft);font-size:.85rem}
 .unseen,.one .site{position:absolute;width:1px;height:1px;margin:0;overflow:hidden;clip-path:inset(50%)}
 dl.figures{display:flex;flex-wrap:wrap;gap:.25rem 1.75rem;margin:.5rem 0;align-items:baseline}
@@ -35,7 +35,7 @@ path{vector-effect:non-scaling-stroke}.grid{stroke:var(--line)}.zero{stroke:var(
 .up,.there{fill:var(--rise)}.down{fill:url(#falls);stroke:var(--fall)}.out{fill:var(--out)}
 .back{fill:url(#returns);stroke:var(--out)}.still{stroke:var(--ink);stroke-width:4}
 .fall{fill:var(--fall)}.return{fill:var(--out)}.gap{fill:var(--paper);stroke:var(--ink);stroke-dasharray:2 2}
-.scroll{overflow:auto;max-height:15.5rem}.across{overflow-x:auto}
+.scroll,.across{position:relative;overflow:auto}.scroll{max-height:15.5rem}
 table{border-collapse:collapse;width:100%;font-size:.85rem;font-variant-numeric:tabular-nums}
 th,td{border-bottom:1px solid var(--line);padding:.2rem .5rem;text-align:right;vertical-align:top;white-space:nowrap}
 th:first-child,td:first-child,.left{text-align:left}
@@ -111,6 +111,11 @@ def head(
         f"<h1>{title}{kept}</h1>\n{links}{said}</header>\n"
         f"<main{kind}>\n"
     )
+
+
+def kept(time: str) -> str:
+    """A day or a time that is not broken."""
+    return f"<time>{time}</time>"
 
 
 def moment(at: datetime) -> str:

@@ -2,11 +2,12 @@
 
 from collections.abc import Iterable, Iterator
 from datetime import date, timedelta
+from decimal import Decimal
 from functools import lru_cache
 
 from ocpp_board.boards import Period, Session
 from ocpp_board.calendars import Calendar
-from ocpp_board.energies import MINUS, MWH_OF_A_KWH, Flow, kwh_of
+from ocpp_board.energies import MINUS, MWH_OF_A_KWH, Flow
 
 # Seconds that one unit of a picture's width stands for: every period has a whole number of tenths of its width.
 UNIT = 30
@@ -15,9 +16,18 @@ MOST_LINES = 5
 
 
 class Scale:
-    """Where an energy stands in a picture: rises above the zero line, falls below it, and a line beyond each."""
+    """Where an energy stands in a picture: rises above the zero line, falls below it, and a line beyond each.
+
+    The unit of its axis is the first of its units in which the numbers are not too long for a phone.
+    """
 
     TOP, HEIGHT = 20, 160
+    UNITS = (
+        ("kWh", MWH_OF_A_KWH),
+        ("MWh", 1_000 * MWH_OF_A_KWH),
+        ("GWh", 1_000_000 * MWH_OF_A_KWH),
+    )
+    LONG = 10_000
 
     def __init__(self, flows: Iterable[Flow]) -> None:
         ends = [(flow.above, flow.below) for flow in flows]
@@ -26,6 +36,8 @@ class Scale:
         self.step = round_step(up, down)
         self.up, self.down = lines_to(up, self.step), lines_to(down, self.step)
         self.zero = self.at(0)
+        found = (one for one in self.UNITS if max(self.up, self.down) < self.LONG * one[1])
+        self.unit, self.mwh = next(found, self.UNITS[-1])
 
     def at(self, mwh: int) -> float:
         """The height of an energy, in pixels from the top."""
@@ -36,10 +48,15 @@ class Scale:
         return range(-self.down, self.up + 1, self.step)
 
     def label(self, mwh: int) -> str:
-        """The text of a line, in kWh with as many decimals as the distance of the lines has."""
-        decimals = len(kwh_of(self.step).partition(".")[2])
-        number = f"{abs(mwh) / MWH_OF_A_KWH:,.{decimals}f}"
+        """The text of a line, in the axis' unit and with as many decimals as the distance of the lines has."""
+        step = Decimal(self.step) / self.mwh
+        decimals = max(0, -int(step.normalize().as_tuple().exponent))
+        number = f"{Decimal(abs(mwh)) / self.mwh:,.{decimals}f}"
         return MINUS + number if mwh < 0 else number
+
+    def said(self) -> str:
+        """How far it goes, for a reader."""
+        return f"{self.label(self.up)} {self.unit}"
 
 
 def lines_to(mwh: int, step: int) -> int:
@@ -124,7 +141,7 @@ def picture(
     yield f'<svg width="100%" height="{height}" viewBox="0 0 {width} {height}" preserveAspectRatio="none">'
     for kind, path in paths(day, periods, scale, calendar):
         yield f'<path class="{kind}" d="{path}"/>'
-    yield '</svg>\n<text x="-5" y="9" text-anchor="end">kWh</text>'
+    yield f'</svg>\n<text x="-5" y="9" text-anchor="end">{scale.unit}</text>'
     for mwh in scale.marks():
         y = short(scale.at(mwh) + 4)
         yield f'<text x="-5" y="{y}" text-anchor="end">{scale.label(mwh)}</text>'

@@ -290,10 +290,29 @@ def add_moments(parser: argparse.ArgumentParser) -> None:
         help="the time that pages tell as that of their writing (default: now)",
     )
     parser.add_argument(
+        "--until",
+        metavar="TIME",
+        type=moment_word,
+        help="up to when the data is (default: what the messages of --script tell)",
+    )
+    parser.add_argument(
         "--oldest",
         metavar="SECONDS",
         type=int,
         help="how old data may be when pages are written; they tell where it is older",
+    )
+    parser.add_argument(
+        "--refresh",
+        metavar="SECONDS",
+        type=int,
+        help="have a browser draw the pages anew every so many seconds",
+    )
+    parser.add_argument(
+        "--refused",
+        metavar="COUNT",
+        type=int,
+        default=0,
+        help="how many messages were refused; pages tell it with a link to NAME.refused.csv",
     )
 
 
@@ -366,7 +385,9 @@ def layout_of(words: argparse.Namespace) -> Layout:
     """Where the files go and what pages tell, by the words."""
     calendar = Calendar(words.tz, words.first, words.last)
     written = words.written or datetime.now(timezone.utc)
-    return Layout(words.out, calendar, written, oldest=words.oldest)
+    return Layout(
+        words.out, calendar, written, words.refresh, words.until, words.oldest, words.refused
+    )
 
 
 def hand_on(messages: Iterable[Answered], takers: Sequence[Callable[[Answered], None]]) -> None:
@@ -413,7 +434,8 @@ def run(words: argparse.Namespace) -> int:
         told = Told()
         with opened(words.script) as script:
             hand_on(answered(words.program, script), [told.take])
-        return write_files(words, text, replace(layout, until=told.until()), told)
+        until = words.until or told.until()
+        return write_files(words, text, replace(layout, until=until), told)
 
 
 def main(argv: Sequence[str], prog: str) -> int:

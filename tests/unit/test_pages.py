@@ -104,11 +104,11 @@ def test_figures_mark_what_is_missing() -> None:
 
 def test_what_is_said_of_a_day() -> None:
     some = periods(Flow(1_000_000), Flow(500_000))
-    said = said_of("Site north", DAY.date(), some, False)
+    said = said_of("Site north", "2026-03-01", some, False)
     assert (
         said == "Site north on 2026-03-01: 2 periods, net 1.500 kWh, up 1.500 kWh, down 0.000 kWh"
     )
-    said = said_of("Site north", DAY.date(), periods(Flow(export_up=1_000_000)), True)
+    said = said_of("Site north", "2026-03-01", periods(Flow(export_up=1_000_000)), True)
     assert said.startswith("Site north on 2026-03-01: 1 period, net \N{MINUS SIGN}1.000 kWh, ")
     assert said.endswith(", export up 1.000 kWh, export down 0.000 kWh")
 
@@ -140,7 +140,22 @@ def test_a_line_lies_at_or_beyond_the_highest_and_the_lowest_bar(up: int, down: 
 def test_lines_of_one_picture_have_the_same_decimals() -> None:
     found = scale(Flow(1_100_000))
     assert [found.label(mwh) for mwh in found.marks()] == ["0.0", "0.5", "1.0", "1.5"]
-    assert scale(Flow(0, 2_000_000_000_000)).label(-1_500_000_000_000) == "\N{MINUS SIGN}1,500,000"
+    found = scale(Flow(2_000_000_000, 700_000_000))
+    assert (found.label(-1_000_000_000), found.unit) == ("\N{MINUS SIGN}1,000", "kWh")
+
+
+@pytest.mark.parametrize(
+    ("kwh", "said"),
+    [
+        (0.0004, "0.0004 kWh"),
+        (9_900, "10 MWh"),
+        (9_000, "10 MWh"),
+        (6_000, "6,000 kWh"),
+        (2e7, "20 GWh"),
+    ],
+)
+def test_the_numbers_of_an_axis_are_short(kwh: float, said: str) -> None:
+    assert scale(Flow(int(kwh * 1_000_000))).said() == said
 
 
 def test_rises_go_up_from_the_zero_line_and_falls_down() -> None:
@@ -200,7 +215,10 @@ def test_a_session_with_times_has_a_cell_for_each_head() -> None:
     mark, cells = session_row(one, Calendar(), True)
     row = dict(zip(heads, cells))
     assert len(heads) == len(cells) and mark == MARK
-    assert row["Start and end (UTC)"] == "2026-03-01 00:00:00<br>2026-03-02 01:01:02"
+    assert (
+        row["Start and end (UTC)"]
+        == "<time>2026-03-01 00:00:00</time><br><time>2026-03-02 01:01:02</time>"
+    )
     assert row["Duration"] == "25:01:02"
     assert row["Register, first and last, kWh"] == "1.000<br>2.500"
     assert row[" Stopped"] == "&lt;De&amp;Auth&gt;"
