@@ -577,14 +577,26 @@ class Index:
             self.series.put(1, "<p>The text has no board.</p>\n")
         sites = ""
         if self.names.boards > 1:
-            caption = "Boards of the text, in their order"
-            sites = f"<h2>Sites</h2>\n{across('Sites', ''.join(table(caption, SITES, self.rows)))}"
+            sites = sites_table("Boards of the text, in their order", self.rows)
         for number, page in enumerate(self.series.pages, 1):
             title = f"{self.names.title()}{page_of(number)}"
             above, below = (self.series.links(number, where) for where in ("above", "below"))
             begin = layout.head(title, said, above, self.names.is_one)
             end = below + explained(BARS, SESSIONS) + FOOT
             page.frame(begin + (sites if number == 1 else ""), end)
+
+
+def sites_table(caption: str, rows: list[Row]) -> str:
+    """The table of sites, by the rows that indexes have of their boards."""
+    return f"<h2>Sites</h2>\n{across('Sites', ''.join(table(caption, SITES, rows)))}"
+
+
+def write_sites(layout: Layout, rows: list[Row]) -> None:
+    """Writes a page that leads to those of several sites, by the rows that the indexes of their pages have. Raises
+    OSError."""
+    page = Page(layout.index())
+    page.put(sites_table("All sites", rows))
+    page.frame(layout.head("All sites", layout.stamp(None), "", False), FOOT)
 
 
 # The least of what `trouble_of` gives for a station without any.

@@ -6,7 +6,7 @@ from pathlib import Path
 
 import pytest
 
-from ocpp_board.board_pages import Board, DayPages, Index, Layout, Series
+from ocpp_board.board_pages import Board, DayPages, Index, Layout, Series, write_sites
 from ocpp_board.boards import Part, Period, Session, Total
 from ocpp_board.calendars import Calendar
 from ocpp_board.energies import Flow
@@ -359,3 +359,26 @@ def test_several_boards_have_a_table_of_sites(tmp_path: Path) -> None:
     text = (tmp_path / "x.html").read_text()
     assert "<title>Site boards</title>" in text and '<main class="one">' not in text
     assert '<a href="x.html#b2">south</a></th><td>2</td><td>0.000</td>' in text
+
+
+def test_a_page_leads_to_those_of_several_sites(tmp_path: Path) -> None:
+    index = Index(layout(tmp_path))
+    index.add(board(1))
+    index.close()
+    write_sites(Layout(str(tmp_path / "index"), Calendar(), DAY, oldest=1, until=DAY), index.rows)
+    text = (tmp_path / "index.html").read_text()
+    row = '<a href="x.html#b1">a&amp;b</a></th><td>1</td><td>8.000</td><td>100.0%</td>'
+    assert row in text and "Data up to" in text and "<td>2026-03-01</td></tr>" in text
+
+
+def test_a_day_that_is_full_tells_on_which_page_it_is(
+    tmp_path: Path, monkeypatch: pytest.MonkeyPatch
+) -> None:
+    monkeypatch.setattr("ocpp_board.board_pages.PAGE_BYTES", 8_000)
+    days = DayPages(layout(tmp_path))
+    days.add(board(12))
+    days.close()
+    text = (tmp_path / "x.2026-03-01.2.html").read_text()
+    assert "<title>Site a&amp;b, Sun 2026-03-01, page 2</title>" in text
+    assert '<b aria-current="page">2</b>' in text
+    assert '<a href="x.2026-03-01.html">1</a>' in text
