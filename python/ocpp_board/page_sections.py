@@ -63,7 +63,11 @@ def problems_of(stations: Iterable[Part]) -> Iterator[Problem]:
         unread.add(part.name, 0, not part.whole or part.total is None)
         voided.add(part.name, 0, part.total.voided if part.total else 0)
         for one in part.sessions:
-            falls.add(part.name, fell := one.flow.down + one.flow.export_down > 0, fell)
+            is_told = any(
+                each.kind in (Kind.REGISTER_FALLS, Kind.REPEATED) for each in one.findings
+            )
+            fell = not is_told and one.flow.down + one.flow.export_down > 0
+            falls.add(part.name, fell, fell)
             for each in one.findings:
                 found[each.kind].add(part.name, 1, each.times)
             if not one.complete:
@@ -155,7 +159,9 @@ def day_of_part(
     """A day's picture of a site or a station, with the table beside it."""
     whose = f"{kind} {escape(name)}"
     said, shown = (said_of(whose, text, periods, has_export) for text in (str(day), kept(str(day))))
-    yield f'<section aria-labelledby="{label}">\n<h3 id="{label}">{whose}</h3>\n<div class="day">\n<figure>\n'
+    columns = len(flow_heads(has_export)) + (1 if calendar.is_utc else 2)
+    yield f'<section aria-labelledby="{label}">\n<h3 id="{label}">{whose}</h3>\n'
+    yield f'<div class="day" style="--columns:{columns}">\n<figure>\n'
     yield from picture(f"Bars. {said}. The table has the numbers.", day, periods, scale, calendar)
     yield f"<figcaption>{shown}</figcaption>\n</figure>\n"
     yield f'<div class="scroll" role="group" tabindex="0" aria-label="Periods of {whose} on {day}">\n'
@@ -199,7 +205,7 @@ def session_heads(calendar: Calendar, has_times: bool, has_export: bool) -> list
     heads += [f"Start and end ({zone})", "Duration"] if has_times else []
     heads += ["EVSE", net]
     heads += ["Register, first and last, kWh"] if has_times else []
-    heads += [*others, "Numbers and events"]
+    heads += [*others, "Numbers"]
     return heads + ([" Stopped"] if has_times else [])
 
 

@@ -26,7 +26,8 @@ dl.figures div.lead dd{font-size:1.6rem}
 .mark>th::before,dl.figures div.mark dd::before,.flag::before{content:"\\25B2\\A0";color:var(--bad);font-size:.8em}
 .warning{border-left:4px solid var(--bad);background:var(--tint);padding:.5rem .7rem;font-weight:600}
 .refused{background:var(--bad);color:var(--paper);padding:.5rem .7rem;font-weight:600}.refused a{color:var(--paper)}
-.day{display:grid;grid-template-columns:minmax(0,1fr) max-content;gap:0 1.5rem;margin:0 0 1.25rem}
+.day{display:grid;grid-template-columns:minmax(0,1fr) calc(var(--columns)*5.25rem);gap:0 1.5rem;
+margin:0 0 1.25rem}
 figure{margin:0;padding-left:3.5rem}
 figcaption,caption{text-align:left;font-size:.85rem;padding:.2rem 0;color:var(--soft)}
 figcaption{margin-left:-3.5rem}
@@ -41,7 +42,8 @@ th,td{border-bottom:1px solid var(--line);padding:.2rem .5rem;text-align:right;v
 th:first-child,td:first-child,.left{text-align:left}
 thead th{position:sticky;top:0;background:var(--paper);border-bottom:2px solid var(--ink);vertical-align:bottom;
 white-space:normal}
-table.plain{width:auto}tbody th{font-weight:400;white-space:normal;overflow-wrap:anywhere;min-width:6rem}
+table.plain{width:auto}.day table.plain{width:100%}
+tbody th{font-weight:400;white-space:normal;overflow-wrap:anywhere;min-width:8rem}
 td.left{white-space:normal;min-width:8rem;overflow-wrap:anywhere}
 tr.sum>*{border-top:2px solid var(--ink);font-weight:600}
 .bar{width:10rem;min-width:10rem}td.bar{padding:.35rem .5rem}
@@ -52,7 +54,8 @@ details{margin:2.5rem 0 1rem;border-top:1px solid var(--line);padding-top:.5rem}
 @media(max-width:70rem){.day{grid-template-columns:minmax(0,1fr)}}
 @media(max-width:48rem){
 body{padding:.75rem}figure{padding-left:2.75rem}figcaption{margin-left:-2.75rem}.wide{display:none}
-th,td{padding:.2rem .25rem}table.plain{width:100%;font-size:.8rem}.days tbody th{white-space:nowrap}
+th,td{padding:.2rem .25rem}table.plain{width:100%;font-size:.8rem}
+.plain tbody th{min-width:7rem}.days tbody th{white-space:nowrap}
 .cards thead{position:absolute;width:1px;height:1px;overflow:hidden;clip-path:inset(50%)}
 .cards,.cards caption,.cards tbody{display:block}
 .cards tr{display:grid;grid-template-columns:1fr 1fr;gap:0 1rem;border-top:2px solid var(--line);padding:.35rem 0}

@@ -39,5 +39,5 @@ class Told:
             session.state = state_of(session, events)
 
     def until(self) -> datetime | None:
-        """Up to when messages came, or up to when events are where no receipt is told."""
-        return self.transactions.until()
+        """The latest receipt of a message, or time of an event whose receipt is not told."""
+        return self.transactions.latest

@@ -142,14 +142,12 @@ class Transactions:
 
     def __init__(self) -> None:
         self.known: dict[tuple[str, str, str], Transaction] = {}
-        # The latest receipt, and the latest time of an event.
-        self.receipt: datetime | None = None
-        self.time: float | None = None
+        # The latest receipt of a message, or time of an event whose receipt is not told.
+        self.latest: datetime | None = None
 
     def take(self, answered: Answered) -> None:
         """Takes a message with its answer. One that is no event, or was refused for another cause, tells nothing."""
-        if answered.received:
-            self.receipt = max(self.receipt or answered.received, answered.received)
+        self.came(answered.received)
         head = HEAD.match(answered.message)
         is_conflict = answered.answer.endswith(CONFLICT)
         if head and head[1] != "TransactionEvent" or not (answered.is_accepted or is_conflict):
@@ -170,13 +168,14 @@ class Transactions:
         # Of an event that was sent again the first receipt is kept.
         if had is None or had[:4] != event[:4]:
             whole.events[event.number] = event
-        if event.at is not None:
-            self.time = max(self.time or event.at, event.at)
+        if answered.received is None:
+            self.came(moment(event.at))
 
     def of(self, site: str, station: str, tx: str) -> Transaction:
         """A transaction by its id as a board has it; an empty one where no message told of it."""
         return self.known.get((site, station, tx)) or Transaction()
 
-    def until(self) -> datetime | None:
-        """The latest receipt of a message, or the latest time of an event where no receipt is told."""
-        return self.receipt or moment(self.time)
+    def came(self, at: datetime | None) -> None:
+        """Something came then, where that is known."""
+        if at is not None:
+            self.latest = max(self.latest or at, at)

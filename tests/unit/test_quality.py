@@ -193,12 +193,15 @@ def test_refused_messages_and_other_actions_tell_nothing() -> None:
     found.take(one._replace(message=beat))
     found.take(one._replace(message='[2,"\\u0031","Heartbeat",{}]'))
     found.take(one._replace(message="no message"))
-    assert not found.known and found.until() == FIRST + timedelta(seconds=2)
+    assert not found.known and found.latest == FIRST + timedelta(seconds=2)
 
 
-def test_data_without_receipts_is_up_to_its_latest_event() -> None:
-    found = Transactions()
+def test_data_is_up_to_the_latest_receipt_or_to_the_latest_event_without_one() -> None:
+    found = Told()
     assert found.until() is None
+    for sent in KINDS["clock-far"]("T1", FIRST):
+        found.take(answered(sent))
+    assert found.until() == FIRST + timedelta(minutes=30, seconds=2, days=-1)
     for sent in sound("T1", FIRST):
         found.take(answered(sent)._replace(received=None))
     assert found.until() == FIRST + timedelta(minutes=30)
