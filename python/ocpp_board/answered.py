@@ -29,12 +29,13 @@ class Answered(NamedTuple):
 class AnsweredRun(Run):
     """A replay whose script's times of receipt are remembered."""
 
-    received: datetime | None = None
+    def __init__(self, program: str, script: IO[bytes]) -> None:
+        self.received: datetime | None = None
+        self.times: dict[int, datetime] = {}
+        super().__init__(program, script)
 
     def sendable(self, number: int, line: bytes) -> bytes:
         """The line as it is sent; where it is a message, the time of receipt that stands before it is remembered."""
-        if not hasattr(self, "times"):
-            self.times: dict[int, datetime] = {}
         if line.startswith(b"msg ") and self.received:
             self.times[number] = self.received
         told = RECEIVED.match(line)

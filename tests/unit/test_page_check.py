@@ -1,10 +1,26 @@
 """The check of pages: it finds what is missing, and nothing on a page that has all."""
 
+from datetime import datetime, timedelta, timezone
 from pathlib import Path
 
 import pytest
 
-from ocpp_board.pages import FOOT, Column, Heads, across, explained, head, table
+from ocpp_board.boards import Part, Period, Session, Total
+from ocpp_board.calendars import Calendar
+from ocpp_board.energies import Flow
+from ocpp_board.page_sections import bar_cell, day_of_part, sections_of
+from ocpp_board.pages import (
+    FOOT,
+    Column,
+    Heads,
+    across,
+    explained,
+    head,
+    refused_banner,
+    table,
+)
+from ocpp_board.pictures import Scale
+from ocpp_board.quality import Finding, Kind
 from tests.page_check import Check, color_of, contrast
 from tests.page_tree import Tree, fits, rules_of
 
@@ -29,6 +45,25 @@ def test_a_page_that_has_all_is_fine(tmp_path: Path) -> None:
     heads: Heads = ["Site", " Zone", Column("Bar", "wide", True)]
     more = across("Sites", "".join(table("All", heads, [("", ["n", "UTC", ""])], cards=True)))
     assert found(page(BODY + more), tmp_path) == []
+
+
+def test_all_that_pages_are_made_of_is_fine(tmp_path: Path) -> None:
+    """Marks, warnings, strips, findings and each kind of bar, whose contrasts are looked at in light and in dark."""
+    day = datetime(2026, 3, 1, tzinfo=timezone.utc)
+    flows = [Flow(5, 2, 3, 1), Flow()]
+    periods = [Period(day + n * timedelta(minutes=15), 900, flow) for n, flow in enumerate(flows)]
+    total = Total(3, 1, 1, 0, 2, flows[0])
+    session = Session("t", 1, 3, 0, 4, False, 2, flows[0], [(1, 2)], "numbers missing")
+    session.findings = [Finding(Kind.CLOCK_BACK, 2)]
+    part = Part("A", False, 900, False, total, [], periods, [session])
+    scale, calendar = Scale(flows), Calendar()
+    parts = [*sections_of(part, "s", calendar, True), refused_banner(1, "page.html")]
+    parts += day_of_part("Station", "A", day.date(), periods, scale, calendar, True, "d")
+    parts += table("All", ["Site", Column("Bar", "bar")], [("", ["A", bar_cell(-1, 2)])])
+    text = head("Title", "") + "<h2>A</h2>" + "".join(parts) + FOOT
+    for kind in ("up", "down", "out", "back", "still", "zero", "gap", "less", "flag", "refused"):
+        assert f'class="{kind}"' in text
+    assert found(text, tmp_path) == []
 
 
 @pytest.mark.parametrize(

@@ -176,6 +176,15 @@ def test_a_period_without_energy_is_a_line_at_zero() -> None:
     assert list(dict(bar(60, 30, some[2], found))) == ["back", "out"]
 
 
+def test_what_was_exported_goes_on_where_what_was_imported_ends() -> None:
+    (one,) = periods(Flow(10, 5, 4, 1))
+    found = scale(one.flow)
+    kinds = dict(bar(0, 30, one, found))
+    for kind, begins, ends in (("back", 10, 11), ("out", -5, -9)):
+        height = found.at(ends) - found.at(begins)
+        assert kinds[kind].startswith(f"M3 {short(found.at(begins))}v{short(height)}h")
+
+
 def test_hours_of_a_day() -> None:
     found = hours(Calendar(), DAY.date())
     assert [text for _, text in found] == [f"{hour:02}:00" for hour in range(0, 25, 3)]
@@ -273,6 +282,9 @@ def test_problems_are_counted_the_gravest_first() -> None:
 def test_stations_with_troubles_come_first() -> None:
     lost = Part("lost", False, 900)
     sound = station("sound", [session([], complete=True)])
+    doubtful = session([], complete=True)
+    doubtful.findings = [Finding(Kind.CLOCK_BACK, 1)]
+    assert Index.station_row(station("doubtful", [doubtful]), "doubtful", False)[0] == MARK
     parts = [
         sound,
         station("voided", [session([], complete=True)], 1),
@@ -351,6 +363,28 @@ def test_links_lead_to_the_pages_on_which_stations_stand(
     front = (tmp_path / "x.html").read_text()
     assert len(re.findall(r'<a href="x(?:\.\d+)?\.html#b1-\d+">CS-\d+</a>', front)) == 12
     assert "Site a&amp;b, continued" in (tmp_path / "x.2.html").read_text()
+
+
+def test_stations_with_troubles_and_the_last_day_come_first_on_a_page(tmp_path: Path) -> None:
+    one = board(2)
+    one.stations[1].sessions = [session([(1, 2)])]
+    one.stations[1].total = Total(3, 0, 1, 0, 2, Flow())
+    one.site.periods.append(Period(DAY + timedelta(days=1), 900, Flow(1)))
+    days, index = DayPages(layout(tmp_path)), Index(layout(tmp_path))
+    for add, close in ((days.add, days.close), (index.add, index.close)):
+        add(one)
+        close()
+    text = (tmp_path / "x.html").read_text()
+    assert re.findall(r"<h3[^>]*>Station (CS-\d)<", text) == ["CS-1", "CS-0"]
+    assert re.findall(r">(CS-\d)</a></th>", text) == ["CS-1", "CS-0"]
+    assert re.findall(r'">([\d-]+)</a> (\w+)</th>', text) == [
+        ("2026-03-02", "Mon"),
+        ("2026-03-01", "Sun"),
+    ]
+    first, second = ((tmp_path / f"x.2026-03-0{day}.html").read_text() for day in (1, 2))
+    assert '<a href="x.2026-03-02.html">\N{RIGHTWARDS ARROW} 2026-03-02 Mon</a>' in first
+    assert '<a href="x.2026-03-01.html">\N{LEFTWARDS ARROW} 2026-03-01 Sun</a>' in second
+    assert "\N{LEFTWARDS ARROW}" not in first and "\N{RIGHTWARDS ARROW}" not in second
 
 
 def test_several_boards_have_a_table_of_sites(tmp_path: Path) -> None:

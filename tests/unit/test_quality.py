@@ -169,6 +169,17 @@ def test_times_and_registers_of_a_session() -> None:
     assert exported == Registers(1_000_000, 1_750_000)
 
 
+def test_registers_are_the_first_and_the_last_and_not_the_lowest() -> None:
+    times = times_of(taken(KINDS["register-falls"]("T1", FIRST)).live(0, 3, []))
+    assert times.imported == Registers(1_000_000, 750_000)
+
+
+def test_two_events_may_have_the_same_time() -> None:
+    messages = sound("T1", FIRST)
+    messages[1].payload["timestamp"] = messages[0].payload["timestamp"]
+    assert findings(messages) == []
+
+
 def test_events_that_the_board_does_not_count_tell_no_times() -> None:
     transaction = taken(sound("T1", FIRST))
     times = times_of(transaction.live(1, 2, []))
