@@ -8,6 +8,10 @@ from typing import NamedTuple
 from ocpp_board.transactions import Event, Reading, Transaction, moment
 
 
+# Measurands that are named of a session.
+MOST_SEEN = 6
+
+
 class Kind(Enum):
     """The kinds of findings, the gravest for a bill first: their names, and what they say."""
 
@@ -87,7 +91,8 @@ def energies(events: Sequence[Event], is_complete: bool) -> Iterator[Finding]:
     others = [event for event in events if event.others]
     seen = sorted({one for event in others for one in event.others})
     if others:
-        yield from finding(Kind.OTHER_ENERGY, others, ", ".join(seen))
+        more = f" and {len(seen) - MOST_SEEN:,} more" if len(seen) > MOST_SEEN else ""
+        yield from finding(Kind.OTHER_ENERGY, others, ", ".join(seen[:MOST_SEEN]) + more)
     elif is_complete:
         yield from finding(Kind.NO_READING, events[-1:])
 

@@ -21,6 +21,8 @@ ENERGY = "Energy.Active."
 CONFLICT = '"ConflictingEvent",{}]'
 # Seconds by which an event may lie after its receipt, and before it where it was not queued offline.
 FAR_AHEAD, FAR_BEHIND = 300, 3_600
+# Characters of a text of a message that are kept.
+LONGEST_TEXT = 80
 ANNOTATION = re.compile(r"\[.*\]$")
 # Digits for a reading's value, however its exponent is written.
 EXACT = Context(prec=250)
@@ -107,6 +109,15 @@ def measurand_of(sampled: dict[str, Any]) -> str:
     return " ".join(parts)
 
 
+def plain(value: Any) -> str:
+    """A text of a message that the program does not look at: its beginning, without control characters. It is empty
+    where it is no text."""
+    if not isinstance(value, str):
+        return ""
+    text = "".join(one if one.isprintable() else "?" for one in value[:LONGEST_TEXT])
+    return text if len(value) <= LONGEST_TEXT else text + ".."
+
+
 def event_of(payload: dict[str, Any], received: datetime | None) -> Event:
     """The event of a payload that passed the program's checks."""
     readings, others = list[Reading](), set[str]()
@@ -116,7 +127,7 @@ def event_of(payload: dict[str, Any], received: datetime | None) -> Event:
             mwh = mwh_of(sampled["value"], sampled.get("unitOfMeasure") or {})
             readings.append(Reading(at, mwh, measurand == EXPORT))
         elif measurand.startswith(ENERGY):
-            others.add(measurand)
+            others.add(plain(measurand))
     at = seconds_of(payload["timestamp"])
     return Event(
         int(payload["seqNo"]),
@@ -125,7 +136,7 @@ def event_of(payload: dict[str, Any], received: datetime | None) -> Event:
         tuple(readings),
         tuple(sorted(others)),
         is_far(at, received, payload.get("offline") is True),
-        payload["transactionInfo"].get("stoppedReason") or "",
+        plain(payload["transactionInfo"].get("stoppedReason")),
     )
 
 

@@ -96,6 +96,32 @@ def test_the_measurands_that_do_not_count_are_told() -> None:
     assert (found.kind, found.first) == (Kind.OTHER_ENERGY, FIRST)
 
 
+def test_of_many_measurands_the_first_are_told() -> None:
+    messages = KINDS["phase-energy"]("T1", FIRST)[:1]
+    values = messages[0].payload["meterValue"][0]["sampledValue"]
+    values += [values[0] | {"phase": f"L{number}"} for number in range(2, 10)]
+    (found,) = findings(messages, False)
+    assert found.detail.endswith("phase L6 and 3 more")
+
+
+@pytest.mark.parametrize(
+    ("reason", "told"),
+    [
+        (None, ""),
+        ("", ""),
+        ({"a": 1}, ""),
+        (True, ""),
+        ("Local\n\x00\ud800\x1b[0m", "Local????[0m"),
+        ("x" * 81, "x" * 80 + ".."),
+    ],
+)
+def test_a_reason_may_be_anything(reason: Any, told: str) -> None:
+    messages = sound("T1", FIRST)
+    messages[3].payload["transactionInfo"]["stoppedReason"] = reason
+    times = times_of(taken(messages).live(0, 3, []))
+    assert times.reason == told and told.isprintable()
+
+
 def test_energy_that_does_not_count_beside_a_counted_reading_is_no_finding() -> None:
     messages = KINDS["interval-energy"]("T1", FIRST)
     messages[0].payload["meterValue"].append(reading(FIRST, 1))
