@@ -41,8 +41,8 @@ from ocpp_board.pictures import Scale
 
 # Bytes of a page's body from which on it goes on on the next.
 PAGE_BYTES = 250_000
-# Stations that a row of the table of problems links to.
-MOST_LINKS = 5
+# Stations that a row of the table of problems links to, days in one table, and boards in that of the sites.
+MOST_LINKS, TABLE_DAYS, MOST_BOARDS = 5, 366, 100
 SITES = ["Site", "Board", "Net, kWh", "Complete", "Sessions", "Missing numbers", "Days"]
 
 
@@ -423,16 +423,18 @@ class Index:
             list(sections_of(part, label, self.layout.calendar, board.has_export))
             for part, label in zip(stations, labels)
         ]
-        firsts = [sum(map(len, parts[:number])) for number in range(len(parts))]
+        days, *more = self.days(board.site, board.has_export)
+        firsts = [len(more) + sum(map(len, parts[:number])) for number in range(len(parts))]
 
         def front(paths: list[str]) -> str:
             links = {
                 part.name: link(paths[first], escape(part.name), label)
                 for part, first, label in zip(stations, firsts, labels)
             }
-            return self.front(board, stations, links)
+            return self.front(board, stations, links, days)
 
-        path = self.series.put_board(board, front, [text for some in parts for text in some])
+        sections = [*more, *(text for some in parts for text in some)]
+        path = self.series.put_board(board, front, sections)
         self.rows.append(
             self.site_row(board, link(path, escape(board.site.name), f"b{board.number}"))
         )
@@ -455,7 +457,7 @@ class Index:
             span,
         ]
 
-    def front(self, board: Board, stations: list[Part], links: dict[str, str]) -> str:
+    def front(self, board: Board, stations: list[Part], links: dict[str, str], days: str) -> str:
         """A board's figures, problems, days and stations."""
         warning = (
             ""
@@ -470,7 +472,7 @@ class Index:
             f'<section aria-labelledby="b{board.number}">\n{warning}'
             + "".join(figures(board.site.total, has_export))
             + self.problems(list(problems_of(board.stations)), links)
-            + self.days(board.site, has_export)
+            + days
             + self.stations(stations, links, has_export)
             + "</section>\n"
         )
@@ -511,14 +513,14 @@ class Index:
         text = "".join(table("What is to be looked at, the gravest first", heads, rows, cards=True))
         return f"<h3>Problems</h3>\n{text}"
 
-    def days(self, site: Part, has_export: bool) -> str:
-        """The table of a site's days, the last one first."""
+    def days(self, site: Part, has_export: bool) -> list[str]:
+        """The tables of a site's days, the last one first, each of a year at most."""
         found = [
             (day, len(periods), sum_of(p.flow for p in periods))
             for day, periods in self.layout.by_day(site.periods)
         ]
         most = max((abs(flow.net) for _, _, flow in found), default=0)
-        rows = (
+        rows: list[Row] = [
             (
                 "",
                 [
@@ -529,13 +531,16 @@ class Index:
                 ],
             )
             for day, count, flow in reversed(found)
-        )
+        ]
         net, *others = flow_heads(has_export)
         exports = (Column(head, "wide") for head in (*others[2:], "Periods"))
         heads: Heads = ["Day", net, *others[:2], *exports, NET_BAR]
         caption = "Energy by day, kWh, the last day first. The bars have one scale."
-        text = "".join(table(caption, heads, rows, kind="plain days"))
-        return "<h3>Days</h3>\n" + across("Days", text)
+        starts = range(0, max(1, len(rows)), TABLE_DAYS)
+        tables = (
+            table(caption, heads, rows[at : at + TABLE_DAYS], kind="plain days") for at in starts
+        )
+        return ["<h3>Days</h3>\n" + across("Days", "".join(text)) for text in tables]
 
     @classmethod
     def station_heads(cls, has_export: bool) -> Heads:
@@ -577,7 +582,12 @@ class Index:
             self.series.put(1, "<p>The text has no board.</p>\n")
         sites = ""
         if self.names.boards > 1:
-            sites = sites_table("Boards of the text, in their order", self.rows)
+            some = self.rows[-MOST_BOARDS:]
+            left = f", the last {len(some):,} of {len(self.rows):,}"
+            caption = (
+                f"Boards of the text, in their order{left if len(some) < len(self.rows) else ''}"
+            )
+            sites = sites_table(caption, some)
         for number, page in enumerate(self.series.pages, 1):
             title = f"{self.names.title()}{page_of(number)}"
             above, below = (self.series.links(number, where) for where in ("above", "below"))

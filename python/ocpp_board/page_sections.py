@@ -13,8 +13,8 @@ from ocpp_board.pictures import Scale, picture, strip
 from ocpp_board.quality import Finding, Kind
 from ocpp_board.session_times import Registers, duration
 
-# Sessions in one table of a page, and ranges of missing numbers in a cell.
-TABLE_SESSIONS = 60
+# Rows of a table of sessions, characters of its cells, and ranges of missing numbers in a cell.
+TABLE_ROWS, TABLE_CHARACTERS = 60, 30_000
 MOST_RANGES = 20
 UNKNOWN = "\N{EN DASH}"
 # What the states of sessions that are not complete mean, by how they begin.
@@ -224,6 +224,20 @@ def session_row(t: Session, calendar: Calendar, has_export: bool) -> Row:
     return "" if t.complete and not t.findings else MARK, cells
 
 
+def runs_of(rows: Iterable[Row]) -> Iterator[list[Row]]:
+    """Rows, so many at a time that a table of them is no great part of a page."""
+    some, size = list[Row](), 0
+    for row in rows:
+        more = sum(map(len, row[1]))
+        if some and (len(some) == TABLE_ROWS or size + more > TABLE_CHARACTERS):
+            yield some
+            some, size = [], 0
+        some.append(row)
+        size += more
+    if some:
+        yield some
+
+
 def session_order(t: Session) -> tuple[int, float]:
     """Sessions with troubles come first, and then the latest."""
     rank = 0 if t.missing else 1 if not t.complete else 2 if t.findings else 3
@@ -267,14 +281,14 @@ def sections_of(part: Part, label: str, calendar: Calendar, has_export: bool) ->
     caption = "Those with troubles first, and then " + (
         "the latest" if has_times else "in the order of their ids"
     )
-    for first in range(0, len(sessions), TABLE_SESSIONS):
-        some = sessions[first : first + TABLE_SESSIONS]
+    first = 0
+    for some in runs_of(session_row(t, calendar, has_export) for t in sessions):
         title = f"Sessions of {name}"
         if len(some) < len(sessions):
             title += f", {first + 1:,} to {first + len(some):,} of {len(sessions):,}"
-        rows = (session_row(t, calendar, has_export) for t in some)
         yield (
             f'<section aria-labelledby="{label}-{first}">\n<h3 class="sub" id="{label}-{first}">{title}</h3>\n'
-            + across(title, "".join(table(caption, heads, rows, cards=True)))
+            + across(title, "".join(table(caption, heads, some, cards=True)))
             + "</section>\n"
         )
+        first += len(some)

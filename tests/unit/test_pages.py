@@ -387,6 +387,42 @@ def test_stations_with_troubles_and_the_last_day_come_first_on_a_page(tmp_path: 
     assert "\N{LEFTWARDS ARROW}" not in first and "\N{RIGHTWARDS ARROW}" not in second
 
 
+def test_no_page_is_larger_than_300_kb(tmp_path: Path) -> None:
+    """Sixty stations whose sessions have many gaps, on four years of days with periods of five minutes on the last."""
+    gaps = [(1 + 2 * number, 1 + 2 * number) for number in range(199)]
+    one = board(60)
+    one.site.periods = [
+        Period(DAY + timedelta(days=day), 300, Flow(5, 4, 3, 2)) for day in range(-1_460, 0)
+    ]
+    long = [
+        Period(DAY + timedelta(minutes=5 * n), 300, Flow(10**12, 1, 1, 1)) for n in range(288)
+    ]
+    one.site.total = Total(9, 9, 9, 9, 9, Flow(10**15, 1, 1, 1))
+    for part in one.stations:
+        part.periods = long
+        part.sessions = [session(gaps) for _ in range(20)]
+    index, days = Index(layout(tmp_path)), DayPages(layout(tmp_path))
+    for add, close in ((index.add, index.close), (days.add, days.close)):
+        add(one)
+        close()
+    sizes = {path.name: path.stat().st_size for path in tmp_path.iterdir()}
+    assert max(sizes.values()) < 300_000 and len(sizes) > 1_460
+    text = "".join(path.read_text() for path in sorted(tmp_path.glob("x*.html")))
+    assert text.count("<h3>Days</h3>") == 4 and text.count('<th role="rowheader"') >= 1_200
+    assert len(re.findall(r'<h3 id="b1-\d+">Station CS-', text)) == 120
+
+
+def test_of_many_boards_the_last_are_in_the_table(tmp_path: Path) -> None:
+    index = Index(layout(tmp_path))
+    for number in range(1, 103):
+        site = Part("south", True, 900, total=Total(0, 0, 0, 0, 0, Flow()))
+        index.add(Board(number, site, number, []))
+    index.close()
+    text = (tmp_path / "x.html").read_text()
+    assert "in their order, the last 100 of 102</caption>" in text
+    assert '#b2">' not in text and '<a href="x.html#b3">south</a>' in text
+
+
 def test_several_boards_have_a_table_of_sites(tmp_path: Path) -> None:
     index = Index(layout(tmp_path))
     index.add(board(1))
