@@ -72,7 +72,7 @@ def findings_of(
     if not events:
         return []
     found = [*energies(events, is_complete), *again(transaction, events)]
-    found += [*registers(events), *clocks(events), *numbers(events)]
+    found += [*registers(events), *clocks(events), *numbers(transaction, events)]
     order = list(Kind)
     return sorted(found, key=lambda one: order.index(one.kind))
 
@@ -144,7 +144,7 @@ def clocks(events: Sequence[Event]) -> Iterator[Finding]:
     yield from finding(Kind.CLOCK_FAR, [event for event in events if event.is_far])
 
 
-def numbers(events: Sequence[Event]) -> Iterator[Finding]:
-    """Whether the first number is above 0."""
-    if first := events[0].number:
+def numbers(transaction: Transaction, events: Sequence[Event]) -> Iterator[Finding]:
+    """Whether the first number that came is above 0, be it voided or not."""
+    if first := min(transaction.events):
         yield from finding(Kind.NUMBERS_ABOVE_0, events[:1], f"the first is {first}")

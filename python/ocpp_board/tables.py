@@ -69,6 +69,7 @@ from ocpp_board.energies import Flow, kwh_of
 from ocpp_board.escapes import csv_cell
 from ocpp_board.limits import MOMENT
 from ocpp_board.progress import Progress
+from ocpp_board.quality import Kind
 from ocpp_board.session_times import Registers
 from ocpp_board.sources import is_gzip, opened
 from ocpp_board.statuses import Mistaken, Status, ended
@@ -225,6 +226,8 @@ class Findings:
     def __init__(self, file: TextIO, raw: bool, calendar: Calendar) -> None:
         self.raw, self.calendar = raw, calendar
         self.number, self.site = 0, ""
+        # By the kinds' names, how many sessions have a finding.
+        self.counts = dict.fromkeys((kind.label for kind in Kind), 0)
         self.rows = csv.writer(file, lineterminator="\n")
         first = moment_heads(calendar, "first")
         front = ["board", "site", "station", "transaction", "finding", "times"]
@@ -243,12 +246,18 @@ class Findings:
         for t in part.sessions:
             front = [self.number, self.site, self.cell(part.name), self.cell(t.tx)]
             for one in t.findings:
+                self.counts[one.kind.label] += 1
                 first = moments(self.calendar, one.first)
                 told = [one.kind.label, one.times, *first, self.cell(one.detail), one.kind.meaning]
                 self.rows.writerow([*front, *told])
 
     def end(self) -> None:
         """The board ends."""
+
+    def tell(self) -> None:
+        """How many sessions have a finding of each kind."""
+        found = [f"{label}: {count:,}" for label, count in self.counts.items() if count]
+        log.info("sessions with findings: %s", ", ".join(found) or "none")
 
 
 def add_days(parser: argparse.ArgumentParser) -> None:
@@ -410,14 +419,16 @@ def write_files(
     with contextlib.ExitStack() as files:
         csv_files = file("periods"), file("transactions")
         sinks: list[Sink] = [Tables(*csv_files, words.raw, layout.calendar, told is not None)]
-        if told:
-            sinks.append(Findings(file("findings"), words.raw, layout.calendar))
+        findings = Findings(file("findings"), words.raw, layout.calendar) if told else None
+        sinks += [findings] if findings else []
         sinks.append(Boards([days.add, index.add]))
         reader = Reader(sinks, Progress(text), told)
         reader.read(text)
         days.close()
         index.close()
     reader.tell()
+    if findings:
+        findings.tell()
     return Status.TOLD if reader.counts["unread"] else Status.DONE
 
 
@@ -433,6 +444,8 @@ def run(words: argparse.Namespace) -> int:
             return write_files(words, text, layout)
         told = Told()
         with opened(words.script) as script:
+            if is_gzip(script):
+                raise Mistaken("the script is compressed by gzip: gunzip -c SCRIPT > ..")
             hand_on(answered(words.program, script), [told.take])
         until = words.until or told.until()
         return write_files(words, text, replace(layout, until=until), told)

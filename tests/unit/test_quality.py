@@ -200,6 +200,11 @@ def test_registers_are_the_first_and_the_last_and_not_the_lowest() -> None:
     assert times.imported == Registers(1_000_000, 750_000)
 
 
+def test_a_first_event_that_is_voided_came_all_the_same() -> None:
+    transaction = taken(sound("T1", FIRST))
+    assert findings_of(transaction, transaction.live(1, 3, []), False) == []
+
+
 def test_two_events_may_have_the_same_time() -> None:
     messages = sound("T1", FIRST)
     messages[1].payload["timestamp"] = messages[0].payload["timestamp"]
