@@ -162,7 +162,8 @@ class Tables:
         if not self.has_times:
             return []
         ends = [head for name in ("start", "end") for head in moment_heads(self.calendar, name)]
-        return [*ends, "duration (s)", *self.REGISTERS, "stopped reason", "findings"]
+        times = [*ends, "duration (s)", *self.REGISTERS, "stopped reason"]
+        return ["net (kWh)", *times, "findings"]
 
     def cell(self, text: str) -> str:
         """A text from outside: a name, an id or a reason."""
@@ -206,7 +207,9 @@ class Tables:
             return []
         times = t.times
         seconds: int | str = "" if times.seconds is None else times.seconds
+        net = t.flow.net
         return [
+            f"{'-' if net < 0 else ''}{kwh_of(abs(net))}",
             *moments(self.calendar, times.start),
             *moments(self.calendar, times.end),
             seconds,

@@ -45,9 +45,9 @@ def told(monkeypatch: pytest.MonkeyPatch) -> list[str]:
     return seen
 
 
-def run(folder: Path, *words: str) -> dict[str, str]:
+def run(folder: Path, *words: str, text: str = BOARD) -> dict[str, str]:
     """The files by how they end."""
-    (folder / "text").write_text(BOARD)
+    (folder / "text").write_text(text)
     (folder / "script").write_text("a script\n")
     argv = [*words, "--out", str(folder / "x"), str(folder / "text")]
     assert tables.main(argv, "tables") == Status.DONE
@@ -68,6 +68,7 @@ def test_with_a_script_sessions_have_times_and_findings(tmp_path: Path, told: li
     assert row["start (UTC)"] == "2026-03-01T08:00:00Z"
     assert row["end (UTC)"] == "2026-03-01T08:30:00Z"
     assert (row["duration (s)"], row["findings"]) == ("1800", "clock goes back")
+    assert row["net (kWh)"] == "0.75"
     assert (row["first register (kWh)"], row["last register (kWh)"]) == ("1", "1.75")
     assert (row["first export register (kWh)"], row["last export register (kWh)"]) == ("", "")
     (found,) = csv.DictReader(files["findings.csv"].splitlines())
@@ -84,6 +85,14 @@ def test_texts_of_messages_are_escaped(tmp_path: Path) -> None:
     files = run(tmp_path, "--script", str(tmp_path / "script"), "--raw")
     (row,) = csv.DictReader(files["transactions.csv"].splitlines())
     assert row["stopped reason"] == REASON
+
+
+def test_what_was_fed_back_is_a_negative_net_energy(tmp_path: Path) -> None:
+    fed = FLOW.replace("export_up=0", "export_up=1000001")
+    board = BOARD.replace(f"missing=0 {FLOW}\nend", f"missing=0 {fed}\nend")
+    words = ("--script", str(tmp_path / "script"))
+    (row,) = csv.DictReader(run(tmp_path, *words, text=board)["transactions.csv"].splitlines())
+    assert row["net (kWh)"] == "-0.250001"
 
 
 def test_a_zone_stands_beside_utc(tmp_path: Path) -> None:
