@@ -67,7 +67,6 @@ from ocpp_board.boards import Part, Reader, Session, Sink
 from ocpp_board.calendars import Calendar
 from ocpp_board.energies import Flow, kwh_of
 from ocpp_board.escapes import csv_cell
-from ocpp_board.limits import MOMENT
 from ocpp_board.progress import Progress
 from ocpp_board.quality import Kind
 from ocpp_board.session_times import Registers
@@ -89,11 +88,8 @@ of a board could not be read or a board has no end; 2 when the words are wrong o
 
 
 def moments(calendar: Calendar, at: datetime | None) -> list[str]:
-    """The cells of a moment: in UTC, and in the zone where that is another."""
-    if at is None:
-        return [""] if calendar.is_utc else ["", ""]
-    local = [] if calendar.is_utc else [calendar.local(at).isoformat(timespec="seconds")]
-    return [at.strftime(MOMENT), *local]
+    """The cells of a moment, which are empty where it is not known."""
+    return calendar.cells(at) if at else [""] * (1 if calendar.is_utc else 2)
 
 
 def moment_heads(calendar: Calendar, name: str) -> list[str]:
@@ -106,9 +102,28 @@ def registers(read: Registers | None) -> list[str]:
     return [kwh_of(mwh) for mwh in read] if read else ["", ""]
 
 
-class Tables:
-    """The CSV files of periods and of transactions, as a sink of boards. `raw`: names and ids stand there as they are.
-    `has_times`: messages were told, which have the times of sessions."""
+class CsvSink:
+    """A sink of boards that writes CSV files. `raw`: texts from outside stand there as they are."""
+
+    def __init__(self, raw: bool, calendar: Calendar) -> None:
+        self.raw, self.calendar = raw, calendar
+        self.number, self.site = 0, ""
+
+    def cell(self, text: str) -> str:
+        """A text from outside: a name, an id or a reason."""
+        return text if self.raw else csv_cell(text)
+
+    def board(self, number: int, site: str, line: int) -> None:
+        """A board begins."""
+        self.number, self.site = number, self.cell(site)
+
+    def end(self) -> None:
+        """The board ends."""
+
+
+class Tables(CsvSink):
+    """The CSV files of periods and of transactions. `has_times`: messages were told, which have the times of
+    sessions."""
 
     FLOWS = [
         "up (mWh)",
@@ -149,8 +164,8 @@ class Tables:
         calendar: Calendar,
         has_times: bool = False,
     ) -> None:
-        self.raw, self.calendar, self.has_times = raw, calendar, has_times
-        self.number, self.site = 0, ""
+        super().__init__(raw, calendar)
+        self.has_times = has_times
         self.periods = csv.writer(periods, lineterminator="\n")
         self.transactions = csv.writer(transactions, lineterminator="\n")
         starts = moment_heads(calendar, "period start")
@@ -165,20 +180,12 @@ class Tables:
         times = [*ends, "duration (s)", *self.REGISTERS, "stopped reason"]
         return ["net (kWh)", *times, "findings"]
 
-    def cell(self, text: str) -> str:
-        """A text from outside: a name, an id or a reason."""
-        return text if self.raw else csv_cell(text)
-
     @staticmethod
     def flows(flow: Flow) -> list[int | str]:
         """The cells of an energy."""
         up, down, export_up, export_down = flow
         imported: list[int | str] = [up, down, kwh_of(up), kwh_of(down)]
         return imported + [export_up, export_down, kwh_of(export_up), kwh_of(export_down)]
-
-    def board(self, number: int, site: str, line: int) -> None:
-        """A board begins."""
-        self.number, self.site = number, self.cell(site)
 
     def part(self, part: Part) -> None:
         """The rows of a site or a station."""
@@ -219,30 +226,18 @@ class Tables:
             "; ".join(one.kind.label for one in t.findings),
         ]
 
-    def end(self) -> None:
-        """The board ends."""
 
-
-class Findings:
-    """The CSV file of findings, as a sink of boards."""
+class Findings(CsvSink):
+    """The CSV file of findings."""
 
     def __init__(self, file: TextIO, raw: bool, calendar: Calendar) -> None:
-        self.raw, self.calendar = raw, calendar
-        self.number, self.site = 0, ""
+        super().__init__(raw, calendar)
         # By the kinds' names, how many sessions have a finding.
         self.counts = dict.fromkeys((kind.label for kind in Kind), 0)
         self.rows = csv.writer(file, lineterminator="\n")
         first = moment_heads(calendar, "first")
         front = ["board", "site", "station", "transaction", "finding", "times"]
         self.rows.writerow([*front, *first, "detail", "meaning"])
-
-    def cell(self, text: str) -> str:
-        """A text from outside."""
-        return text if self.raw else csv_cell(text)
-
-    def board(self, number: int, site: str, line: int) -> None:
-        """A board begins."""
-        self.number, self.site = number, self.cell(site)
 
     def part(self, part: Part) -> None:
         """The rows of a station."""
@@ -253,9 +248,6 @@ class Findings:
                 first = moments(self.calendar, one.first)
                 told = [one.kind.label, one.times, *first, self.cell(one.detail), one.kind.meaning]
                 self.rows.writerow([*front, *told])
-
-    def end(self) -> None:
-        """The board ends."""
 
     def tell(self) -> None:
         """How many sessions have a finding of each kind."""
@@ -373,24 +365,29 @@ def arguments(argv: Sequence[str], prog: str) -> argparse.Namespace:
     return words
 
 
+def fetched(url: str) -> IO[bytes]:
+    """What a server answers. Raises OSError or ValueError."""
+    text = tempfile.TemporaryFile()
+    with urlopen(url, timeout=LONGEST_ANSWER) as answer:
+        shutil.copyfileobj(answer, text)
+    return text
+
+
 def follow(words: argparse.Namespace, url: str, seconds: int) -> NoReturn:
     """Writes the files anew every so many seconds. Where the server is not there, those of the board before, which tell
     that it is too old when it is."""
     words.oldest = LATE * seconds if words.oldest is None else words.oldest
+    text: IO[bytes] | None = None
     got: datetime | None = None
-    with tempfile.TemporaryFile() as text:
-        while True:
-            try:
-                with urlopen(url, timeout=LONGEST_ANSWER) as answer:
-                    text.truncate(text.seek(0))
-                    shutil.copyfileobj(answer, text)
-                got = datetime.now(timezone.utc)
-            except (OSError, ValueError) as fault:
-                log.error("%s: %s", url, fault)
-            if got:
-                text.seek(0)
-                write_files(words, text, replace(layout_of(words), refresh=seconds, until=got))
-            time.sleep(seconds)
+    while True:
+        try:
+            text, got = fetched(url), datetime.now(timezone.utc)
+        except (OSError, ValueError) as fault:
+            log.error("%s: %s", url, fault)
+        if text:
+            text.seek(0)
+            write_files(words, text, replace(layout_of(words), refresh=seconds, until=got))
+        time.sleep(seconds)
 
 
 def layout_of(words: argparse.Namespace) -> Layout:
@@ -448,7 +445,7 @@ def run(words: argparse.Namespace) -> int:
         told = Told()
         with opened(words.script) as script:
             if is_gzip(script):
-                raise Mistaken("the script is compressed by gzip: gunzip -c SCRIPT > ..")
+                raise Mistaken("the script is compressed by gzip: gunzip it first")
             hand_on(answered(words.program, script), [told.take])
         until = words.until or told.until()
         return write_files(words, text, replace(layout, until=until), told)
