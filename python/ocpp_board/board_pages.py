@@ -10,6 +10,7 @@ from ocpp_board.boards import Part, Period
 from ocpp_board.calendars import Calendar
 from ocpp_board.energies import kwh, share, sum_of
 from ocpp_board.page_sections import (
+    DayPart,
     Problem,
     bar_cell,
     day_of_part,
@@ -275,71 +276,38 @@ class DayPages:
         self.until: datetime | None = None
 
     def add(self, board: Board) -> None:
-        """Adds a board to the page of each of its days."""
+        """Adds a board to the page of each of its days. All its stations have one scale."""
         self.names.add(board)
         self.until = last_end([board.site], self.until)
-        site_scale = Scale(p.flow for p in self.calendar.shown(board.site.periods))
-        scale = Scale(p.flow for part in board.stations for p in self.calendar.shown(part.periods))
-        stations: dict[date, list[tuple[Part, list[Period]]]] = {}
-        for part in board.stations:
+        shown = self.calendar.shown
+        site = Scale(p.flow for p in shown(board.site.periods))
+        station = Scale(p.flow for part in board.stations for p in shown(part.periods))
+        days: dict[date, list[DayPart]] = {}
+        for number, part in enumerate((board.site, *board.stations)):
+            scale = site if part.is_site else station
             for day, periods in self.layout.by_day(part.periods):
-                stations.setdefault(day, []).append((part, periods))
-        of_site = dict(self.layout.by_day(board.site.periods))
-        for day in sorted(of_site.keys() | stations.keys()):
-            self.add_day(board, day, of_site.get(day, []), stations.get(day, []), site_scale, scale)
+                one = DayPart(part, f"b{board.number}-{number}", day, periods, scale)
+                days.setdefault(day, []).append(one)
+        for day in sorted(days):
+            self.add_day(board, day, days[day])
 
-    def add_day(
-        self,
-        board: Board,
-        day: date,
-        periods: list[Period],
-        stations: list[tuple[Part, list[Period]]],
-        site_scale: Scale,
-        scale: Scale,
-    ) -> None:
+    def add_day(self, board: Board, day: date, parts: list[DayPart]) -> None:
         """Adds a day of a board: its site, the table of its stations, and each of these."""
         series = self.days.get(day)
         if series is None:
             series = self.days[day] = Series(lambda number: self.layout.day(day, number))
-        has_export, name = board.has_export, board.site.name
-        labels = [f"b{board.number}-{number}" for number in range(1, len(stations) + 1)]
-        sections = [
-            "".join(
-                day_of_part(
-                    "Station", part.name, day, some, scale, self.calendar, has_export, label
-                )
-            )
-            for (part, some), label in zip(stations, labels)
-        ]
-        site = "".join(
-            day_of_part(
-                "Site",
-                name,
-                day,
-                periods,
-                site_scale,
-                self.calendar,
-                has_export,
-                f"b{board.number}-0",
-            )
-        )
+        has_export = board.has_export
+        stations = [one for one in parts if not one.part.is_site]
+
+        def text_of(one: DayPart) -> str:
+            return "".join(day_of_part(one, self.calendar, has_export))
+
+        site = "".join(text_of(one) for one in parts if one.part.is_site)
 
         def front(paths: list[str]) -> str:
-            links = [
-                link(path, escape(part.name), label)
-                for path, (part, _), label in zip(paths, stations, labels)
-            ]
-            rows = station_rows(links, [some for _, some in stations], has_export)
-            net, *others = (*flow_heads(has_export), "Periods")
-            heads: Heads = ["Station", net, *(Column(head, "wide") for head in others), NET_BAR]
-            said = (
-                '<p class="soft">The pictures of all stations have one scale on all days, to '
-                f"{scale.said()}; that of the site goes to {site_scale.said()}.</p>\n"
-            )
-            text = "".join(table(f"Stations on {kept(str(day))}, kWh", heads, rows))
-            return site + said + across(f"Stations on {day}", text)
+            return site + stations_of_day(day, stations, paths, has_export)
 
-        series.put_board(board, front, sections)
+        series.put_board(board, front, [text_of(one) for one in stations])
 
     def close(self) -> None:
         """Gives each page its title, and links to the days beside it."""
@@ -383,12 +351,28 @@ def last_end(parts: Iterable[Part], before: datetime | None) -> datetime | None:
     return max(filter(None, [*ends, before]), default=None)
 
 
-def station_rows(links: list[str], periods: list[list[Period]], has_export: bool) -> Iterator[Row]:
-    """A row for each station of a day."""
-    flows = [sum_of(p.flow for p in some) for some in periods]
+def stations_of_day(day: date, stations: list[DayPart], paths: list[str], has_export: bool) -> str:
+    """The table of a day's stations, which stand on the pages of these paths."""
+    flows = [sum_of(p.flow for p in one.periods) for one in stations]
     most = max((abs(flow.net) for flow in flows), default=0)
-    for name, some, flow in zip(links, periods, flows):
-        yield "", [name, *cells_of(flow, has_export), str(len(some)), bar_cell(flow.net, most)]
+    rows = (
+        (
+            "",
+            [
+                link(path, escape(one.part.name), one.label),
+                *cells_of(flow, has_export),
+                f"{len(one.periods):,}",
+                bar_cell(flow.net, most),
+            ],
+        )
+        for one, path, flow in zip(stations, paths, flows)
+    )
+    net, *others = (*flow_heads(has_export), "Periods")
+    heads: Heads = ["Station", net, *(Column(head, "wide") for head in others), NET_BAR]
+    text = "".join(table(f"Stations on {kept(str(day))}, kWh", heads, rows))
+    scale = " and ".join({one.scale.said() for one in stations})
+    told = f"The pictures of all stations have one scale on all days, to {scale}; the site's has its own."
+    return f'<p class="soft">{told}</p>\n{across(f"Stations on {day}", text)}' if stations else ""
 
 
 class Index:

@@ -4,6 +4,7 @@ from collections.abc import Iterable, Iterator
 from dataclasses import dataclass, field
 from datetime import date, datetime
 from html import escape
+from typing import NamedTuple
 
 from ocpp_board.boards import Part, Period, Session, Total
 from ocpp_board.calendars import Calendar
@@ -146,23 +147,26 @@ def said_of(whose: str, day: str, periods: list[Period], has_export: bool) -> st
     )
 
 
-def day_of_part(
-    kind: str,
-    name: str,
-    day: date,
-    periods: list[Period],
-    scale: Scale,
-    calendar: Calendar,
-    has_export: bool,
-    label: str,
-) -> Iterator[str]:
+class DayPart(NamedTuple):
+    """A day of a site or a station, its label on a page, and the scale of its picture."""
+
+    part: Part
+    label: str
+    day: date
+    periods: list[Period]
+    scale: Scale
+
+
+def day_of_part(one: DayPart, calendar: Calendar, has_export: bool) -> Iterator[str]:
     """A day's picture of a site or a station, with the table beside it."""
-    whose = f"{kind} {escape(name)}"
+    day, periods = one.day, one.periods
+    whose = f"{'Site' if one.part.is_site else 'Station'} {escape(one.part.name)}"
     said, shown = (said_of(whose, text, periods, has_export) for text in (str(day), kept(str(day))))
     columns = len(flow_heads(has_export)) + (1 if calendar.is_utc else 2)
-    yield f'<section aria-labelledby="{label}">\n<h3 id="{label}">{whose}</h3>\n'
+    yield f'<section aria-labelledby="{one.label}">\n<h3 id="{one.label}">{whose}</h3>\n'
     yield f'<div class="day" style="--columns:{columns}">\n<figure>\n'
-    yield from picture(f"Bars. {said}. The table has the numbers.", day, periods, scale, calendar)
+    label = f"Bars. {said}. The table has the numbers."
+    yield from picture(label, day, periods, one.scale, calendar)
     yield f"<figcaption>{shown}</figcaption>\n</figure>\n"
     yield f'<div class="scroll" role="group" tabindex="0" aria-label="Periods of {whose} on {day}">\n'
     yield from periods_of(day, periods, calendar, has_export)

@@ -8,7 +8,7 @@ import pytest
 from ocpp_board.boards import Part, Period, Session, Total
 from ocpp_board.calendars import Calendar
 from ocpp_board.energies import Flow
-from ocpp_board.page_sections import bar_cell, day_of_part, sections_of
+from ocpp_board.page_sections import DayPart, bar_cell, day_of_part, sections_of
 from ocpp_board.pages import (
     FOOT,
     Column,
@@ -58,7 +58,7 @@ def test_all_that_pages_are_made_of_is_fine(tmp_path: Path) -> None:
     part = Part("A", False, 900, False, total, [], periods, [session])
     scale, calendar = Scale(flows), Calendar()
     parts = [*sections_of(part, "s", calendar, True), refused_banner(1, "page.html")]
-    parts += day_of_part("Station", "A", day.date(), periods, scale, calendar, True, "d")
+    parts += day_of_part(DayPart(part, "d", day.date(), periods, scale), calendar, True)
     parts += table("All", ["Site", Column("Bar", "bar")], [("", ["A", bar_cell(-1, 2)])])
     text = head("Title", "") + "<h2>A</h2>" + "".join(parts) + FOOT
     for kind in ("up", "down", "out", "back", "still", "zero", "gap", "less", "flag", "refused"):
