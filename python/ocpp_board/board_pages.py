@@ -124,17 +124,22 @@ class Layout:
     def stamp(self, until: datetime | None) -> str:
         """Up to when the data is and when the page was written, and a warning where that is too long before. `until`:
         the end of the last period, which tells it where nothing else does."""
-        said = [f"Page written {moment(self.calendar.local(self.written))}."]
+        said = [f"Page written {self.moment(self.written)}."]
         if self.until:
-            said.insert(0, f"Data up to {moment(self.calendar.local(self.until))}.")
+            said.insert(0, f"Data up to {self.moment(self.until)}.")
         elif until:
-            said.insert(0, f"Periods up to {moment(self.calendar.local(until))}.")
+            said.insert(0, f"Periods up to {self.moment(until)}.")
         if self.refresh:
-            said.append(f"A browser draws it anew every {self.refresh:,} seconds.")
+            pause = "second" if self.refresh == 1 else f"{self.refresh:,} seconds"
+            said.append(f"A browser draws it anew every {pause}.")
         return (
             f'<p class="stamp">{" ".join(said)} {self.calendar.said()}.</p>\n{self.old()}'
             f"{refused_banner(self.refused, f'{self.out}.refused.csv'.rpartition('/')[2])}"
         )
+
+    def moment(self, at: datetime) -> str:
+        """A moment in the zone, to the second where pages are drawn anew."""
+        return moment(self.calendar.local(at), self.refresh is not None)
 
     def old(self) -> str:
         """A warning where the data is older than it should be."""
@@ -144,7 +149,7 @@ class Layout:
             return ""
         return (
             '<p class="warning" role="status">The data is older than it should be: nothing came since '
-            f"{moment(self.calendar.local(self.until))}.</p>\n"
+            f"{self.moment(self.until)}.</p>\n"
         )
 
     def by_day(self, periods: list[Period]) -> Iterator[tuple[date, list[Period]]]:

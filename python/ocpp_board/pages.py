@@ -121,9 +121,10 @@ def kept(time: str) -> str:
     return f"<time>{time}</time>"
 
 
-def moment(at: datetime) -> str:
-    """A moment for a reader, to the minute, in the zone that it has."""
-    return f'<time datetime="{at.isoformat(timespec="seconds")}">{at:%Y-%m-%d %H:%M}</time>'
+def moment(at: datetime, to_second: bool = False) -> str:
+    """A moment for a reader, to the minute or to the second, in the zone that it has."""
+    text = f"{at:%Y-%m-%d %H:%M:%S}" if to_second else f"{at:%Y-%m-%d %H:%M}"
+    return f'<time datetime="{at.isoformat(timespec="seconds")}">{text}</time>'
 
 
 def refused_banner(count: int, href: str) -> str:

@@ -322,6 +322,8 @@ def test_pages_tell_what_was_refused_and_how_often_they_are_drawn(tmp_path: Path
     told = layout(tmp_path, refused=3, refresh=10).stamp(DAY)
     assert 'href="x.refused.csv">3 messages were refused' in told
     assert "every 10 seconds" in told and "Periods up to" in told
+    assert ">2026-03-03 00:00:00</time>" in told
+    assert "every second." in layout(tmp_path, refresh=1).stamp(None)
 
 
 def test_texts_that_do_not_fit_go_on_the_next_page(
