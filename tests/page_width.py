@@ -15,11 +15,12 @@ import sys
 import tempfile
 from collections.abc import Iterator
 from pathlib import Path
+from typing import NamedTuple
 
 PHONE = 390
 NOT_TRIED = 77
 # Seconds that a page may take.
-PATIENCE = 60
+PATIENCE = 120
 # A window is never as narrow as a phone: the page stands in a frame, and what is found is told to the window.
 WINDOW = """<!DOCTYPE html><title></title><script>onmessage = one => {{ document.title = one.data }}</script>
 <iframe src="{page}" style="border:0" width="{width}" height="2000"></iframe>"""
@@ -44,28 +45,39 @@ parent.postMessage(told, '*');
 </script></body>"""
 
 
-def drawn(chromium: str, page: Path, folder: Path) -> tuple[int, int, list[str], list[str]]:
-    """How wide the screen and the page are, what is wider than the screen, and what breaks. Raises OSError."""
+class Drawn(NamedTuple):
+    """How wide the screen and the page are, what is wider than the screen, and what breaks."""
+
+    screen: int
+    width: int
+    wide: list[str]
+    broken: list[str]
+
+
+def drawn(chromium: str, page: Path, folder: Path) -> Drawn | None:
+    """How a page is drawn; None where that is not told. Raises OSError or SubprocessError."""
     (folder / "page.html").write_text(page.read_text("utf-8").replace("</body>", FINDER), "utf-8")
     window = folder / "window.html"
     window.write_text(WINDOW.format(page="page.html", width=PHONE), "utf-8")
     words = ["--headless", "--no-sandbox", "--disable-gpu", f"--user-data-dir={folder}/profile"]
     words += ["--hide-scrollbars", "--virtual-time-budget=5000", "--dump-dom", window.as_uri()]
     made = subprocess.run([chromium, *words], capture_output=True, timeout=PATIENCE, check=True)
-    title = re.search(r"<title>(.*?)</title>", made.stdout.decode("utf-8"))
-    screen, width, wide, broken = json.loads(html.unescape(title[1] if title else "null"))
-    return screen, width, wide, broken
+    title = re.search(r"<title>(.+?)</title>", made.stdout.decode("utf-8"))
+    return Drawn(*json.loads(html.unescape(title[1]))) if title else None
 
 
 def found(chromium: str, page: Path, folder: Path) -> Iterator[str]:
     """What is wrong with a page on a phone."""
-    screen, width, wide, broken = drawn(chromium, page, folder)
-    if screen != PHONE:
-        yield f"drawn {screen} pixels wide, and not {PHONE}"
-    if width > screen:
-        yield f"{width} pixels wide on a screen of {screen}"
-    yield from (f"wider than the screen: {ascii(one)}" for one in wide)
-    yield from (f"broken: {one}" for one in broken)
+    told = drawn(chromium, page, folder)
+    if told is None:
+        yield "it is not told how it is drawn"
+        return
+    if told.screen != PHONE:
+        yield f"drawn {told.screen} pixels wide, and not {PHONE}"
+    if told.width > told.screen:
+        yield f"{told.width} pixels wide on a screen of {told.screen}"
+    yield from (f"wider than the screen: {ascii(one)}" for one in told.wide)
+    yield from (f"broken: {one}" for one in told.broken)
 
 
 def main() -> int:
