@@ -98,7 +98,8 @@ def energies(events: Sequence[Event], is_complete: bool) -> Iterator[Finding]:
 
 
 def again(transaction: Transaction, events: Sequence[Event]) -> Iterator[Finding]:
-    """The events that came under the id after its first end: later numbers, or later times that were refused."""
+    """The events that came under the id after its first end: later numbers, or later times that were refused. The end
+    itself with another time is none."""
     end = next((event for event in events if event.kind == "Ended"), None)
     if end is None:
         return
@@ -106,7 +107,10 @@ def again(transaction: Transaction, events: Sequence[Event]) -> Iterator[Finding
     after += [
         one
         for one in transaction.conflicts
-        if one.at is not None and end.at is not None and one.at > end.at
+        if (one.number, one.kind) != (end.number, end.kind)
+        and one.at is not None
+        and end.at is not None
+        and one.at > end.at
     ]
     yield from finding(Kind.ID_AGAIN, after)
 

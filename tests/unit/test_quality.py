@@ -82,6 +82,13 @@ def test_an_id_is_used_again_by_later_numbers_and_by_later_conflicts() -> None:
     assert kinds("id-again", {4: CONFLICT, 5: DECIMAL}) == [(Kind.ID_AGAIN, 1)]
 
 
+def test_an_end_that_comes_again_with_another_time_uses_no_id_again() -> None:
+    messages = [*sound("T1", FIRST), event("T1", 3, "Ended", FIRST + 9 * HOUR, 1)]
+    assert findings(messages, True, {4: CONFLICT}) == []
+    messages[4] = event("T1", 3, "Updated", FIRST + 9 * HOUR, 1)
+    assert [one.kind for one in findings(messages, True, {4: CONFLICT})] == [Kind.ID_AGAIN]
+
+
 def test_a_conflict_before_the_end_uses_no_id_again() -> None:
     assert kinds("conflict", {2: CONFLICT}) == []
 
