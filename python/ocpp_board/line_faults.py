@@ -34,6 +34,8 @@ NUMBER = re.compile(r"0|[1-9][0-9]*")
 BYTE_ORDER_MARK = b"\xef\xbb\xbf"
 UTF_16 = (b"\xff\xfe", b"\xfe\xff")
 GREATEST = 2**64 - 1
+# What is said of a time whose year no message may have.
+OUT_OF_RANGE = "is not from 2000 to 2099"
 
 Said = tuple[str, str]  # A cause and its remedy.
 
@@ -71,7 +73,7 @@ def time_fault(text: str) -> str | None:
         return "is no time"
     if moment.tzinfo is None:
         return "has no offset from UTC, such as Z"
-    return None if FIRST_MOMENT <= moment < PAST_MOMENTS else "is not from 2000 to 2099"
+    return None if FIRST_MOMENT <= moment < PAST_MOMENTS else OUT_OF_RANGE
 
 
 def words_fault(words: list[str]) -> Said | None:
