@@ -113,6 +113,11 @@ gives 0 forms/citrineos.script "$board" log-to-script --form citrineos "${citrin
 gives 0 forms/periods.script "$board" log-to-script --form citrineos --site north --site-map forms/sites.txt --period 1800 \
     --period north=300 forms/citrineos.jsonl
 gives 0 forms/citrineos.script "$board" log-to-script --form citrineos-csv "${citrineos[@]}" forms/citrineos.csv
+gives 0 forms/arrows.script "$board" log-to-script --form arrows --site north forms/arrows.log
+gives 0 forms/regex.script "$board" log-to-script --received --incoming up \
+    --regex '^(?P<time>[0-9.]+)\|(?P<site>[^/]+)/(?P<station>[^|]+)\|(?P<direction>up|down)\|(?P<message>.*)' forms/regex.log
+gives 0 forms/nested.script "$board" log-to-script --time-field meta.at --site-field charger.site --station-field charger.id \
+    --protocol-field charger.version --message-field frame.raw --json-message forms/nested.jsonl
 
 # Logs that were compressed, one of which is cut short, and words and lines that can't be taken.
 gzip -c "$days/day.jsonl" > "$made/day.jsonl.gz"
@@ -120,10 +125,11 @@ gives 0 "$days/day.jsonl.script" "${day_of_log[@]}" "$made/day.jsonl.gz"
 head -c -100 "$made/day.jsonl.gz" > "$made/cut.gz"
 tells 1 "the gzip is cut short" "${day_of_log[@]}" "$made/cut.gz"
 gives 1 forms/mistakes.script "$board" log-to-script forms/mistakes.jsonl
-tells 1 "a time has no offset from UTC (--utc takes such times as UTC)" \
+tells 0 "a time has no offset from UTC (--utc takes such times as UTC); its message goes without a time" \
     "$board" log-to-script --form ocpp --site north forms/ocpp.log
 tells 1 "neither this line nor one before it is of the form ocpp" "$board" log-to-script --form ocpp --site n "$days/day.jsonl"
-tells 1 "not a topic cs/in/ocpp2.0.1/STATION" "$board" log-to-script --form maeve --site north forms/ocpp.log
+tells 1 "neither this line nor one before it is of the form maeve" \
+    "$board" log-to-script --form maeve --site north forms/ocpp.log
 tells 2 "line 1 names no column message, origin, stationId, timestamp" \
     "$board" log-to-script --form citrineos-csv --site north forms/ocpp.log
 tells 2 "has no sites: --site, --site-map or --stations names them" "$board" log-to-script --form ocpp forms/ocpp.log
