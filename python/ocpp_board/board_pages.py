@@ -20,6 +20,7 @@ from ocpp_board.pages import (
     head,
     link,
     ranges,
+    refused_banner,
     table,
 )
 from ocpp_board.pictures import Scale, picture, strip
@@ -182,6 +183,8 @@ class Layout:
     calendar: Calendar
     # Seconds after which a browser draws the pages anew, where these follow a server.
     refresh: int | None = None
+    # Messages that were refused, which lie in a file of their own.
+    refused: int = 0
 
     def index(self) -> str:
         """The path of the page of all boards."""
@@ -299,7 +302,10 @@ class Index:
                 f"<p>Days from {calendar.first} to {calendar.last} are shown. The figures and the sessions are "
                 "those of all days.</p>\n"
             )
-        self.index = Page(layout.index(), layout.head("Site boards", zone + BARS + SESSIONS))
+        banner = refused_banner(layout.refused, f"{layout.out}.refused.csv")
+        self.index = Page(
+            layout.index(), layout.head("Site boards", banner + zone + BARS + SESSIONS)
+        )
         self.further: list[Page] = []
         self.begin(0, "", 0)
 

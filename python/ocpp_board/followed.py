@@ -98,10 +98,19 @@ class Followed:
         file.seek(at)
         # What was read of a line that has not ended, and how many bytes that are.
         self.rest, self.pending = b"", 0
+        # How far the lines go that were given.
+        self.place = Place(at, front_of(file, at))
 
-    def place(self) -> Place:
-        """How far the lines go that were given."""
-        return Place(self.at, front_of(self.file, self.at))
+    def is_current(self) -> bool:
+        """Whether the file that is read is the one of the name."""
+        return not is_replaced(self.path, self.file, self.at)
+
+    def first_line(self) -> bytes:
+        """The first line of the file that is read."""
+        self.file.seek(0)
+        line = self.file.readline(LONGEST_LOG_LINE + 1)
+        self.file.seek(self.at + self.pending)
+        return line
 
     def lines(self) -> list[bytes | None]:
         """The lines that came, so many at most; None for one that is too long. There are none where nothing came."""
@@ -115,7 +124,10 @@ class Followed:
             self.rest = (self.rest + part)[: LONGEST_LOG_LINE + 1]
             if part.endswith(b"\n"):
                 lines.append(self.line())
-        return lines or self.at_end()
+        if not lines:
+            return self.at_end()
+        self.place = Place(self.at, front_of(self.file, self.at))
+        return lines
 
     def line(self) -> bytes | None:
         """The line that was read; None where it is too long."""
@@ -126,7 +138,7 @@ class Followed:
 
     def at_end(self) -> list[bytes | None]:
         """What is left of a file that is at its end for good; the next one is read then."""
-        if not is_replaced(self.path, self.file, self.at):
+        if self.is_current():
             self.gone = 0
             return []
         self.gone += 1
@@ -134,7 +146,7 @@ class Followed:
         if self.gone < GONE and time.time() < now.st_mtime + STILL:
             return []
         lines = [self.line()] if self.pending else []
-        place, old = self.place(), self.file
+        place, old = self.place, self.file
         if now.st_size < self.at and os.path.samestat(os.stat(self.path), now):
             # It was copied and cut short: the copy may have more than was read of it.
             self.begin(place)

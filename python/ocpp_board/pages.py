@@ -93,6 +93,14 @@ def link(path: str, text: str, label: str = "") -> str:
     return f'<a href="{escape(os.path.basename(path))}{"#" + label if label else ""}">{text}</a>'
 
 
+def refused_banner(count: int, href: str) -> str:
+    """How many messages were refused, with a link to what they were; nothing where none was."""
+    if not count:
+        return ""
+    messages = "1 message was" if count == 1 else f"{count:,} messages were"
+    return f'<p class="warning">{messages} refused: {link(href, "which, and why")}.</p>\n'
+
+
 # The columns of a table that has energies in kWh, and a row's cells of them.
 FLOW_HEADS = ["Up", "Down", "Export up", "Export down", "Net"]
 

@@ -28,6 +28,11 @@ to its last. Where no number is missing and a session is still not complete, one
 whether its end is yet to come or a start or an end is misplaced; an earlier board of the same station in
 the text may tell, and then the table does.
 
+With --script the script that the text is of is replayed once more, and what was refused of it stands in
+NAME.refused.csv: when, whose, the cause by name and what to do. The page links to it.
+
+    ocpp-board tables --script SCRIPT --program ocpp_board --out NAME TEXT
+
 --follow reads a board from a server that lives, `ocpp_board serve --live --board-port 9080 ..`, again and again,
 and writes the files anew each time; the pages draw themselves anew as often:
 
@@ -45,20 +50,23 @@ import re
 import shutil
 import tempfile
 import time
-from collections.abc import Sequence
+from collections.abc import Callable, Iterable, Sequence
 from datetime import date, timezone
+from pathlib import Path
 from typing import IO, NoReturn, TextIO
 from urllib.request import urlopen
 
+from ocpp_board.answered import Answered, answered
 from ocpp_board.board_pages import DayPages, Index, Layout
 from ocpp_board.boards import Part, Reader, Session
 from ocpp_board.calendars import Calendar
 from ocpp_board.energies import Flow, kwh_of
 from ocpp_board.escapes import csv_cell
 from ocpp_board.progress import Progress
+from ocpp_board.refusals import Refusals
 from ocpp_board.sources import is_gzip, opened
 from ocpp_board.statuses import Mistaken, Status, ended
-from ocpp_board.words import parsed, parser_of, zone
+from ocpp_board.words import add_program, parsed, parser_of, zone
 
 log = logging.getLogger(__name__)
 
@@ -194,6 +202,19 @@ def arguments(argv: Sequence[str], prog: str) -> argparse.Namespace:
     parser.add_argument(
         "--raw", action="store_true", help="write names and ids into the CSV files as they are"
     )
+    parser.add_argument(
+        "--script",
+        metavar="SCRIPT",
+        help="the script that the text is of, whose messages are looked at",
+    )
+    add_program(parser)
+    parser.add_argument(
+        "--refused",
+        metavar="COUNT",
+        type=int,
+        default=0,
+        help="how many messages were refused, which NAME.refused.csv has",
+    )
     words = parsed(parser, argv)
     if words.day:
         words.first = words.last = words.day
@@ -219,9 +240,27 @@ def follow(words: argparse.Namespace, url: str, seconds: int) -> NoReturn:
         time.sleep(seconds)
 
 
+def hand_on(messages: Iterable[Answered], takers: Sequence[Callable[[Answered], None]]) -> None:
+    """Hands each message with its answer to all takers."""
+    for message in messages:
+        for take in takers:
+            take(message)
+
+
+def look_at_script(words: argparse.Namespace) -> None:
+    """Replays the script, and writes what was refused of it."""
+    refusals = Refusals()
+    with opened(words.script) as script:
+        hand_on(answered(words.program, script), [refusals.take])
+    refusals.end()
+    refusals.write(Path(f"{words.out}.refused.csv"))
+    words.refused = refusals.count()
+
+
 def write_files(words: argparse.Namespace, text: IO[bytes], refresh: int | None = None) -> int:
     """Writes the files of a text, and gives the exit status. `refresh`: seconds until browsers draw pages anew."""
-    layout = Layout(words.out, Calendar(words.tz, words.first, words.last), refresh)
+    calendar = Calendar(words.tz, words.first, words.last)
+    layout = Layout(words.out, calendar, refresh, words.refused)
     with (
         open(f"{words.out}.periods.csv", "w", encoding="utf-8", newline="") as periods,
         open(f"{words.out}.transactions.csv", "w", encoding="utf-8", newline="") as transactions,
@@ -233,7 +272,8 @@ def write_files(words: argparse.Namespace, text: IO[bytes], refresh: int | None 
         days.close()
         index.close(reader.counts["boards"] > 0)
     reader.tell()
-    return Status.TOLD if reader.counts["unread"] else Status.DONE
+    is_told = reader.counts["unread"] or words.script and words.refused
+    return Status.TOLD if is_told else Status.DONE
 
 
 def run(words: argparse.Namespace) -> int:
@@ -243,6 +283,8 @@ def run(words: argparse.Namespace) -> int:
     with opened(words.text) as text:
         if is_gzip(text):
             raise Mistaken("the text is compressed by gzip: gunzip -c TEXT | ocpp-board tables")
+        if words.script:
+            look_at_script(words)
         return write_files(words, text)
 
 
