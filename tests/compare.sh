@@ -163,7 +163,7 @@ done
 if [ -n "$program" ]; then
     replays "$program" replay
     "$one" words.words "$program" ../words/words.txt || differs words.txt
-    for scenes in sessions serving living journalling; do
+    for scenes in sessions serving living journalling following; do
         "$one" "scenes.$scenes" "$program" || differs "$scenes"
     done
     with_program

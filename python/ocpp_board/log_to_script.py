@@ -48,6 +48,7 @@ from ocpp_board.limits import (
 from ocpp_board.line_faults import name_fault
 from ocpp_board.log_reader import LogReader, Taken
 from ocpp_board.messages import Refused
+from ocpp_board.processes import end_without_reader
 from ocpp_board.progress import Progress
 from ocpp_board.refusals import Refusal, comment_of
 from ocpp_board.script_plan import ScriptPlan, add_plan, check_plan
@@ -374,6 +375,8 @@ def arguments(argv: Sequence[str], prog: str) -> argparse.Namespace:
 
 def convert(words: argparse.Namespace) -> int:
     """Writes the script of a log to standard output, and gives the exit status."""
+    if words.stations:
+        end_without_reader(1)
     with open(1, "wb", closefd=False) as out, opened(words.log) as file:
         conversion = Conversion(words, out)
         conversion.run(unpacked(file), Progress(file))
