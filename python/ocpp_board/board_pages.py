@@ -185,6 +185,8 @@ class Layout:
     refresh: int | None = None
     # Messages that were refused, which lie in a file of their own.
     refused: int = 0
+    # Days whose pages stand already, and are not written.
+    kept: frozenset[date] = frozenset()
 
     def index(self) -> str:
         """The path of the page of all boards."""
@@ -230,6 +232,7 @@ class DayPages:
     def __init__(self, layout: Layout) -> None:
         self.layout, self.calendar = layout, layout.calendar
         self.pages: dict[date, Page] = {}
+        self.days: set[date] = set()
         self.site = ""
         self.begun: set[date] = set()
 
@@ -249,7 +252,10 @@ class DayPages:
         """The board ends."""
 
     def put(self, day: date, text: str) -> None:
-        """Adds a text to the page of a day, which begins with it where it is new."""
+        """Adds a text to the page of a day, which begins with it where it is new; not to one that is kept."""
+        self.days.add(day)
+        if day in self.layout.kept:
+            return
         if day not in self.pages:
             length = self.calendar.seconds(day) / 3600
             zone = self.calendar.said() + (
@@ -267,7 +273,7 @@ class DayPages:
 
     def close(self) -> None:
         """Ends each page with links to the days beside it."""
-        days = sorted(self.pages)
+        days = sorted(self.days)
         for before, day, after in zip([None, *days], days, [*days[1:], None]):
             links = [
                 link(self.layout.day(other), text + str(other))
@@ -277,7 +283,8 @@ class DayPages:
                 )
                 if other
             ]
-            self.pages[day].put(f"<nav>{' '.join(links)}</nav>\n{FOOT}")
+            if day in self.pages:
+                self.pages[day].put(f"<nav>{' '.join(links)}</nav>\n{FOOT}")
 
 
 class Index:

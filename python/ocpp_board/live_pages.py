@@ -5,9 +5,12 @@ import logging
 import os
 import shutil
 import tempfile
+from datetime import date, timezone
 from pathlib import Path
 
 from ocpp_board import tables
+from ocpp_board.calendars import Calendar
+from ocpp_board.changed_days import digests
 from ocpp_board.refusals import Refusals
 
 
@@ -18,6 +21,9 @@ class Pages:
         self.words, self.refusals = words, refusals
         # By site: the board that the files show, and how many messages were refused.
         self.shown: dict[str, tuple[bytes, int]] = {}
+        # By site and day, what the day's page shows.
+        self.days: dict[str, dict[date, bytes]] = {}
+        self.calendar = Calendar(words.tz or timezone.utc)
         self.count = 0
         # What a board has is told by its page.
         logging.getLogger("ocpp_board.boards").setLevel(logging.WARNING)
@@ -30,22 +36,35 @@ class Pages:
         folder = Path(tempfile.mkdtemp(prefix=".live_board.", dir=self.words.out))
         try:
             self.refusals.write(folder / f"{site}.refused.csv", site)
-            self.make(folder / site, board, refused)
+            days = digests(board, self.calendar)
+            self.make(folder / site, board, refused, self.unchanged(site, days))
             self.put(folder, f"{site}.html")
         finally:
             shutil.rmtree(folder)
-        self.shown[site] = board, refused
+        self.shown[site], self.days[site] = (board, refused), days
         self.count += 1
 
-    def make(self, name: Path, board: bytes, refused: int) -> None:
-        """Makes the files of a board, whose names begin so."""
+    def unchanged(self, site: str, days: dict[date, bytes]) -> frozenset[date]:
+        """The days of a site whose pages stand as they would be written."""
+        before = self.days.get(site, {})
+        return frozenset(
+            day
+            for day, digest in days.items()
+            if before.get(day) == digest and (self.words.out / f"{site}.{day}.html").exists()
+        )
+
+    def make(self, name: Path, board: bytes, refused: int, kept: frozenset[date]) -> None:
+        """Makes the files of a board, whose names begin so, but for the pages of days that are kept."""
         more = ["--tz", str(self.words.tz)] if self.words.tz else []
         more += ["--log-json"] if self.words.log_json else []
-        words = ["--out", str(name), "--refused", str(refused), *more]
+        words = tables.arguments(
+            ["--out", str(name), "--refused", str(refused), *more], self.words.prog
+        )
+        words.kept = kept
         with tempfile.TemporaryFile() as text:
             text.write(board)
             text.seek(0)
-            tables.write_files(tables.arguments(words, self.words.prog), text)
+            tables.write_files(words, text)
 
     def put(self, folder: Path, last: str) -> None:
         """Moves files to where they belong; the page that links to the others comes last."""

@@ -215,6 +215,7 @@ def arguments(argv: Sequence[str], prog: str) -> argparse.Namespace:
         default=0,
         help="how many messages were refused, which NAME.refused.csv has",
     )
+    parser.set_defaults(kept=frozenset())
     words = parsed(parser, argv)
     if words.day:
         words.first = words.last = words.day
@@ -260,7 +261,7 @@ def look_at_script(words: argparse.Namespace) -> None:
 def write_files(words: argparse.Namespace, text: IO[bytes], refresh: int | None = None) -> int:
     """Writes the files of a text, and gives the exit status. `refresh`: seconds until browsers draw pages anew."""
     calendar = Calendar(words.tz, words.first, words.last)
-    layout = Layout(words.out, calendar, refresh, words.refused)
+    layout = Layout(words.out, calendar, refresh, words.refused, words.kept)
     with (
         open(f"{words.out}.periods.csv", "w", encoding="utf-8", newline="") as periods,
         open(f"{words.out}.transactions.csv", "w", encoding="utf-8", newline="") as transactions,
