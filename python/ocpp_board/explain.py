@@ -29,7 +29,7 @@ from ocpp_board.limits import (
     MOST_SITES,
     MOST_STATIONS,
 )
-from ocpp_board.line_faults import Said, bad_line, words_of
+from ocpp_board.line_faults import NAMES, Said, bad_line, words_of
 from ocpp_board.message_faults import REMEDIES, message_fault
 from ocpp_board.progress import Progress
 from ocpp_board.sources import is_gzip, opened
@@ -159,9 +159,7 @@ class Run:
                 "leave one of them out",
             )
         if name == "UnknownStation":
-            return f"no station {words[1]} is declared", plan.near(
-                "station", words[1], plan.stations
-            )
+            return self.unknown_station(words)
         if name == "UnknownSite" and words[0] == "period":
             return (
                 f"no station of site {words[1]} is declared yet",
@@ -170,6 +168,16 @@ class Run:
         if name == "UnknownSite":
             return f"no site {words[1]} is declared", plan.near("site", words[1], plan.sites)
         return "it was refused", "see docs/formats.md"
+
+    def unknown_station(self, words: list[str]) -> Said:
+        """Why no station of this name is declared."""
+        cause = f"no station {words[1]} is declared"
+        if words[0] == "msg" and words[2] and not words[2].lstrip().startswith(("[", "{")):
+            return (
+                f"{cause}, and no message begins with {shown(words[2].split(' ')[0])}",
+                f"a name has no blank; {NAMES}",
+            )
+        return cause, self.plan.near("station", words[1], self.plan.stations)
 
     def tell(self, line: Line, text: str, cause: str, remedy: str) -> None:
         """Tells a mistake; of a kind the first ones."""
