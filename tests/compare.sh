@@ -82,6 +82,7 @@ with_program() {
     gives 1 explain/mistakes.told "$board" explain --program "$program" explain/mistakes.script
     gives 0 explain/nothing.told "$board" explain --program "$program" forms/ocpp.script
     gives 1 explain/mark.told "$board" explain --program "$program" explain/mark.script
+    gives 0 explain/near.told "$board" explain --program "$program" explain/near.script
     gzip -c "$days/day.script" > "$made/day.script.gz"
     gives 1 explain/gzip.told "$board" explain --program "$program" "$made/day.script.gz"
     tells 2 "No such file or directory" "$board" explain --program "$program" nowhere.script

@@ -11,7 +11,7 @@ from collections.abc import Iterator
 from datetime import datetime
 from typing import IO, NamedTuple
 
-from ocpp_board.limits import LONGEST_LINE
+from ocpp_board.limits import DEFAULT_LIMITS, LONGEST_LINE
 from ocpp_board.line_faults import words_of
 from ocpp_board.statuses import Mistaken
 
@@ -173,16 +173,27 @@ def moment_of(text: bytes) -> datetime | None:
 
 
 class Messages:
-    """Makes of each line that is a message, with its text, what was answered: it knows the stations' sites."""
+    """Makes of each line that is a message, with its text, what was answered: it knows what was declared."""
 
     def __init__(self) -> None:
+        # The sites of stations, and what they may keep: as many as DEFAULT_LIMITS has, in this order.
         self.sites: dict[str, str] = {}
+        self.limits: dict[str, tuple[int, ...]] = {}
+        self.next_limits = tuple(DEFAULT_LIMITS.values())
+
+    def declare(self, line: Line) -> None:
+        """A line that may be a declaration, and was no fault."""
+        word, *words = line.line.decode("utf-8", "replace").split(" ")
+        if word == "limits":
+            self.next_limits = tuple(map(int, words))
+        elif word == "station":
+            site, station = words
+            self.sites[station], self.limits[station] = site, self.next_limits
 
     def take(self, line: Line, text: bytes) -> Answered | None:
         """The message that a line is; None of another line."""
-        if line.line.startswith(b"station ") and not text:
-            _, site, station = words_of(line.line.decode("utf-8", "replace"))
-            self.sites[station] = site
+        if line.is_marked and not text:
+            self.declare(line)
         if not line.line.startswith(b"msg "):
             return None
         _, station, message = (*words_of(line.line.decode("utf-8", "replace")), "", "")[:3]

@@ -20,7 +20,7 @@ import re
 from collections.abc import Iterable, Sequence
 from typing import IO
 
-from ocpp_board.answered import Line, ScriptReplay
+from ocpp_board.answered import Answered, Line, Messages, ScriptReplay
 from ocpp_board.escapes import shown
 from ocpp_board.limits import (
     DEFAULT_READINGS,
@@ -31,6 +31,7 @@ from ocpp_board.limits import (
 )
 from ocpp_board.line_faults import NAMES, Said, bad_line, words_of
 from ocpp_board.message_faults import REMEDIES, message_fault
+from ocpp_board.near_limits import NearLimits
 from ocpp_board.progress import Progress
 from ocpp_board.sources import is_gzip, opened
 from ocpp_board.statuses import Status, ended
@@ -112,6 +113,8 @@ class Run:
 
     def __init__(self, program: str, script: IO[bytes]) -> None:
         self.replay, self.plan = ScriptReplay(program, script), Plan()
+        self.messages = Messages()
+        self.near = NearLimits(self.messages.limits, self.tell_limit)
         self.progress = Progress(script)
         self.told: dict[str, int] = {}
 
@@ -195,10 +198,17 @@ class Run:
                 f"  {kind}: {cause}\n  remedy: {remedy}"
             )
 
+    def tell_limit(self, answered: Answered, said: str, remedy: str) -> None:
+        """Tells that a station comes near to its limits, which is no mistake yet."""
+        self.progress.end()
+        print(f"line {answered.number}: {said}\n  remedy: {remedy}")
+
     def run(self) -> int:
         """Tells all that is wrong, and gives the exit status. Raises OSError."""
         for line, text in self.replay.texts():
             self.progress.tell(line.number, len(line.line) + 1)
+            if message := self.messages.take(line, text):
+                self.near.take(message)
             self.explain(line, text.partition(b"\n")[0].decode("utf-8", "replace"))
         self.progress.end()
         status, told = self.replay.ended()

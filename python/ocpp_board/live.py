@@ -43,9 +43,11 @@ from types import FrameType
 from typing import NoReturn
 
 from ocpp_board import logforms, progress
+from ocpp_board.answered import Answered
 from ocpp_board.ledger import Ended, Ledger
 from ocpp_board.live_pages import Pages
 from ocpp_board.log_feed import LogFeed
+from ocpp_board.near_limits import NearLimits
 from ocpp_board.refusals import Refusals
 from ocpp_board.script_plan import add_plan, check_plan
 from ocpp_board.sources import is_gzip
@@ -101,7 +103,9 @@ class Run:
         """Raises OSError, and Mistaken where a file of the words is wrong or another run keeps its script there."""
         self.words, self.refusals = words, Refusals()
         self.pages = Pages(words, self.refusals)
-        self.ledger = Ledger(words.program, [self.refusals.take], self.refusals.add)
+        takers: list[Callable[[Answered], None]] = [self.refusals.take]
+        self.ledger = Ledger(words.program, takers, self.refusals.add)
+        takers.append(NearLimits(self.ledger.messages.limits, tell_limit).take)
         self.source: ScriptFeed | LogFeed = (
             LogFeed(words, self.ledger) if words.log else ScriptFeed(words.script, self.ledger)
         )
@@ -217,6 +221,11 @@ class Run:
         if self.faults:
             return Status.MISTAKEN
         return Status.TOLD if status or not has_board else Status.DONE
+
+
+def tell_limit(_answered: Answered, said: str, remedy: str) -> None:
+    """Tells that a station comes near to its limits."""
+    log.warning("%s; %s", said, remedy)
 
 
 def seconds(text: str) -> float:

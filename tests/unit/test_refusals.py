@@ -10,6 +10,7 @@ import pytest
 
 from ocpp_board.answered import Answered, Line, Messages, ScriptReplay, answered
 from ocpp_board.message_faults import is_reading, message_fault
+from ocpp_board.near_limits import NearLimits
 from ocpp_board.refusals import (
     HEADS,
     MOST_ROWS,
@@ -259,3 +260,34 @@ def test_no_other_action_is_proposed_for_a_valid_one(action: str, cause: str, re
     said = message_fault(f'[2,"1","{action}",{{}}]', "UnknownAction")
     assert said[0].startswith(f"the action '{action}' {cause}")
     assert said[1].startswith(remedy)
+
+
+def test_a_station_near_its_limits_is_told_once() -> None:
+    told: list[str] = []
+    near = NearLimits({"A": (2, 10, 1_000, 2**63)}, lambda _, said, remedy: told.append(said))
+    event = EVENT.replace("T1", "T{}").replace("{", "{{").replace("}", "}}").replace("{{}}", "{}")
+    for number in range(12):
+        message = event.format(number % 2)
+        near.take(Answered(number, "north", "A", None, message, '[3,"1",{}]'))
+    near.take(Answered(13, "north", "A", None, EVENT, MOMENT))
+    near.take(Answered(14, "north", "B", None, EVENT, '[3,"1",{}]'))
+    assert told == [
+        "station A sent 2 transactions, repeats included, and keeps 2 at most",
+        "station A sent 9 events, repeats included, and keeps 10 at most",
+    ]
+
+
+def test_what_is_declared_has_its_limits() -> None:
+    messages = Messages()
+    for number, (line, text) in enumerate(
+        [
+            (b"station north A", b""),
+            (b"limits 1 2 3 4", b""),
+            (b"limits 9 9 9 9", b"fault PlanLimit\n"),
+            (b"station north B", b""),
+            (b"station north B", b"fault StationTwice\n"),
+        ],
+        1,
+    ):
+        assert messages.take(Line(number, line, True, b""), text) is None
+    assert messages.limits == {"A": (1_024, 16_384, 16_384, 2**63), "B": (1, 2, 3, 4)}
