@@ -98,6 +98,11 @@ with_program() {
     tells 2 "the script is compressed by gzip" "$board" live --program "$program" --out "$made/live" "$made/day.script.gz" < /dev/null
     tells 2 "No such file or directory" "$board" live --program ./nowhere --out "$made/live" forms/ocpp.script
 
+    # What was refused of a script, with a page that links to it; the action Authorize is none of these.
+    gives 1 - "$board" tables --script "$days/day.jsonl.script" --program "$program" --out "$made/refused" "$days/day.jsonl.expected"
+    as_stored tables/refused.csv "$made/refused.refused.csv"
+    holds tables/refused.said
+
     # 50 events of each of two stations: a session of 48 and one of 2, in each of which all but the first rise by 250 Wh.
     gives 0 forms/traffic.text bash -c '"$board" traffic 100 --stations 2 | "$1" replay | grep -v "^.3,"' _ "$program"
 }

@@ -14,7 +14,7 @@ from datetime import datetime, timezone
 from pathlib import Path
 from typing import Any, NamedTuple
 
-from ocpp_board.answered import Answered
+from ocpp_board.answered import Answered, moment_of
 from ocpp_board.escapes import csv_cell, shown
 from ocpp_board.limits import LONGEST_LINE, MOMENT
 from ocpp_board.line_faults import Said, bad_line
@@ -110,7 +110,8 @@ def refusal_of(answered: Answered) -> Refusal | None:
         return None
     cause, said = said_of(answered)
     named = named_in(answered.message)
-    time = utc(answered.received) if answered.received else named.time
+    moment = answered.received or moment_of(named.time.encode())
+    time = utc(moment) if moment else named.time
     return Refusal(
         time,
         answered.station,
