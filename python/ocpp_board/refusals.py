@@ -27,6 +27,8 @@ log = logging.getLogger(__name__)
 MOST_TOLD = 10
 # Rows of a site. Further refusals are one row for each station and cause.
 MOST_ROWS = 65_536
+# Characters of a message's text that are kept.
+LONGEST_TEXT = 64
 # The cause of a line of a log that is no message of a station for the ledger.
 UNTAKEN = "Untaken"
 # A comment of a script that has a refusal of a line of the log.
@@ -72,8 +74,12 @@ class Named(NamedTuple):
 
 
 def text_of(value: Any) -> str:
-    """A text or a number of JSON; empty where it is neither."""
-    return str(value) if isinstance(value, str) else ""
+    """A text or a number of JSON as far as a table has room for it; empty where it is neither."""
+    if not isinstance(value, str):
+        return ""
+    # Half a surrogate pair can't be written.
+    text = value.encode("utf-8", "replace").decode("utf-8")
+    return text if len(text) <= LONGEST_TEXT else text[:LONGEST_TEXT] + ".."
 
 
 def named_in(message: str) -> Named:
@@ -218,7 +224,7 @@ class Refusals:
 def sentence(refusal: Refusal) -> str:
     """A refusal in words."""
     whose = " ".join(filter(None, (refusal.station, refusal.transaction, refusal.number)))
-    at = f" at {refusal.time}" if refusal.time else ""
+    at = f" at {shown(refusal.time)[1:-1]}" if refusal.time else ""
     return (
         f"{shown(whose)[1:-1] or 'a line'}{at}: {refusal.cause}: {refusal.what}; {refusal.advice}"
     )

@@ -20,6 +20,7 @@ from ocpp_board.refusals import (
     commented,
     named_in,
     refusal_of,
+    sentence,
 )
 from ocpp_board.statuses import Mistaken
 
@@ -165,6 +166,18 @@ def test_a_message_that_is_no_json_is_read_as_far_as_it_goes() -> None:
     assert named_in('{"seqNo":1.5') == ("", "", "")
     assert named_in("[2]") == named_in('[2,"1","x",[]]') == ("", "", "")
     assert named_in('[2,"1","x",{"seqNo":"7","transactionInfo":7,"timestamp":[]}]') == ("", "", "7")
+
+
+def test_texts_that_no_table_takes(tmp_path: Path) -> None:
+    message = EVENT.replace("T1", "\\ud800\\u001b[0m").replace('"seqNo":0', '"seqNo":' + "9" * 99)
+    refusal = of(message.replace("1970-01-01T00:00:00Z", "\\udfff"), MOMENT, None)
+    assert refusal and (refusal.transaction, refusal.time) == ("?\x1b[0m", "?")
+    assert refusal.number == "9" * 64 + ".."
+    assert "\x1b" not in sentence(refusal)
+    refusals = Refusals()
+    refusals.add(refusal)
+    refusals.write(tmp_path / "x.csv")
+    assert commented(comment_of(refusal)) == refusal
 
 
 def test_the_same_again_is_one_row(
