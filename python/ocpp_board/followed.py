@@ -2,6 +2,7 @@
 
 import gzip
 import hashlib
+import logging
 import os
 import time
 import zlib
@@ -11,6 +12,8 @@ from typing import IO, NamedTuple
 
 from ocpp_board.limits import LONGEST_LOG_LINE
 from ocpp_board.sources import unpacked
+
+log = logging.getLogger(__name__)
 
 # Bytes at the beginning of a file by which it is known again, and of a compressed one that surely have these.
 FRONT, PACKED_FRONT = 4_096, 65_536
@@ -85,6 +88,8 @@ class Followed:
     def __init__(self, path: Path, place: Place | None) -> None:
         """`place`: how far it was read before. Raises OSError where there is no file of this name."""
         self.path = path
+        # A compressed file ended in its middle.
+        self.is_damaged = False
         self.begin(place or Place(0, ""))
 
     def begin(self, place: Place) -> None:
@@ -117,7 +122,7 @@ class Followed:
         lines: list[bytes | None] = []
         before = self.at
         while len(lines) < MOST_LINES and self.at < before + MOST_BYTES:
-            part = self.file.readline(LONGEST_LOG_LINE + 1)
+            part = self.part()
             if not part:
                 break
             self.pending += len(part)
@@ -128,6 +133,15 @@ class Followed:
             return self.at_end()
         self.place = Place(self.at, front_of(self.file, self.at))
         return lines
+
+    def part(self) -> bytes:
+        """What is read next, up to the end of a line; empty at the end of the file."""
+        try:
+            return self.file.readline(LONGEST_LOG_LINE + 1)
+        except (EOFError, zlib.error, gzip.BadGzipFile) as fault:
+            log.error("beside %s: %s; what follows in that file is left out", self.path, fault)
+            self.is_damaged = True
+            return b""
 
     def line(self) -> bytes | None:
         """The line that was read; None where it is too long."""
@@ -143,17 +157,25 @@ class Followed:
             return []
         self.gone += 1
         now = os.fstat(self.file.fileno())
-        if self.gone < GONE and time.time() < now.st_mtime + STILL:
+        if self.gone < GONE and time.time() < now.st_mtime + STILL and not self.is_damaged:
             return []
         lines = [self.line()] if self.pending else []
-        place, old = self.place, self.file
+        try:
+            self.go_on(now)
+        except FileNotFoundError:
+            pass  # A rotation is under way; it is tried again.
+        return lines
+
+    def go_on(self, now: os.stat_result) -> None:
+        """Reads the next file. Raises FileNotFoundError where it is not there yet."""
+        old = self.file
         if now.st_size < self.at and os.path.samestat(os.stat(self.path), now):
             # It was copied and cut short: the copy may have more than was read of it.
-            self.begin(place)
+            self.begin(self.place)
         else:
             self.take(unpacked(open(self.after(now), "rb")), 0)
+        self.is_damaged = False
         old.close()
-        return lines
 
     def after(self, now: os.stat_result) -> Path:
         """The file that was written next after this one: one beside it, or the one of the name."""

@@ -95,6 +95,9 @@ class ScriptFeed:
     def end(self) -> None:
         """Nothing more is wanted."""
 
+    def tell(self) -> None:
+        """What came of the lines is the ledger's to tell."""
+
 
 class Run:
     """The threads that feed the ledger, and the pages that are written meanwhile."""
@@ -198,6 +201,7 @@ class Run:
         if sys.stderr.isatty():
             progress.clear()
         self.refusals.end()
+        self.source.tell()
         log.info(
             "lines of the script: {lines}, messages accepted: {accepted}, refused: {refused}, of actions of which "
             "nothing is kept: {left}, faults: {faults}; pages written: {pages}".format(

@@ -1,6 +1,7 @@
 """What the lines of a CSMS's log become in a script."""
 
 import argparse
+import logging
 import re
 from datetime import datetime, timezone
 from typing import NamedTuple
@@ -12,6 +13,8 @@ from ocpp_board.message_faults import OLD_ACTIONS
 from ocpp_board.messages import CALL, Refused, is_answer, msg_line, tells_moment
 from ocpp_board.refusals import UNTAKEN, Refusal, named_in
 from ocpp_board.script_plan import ScriptPlan
+
+log = logging.getLogger(__name__)
 
 # Seconds since 1970, or thousandths, millionths or billionths of them, and digits of the greatest whole seconds.
 EPOCH = re.compile(r"([0-9]{9,19})(\.[0-9]*)?")
@@ -132,6 +135,24 @@ class LogReader:
         except Refused as why:
             _, _, detail = str(why).partition(f"{why.kind}: ")
             return None, Refused(f"{why.kind}; its message goes without a time", detail)
+
+    def has_form(self) -> bool:
+        """Whether a line was of the log's form, or there was none but blanks."""
+        counts = self.counts
+        kinds = (kind for kind in self.KINDS if kind not in ("lines", "other", "blank"))
+        return not counts["other"] or any(counts[kind] for kind in kinds)
+
+    def form_name(self) -> str:
+        """The name of the log's form."""
+        return "--regex" if self.words.regex else str(self.words.form)
+
+    def tell(self) -> None:
+        """What became of the lines."""
+        log.info(
+            "lines: {lines}; messages of stations: {messages}, answers left out: {answers}, calls to stations left "
+            "out: {sent}, of other versions of OCPP left out: {old}, lines of others left out: {other}, blank: "
+            "{blank}, not taken: {refused}".format(**self.counts)
+        )
 
     def refusal(self, why: Refused) -> Refusal:
         """The refusal of the line that was read last, for this reason."""

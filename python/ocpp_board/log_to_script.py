@@ -45,7 +45,7 @@ from ocpp_board.limits import (
     MOST_SITES,
     MOST_STATIONS,
 )
-from ocpp_board.line_faults import name_fault
+from ocpp_board.line_faults import BYTE_ORDER_MARK, name_fault
 from ocpp_board.log_reader import LogReader, Taken
 from ocpp_board.messages import Refused
 from ocpp_board.processes import end_without_reader
@@ -67,7 +67,6 @@ can't be read or written."""
 KEPT_IN_MEMORY = 1_048_576
 # Stations of a log that is split.
 MOST_SPLIT = 16_384
-BYTE_ORDER_MARK = b"\xef\xbb\xbf"
 
 
 class Full(Exception):
@@ -254,9 +253,8 @@ class Conversion:
         """Takes all lines of a log; what can't be taken is told."""
         mistakes = Mistakes(progress)
         number = self.take_all(file, progress, mistakes)
-        counts, words = self.counts, self.words
-        if counts["other"] and not counts["messages"] + counts["refused"] + counts["old"]:
-            form = "--regex" if words.regex else words.form
+        if not self.reader.has_form():
+            form = self.reader.form_name()
             why = Refused(f"neither this line nor one before it is of the form {form}")
             self.refuse(mistakes, number, why)
         progress.end()
@@ -299,12 +297,7 @@ class Conversion:
     def tell(self) -> None:
         """What became of the lines."""
         log.info("sites: %d, stations: %d", len(self.plan.sites()), len(self.plan.site_of))
-        log.info(
-            "lines: {lines}; messages of stations: {messages}, answers left out: {answers}, calls to stations left "
-            "out: {sent}, of other versions of OCPP left out: {old}, "
-            "lines of others left out: {other}, blank: {blank}, not taken: "
-            "{refused}".format(**self.counts)
-        )
+        self.reader.tell()
 
 
 def add_sites(parser: argparse.ArgumentParser) -> None:

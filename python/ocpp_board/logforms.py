@@ -277,6 +277,8 @@ class CitrineCsvForm:
             if missing := self.COLUMNS - set(cells):
                 raise Mistaken(f"line 1 names no column {', '.join(sorted(missing))}")
             return None
+        if cells == self.heads:
+            return None  # Another file of the same columns begins.
         if len(cells) != len(self.heads):
             raise Refused("a row has not as many cells as the first line", str(len(cells)))
         return CitrineForm.entry(Members(dict(zip(self.heads, cells)), {}))
