@@ -102,6 +102,10 @@ with_program() {
     gives 1 - "$board" tables --script "$days/day.jsonl.script" --program "$program" --out "$made/refused" "$days/day.jsonl.expected"
     as_stored tables/refused.csv "$made/refused.refused.csv"
     holds tables/refused.said
+    # What a log could not give counts, too.
+    gives 1 - bash -c '"$1" replay < forms/mistakes.script > "$2.text"; "$board" tables --script forms/mistakes.script \
+        --program "$1" --out "$2" "$2.text"' _ "$program" "$made/untaken"
+    holds tables/untaken.said
 
     # 50 events of each of two stations: a session of 48 and one of 2, in each of which all but the first rise by 250 Wh.
     gives 0 forms/traffic.text bash -c '"$board" traffic 100 --stations 2 | "$1" replay | grep -v "^.3,"' _ "$program"

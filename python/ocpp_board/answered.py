@@ -7,7 +7,7 @@ of such a line's text is known.
 import subprocess
 import threading
 from collections import deque
-from collections.abc import Iterator
+from collections.abc import Callable, Iterator
 from datetime import datetime
 from typing import IO, NamedTuple
 
@@ -107,9 +107,12 @@ class Replay:
 class ScriptReplay(Replay):
     """A replay of a whole script, which a thread feeds."""
 
-    def __init__(self, program: str, script: IO[bytes]) -> None:
+    def __init__(
+        self, program: str, script: IO[bytes], comment: Callable[[bytes], None] | None = None
+    ) -> None:
+        """`comment` gets each comment of the script, in the thread that feeds."""
         super().__init__(program, is_heard=True)
-        self.script, self.lines = script, 0
+        self.script, self.lines, self.comment = script, 0, comment
         self.fault: OSError | None = None
         self.feeder = threading.Thread(target=self.feed, daemon=True)
         self.feeder.start()
@@ -120,6 +123,8 @@ class ScriptReplay(Replay):
             with self.input as out:
                 for number, line in enumerate(iter(self.script.readline, b""), 1):
                     self.lines = number
+                    if self.comment and line.startswith(b"#"):
+                        self.comment(line)
                     out.write(self.sendable(number, line))
         except BrokenPipeError:
             pass
@@ -202,13 +207,15 @@ class Messages:
         return Answered(line.number, site, station, received, message, answer)
 
 
-def answered(program: str, script: IO[bytes]) -> Iterator[Answered]:
-    """Each message of a script with its answer, by a replay that runs.
+def answered(
+    program: str, script: IO[bytes], comment: Callable[[bytes], None] | None = None
+) -> Iterator[Answered]:
+    """Each message of a script with its answer, by a replay that runs. `comment` gets its comments, in another thread.
 
     Raises OSError where the script can't be read or the program not be started, and Mistaken where the replay ends
     with a fault.
     """
-    replay, messages = ScriptReplay(program, script), Messages()
+    replay, messages = ScriptReplay(program, script, comment), Messages()
     for line, text in replay.texts():
         if message := messages.take(line, text):
             yield message

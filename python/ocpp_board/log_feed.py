@@ -13,15 +13,13 @@ from ocpp_board.ledger import Ledger
 from ocpp_board.line_faults import BYTE_ORDER_MARK
 from ocpp_board.log_reader import LogReader, Taken
 from ocpp_board.messages import Refused
-from ocpp_board.refusals import comment_of
+from ocpp_board.refusals import MOST_UNTAKEN, comment_of
 from ocpp_board.script_plan import ScriptPlan
 
 log = logging.getLogger(__name__)
 
 # Seconds until the log is looked at again.
 AGAIN = 0.5
-# Lines of a kind that can't be taken, which the script keeps in a run.
-MOST_UNTAKEN = 10_000
 # The first words of an operator's lines that change what a station holds.
 CHANGES = (b"void", b"restore", b"erase")
 

@@ -23,11 +23,12 @@ SECONDS_DIGITS = 10
 ADVICE = (
     ("a station is not in", "add the station to that file"),
     ("a station is no name", "give the station a name that the ledger takes"),
+    ("station ", "name the station's one site by --site or --site-map"),
     ("its script line", "a shorter message"),
     ("longer than", "a shorter line"),
-    ("one station more", "--split, or the fleet"),
-    ("one site more", "--split, or the fleet"),
-    ("the stations' limits", "smaller --limits, --split, or the fleet"),
+    ("one station more", "log-to-script --split, or the fleet"),
+    ("one site more", "log-to-script --split, or the fleet"),
+    ("the stations' limits", "smaller --limits, log-to-script --split, or the fleet"),
 )
 
 

@@ -10,8 +10,8 @@ the log names them. Each message becomes a `msg` line with the same bytes; a lin
 Before a BootNotification or a Heartbeat, whose replies tell the moment, a `now` line gives the line's time
 where that has changed; where the time can't be read the message goes without it. Answers ([3,..] and [4,..]),
 messages of the CSMS and of OCPP 1.6, lines of others and blanks are left out and counted. What can't be taken is
-told on standard error with its line number, and the rest goes on; a mistake that many lines make is told at the
-first of them, and counted at the end.
+told on standard error with its line number, stands in a comment of the script, and the rest goes on; a mistake that
+many lines make is told at the first of them, and counted at the end.
 
 With --stations each line goes out as soon as it is read, so that a log that still grows is a live ledger:
 
@@ -36,6 +36,7 @@ from pathlib import Path
 from typing import IO
 
 from ocpp_board import logforms
+from ocpp_board.answered import RECEIVED
 from ocpp_board.limits import (
     FIRST_MOMENT,
     LONGEST_LOG_LINE,
@@ -50,7 +51,7 @@ from ocpp_board.log_reader import LogReader, Taken
 from ocpp_board.messages import Refused
 from ocpp_board.processes import end_without_reader
 from ocpp_board.progress import Progress
-from ocpp_board.refusals import Refusal, comment_of
+from ocpp_board.refusals import MOST_UNTAKEN, Refusal, comment_of, commented
 from ocpp_board.script_plan import ScriptPlan, add_plan, check_plan
 from ocpp_board.sources import opened, unpacked
 from ocpp_board.statuses import Mistaken, Status, ended
@@ -89,6 +90,10 @@ class Mistakes:
         self.more[why.kind] = (0, number)
         self.progress.end()
         log.warning("line %d: %s", number, why, extra={"line": number})
+
+    def count(self, why: Refused) -> int:
+        """How many there were of this kind."""
+        return self.more[why.kind][0] + 1
 
     def end(self) -> None:
         """Tells of each kind how many more there were."""
@@ -147,11 +152,9 @@ class Script:
         if self.is_live:
             self.out.flush()
 
-    def tell(self, refusal: Refusal) -> None:
-        """Keeps what is not taken where a ledger reads on, which shows it."""
-        if self.is_live:
-            self.out.write(comment_of(refusal))
-            self.out.flush()
+    def keep(self, refusal: Refusal) -> None:
+        """Keeps what is not taken, for those who show it. Raises Full where there is no room."""
+        self.put(Taken("refused", refusal.station, lines=comment_of(refusal)))
 
     def write(self) -> None:
         """What was not written yet."""
@@ -198,13 +201,16 @@ class Scripts(Script):
     def hand_out(self, out_of: dict[str, BufferedWriter]) -> None:
         """Writes each message to its station's script, after its moment where that is new there."""
         nows: dict[BufferedWriter, bytes] = {}
+        first = next(iter(out_of.values()))
         now = received = b""
         self.body.seek(0)
         for line in self.body:
             if line.startswith(b"now "):
                 now = line
-            elif line.startswith(b"#"):
+            elif line.startswith(RECEIVED):
                 received = line
+            elif refusal := commented(line):
+                out_of.get(refusal.station, first).write(line)
             else:
                 out = out_of[line.split(b" ", 2)[1].decode()]
                 out.write((now if now != nows.get(out) else b"") + received + line)
@@ -281,8 +287,9 @@ class Conversion:
         try:
             taken = self.reader.take(line)
         except Refused as why:
-            self.script.tell(self.reader.refusal(why))
             mistakes.tell(number, why)
+            if mistakes.count(why) <= MOST_UNTAKEN:
+                self.script.keep(self.reader.refusal(why))
             return
         if taken.note:
             mistakes.tell(number, taken.note)

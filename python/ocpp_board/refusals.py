@@ -15,7 +15,7 @@ from pathlib import Path
 from typing import Any, NamedTuple
 
 from ocpp_board.answered import Answered, moment_of
-from ocpp_board.escapes import csv_cell, shown
+from ocpp_board.escapes import csv_cell, shown, without_controls
 from ocpp_board.limits import LONGEST_LINE, MOMENT
 from ocpp_board.line_faults import Said, bad_line
 from ocpp_board.message_faults import JSON, is_kept_nothing_of, message_fault
@@ -31,6 +31,8 @@ MOST_ROWS = 65_536
 LONGEST_TEXT = 64
 # The cause of a line of a log that is no message of a station for the ledger.
 UNTAKEN = "Untaken"
+# Lines of a kind that can't be taken, which a script keeps; the others are counted.
+MOST_UNTAKEN = 10_000
 # A comment of a script that has a refusal of a line of the log.
 COMMENT = b"# untaken "
 # What is read of a message that is no JSON.
@@ -225,14 +227,14 @@ def sentence(refusal: Refusal) -> str:
     """A refusal in words."""
     whose = " ".join(filter(None, (refusal.station, refusal.transaction, refusal.number)))
     at = f" at {shown(refusal.time)[1:-1]}" if refusal.time else ""
-    return (
-        f"{shown(whose)[1:-1] or 'a line'}{at}: {refusal.cause}: {refusal.what}; {refusal.advice}"
-    )
+    said = f"{refusal.cause}: {refusal.what}; {refusal.advice}"
+    return f"{shown(whose)[1:-1] or 'a line'}{at}: {without_controls(said)}"
 
 
 def comment_of(refusal: Refusal) -> bytes:
     """A line of a script that keeps the refusal of a line of a log; a replay passes over it."""
-    return COMMENT + json.dumps(refusal._asdict()).encode() + b"\n"
+    told = {name: text for name, text in refusal._asdict().items() if text and name != "cause"}
+    return COMMENT + json.dumps(told, separators=(",", ":")).encode() + b"\n"
 
 
 def commented(line: bytes) -> Refusal | None:
@@ -241,6 +243,7 @@ def commented(line: bytes) -> Refusal | None:
         return None
     try:
         told = json.loads(line.removeprefix(COMMENT))
-        return Refusal(**{name: str(told[name]) for name in Refusal._fields})
-    except (ValueError, KeyError, TypeError, RecursionError):
+        texts = {name: str(told.get(name, "")) for name in Refusal._fields}
+    except (ValueError, AttributeError, RecursionError):
         return None
+    return Refusal(**texts | {"cause": UNTAKEN})

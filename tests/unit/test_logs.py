@@ -245,6 +245,8 @@ def test_stations_are_declared_before_messages(tmp_path: Path) -> None:
     assert script == (
         "limits 1 2 3 4\nstation north A\nstation south B\nperiod south 300\n"
         f"now 2026-03-01T08:00:00Z\nmsg A {HEARTBEAT}\nmsg B {HEARTBEAT}\n"
+        '# untaken {"advice":"look at the line of the log; the options of log-to-script tell its '
+        'form","what":"not JSON: Expecting value at character 1"}\n'
         "board north\nboard south\n"
     )
     assert counts == {
@@ -261,7 +263,7 @@ def test_stations_are_declared_before_messages(tmp_path: Path) -> None:
 
 def test_a_plan_has_at_most_so_many_stations(tmp_path: Path) -> None:
     script, counts = script_of([row(station=f"S{n}") for n in range(66)], tmp_path, "--no-boards")
-    assert script.count("station ") == 64
+    assert script.count("station north ") == 64 and script.count("# untaken ") == 2
     assert (counts["messages"], counts["refused"]) == (64, 2)
 
 
