@@ -2,6 +2,7 @@
 
 import fcntl
 import json
+import logging
 import os
 import shutil
 from collections.abc import Iterator
@@ -11,6 +12,8 @@ from typing import IO
 from ocpp_board.followed import Place
 from ocpp_board.limits import LONGEST_SCRIPT
 from ocpp_board.statuses import Mistaken
+
+log = logging.getLogger(__name__)
 
 # The script's first line, and the one that ends its declarations.
 BEGIN = b"# a script that ocpp-board live keeps: its stations, and what they sent\n"
@@ -40,7 +43,7 @@ class KeptScript:
         self.mend()
         self.declare(head)
         self.file: IO[bytes] = open(self.path, "ab")
-        self.size = self.file.tell()
+        self.size, self.is_told = self.file.tell(), False
 
     def put(self, path: Path, data: bytes) -> None:
         """Writes a file, which is there whole or not at all."""
@@ -105,6 +108,14 @@ class KeptScript:
             )
         self.file.write(lines)
         self.size += len(lines)
+        if not self.is_told and 10 * self.size > 9 * LONGEST_SCRIPT:
+            self.is_told = True
+            log.warning(
+                "%s has %s of at most %s bytes: soon begin with another folder, or take the fleet",
+                self.path,
+                f"{self.size:,}",
+                f"{LONGEST_SCRIPT:,}",
+            )
 
     def keep(self, place: Place | None) -> None:
         """Has what was added so far on disk, and then how far the log was read. Raises OSError."""

@@ -1,6 +1,7 @@
 """Logs that grow and are rotated, and the script that is kept of them."""
 
 import gzip
+import logging
 import os
 import shutil
 import time
@@ -178,12 +179,22 @@ def test_a_script_of_another_is_left_alone(text: bytes, tmp_path: Path) -> None:
         KeptScript(tmp_path, STATIONS)
 
 
-def test_a_script_has_an_end(tmp_path: Path, monkeypatch: pytest.MonkeyPatch) -> None:
+def test_a_script_has_an_end(
+    tmp_path: Path, monkeypatch: pytest.MonkeyPatch, caplog: pytest.LogCaptureFixture
+) -> None:
     monkeypatch.setattr("ocpp_board.kept_script.LONGEST_SCRIPT", 200)
+    monkeypatch.setattr(logging.getLogger("ocpp_board"), "propagate", True)
     kept = KeptScript(tmp_path, STATIONS)
-    kept.append(b"#" * 50)
+    kept.append(b"#" * (180 - kept.size))
+    assert not caplog.records
+    for _ in range(2):
+        kept.append(b"#")
+    assert [record.getMessage() for record in caplog.records] == [
+        f"{tmp_path}/script has 181 of at most 200 bytes: soon begin with another folder, or take "
+        "the fleet"
+    ]
     with pytest.raises(Mistaken, match="has no room for more"):
-        kept.append(b"#" * 150)
+        kept.append(b"#" * 19)
 
 
 def test_how_far_the_log_was_read_is_whole_or_told(tmp_path: Path) -> None:
