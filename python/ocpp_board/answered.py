@@ -7,9 +7,9 @@ of such a line's text is known.
 import subprocess
 import threading
 from collections import deque
-from collections.abc import Callable, Iterator
+from collections.abc import Iterator
 from datetime import datetime
-from typing import IO, NamedTuple
+from typing import NamedTuple, Protocol
 
 from ocpp_board.limits import DEFAULT_LIMITS, LONGEST_LINE
 from ocpp_board.line_faults import words_of
@@ -24,6 +24,13 @@ MARKED = (b"fault PlanLimit\n", b"fault DeclaredLate\n")
 BAD_LINE = b"fault BadLine\n"
 # A comment that tells when the message behind it was received.
 RECEIVED = b"# received "
+
+
+class Lines(Protocol):
+    """What is read line by line: a file, or something in front of one."""
+
+    def readline(self) -> bytes:
+        """The next line; empty at the end."""
 
 
 class Line(NamedTuple):
@@ -107,12 +114,9 @@ class Replay:
 class ScriptReplay(Replay):
     """A replay of a whole script, which a thread feeds."""
 
-    def __init__(
-        self, program: str, script: IO[bytes], comment: Callable[[bytes], None] | None = None
-    ) -> None:
-        """`comment` gets each comment of the script, in the thread that feeds."""
+    def __init__(self, program: str, script: Lines) -> None:
         super().__init__(program, is_heard=True)
-        self.script, self.lines, self.comment = script, 0, comment
+        self.script, self.lines = script, 0
         self.fault: OSError | None = None
         self.feeder = threading.Thread(target=self.feed, daemon=True)
         self.feeder.start()
@@ -123,8 +127,6 @@ class ScriptReplay(Replay):
             with self.input as out:
                 for number, line in enumerate(iter(self.script.readline, b""), 1):
                     self.lines = number
-                    if self.comment and line.startswith(b"#"):
-                        self.comment(line)
                     out.write(self.sendable(number, line))
         except BrokenPipeError:
             pass
@@ -207,15 +209,13 @@ class Messages:
         return Answered(line.number, site, station, received, message, answer)
 
 
-def answered(
-    program: str, script: IO[bytes], comment: Callable[[bytes], None] | None = None
-) -> Iterator[Answered]:
-    """Each message of a script with its answer, by a replay that runs. `comment` gets its comments, in another thread.
+def answered(program: str, script: Lines) -> Iterator[Answered]:
+    """Each message of a script with its answer, by a replay that runs.
 
     Raises OSError where the script can't be read or the program not be started, and Mistaken where the replay ends
     with a fault.
     """
-    replay, messages = ScriptReplay(program, script, comment), Messages()
+    replay, messages = ScriptReplay(program, script), Messages()
     for line, text in replay.texts():
         if message := messages.take(line, text):
             yield message

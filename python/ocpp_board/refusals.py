@@ -14,7 +14,7 @@ from datetime import datetime, timezone
 from pathlib import Path
 from typing import Any, NamedTuple
 
-from ocpp_board.answered import Answered, moment_of
+from ocpp_board.answered import Answered, Lines, moment_of
 from ocpp_board.escapes import csv_cell, shown, without_controls
 from ocpp_board.limits import LONGEST_LINE, MOMENT
 from ocpp_board.line_faults import Said, bad_line
@@ -162,6 +162,21 @@ class Row:
         r = self.refusal
         texts = (r.site, r.station, r.transaction, r.number, r.cause, r.what, r.advice)
         return [self.first, self.last, str(self.times), *map(csv_cell, texts)]
+
+
+class UntakenLines:
+    """A script in front of a replay, which keeps the refusals that its comments have."""
+
+    def __init__(self, script: Lines) -> None:
+        self.script = script
+        self.refusals: list[Refusal] = []
+
+    def readline(self) -> bytes:
+        """The next line; empty at the end."""
+        line = self.script.readline()
+        if refusal := commented(line):
+            self.refusals.append(refusal)
+        return line
 
 
 class Refusals:

@@ -63,7 +63,7 @@ from ocpp_board.calendars import Calendar
 from ocpp_board.energies import Flow, kwh_of
 from ocpp_board.escapes import csv_cell
 from ocpp_board.progress import Progress
-from ocpp_board.refusals import Refusals, commented
+from ocpp_board.refusals import Refusals, UntakenLines
 from ocpp_board.sources import is_gzip, opened
 from ocpp_board.statuses import Mistaken, Status, ended
 from ocpp_board.words import add_program, parsed, parser_of, zone
@@ -251,10 +251,10 @@ def hand_on(messages: Iterable[Answered], takers: Sequence[Callable[[Answered], 
 def look_at_script(words: argparse.Namespace) -> None:
     """Replays the script, and writes what was refused of it."""
     refusals = Refusals()
-    comments: list[bytes] = []
-    with opened(words.script) as script:
-        hand_on(answered(words.program, script, comments.append), [refusals.take])
-    for refusal in filter(None, map(commented, comments)):
+    with opened(words.script) as file:
+        script = UntakenLines(file)
+        hand_on(answered(words.program, script), [refusals.take])
+    for refusal in script.refusals:
         refusals.add(refusal)
     refusals.end()
     refusals.write(Path(f"{words.out}.refused.csv"))
