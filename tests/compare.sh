@@ -99,11 +99,11 @@ with_program() {
     tells 2 "No such file or directory" "$board" live --program ./nowhere --out "$made/live" forms/ocpp.script
 
     # What was refused of a script, with a page that links to it; the action Authorize is none of these.
-    gives 1 - "$board" tables --script "$days/day.jsonl.script" --program "$program" --out "$made/refused" "$days/day.jsonl.expected"
+    gives 0 - "$board" tables --script "$days/day.jsonl.script" --program "$program" --out "$made/refused" "$days/day.jsonl.expected"
     as_stored tables/refused.csv "$made/refused.refused.csv"
     holds tables/refused.said
     # What a log could not give counts, too.
-    gives 1 - bash -c '"$1" replay < forms/mistakes.script > "$2.text"; "$board" tables --script forms/mistakes.script \
+    gives 0 - bash -c '"$1" replay < forms/mistakes.script > "$2.text"; "$board" tables --script forms/mistakes.script \
         --program "$1" --out "$2" "$2.text"' _ "$program" "$made/untaken"
     holds tables/untaken.said
 

@@ -22,6 +22,8 @@ SILENT = (b"limits", b"station", b"period", b"now")
 MARK = b"-\nlimits 0 0 0 0\n"
 MARKED = (b"fault PlanLimit\n", b"fault DeclaredLate\n")
 BAD_LINE = b"fault BadLine\n"
+# Bytes that are handed to the replay at once.
+BUFFER = 65_536
 # A comment that tells when the message behind it was received.
 RECEIVED = b"# received "
 
@@ -52,6 +54,7 @@ class Replay:
         """`is_apart`: a signal to this process's group is none to the replay. `is_heard`: what it tells is kept."""
         self.process = subprocess.Popen(
             [program, "replay"],
+            bufsize=BUFFER,
             stdin=subprocess.PIPE,
             stdout=subprocess.PIPE,
             stderr=subprocess.PIPE if is_heard else None,

@@ -14,7 +14,7 @@ OPENING = (b"msg", b"void", b"restore", b"erase", b"energy", b"export", b"total"
 # Faults of lines that open no ledgers.
 CLOSED = (b"fault BadLine\n", b"fault LineTooLong\n")
 # The beginnings of what a replay writes, by what they count as.
-FRONTS = {"accepted": b"[3,", "refused": b"[4,", "faults": b"fault "}
+FRONTS = {b"[3,": "accepted", b"[4,": "refused", b"fau": "faults"}
 
 
 class Ended(Exception):
@@ -40,7 +40,7 @@ class Ledger:
         # Whether a line of the script needs the ledgers.
         self.is_needed = False
         self.questions: deque[queue.Queue[bytes | None]] = deque()
-        self.counts = dict.fromkeys(("lines", "bytes", *FRONTS, "left"), 0)
+        self.counts = dict.fromkeys(("lines", "bytes", *FRONTS.values(), "left"), 0)
         self.reader = threading.Thread(target=self.read, daemon=True)
         self.reader.start()
 
@@ -58,14 +58,21 @@ class Ledger:
                 before()
             self.counts["lines"] += 1
             self.counts["bytes"] += len(line)
-            self.is_needed |= line.split(b" ", 1)[0] in OPENING
             sent = self.replay.sendable(self.counts["lines"], line)
-            if refusal := commented(line):
-                with self.taking:
-                    self.untaken(refusal)
-            # Comments would only take room of the script that the replay may read.
-            if not line.startswith(b"#") or len(line) > LONGEST_LINE:
-                self.write(sent if sent.endswith(b"\n") else sent + b"\n")
+            if line.startswith(b"#"):
+                self.comment(line)
+                return
+            if not self.is_needed:
+                self.is_needed = line.split(b" ", 1)[0] in OPENING
+            self.write(sent if sent.endswith(b"\n") else sent + b"\n")
+
+    def comment(self, line: bytes) -> None:
+        """A comment, which would only take room of what the replay may read. One that is too long is none."""
+        if refusal := commented(line):
+            with self.taking:
+                self.untaken(refusal)
+        elif len(line) > LONGEST_LINE:
+            self.write(line.rstrip(b"\n") + b"\n")
 
     def ask(self, line: bytes, before: Callable[[], None] | None = None) -> bytes:
         """What a line that is none of the script's writes. Raises Ended where the replay ends before it is answered.
@@ -106,12 +113,14 @@ class Ledger:
 
     def read(self) -> None:
         """Takes what the replay writes: answers to questions go to those who asked, others to the takers."""
+        is_open = False
         for line, text in self.replay.texts():
             if line.number:
                 self.take(line, text)
             else:
                 self.questions.popleft().put(text)
-            if not (line.is_marked or text in CLOSED):
+            if not is_open and not line.is_marked and text not in CLOSED:
+                is_open = True
                 self.is_open.set()
         with self.sending:
             self.has_ended = True
@@ -121,8 +130,8 @@ class Ledger:
 
     def take(self, line: Line, text: bytes) -> None:
         """Counts what a line of the script wrote, and hands a message with its answer on."""
-        for kind, front in FRONTS.items():
-            self.counts[kind] += text.startswith(front)
+        if kind := FRONTS.get(text[:3]):
+            self.counts[kind] += 1
         if message := self.messages.take(line, text):
             if is_left(message):
                 self.counts["left"] += 1

@@ -1,14 +1,14 @@
 """Stations that come near to what their limits have room for, each told once."""
 
 import re
-from collections.abc import Callable, Mapping
+from collections.abc import Callable, Iterator, Mapping
 from dataclasses import dataclass, field
 
 from ocpp_board.answered import Answered
 from ocpp_board.limits import DEFAULT_LIMITS
 
-EVENT = re.compile(r'"TransactionEvent"')
 TRANSACTION = re.compile(r'"transactionId"\s*:\s*"((?:[^"\\]|\\.)*)"')
+NAMES = tuple(DEFAULT_LIMITS)
 # Values of registers have a measurand of these, or none.
 VALUE = re.compile(r'"value"\s*:')
 OTHER = re.compile(r'"measurand"\s*:\s*"(?!Energy\.Active\.(?:Import|Export)\.Register")')
@@ -22,20 +22,34 @@ REMEDY = (
 class Counts:
     """What a station sent and was taken, what came again included."""
 
+    limits: tuple[int, ...]
+    # The numbers from which on a limit is told; None once it was.
+    marks: list[int | None]
     transactions: set[str] = field(default_factory=set)
     events: int = 0
     readings: int = 0
+
+    @classmethod
+    def of(cls, limits: tuple[int, ...]) -> "Counts":
+        """Nothing yet, of a station with these limits."""
+        return cls(limits, [-(-9 * most // 10) for most in limits])
 
     def take(self, message: str) -> None:
         """An event that was taken."""
         if transaction := TRANSACTION.search(message):
             self.transactions.add(transaction[1].lower())
         self.events += 1
-        self.readings += len(VALUE.findall(message)) - len(OTHER.findall(message))
+        self.readings += len(VALUE.findall(message))
+        if '"measurand"' in message:
+            self.readings -= len(OTHER.findall(message))
 
-    def numbers(self) -> tuple[int, ...]:
-        """The numbers that limits are of, in their order; a change is an event."""
-        return len(self.transactions), self.events, self.readings, self.events
+    def reached(self) -> Iterator[str]:
+        """What is told now of limits of which nine tenths are reached. A change is an event."""
+        numbers = (len(self.transactions), self.events, self.readings, self.events)
+        for place, (number, mark) in enumerate(zip(numbers, self.marks)):
+            if mark is not None and number >= mark:
+                self.marks[place] = None
+                yield f"{number:,} {NAMES[place]}, repeats included, and keeps {self.limits[place]:,} at most"
 
 
 class NearLimits:
@@ -47,18 +61,15 @@ class NearLimits:
         """`limits` are those of the stations; `tell` gets the message that reached it, what is told, and a remedy."""
         self.limits, self.tell = limits, tell
         self.counts: dict[str, Counts] = {}
-        self.told: set[tuple[str, str]] = set()
 
     def take(self, answered: Answered) -> None:
         """Takes a message with its answer."""
-        if not answered.is_accepted or not EVENT.search(answered.message):
+        if not answered.is_accepted or '"TransactionEvent"' not in answered.message:
             return
-        station = answered.station
-        counts = self.counts.setdefault(station, Counts())
+        counts = self.counts.get(answered.station)
+        if counts is None:
+            limits = self.limits.get(answered.station, tuple(DEFAULT_LIMITS.values()))
+            counts = self.counts[answered.station] = Counts.of(limits)
         counts.take(answered.message)
-        limits = self.limits.get(station, tuple(DEFAULT_LIMITS.values()))
-        for what, number, most in zip(DEFAULT_LIMITS, counts.numbers(), limits):
-            if 10 * number >= 9 * most and (station, what) not in self.told:
-                self.told.add((station, what))
-                said = f"station {station} sent {number:,} {what}, repeats included, and keeps {most:,} at most"
-                self.tell(answered, said, REMEDY)
+        for said in counts.reached():
+            self.tell(answered, f"station {answered.station} sent {said}", REMEDY)

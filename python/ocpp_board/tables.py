@@ -276,8 +276,7 @@ def write_files(words: argparse.Namespace, text: IO[bytes], refresh: int | None 
         days.close()
         index.close(reader.counts["boards"] > 0)
     reader.tell()
-    is_told = reader.counts["unread"] or words.script and words.refused
-    return Status.TOLD if is_told else Status.DONE
+    return Status.TOLD if reader.counts["unread"] else Status.DONE
 
 
 def run(words: argparse.Namespace) -> int:
