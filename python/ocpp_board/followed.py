@@ -40,10 +40,16 @@ def front_of(file: IO[bytes], place: int) -> str:
 def is_replaced(path: str | Path, file: IO[bytes], place: int) -> bool:
     """Whether there is another file of this name, or this one was cut short."""
     try:
-        now = os.fstat(file.fileno())
-        return now.st_size < place or not os.path.samestat(os.stat(path), now)
+        is_same = os.path.samestat(os.stat(path), os.fstat(file.fileno()))
+        return not is_same or is_cut_short(file, place)
     except FileNotFoundError:
         return False
+
+
+def is_cut_short(file: IO[bytes], place: int) -> bool:
+    """Whether a file has less than what was read of it. Of a compressed one that can't be told."""
+    is_packed = isinstance(file, gzip.GzipFile)
+    return not is_packed and os.fstat(file.fileno()).st_size < place
 
 
 def beside(path: Path) -> list[Path]:
@@ -54,8 +60,7 @@ def beside(path: Path) -> list[Path]:
 
 def has(file: IO[bytes], place: int) -> bool:
     """Whether a file has so many bytes. It is at this place then."""
-    is_packed = isinstance(file, gzip.GzipFile)
-    return file.seek(place) == place and (is_packed or os.fstat(file.fileno()).st_size >= place)
+    return file.seek(place) == place and not is_cut_short(file, place)
 
 
 def known(path: Path, taken: Iterable[tuple[int, str]]) -> IO[bytes] | None:
@@ -137,7 +142,7 @@ class Followed:
     def part(self) -> bytes:
         """What is read next, up to the end of a line; empty at the end of the file."""
         try:
-            return self.file.readline(LONGEST_LOG_LINE + 1)
+            return b"" if self.is_damaged else self.file.readline(LONGEST_LOG_LINE + 1)
         except (EOFError, zlib.error, gzip.BadGzipFile) as fault:
             log.error("beside %s: %s; what follows in that file is left out", self.path, fault)
             self.is_damaged = True
@@ -169,7 +174,7 @@ class Followed:
     def go_on(self, now: os.stat_result) -> None:
         """Reads the next file. Raises FileNotFoundError where it is not there yet."""
         old = self.file
-        if now.st_size < self.at and os.path.samestat(os.stat(self.path), now):
+        if os.path.samestat(os.stat(self.path), now):
             # It was copied and cut short: the copy may have more than was read of it.
             self.begin(self.place)
         else:

@@ -12,7 +12,7 @@ from ocpp_board.limits import (
     PERIODS,
     is_name,
 )
-from ocpp_board.line_faults import name_fault
+from ocpp_board.line_faults import NAMES, name_fault
 from ocpp_board.logforms import Entry
 from ocpp_board.messages import Refused
 from ocpp_board.statuses import Mistaken
@@ -45,9 +45,11 @@ def pairs_of(path: str) -> list[tuple[str, str]]:
 
 def why_no_names(line: str, names: list[str]) -> str:
     """Why a line has not two names."""
+    if len(names) == 1:
+        return shown(names[0])
     faults = (name_fault("name", name) for name in names)
-    told = next(filter(None, faults), None) if len(names) == 2 else None
-    return f"{shown(line.strip())}: {told[0]}; {told[1]}" if told else shown(line.strip())
+    told = next(filter(None, faults), ("a name has no blank", NAMES))
+    return f"{shown(line.strip())}: {told[0]}; {told[1]}"
 
 
 class ScriptPlan:

@@ -108,6 +108,19 @@ def test_a_file_that_is_copied_and_cut_short(tmp_path: Path) -> None:
     assert taken(followed) == [b"d\n"]
 
 
+def test_a_log_that_is_compressed_itself(tmp_path: Path) -> None:
+    log = tmp_path / "log.gz"
+    with gzip.open(log, "wb") as file:
+        file.write(b"a\n" * 9_999)
+    followed = Followed(log, None)
+    assert len(taken(followed)) == 9_999 and followed.is_current()
+    again = Followed(log, followed.place)
+    assert taken(again) == [] and again.is_current()
+    # Cut short, as by a copy that did not end, it gives what can be read.
+    os.truncate(log, log.stat().st_size - 4)
+    assert len(taken(Followed(log, None))) == 9_999
+
+
 def test_where_no_file_is_known_again_the_one_of_the_name_is_read(tmp_path: Path) -> None:
     log = tmp_path / "log"
     log.write_bytes(b"x\n")

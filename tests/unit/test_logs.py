@@ -218,6 +218,9 @@ def test_pairs_of_names(tmp_path: Path) -> None:
     (tmp_path / "pairs").write_text("north A x\n")
     with pytest.raises(Mistaken, match="line 1: not two names"):
         pairs_of(str(tmp_path / "pairs"))
+    (tmp_path / "pairs").write_text("north CS 01\n")
+    with pytest.raises(Mistaken, match="a name has no blank; names have 1 to 48"):
+        pairs_of(str(tmp_path / "pairs"))
     (tmp_path / "pairs").write_text("north CS/01\n")
     with pytest.raises(Mistaken, match="the name 'CS/01' has '/', which no name has; names have 1"):
         pairs_of(str(tmp_path / "pairs"))
