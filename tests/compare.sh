@@ -106,6 +106,8 @@ with_program() {
     gives 0 - bash -c '"$1" replay < forms/mistakes.script > "$2.text"; "$board" tables --script forms/mistakes.script \
         --program "$1" --out "$2" "$2.text"' _ "$program" "$made/untaken"
     holds tables/untaken.said
+    tells 2 "the script is compressed by gzip" "$board" tables --script "$made/day.script.gz" --program "$program" \
+        --out "$made/x" "$days/day.expected"
 
     # 50 events of each of two stations: a session of 48 and one of 2, in each of which all but the first rise by 250 Wh.
     gives 0 forms/traffic.text bash -c '"$board" traffic 100 --stations 2 | "$1" replay | grep -v "^.3,"' _ "$program"

@@ -26,7 +26,8 @@ class Pages:
         self.calendar = Calendar(words.tz or timezone.utc)
         self.count = 0
         # What a board has is told by its page.
-        logging.getLogger("ocpp_board.boards").setLevel(logging.WARNING)
+        for name in ("boards", "tables"):
+            logging.getLogger(f"ocpp_board.{name}").setLevel(logging.WARNING)
 
     def write(self, site: str, board: bytes) -> None:
         """Writes a site's files where its board or the number of refused messages is another. Raises OSError."""

@@ -252,6 +252,8 @@ def look_at_script(words: argparse.Namespace) -> None:
     """Replays the script, and writes what was refused of it."""
     refusals = Refusals()
     with opened(words.script) as file:
+        if is_gzip(file):
+            raise Mistaken("the script is compressed by gzip: gunzip it first")
         script = UntakenLines(file)
         hand_on(answered(words.program, script), [refusals.take])
     for refusal in script.refusals:
