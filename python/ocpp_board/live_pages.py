@@ -65,7 +65,7 @@ class Pages:
         with tempfile.TemporaryFile() as text:
             text.write(board)
             text.seek(0)
-            tables.write_files(words, text)
+            tables.write_files(words, text, max(1, round(self.words.every)))
 
     def put(self, folder: Path, last: str) -> None:
         """Moves files to where they belong; the page that links to the others comes last."""

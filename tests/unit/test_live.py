@@ -63,7 +63,7 @@ def made(folder: Path) -> dict[str, int]:
 
 
 def test_pages_are_written_for_the_days_that_changed(tmp_path: Path) -> None:
-    words = argparse.Namespace(out=tmp_path, tz=None, log_json=False, prog="live")
+    words = argparse.Namespace(out=tmp_path, tz=None, every=10, log_json=False, prog="live")
     refusals = Refusals()
     pages = Pages(words, refusals)
     pages.write("north", board(9, 1, 1))
@@ -82,6 +82,7 @@ def test_pages_are_written_for_the_days_that_changed(tmp_path: Path) -> None:
     refusals.add(Refusal("", "A", "T", "0", "Moment", "", "north", "is none"))
     pages.write("north", board(9, 1, 2))
     page = (tmp_path / "north.html").read_text()
+    assert '<meta http-equiv="refresh" content="10">' in page
     assert "1 message was refused" in page and 'href="north.refused.csv"' in page
     assert (tmp_path / "north.refused.csv").read_text().count("\n") == 2
     (tmp_path / days[0]).unlink()
@@ -92,7 +93,7 @@ def test_pages_are_written_for_the_days_that_changed(tmp_path: Path) -> None:
 
 
 def test_what_is_no_board_writes_nothing(tmp_path: Path) -> None:
-    words = argparse.Namespace(out=tmp_path, tz=None, log_json=False, prog="live")
+    words = argparse.Namespace(out=tmp_path, tz=None, every=10, log_json=False, prog="live")
     Pages(words, Refusals()).write("north", b"fault UnknownSite\n")
     assert made(tmp_path) == {}
 
