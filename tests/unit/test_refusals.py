@@ -2,7 +2,6 @@
 
 import csv
 import logging
-import stat
 from datetime import datetime, timezone
 from pathlib import Path
 
@@ -30,32 +29,6 @@ EVENT = (
     '"triggerReason":"Authorized","seqNo":0,"transactionInfo":{"transactionId":"T1"}}]'
 )
 MOMENT = '[4,"1","PropertyConstraintViolation","Moment",{}]'
-# A replay in place of the program: it takes only what these tests send, and fails at a line `fail`.
-STUB = """#!/usr/bin/env python3
-import sys
-opened = False
-for line in sys.stdin:
-    words = line.rstrip("\\n").split(" ")
-    if words[0] == "msg":
-        opened = True
-        print("fault UnknownStation" if words[1] == "X" else '[3,"' + words[2] + '",{}]')
-    elif words[0] == "board":
-        print("board north period=900\\ntotal events=0\\nend")
-    elif words[0] == "-" or words[:2] == ["now", "x"]:
-        print("fault BadLine")
-    elif words[0] == "limits":
-        print("fault DeclaredLate" if opened else "fault PlanLimit")
-    elif words[0] == "fail":
-        sys.exit("fault ReadFault")
-"""
-
-
-@pytest.fixture(name="stub")
-def made_stub(tmp_path: Path) -> str:
-    path = tmp_path / "replay"
-    path.write_text(STUB)
-    path.chmod(stat.S_IRWXU)
-    return str(path)
 
 
 def script_of(folder: Path, text: str) -> Path:
