@@ -84,6 +84,7 @@ with_program() {
     gives 1 explain/mistakes.told "$board" explain --program "$program" explain/mistakes.script
     gives 0 explain/nothing.told "$board" explain --program "$program" forms/ocpp.script
     gives 1 explain/mark.told "$board" explain --program "$program" explain/mark.script
+    gives 0 explain/near.told "$board" explain --program "$program" explain/near.script
     gzip -c "$days/day.script" > "$made/day.script.gz"
     gives 1 explain/gzip.told "$board" explain --program "$program" "$made/day.script.gz"
     tells 2 "No such file or directory" "$board" explain --program "$program" nowhere.script
@@ -119,6 +120,15 @@ with_program() {
     tells 2 "No such file or directory" "$board" tables --script "$made/troubles.script" --program ./nowhere \
         --out "$made/x" tables/troubles.text
 
+    # What was refused of a script, with a page that links to it; the action Authorize is none of these.
+    gives 0 - "$board" tables --script "$days/day.jsonl.script" --program "$program" --out "$made/refused" "$days/day.jsonl.expected"
+    as_stored tables/refused.csv "$made/refused.refused.csv"
+    holds tables/refused.said
+    # What a log could not give counts, too.
+    gives 0 - bash -c '"$1" replay < forms/mistakes.script > "$2.text"; "$board" tables --script forms/mistakes.script \
+        --program "$1" --out "$2" "$2.text"' _ "$program" "$made/untaken"
+    holds tables/untaken.said
+
     # 50 events of each of two stations: a session of 48 and one of 2, in each of which all but the first rise by 250 Wh.
     gives 0 forms/traffic.text bash -c '"$board" traffic 100 --stations 2 | "$1" replay | grep -v "^.3,"' _ "$program"
 }
@@ -135,6 +145,11 @@ gives 0 forms/citrineos.script "$board" log-to-script --form citrineos "${citrin
 gives 0 forms/periods.script "$board" log-to-script --form citrineos --site north --site-map forms/sites.txt --period 1800 \
     --period north=300 forms/citrineos.jsonl
 gives 0 forms/citrineos.script "$board" log-to-script --form citrineos-csv "${citrineos[@]}" forms/citrineos.csv
+gives 0 forms/arrows.script "$board" log-to-script --form arrows --site north forms/arrows.log
+gives 0 forms/regex.script "$board" log-to-script --received --incoming up \
+    --regex '^(?P<time>[0-9.]+)\|(?P<site>[^/]+)/(?P<station>[^|]+)\|(?P<direction>up|down)\|(?P<message>.*)' forms/regex.log
+gives 0 forms/nested.script "$board" log-to-script --time-field meta.at --site-field charger.site --station-field charger.id \
+    --protocol-field charger.version --message-field frame.raw --json-message forms/nested.jsonl
 
 # Logs that were compressed, one of which is cut short, and words and lines that can't be taken.
 gzip -c "$days/day.jsonl" > "$made/day.jsonl.gz"
@@ -142,10 +157,11 @@ gives 0 "$days/day.jsonl.script" "${day_of_log[@]}" "$made/day.jsonl.gz"
 head -c -100 "$made/day.jsonl.gz" > "$made/cut.gz"
 tells 1 "the gzip is cut short" "${day_of_log[@]}" "$made/cut.gz"
 gives 1 forms/mistakes.script "$board" log-to-script forms/mistakes.jsonl
-tells 1 "a time has no offset from UTC (--utc takes such times as UTC)" \
+tells 0 "a time has no offset from UTC (--utc takes such times as UTC); its message goes without a time" \
     "$board" log-to-script --form ocpp --site north forms/ocpp.log
 tells 1 "neither this line nor one before it is of the form ocpp" "$board" log-to-script --form ocpp --site n "$days/day.jsonl"
-tells 1 "not a topic cs/in/ocpp2.0.1/STATION" "$board" log-to-script --form maeve --site north forms/ocpp.log
+tells 1 "neither this line nor one before it is of the form maeve" \
+    "$board" log-to-script --form maeve --site north forms/ocpp.log
 tells 2 "line 1 names no column message, origin, stationId, timestamp" \
     "$board" log-to-script --form citrineos-csv --site north forms/ocpp.log
 tells 2 "has no sites: --site, --site-map or --stations names them" "$board" log-to-script --form ocpp forms/ocpp.log
@@ -179,7 +195,7 @@ done
 if [ -n "$program" ]; then
     replays "$program" replay
     "$one" words.words "$program" ../words/words.txt || differs words.txt
-    for scenes in sessions serving living journalling; do
+    for scenes in sessions serving living journalling following; do
         "$one" "scenes.$scenes" "$program" || differs "$scenes"
     done
     with_program

@@ -108,6 +108,8 @@ class Layout:
     oldest: int | None = None
     # Messages that were refused, which lie in a file of their own.
     refused: int = 0
+    # Days whose pages stand already, and are not written; None where every page is written.
+    standing: frozenset[date] | None = None
 
     def index(self, number: int = 1) -> str:
         """The path of the page of all boards, and of those on which it goes on."""
@@ -124,18 +126,29 @@ class Layout:
     def stamp(self, until: datetime | None) -> str:
         """Up to when the data is and when the page was written, and a warning where that is too long before. `until`:
         the end of the last period, which tells it where nothing else does."""
-        said = [f"Page written {self.moment(self.written)}."]
+        said = ""
         if self.until:
-            said.insert(0, f"Data up to {self.moment(self.until)}.")
+            said = f"Data up to {self.moment(self.until)}. "
         elif until:
-            said.insert(0, f"Periods up to {self.moment(until)}.")
-        if self.refresh:
-            pause = "second" if self.refresh == 1 else f"{self.refresh:,} seconds"
-            said.append(f"A browser draws it anew every {pause}.")
+            said = f"Periods up to {self.moment(until)}. "
         return (
-            f'<p class="stamp">{" ".join(said)} {self.calendar.said()}.</p>\n{self.old()}'
+            f"{self.stamped(f'{said}Page written {self.moment(self.written)}.')}{self.old()}"
             f"{refused_banner(self.refused, f'{self.out}.refused.csv'.rpartition('/')[2])}"
         )
+
+    def day_stamp(self, until: datetime | None) -> str:
+        """As `stamp`, on the page of a day. One that stands until its day changes tells nothing that others change."""
+        if self.standing is None:
+            return self.stamp(until)
+        written = self.moment(self.written)
+        return self.stamped(f"Page written {written}, and again when something on it changes.")
+
+    def stamped(self, said: str) -> str:
+        """What is told of times, with the zone, and how often a browser draws the page anew."""
+        if self.refresh:
+            pause = "second" if self.refresh == 1 else f"{self.refresh:,} seconds"
+            said += f" A browser draws it anew every {pause}."
+        return f'<p class="stamp">{said} {self.calendar.said()}.</p>\n'
 
     def moment(self, at: datetime) -> str:
         """A moment in the zone, to the second where pages are drawn anew."""
@@ -276,6 +289,8 @@ class DayPages:
 
     def __init__(self, layout: Layout) -> None:
         self.layout, self.calendar = layout, layout.calendar
+        # The days that boards have, and the pages of those that are written.
+        self.shown: set[date] = set()
         self.days: dict[date, Series] = {}
         self.names = Names()
         self.until: datetime | None = None
@@ -293,7 +308,8 @@ class DayPages:
             for day, periods in self.layout.by_day(part.periods):
                 one = DayPart(part, f"b{board.number}-{number}", day, periods, scale)
                 days.setdefault(day, []).append(one)
-        for day in sorted(days):
+        self.shown.update(days)
+        for day in sorted(days.keys() - (self.layout.standing or ())):
             self.add_day(board, day, days[day])
 
     def add_day(self, board: Board, day: date, parts: list[DayPart]) -> None:
@@ -316,30 +332,34 @@ class DayPages:
 
     def close(self) -> None:
         """Gives each page its title, and links to the days beside it."""
-        days = sorted(self.days)
+        days = sorted(self.shown)
         for before, day, after in zip([None, *days], days, [*days[1:], None]):
-            length = self.calendar.seconds(day) / 3600
-            said = "" if length == 24 else f"<p>This day has {length:g} hours.</p>\n"
-            links = [
-                day_link(self.layout, before, "\N{LEFTWARDS ARROW} "),
-                link(self.layout.index(), "All days, stations and sessions"),
-                day_link(self.layout, after, "\N{RIGHTWARDS ARROW} "),
-            ]
-            series = self.days[day]
-            above, below = (
-                f'<nav aria-label="Days, {where}">{" ".join(filter(None, links))}</nav>\n'
-                for where in ("above", "below")
+            if day in self.days:
+                links = [
+                    day_link(self.layout, before, "\N{LEFTWARDS ARROW} "),
+                    link(self.layout.index(), "All days, stations and sessions"),
+                    day_link(self.layout, after, "\N{RIGHTWARDS ARROW} "),
+                ]
+                self.frame(day, " ".join(filter(None, links)))
+
+    def frame(self, day: date, links: str) -> None:
+        """Gives the pages of a day their title and links."""
+        length = self.calendar.seconds(day) / 3600
+        said = "" if length == 24 else f"<p>This day has {length:g} hours.</p>\n"
+        series = self.days[day]
+        above, below = (
+            f'<nav aria-label="Days, {where}">{links}</nav>\n' for where in ("above", "below")
+        )
+        told = self.layout.day_stamp(self.until) + said
+        for number, page in enumerate(series.pages, 1):
+            begin = self.layout.head(
+                f"{self.names.title()},",
+                told,
+                above + series.links(number, "above"),
+                self.names.is_one,
+                f"{weekday(day)} {day}{page_of(number)}",
             )
-            told = self.layout.stamp(self.until) + said
-            for number, page in enumerate(series.pages, 1):
-                begin = self.layout.head(
-                    f"{self.names.title()},",
-                    told,
-                    above + series.links(number, "above"),
-                    self.names.is_one,
-                    f"{weekday(day)} {day}{page_of(number)}",
-                )
-                page.frame(begin, series.links(number, "below") + below + explained(BARS) + FOOT)
+            page.frame(begin, series.links(number, "below") + below + explained(BARS) + FOOT)
 
 
 NET_BAR = Column("Net as a bar", "bar wide", True)

@@ -26,10 +26,11 @@ back have. The net energy, which the pages show, is what was imported less what 
 
 A board has no times of transactions. With --script the tool replays the script that the text is of, and takes
 from its messages when each session began and ended, what its registers read first and last, and why it stopped:
-these stand on the pages and in NAME.transactions.csv, for comparing with bills. It looks at the quality of the data,
-too, and writes
+these stand on the pages and in NAME.transactions.csv, for comparing with bills. It looks at the quality of the data
+and at what was refused, too, and writes
 
     NAME.findings.csv       what is doubtful in which session: its name, how often, when first, and what it means
+    NAME.refused.csv        what was refused: when, whose, the cause by name and what to do; the pages link to it
 
     ocpp-board tables --script SCRIPT --program ocpp_board --out NAME TEXT
 
@@ -58,6 +59,7 @@ import time
 from collections.abc import Callable, Iterable, Sequence
 from dataclasses import replace
 from datetime import date, datetime, timezone
+from pathlib import Path
 from typing import IO, NoReturn, TextIO
 from urllib.request import urlopen
 
@@ -69,6 +71,7 @@ from ocpp_board.energies import Flow, kwh_of
 from ocpp_board.escapes import csv_cell
 from ocpp_board.progress import Progress
 from ocpp_board.quality import Kind
+from ocpp_board.refusals import Refusals, UntakenLines
 from ocpp_board.session_times import Registers
 from ocpp_board.sources import is_gzip, opened
 from ocpp_board.statuses import Mistaken, Status, ended
@@ -311,13 +314,6 @@ def add_moments(parser: argparse.ArgumentParser) -> None:
         type=int,
         help="have a browser draw the pages anew every so many seconds",
     )
-    parser.add_argument(
-        "--refused",
-        metavar="COUNT",
-        type=int,
-        default=0,
-        help="how many messages were refused; pages tell it with a link to NAME.refused.csv",
-    )
 
 
 def arguments(argv: Sequence[str], prog: str) -> argparse.Namespace:
@@ -349,7 +345,7 @@ def arguments(argv: Sequence[str], prog: str) -> argparse.Namespace:
     parser.add_argument(
         "--script",
         metavar="SCRIPT",
-        help="the script that the text is of: times of sessions and findings are taken from its messages",
+        help="the script that the text is of: its messages tell times of sessions, findings, and what was refused",
     )
     add_program(parser)
     add_moments(parser)
@@ -394,9 +390,7 @@ def layout_of(words: argparse.Namespace) -> Layout:
     """Where the files go and what pages tell, by the words."""
     calendar = Calendar(words.tz, words.first, words.last)
     written = words.written or datetime.now(timezone.utc)
-    return Layout(
-        words.out, calendar, written, words.refresh, words.until, words.oldest, words.refused
-    )
+    return Layout(words.out, calendar, written, words.refresh, words.until, words.oldest)
 
 
 def hand_on(messages: Iterable[Answered], takers: Sequence[Callable[[Answered], None]]) -> None:
@@ -432,6 +426,21 @@ def write_files(
     return Status.TOLD if reader.counts["unread"] else Status.DONE
 
 
+def read_script(words: argparse.Namespace) -> tuple[Told, Refusals]:
+    """Replays the script, and gives what its messages tell and what was refused of them, which it writes."""
+    told, refusals = Told(), Refusals()
+    with opened(words.script) as file:
+        if is_gzip(file):
+            raise Mistaken("the script is compressed by gzip: gunzip it first")
+        script = UntakenLines(file)
+        hand_on(answered(words.program, script), [told.take, refusals.take])
+    for refusal in script.refusals:
+        refusals.add(refusal)
+    refusals.end()
+    refusals.write(Path(f"{words.out}.refused.csv"))
+    return told, refusals
+
+
 def run(words: argparse.Namespace) -> int:
     """Writes the files of the text that the words name, or follows a server."""
     if words.follow:
@@ -442,13 +451,10 @@ def run(words: argparse.Namespace) -> int:
         layout = layout_of(words)
         if words.script is None:
             return write_files(words, text, layout)
-        told = Told()
-        with opened(words.script) as script:
-            if is_gzip(script):
-                raise Mistaken("the script is compressed by gzip: gunzip it first")
-            hand_on(answered(words.program, script), [told.take])
+        told, refusals = read_script(words)
         until = words.until or told.until()
-        return write_files(words, text, replace(layout, until=until), told)
+        layout = replace(layout, until=until, refused=refusals.count())
+        return write_files(words, text, layout, told)
 
 
 def main(argv: Sequence[str], prog: str) -> int:

@@ -23,6 +23,8 @@ CONFLICT = '"ConflictingEvent",{}]'
 FAR_AHEAD, FAR_BEHIND = 300, 3_600
 # Characters of a text of a message that are kept.
 LONGEST_TEXT = 80
+# Conflicts of a transaction that are kept. Further ones are not counted.
+MOST_CONFLICTS = 1_000
 ANNOTATION = re.compile(r"\[.*\]$")
 # Digits for a reading's value, however its exponent is written.
 EXACT = Context(prec=250)
@@ -173,7 +175,8 @@ class Transactions:
         tx = payload["transactionInfo"]["transactionId"].lower()
         whole = self.known.setdefault((answered.site, answered.station, tx), Transaction())
         if is_conflict:
-            whole.conflicts.append(event)
+            if len(whole.conflicts) < MOST_CONFLICTS:
+                whole.conflicts.append(event)
             return
         had = whole.events.get(event.number)
         # Of an event that was sent again the first receipt is kept.

@@ -233,6 +233,12 @@ def test_an_event_that_was_erased_is_told_by_the_one_that_came_in_its_place() ->
     assert taken([*sound("T1", FIRST), other]).events[1].at == (FIRST + HOUR).timestamp()
 
 
+def test_of_conflicts_some_are_kept(monkeypatch: pytest.MonkeyPatch) -> None:
+    monkeypatch.setattr("ocpp_board.transactions.MOST_CONFLICTS", 2)
+    start, *_ = sound("T1", FIRST)
+    assert len(taken([start] * 4, {1: CONFLICT, 2: CONFLICT, 3: CONFLICT}).conflicts) == 2
+
+
 def test_refused_messages_and_other_actions_tell_nothing() -> None:
     found = Transactions()
     one = answered(sound("T1", FIRST)[0])

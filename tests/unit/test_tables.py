@@ -106,7 +106,6 @@ def test_a_zone_stands_beside_utc(tmp_path: Path) -> None:
     [
         (["--oldest", "60", "--until", "2026-03-01T08:00:00Z"], "older than it should be", True),
         (["--oldest", "86400", "--until", "2026-03-01T08:00:00Z"], "older than it should", False),
-        (["--refused", "2"], 'href="x.refused.csv">2 messages were refused', True),
         (["--refresh", "10"], '<meta http-equiv="refresh" content="10">', True),
         ([], 'class="refused"', False),
         ([], "http-equiv", False),

@@ -1,0 +1,76 @@
+"""The pages and tables of the sites of a ledger that grows, written anew where a site's board is another one."""
+
+import argparse
+import logging
+import os
+import shutil
+import tempfile
+from dataclasses import replace
+from datetime import date, timezone
+from pathlib import Path
+
+from ocpp_board import tables
+from ocpp_board.calendars import Calendar
+from ocpp_board.changed_days import digests
+from ocpp_board.refusals import Refusals
+from ocpp_board.told import Told
+
+
+class Pages:
+    """The files of each site, as `ocpp-board tables` makes them."""
+
+    def __init__(self, words: argparse.Namespace, refusals: Refusals, told: Told) -> None:
+        self.words, self.refusals, self.told = words, refusals, told
+        # By site: the board that the files show, and how many messages were refused.
+        self.shown: dict[str, tuple[bytes, int]] = {}
+        # By site and day, what the day's page shows.
+        self.days: dict[str, dict[date, bytes]] = {}
+        self.calendar = Calendar(words.tz or timezone.utc)
+        self.count = 0
+        # What a board has is told by its page.
+        for name in ("boards", "tables"):
+            logging.getLogger(f"ocpp_board.{name}").setLevel(logging.WARNING)
+
+    def write(self, site: str, board: bytes) -> None:
+        """Writes a site's files where its board or the number of refused messages is another. Raises OSError."""
+        refused = self.refusals.count(site)
+        if not board.startswith(b"board ") or self.shown.get(site) == (board, refused):
+            return
+        folder = Path(tempfile.mkdtemp(prefix=".live_board.", dir=self.words.out))
+        try:
+            self.refusals.write(folder / f"{site}.refused.csv", site)
+            days = digests(board, self.calendar)
+            self.make(folder / site, board, refused, self.unchanged(site, days))
+            self.put(folder, f"{site}.html")
+        finally:
+            shutil.rmtree(folder)
+        self.shown[site], self.days[site] = (board, refused), days
+        self.count += 1
+
+    def unchanged(self, site: str, days: dict[date, bytes]) -> frozenset[date]:
+        """The days of a site whose pages stand as they would be written."""
+        before = self.days.get(site, {})
+        return frozenset(
+            day
+            for day, digest in days.items()
+            if before.get(day) == digest and (self.words.out / f"{site}.{day}.html").exists()
+        )
+
+    def make(self, name: Path, board: bytes, refused: int, standing: frozenset[date]) -> None:
+        """Makes the files of a board, whose names begin so, but for the pages of days that stand already."""
+        more = ["--tz", str(self.words.tz)] if self.words.tz else []
+        more += ["--log-json"] if self.words.log_json else []
+        more += ["--refresh", str(max(1, round(self.words.every)))]
+        words = tables.arguments(["--out", str(name), *more], self.words.prog)
+        layout = replace(
+            tables.layout_of(words), until=self.told.until(), refused=refused, standing=standing
+        )
+        with tempfile.TemporaryFile() as text:
+            text.write(board)
+            text.seek(0)
+            tables.write_files(words, text, layout, self.told)
+
+    def put(self, folder: Path, last: str) -> None:
+        """Moves files to where they belong; the page that links to the others comes last."""
+        for path in sorted(folder.iterdir(), key=lambda path: path.name == last):
+            os.replace(path, self.words.out / path.name)
