@@ -144,8 +144,11 @@ def a_log_is_followed_over_rotations(program: str) -> None:
         run.wait("four events", run.has_events(4))
         status, told = run.end()
         expect(f"status {status}: {told}", status == 0)
-        complete = [(each["complete"], each["up (mWh)"]) for each in run.rows("transactions")]
-        expect(f"the session: {complete}", complete == [("yes", "300000")])
+        (session,) = run.rows("transactions")
+        names = ("complete", "up (mWh)", "start (UTC)", "end (UTC)", "findings")
+        found = [session[name] for name in names]
+        times = ["2026-03-01T10:00:00Z", "2026-03-01T10:03:00Z"]
+        expect(f"the session: {found}", found == ["yes", "300000", *times, ""])
 
 
 def killed_and_started_again(program: str) -> None:
@@ -202,6 +205,29 @@ def an_operators_lines_are_kept(program: str) -> None:
         run.wait("one event", run.has_events(1))
         total = run.answer("total A")
         expect(total, total.startswith("total events=1 voided=1 "))
+
+
+def a_clock_far_from_the_log(program: str) -> None:
+    """What lies far from the log's time is a finding on the page, the same after a start again. A line without a time
+    that can be read is none: the time of the line before it is not its own."""
+    findings = [("A", "t1", "clock far from receipt", "1")]
+
+    def is_shown() -> bool:
+        names = ("station", "transaction", "finding", "times")
+        return [tuple(each[name] for name in names) for each in run.rows("findings")] == findings
+
+    with beside(program) as run:
+        run.write(row(message(0, "Started")), row(message(1, day="2026-03-03")))
+        run.write(row(message(2, day="2026-03-05"), at="none"))
+        for _ in range(2):
+            run.start()
+            run.wait("the finding", is_shown)
+            run.wait("three events", run.has_events(3))
+            page = (run.folder / "out/north.html").read_text()
+            expect("the page's finding", "clock far from receipt" in page)
+            status, told = run.end()
+            expect(f"status {status}: {told}", status == 0)
+            shutil.rmtree(run.folder / "out")
 
 
 def a_new_station(program: str) -> None:
@@ -303,6 +329,7 @@ SCENES = (
     killed_and_started_again,
     two_keep_no_script_together,
     an_operators_lines_are_kept,
+    a_clock_far_from_the_log,
     a_new_station,
     what_is_refused_is_shown,
     a_signal_ends_the_feeder_too,
