@@ -209,6 +209,8 @@ class Run:
             self.progress.tell(line.number, len(line.line) + 1)
             if message := self.messages.take(line, text):
                 self.near.take(message)
+                if message.is_accepted and self.plan.opened:
+                    continue
             self.explain(line, text.partition(b"\n")[0].decode("utf-8", "replace"))
         self.progress.end()
         status, told = self.replay.ended()

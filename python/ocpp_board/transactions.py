@@ -10,6 +10,7 @@ from collections.abc import Iterator
 from dataclasses import dataclass, field
 from datetime import datetime, timezone
 from decimal import Context, Decimal
+from functools import lru_cache
 from typing import Any, NamedTuple
 
 from ocpp_board.answered import Answered
@@ -23,6 +24,8 @@ CONFLICT = '"ConflictingEvent",{}]'
 FAR_AHEAD, FAR_BEHIND = 300, 3_600
 # Characters of a text of a message that are kept.
 LONGEST_TEXT = 80
+# Moments whose texts are kept, since an event and its readings often have the same.
+KEPT_MOMENTS = 1_024
 # Conflicts of a transaction that are kept. Further ones are not counted.
 MOST_CONFLICTS = 1_000
 ANNOTATION = re.compile(r"\[.*\]$")
@@ -70,6 +73,7 @@ class Transaction:
         return [self.events[number] for number in sorted(self.events) if is_live(number)]
 
 
+@lru_cache(KEPT_MOMENTS)
 def seconds_of(text: str) -> float | None:
     """A time of a message in seconds since 1970; None where Python can't read what the program took."""
     try:
@@ -102,6 +106,8 @@ def sampled_values(payload: dict[str, Any]) -> Iterator[tuple[float | None, dict
 
 def measurand_of(sampled: dict[str, Any]) -> str:
     """What is measured and where; a counted reading's is that of its register alone."""
+    if len(sampled) == 1 and "value" in sampled:
+        return IMPORT
     named: str | None = sampled.get("measurand")
     parts = [IMPORT if named is None else named]
     if sampled.get("phase") is not None:
@@ -173,7 +179,10 @@ class Transactions:
             return
         event = event_of(payload, answered.received)
         tx = payload["transactionInfo"]["transactionId"].lower()
-        whole = self.known.setdefault((answered.site, answered.station, tx), Transaction())
+        key = answered.site, answered.station, tx
+        whole = self.known.get(key)
+        if whole is None:
+            whole = self.known[key] = Transaction()
         if is_conflict:
             if len(whole.conflicts) < MOST_CONFLICTS:
                 whole.conflicts.append(event)
@@ -191,5 +200,5 @@ class Transactions:
 
     def came(self, at: datetime | None) -> None:
         """Something came then, where that is known."""
-        if at is not None:
-            self.latest = max(self.latest or at, at)
+        if at is not None and (self.latest is None or at > self.latest):
+            self.latest = at

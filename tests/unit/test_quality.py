@@ -233,6 +233,13 @@ def test_an_event_that_was_erased_is_told_by_the_one_that_came_in_its_place() ->
     assert taken([*sound("T1", FIRST), other]).events[1].at == (FIRST + HOUR).timestamp()
 
 
+def test_a_value_that_does_not_count_needs_no_number() -> None:
+    start, *_ = sound("T1", FIRST)
+    at = {"timestamp": "2026-03-01T08:00:00Z", "sampledValue": [{"measurand": "Voltage"}]}
+    message = start._replace(payload=start.payload | {"meterValue": [at]})
+    assert taken([message]).events[0].readings == ()
+
+
 def test_of_conflicts_some_are_kept(monkeypatch: pytest.MonkeyPatch) -> None:
     monkeypatch.setattr("ocpp_board.transactions.MOST_CONFLICTS", 2)
     start, *_ = sound("T1", FIRST)
