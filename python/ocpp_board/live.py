@@ -284,6 +284,12 @@ def arguments(argv: Sequence[str], prog: str) -> argparse.Namespace:
         help="how long to wait from one writing to the next (default: 10)",
     )
     parser.add_argument(
+        "--oldest",
+        metavar="SECONDS",
+        type=seconds,
+        help="how long nothing may come from any station; then the pages tell that their data is too old",
+    )
+    parser.add_argument(
         "--tz",
         metavar="ZONE",
         type=zone,

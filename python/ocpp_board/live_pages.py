@@ -6,7 +6,7 @@ import os
 import shutil
 import tempfile
 from dataclasses import replace
-from datetime import date, timezone
+from datetime import date, datetime, timedelta, timezone
 from pathlib import Path
 
 from ocpp_board import tables
@@ -21,8 +21,8 @@ class Pages:
 
     def __init__(self, words: argparse.Namespace, refusals: Refusals, told: Told) -> None:
         self.words, self.refusals, self.told = words, refusals, told
-        # By site: the board that the files show, and how many messages were refused.
-        self.shown: dict[str, tuple[bytes, int]] = {}
+        # By site: the board that the files show, how many messages were refused, and whether the data is too old.
+        self.shown: dict[str, tuple[bytes, int, bool]] = {}
         # By site and day, what the day's page shows.
         self.days: dict[str, dict[date, bytes]] = {}
         self.calendar = Calendar(words.tz or timezone.utc)
@@ -32,9 +32,11 @@ class Pages:
             logging.getLogger(f"ocpp_board.{name}").setLevel(logging.WARNING)
 
     def write(self, site: str, board: bytes) -> None:
-        """Writes a site's files where its board or the number of refused messages is another. Raises OSError."""
+        """Writes a site's files where its board or the number of refused messages is another, or where its data is too
+        old by now, or no longer. Raises OSError."""
         refused = self.refusals.count(site)
-        if not board.startswith(b"board ") or self.shown.get(site) == (board, refused):
+        shown = board, refused, self.is_old()
+        if not board.startswith(b"board ") or self.shown.get(site) == shown:
             return
         folder = Path(tempfile.mkdtemp(prefix=".live_board.", dir=self.words.out))
         try:
@@ -44,8 +46,15 @@ class Pages:
             self.put(folder, f"{site}.html")
         finally:
             shutil.rmtree(folder)
-        self.shown[site], self.days[site] = (board, refused), days
+        self.shown[site], self.days[site] = shown, days
         self.count += 1
+
+    def is_old(self) -> bool:
+        """Whether nothing came for longer than the words allow."""
+        until, oldest = self.told.until(), self.words.oldest
+        if until is None or oldest is None:
+            return False
+        return datetime.now(timezone.utc) - until > timedelta(seconds=oldest)
 
     def unchanged(self, site: str, days: dict[date, bytes]) -> frozenset[date]:
         """The days of a site whose pages stand as they would be written."""
@@ -63,7 +72,11 @@ class Pages:
         more += ["--refresh", str(max(1, round(self.words.every)))]
         words = tables.arguments(["--out", str(name), *more], self.words.prog)
         layout = replace(
-            tables.layout_of(words), until=self.told.until(), refused=refused, standing=standing
+            tables.layout_of(words),
+            until=self.told.until(),
+            oldest=self.words.oldest,
+            refused=refused,
+            standing=standing,
         )
         with tempfile.TemporaryFile() as text:
             text.write(board)

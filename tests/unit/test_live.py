@@ -75,7 +75,9 @@ def made(folder: Path) -> dict[str, int]:
 
 
 def test_pages_are_written_for_the_days_that_changed(tmp_path: Path) -> None:
-    words = argparse.Namespace(out=tmp_path, tz=None, every=10, log_json=False, prog="live")
+    words = argparse.Namespace(
+        out=tmp_path, tz=None, every=10, oldest=None, log_json=False, prog="live"
+    )
     refusals = Refusals()
     pages = Pages(words, refusals, Told())
     pages.write("north", board(9, 1, 1))
@@ -108,7 +110,9 @@ def test_days_of_several_pages_stand_until_they_change(
     tmp_path: Path, monkeypatch: pytest.MonkeyPatch
 ) -> None:
     monkeypatch.setattr("ocpp_board.board_pages.PAGE_BYTES", 100)
-    words = argparse.Namespace(out=tmp_path, tz=None, every=10, log_json=False, prog="live")
+    words = argparse.Namespace(
+        out=tmp_path, tz=None, every=10, oldest=None, log_json=False, prog="live"
+    )
     pages = Pages(words, Refusals(), Told())
     pages.write("north", board(9, 1))
     first = made(tmp_path)
@@ -125,7 +129,9 @@ def test_days_of_several_pages_stand_until_they_change(
 
 
 def test_pages_have_times_and_findings(tmp_path: Path) -> None:
-    words = argparse.Namespace(out=tmp_path, tz=None, every=10, log_json=False, prog="live")
+    words = argparse.Namespace(
+        out=tmp_path, tz=None, every=10, oldest=None, log_json=False, prog="live"
+    )
     told, refusals = Told(), Refusals()
     refusals.add(Refusal("", "A", "T", "0", "Moment", "", "north", "is none"))
     session = KINDS["clock-far"]("T1", FIRST)
@@ -135,7 +141,8 @@ def test_pages_have_times_and_findings(tmp_path: Path) -> None:
     last = len(session) - 1
     tx = f"tx t1 evse=1 events={last + 1} first=0 last={last} complete=yes missing=0 {flow(3)}\nend\n"
     text = board(3).replace(b"end\n", tx.encode())
-    Pages(words, refusals, told).write("north", text)
+    pages = Pages(words, refusals, told)
+    pages.write("north", text)
     page, day = ((tmp_path / f"north{name}.html").read_text() for name in ("", ".2026-03-01"))
     assert "clock far from receipt" in page and "Data up to" in page and "were refused" not in page
     assert "1 message was refused" in page
@@ -144,10 +151,20 @@ def test_pages_have_times_and_findings(tmp_path: Path) -> None:
     # The page of a day tells nothing that changes while its day doesn't.
     assert "again when something on it changes" in day
     assert "Data up to" not in day and "refused" not in day.split("</style>")[1]
+    # Nothing came for long: the first page tells it, without another change.
+    assert "older than it should be" not in page
+    words.oldest = 3_600
+    pages.write("north", text)
+    page, day = ((tmp_path / f"north{name}.html").read_text() for name in ("", ".2026-03-01"))
+    assert "older than it should be" in page and "older than it should be" not in day
+    pages.write("north", text)
+    assert pages.count == 2
 
 
 def test_what_is_no_board_writes_nothing(tmp_path: Path) -> None:
-    words = argparse.Namespace(out=tmp_path, tz=None, every=10, log_json=False, prog="live")
+    words = argparse.Namespace(
+        out=tmp_path, tz=None, every=10, oldest=None, log_json=False, prog="live"
+    )
     Pages(words, Refusals(), Told()).write("north", b"fault UnknownSite\n")
     assert made(tmp_path) == {}
 
