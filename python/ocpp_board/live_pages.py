@@ -10,10 +10,15 @@ from datetime import date, datetime, timedelta, timezone
 from pathlib import Path
 
 from ocpp_board import tables
+from ocpp_board.board_pages import Layout, write_sites
 from ocpp_board.calendars import Calendar
 from ocpp_board.changed_days import digests
+from ocpp_board.pages import Row
 from ocpp_board.refusals import Refusals
 from ocpp_board.told import Told
+
+# The page that leads to those of all sites, where none has this name.
+SITES = "index"
 
 
 class Pages:
@@ -25,6 +30,8 @@ class Pages:
         self.shown: dict[str, tuple[bytes, int, bool]] = {}
         # By site and day, what the day's page shows.
         self.days: dict[str, dict[date, bytes]] = {}
+        # By site, its row on the page of all sites.
+        self.sites: dict[str, list[Row]] = {}
         self.calendar = Calendar(words.tz or timezone.utc)
         self.count = 0
         # What a board has is told by its page.
@@ -42,7 +49,10 @@ class Pages:
         try:
             self.refusals.write(folder / f"{site}.refused.csv", site)
             days = digests(board, self.calendar)
-            self.make(folder / site, board, refused, self.unchanged(site, days))
+            layout = self.make(folder / site, board, refused, self.unchanged(site, days))
+            if len(self.sites) > 1 and SITES not in self.sites:
+                rows = [row for name in sorted(self.sites) for row in self.sites[name]]
+                write_sites(replace(layout, out=str(folder / SITES), refused=0), rows)
             self.put(folder, f"{site}.html")
         finally:
             shutil.rmtree(folder)
@@ -65,7 +75,7 @@ class Pages:
             if before.get(day) == digest and (self.words.out / f"{site}.{day}.html").exists()
         )
 
-    def make(self, name: Path, board: bytes, refused: int, standing: frozenset[date]) -> None:
+    def make(self, name: Path, board: bytes, refused: int, standing: frozenset[date]) -> Layout:
         """Makes the files of a board, whose names begin so, but for the pages of days that stand already."""
         more = ["--tz", str(self.words.tz)] if self.words.tz else []
         more += ["--log-json"] if self.words.log_json else []
@@ -81,9 +91,13 @@ class Pages:
         with tempfile.TemporaryFile() as text:
             text.write(board)
             text.seek(0)
-            tables.write_files(words, text, layout, self.told)
+            rows = list[Row]()
+            tables.write_files(words, text, layout, self.told, rows)
+        self.sites[name.name] = rows
+        return layout
 
     def put(self, folder: Path, last: str) -> None:
-        """Moves files to where they belong; the page that links to the others comes last."""
-        for path in sorted(folder.iterdir(), key=lambda path: path.name == last):
+        """Moves files to where they belong; the pages that link to others come last."""
+        order = last, f"{SITES}.html"
+        for path in sorted(folder.iterdir(), key=lambda path: [path.name == one for one in order]):
             os.replace(path, self.words.out / path.name)

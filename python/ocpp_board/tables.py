@@ -69,6 +69,7 @@ from ocpp_board.boards import Part, Reader, Session, Sink
 from ocpp_board.calendars import Calendar
 from ocpp_board.energies import Flow, kwh_of
 from ocpp_board.escapes import csv_cell
+from ocpp_board.pages import Row
 from ocpp_board.progress import Progress
 from ocpp_board.quality import Kind
 from ocpp_board.refusals import Refusals, UntakenLines
@@ -401,9 +402,14 @@ def hand_on(messages: Iterable[Answered], takers: Sequence[Callable[[Answered], 
 
 
 def write_files(
-    words: argparse.Namespace, text: IO[bytes], layout: Layout, told: Told | None = None
+    words: argparse.Namespace,
+    text: IO[bytes],
+    layout: Layout,
+    told: Told | None = None,
+    sites: list[Row] | None = None,
 ) -> int:
-    """Writes the files of a text, and gives the exit status. `told`: what the messages tell besides."""
+    """Writes the files of a text, and gives the exit status. `told`: what the messages tell besides. `sites` gets a row
+    for each board, for a page that leads to several texts' pages."""
 
     def file(name: str) -> TextIO:
         path = f"{words.out}.{name}.csv"
@@ -420,6 +426,8 @@ def write_files(
         reader.read(text)
         days.close()
         index.close()
+    if sites is not None:
+        sites += index.rows
     reader.tell()
     if findings:
         findings.tell()

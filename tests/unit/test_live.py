@@ -161,6 +161,26 @@ def test_pages_have_times_and_findings(tmp_path: Path) -> None:
     assert pages.count == 2
 
 
+def test_one_page_leads_to_those_of_several_sites(tmp_path: Path) -> None:
+    words = argparse.Namespace(
+        out=tmp_path, tz=None, every=10, oldest=None, log_json=False, prog="live"
+    )
+    pages = Pages(words, Refusals(), Told())
+    pages.write("south", board(9).replace(b"board north", b"board south"))
+    assert not (tmp_path / "index.html").exists()
+    pages.write("north", board(9, 1))
+    page = (tmp_path / "index.html").read_text()
+    north, south = (
+        page.index(f'<a href="{name}.html#b1">{name}</a>') for name in ("north", "south")
+    )
+    assert north < south and '<meta http-equiv="refresh" content="10">' in page
+    # A site of this name keeps its own page.
+    pages.write("index", board(9).replace(b"board north", b"board index"))
+    assert "<title>Site index</title>" in (tmp_path / "index.html").read_text()
+    pages.write("north", board(9, 2))
+    assert "<title>Site index</title>" in (tmp_path / "index.html").read_text()
+
+
 def test_what_is_no_board_writes_nothing(tmp_path: Path) -> None:
     words = argparse.Namespace(
         out=tmp_path, tz=None, every=10, oldest=None, log_json=False, prog="live"
