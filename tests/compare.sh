@@ -13,6 +13,8 @@ top=$(cd "$(dirname "$0")/.." && pwd) && cd "$top/tests/tools" || exit
 export days=../../examples
 export board=$top/python/ocpp-board
 one=$top/tests/one
+# When the pages that are compared were written.
+written=2026-03-02T20:00:00Z
 made=$(mktemp -d) || exit
 trap 'rm -r "$made"' EXIT
 different=0
@@ -82,6 +84,7 @@ with_program() {
     gives 1 explain/mistakes.told "$board" explain --program "$program" explain/mistakes.script
     gives 0 explain/nothing.told "$board" explain --program "$program" forms/ocpp.script
     gives 1 explain/mark.told "$board" explain --program "$program" explain/mark.script
+    gives 0 explain/near.told "$board" explain --program "$program" explain/near.script
     gzip -c "$days/day.script" > "$made/day.script.gz"
     gives 1 explain/gzip.told "$board" explain --program "$program" "$made/day.script.gz"
     tells 2 "No such file or directory" "$board" explain --program "$program" nowhere.script
@@ -96,6 +99,35 @@ with_program() {
     tells 2 "No such file or directory" "$board" live --program "$program" --out "$made/live" nowhere.script
     tells 2 "the script is compressed by gzip" "$board" live --program "$program" --out "$made/live" "$made/day.script.gz" < /dev/null
     tells 2 "No such file or directory" "$board" live --program ./nowhere --out "$made/live" forms/ocpp.script
+
+    # Two sessions of each kind of trouble: each is in the tables and on the pages, and counted there.
+    "$board" traffic 2 troubles > "$made/troubles.script"
+    gives 0 tables/troubles.text bash -c '"$1" replay < "$2" | grep -v "^.3,"' _ "$program" "$made/troubles.script"
+    for zone in UTC Europe/Berlin; do
+        made_by "$board" tables --script "$made/troubles.script" --program "$program" --written $written --oldest 3600 \
+            --tz $zone --out "$made/troubles.${zone##*/}" tables/troubles.text
+    done
+    for name in troubles.UTC.findings troubles.UTC.transactions troubles.Berlin.findings troubles.Berlin.transactions; do
+        as_stored "tables/$name.csv" "$made/$name.csv"
+    done
+    holds tables/troubles.said
+    tells 0 "sessions with findings: no counted reading: 2, energy that does not count: 6, transaction id used again: 2, " \
+        "$board" tables --script "$made/troubles.script" --program "$program" --out "$made/x" tables/troubles.text
+    tells 2 "the script is compressed by gzip" "$board" tables --script "$made/day.script.gz" --program "$program" \
+        --out "$made/x" tables/troubles.text
+    tells 2 "No such file or directory" "$board" tables --script nowhere.script --program "$program" --out "$made/x" \
+        tables/troubles.text
+    tells 2 "No such file or directory" "$board" tables --script "$made/troubles.script" --program ./nowhere \
+        --out "$made/x" tables/troubles.text
+
+    # What was refused of a script, with a page that links to it; the action Authorize is none of these.
+    gives 0 - "$board" tables --script "$days/day.jsonl.script" --program "$program" --out "$made/refused" "$days/day.jsonl.expected"
+    as_stored tables/refused.csv "$made/refused.refused.csv"
+    holds tables/refused.said
+    # What a log could not give counts, too.
+    gives 0 - bash -c '"$1" replay < forms/mistakes.script > "$2.text"; "$board" tables --script forms/mistakes.script \
+        --program "$1" --out "$2" "$2.text"' _ "$program" "$made/untaken"
+    holds tables/untaken.said
 
     # 50 events of each of two stations: a session of 48 and one of 2, in each of which all but the first rise by 250 Wh.
     gives 0 forms/traffic.text bash -c '"$board" traffic 100 --stations 2 | "$1" replay | grep -v "^.3,"' _ "$program"
@@ -113,6 +145,11 @@ gives 0 forms/citrineos.script "$board" log-to-script --form citrineos "${citrin
 gives 0 forms/periods.script "$board" log-to-script --form citrineos --site north --site-map forms/sites.txt --period 1800 \
     --period north=300 forms/citrineos.jsonl
 gives 0 forms/citrineos.script "$board" log-to-script --form citrineos-csv "${citrineos[@]}" forms/citrineos.csv
+gives 0 forms/arrows.script "$board" log-to-script --form arrows --site north forms/arrows.log
+gives 0 forms/regex.script "$board" log-to-script --received --incoming up \
+    --regex '^(?P<time>[0-9.]+)\|(?P<site>[^/]+)/(?P<station>[^|]+)\|(?P<direction>up|down)\|(?P<message>.*)' forms/regex.log
+gives 0 forms/nested.script "$board" log-to-script --time-field meta.at --site-field charger.site --station-field charger.id \
+    --protocol-field charger.version --message-field frame.raw --json-message forms/nested.jsonl
 
 # Logs that were compressed, one of which is cut short, and words and lines that can't be taken.
 gzip -c "$days/day.jsonl" > "$made/day.jsonl.gz"
@@ -120,10 +157,11 @@ gives 0 "$days/day.jsonl.script" "${day_of_log[@]}" "$made/day.jsonl.gz"
 head -c -100 "$made/day.jsonl.gz" > "$made/cut.gz"
 tells 1 "the gzip is cut short" "${day_of_log[@]}" "$made/cut.gz"
 gives 1 forms/mistakes.script "$board" log-to-script forms/mistakes.jsonl
-tells 1 "a time has no offset from UTC (--utc takes such times as UTC)" \
+tells 0 "a time has no offset from UTC (--utc takes such times as UTC); its message goes without a time" \
     "$board" log-to-script --form ocpp --site north forms/ocpp.log
 tells 1 "neither this line nor one before it is of the form ocpp" "$board" log-to-script --form ocpp --site n "$days/day.jsonl"
-tells 1 "not a topic cs/in/ocpp2.0.1/STATION" "$board" log-to-script --form maeve --site north forms/ocpp.log
+tells 1 "neither this line nor one before it is of the form maeve" \
+    "$board" log-to-script --form maeve --site north forms/ocpp.log
 tells 2 "line 1 names no column message, origin, stationId, timestamp" \
     "$board" log-to-script --form citrineos-csv --site north forms/ocpp.log
 tells 2 "has no sites: --site, --site-map or --stations names them" "$board" log-to-script --form ocpp forms/ocpp.log
@@ -157,7 +195,7 @@ done
 if [ -n "$program" ]; then
     replays "$program" replay
     "$one" words.words "$program" ../words/words.txt || differs words.txt
-    for scenes in sessions serving living journalling; do
+    for scenes in sessions serving living journalling following; do
         "$one" "scenes.$scenes" "$program" || differs "$scenes"
     done
     with_program
@@ -178,7 +216,7 @@ fi
 
 # The boards become tables and pages, in UTC and in a zone whose days have 23 and 25 hours.
 for day in day site_day; do
-    made_by "$board" tables --out "$made/$day" "$days/$day.expected"
+    made_by "$board" tables --written $written --out "$made/$day" "$days/$day.expected"
     for stored in "$days/$day".*.csv "$days/$day.html" "$days/$day".*.html; do
         as_stored "$stored" "$made/$(basename "$stored")"
     done
@@ -194,16 +232,29 @@ holds tables/exports.said
 made_by "$board" tables --tz Europe/Berlin --day 2026-03-29 --out "$made/one" tables/berlin.text
 grep -E '^board|:00Z,2026-03-29T' tables/berlin.periods.csv > "$made/one.rows"
 diff "$made/one.rows" "$made/one.periods.csv" || differs "a day of tables/berlin.periods.csv"
+# Labels, contrast and links of all pages that were made, and how wide they are on a phone, names and numbers being long.
+made_by "$board" tables --tz America/Argentina/ComodRivadavia --out "$made/long" tables/long.text
+if "$one" page_check "$made"/*.html > "$made/checked"; then
+    tail -n 1 "$made/checked"
+else
+    cat "$made/checked"
+    differs "the check of the pages"
+fi
+"$one" page_width "$made"/*.html
+case $? in 0 | 77) ;; *) differs "pages on a phone" ;; esac
 gives 1 tables/broken "$board" tables --out "$made/broken" tables/broken.text
 tells 1 "the text ends, and no board began in it" "$board" tables --out "$made/noise" "$days/day.jsonl"
 tells 2 "the text is compressed by gzip" "$board" tables --out "$made/noise" "$made/day.jsonl.gz"
 tells 2 "No such file or directory" "$board" tables --out "$made/nowhere/x" "$days/day.expected"
 tells 2 "no time zone of this system: 'Mars'" "$board" tables --tz Mars --out "$made/x" "$days/day.expected"
+tells 2 "no time such as 2026-03-01T10:00:00Z: '2026-03-01T10:00:00'" \
+    "$board" tables --written 2026-03-01T10:00:00 --out "$made/x" "$days/day.expected"
 tells 2 "--from is after --to" "$board" tables --from 2026-03-02 --to 2026-03-01 --out "$made/x" "$days/day.expected"
 tells 2 "File too large" bash -c 'ulimit -f 8; "$board" tables --out "$1" "$days/day.expected"' _ "$made/full"
 # Traffic for measuring, and the clients' words.
 gives 0 forms/traffic.script "$board" traffic 3
 tells 2 "N is from 0 to 1,048,576" "$board" traffic 1048577
+tells 2 "N is from 0 to 1000 with troubles" "$board" traffic 1001 troubles
 tells 2 "200,000 events need 4 to 64 stations" "$board" traffic 200000 --stations 3
 tells 2 "No space left on device" bash -c '"$board" traffic 10 > /dev/full'
 gives 0 - "$days/clients/station.py" --help

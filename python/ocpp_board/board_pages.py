@@ -1,203 +1,169 @@
-"""The pages of boards: one of all of them, and one for each day."""
+"""The pages of boards: one of all of them, one for each day, and further ones where these are full."""
 
-from collections.abc import Iterator
-from dataclasses import dataclass
-from datetime import date
+from collections.abc import Callable, Iterable, Iterator
+from dataclasses import dataclass, field
+from datetime import date, datetime, timedelta
 from html import escape
 from itertools import groupby
 
-from ocpp_board.boards import Part, Period, Session, Total
+from ocpp_board.boards import Part, Period
 from ocpp_board.calendars import Calendar
-from ocpp_board.energies import kwh, sum_of
+from ocpp_board.energies import kwh, share, sum_of
+from ocpp_board.page_sections import (
+    DayPart,
+    Problem,
+    bar_cell,
+    day_of_part,
+    figures,
+    problems_of,
+    sections_of,
+    trouble_of,
+)
 from ocpp_board.pages import (
     BARS,
-    FLOW_HEADS,
     FOOT,
     MARK,
     SESSIONS,
+    Column,
+    Heads,
     Row,
+    across,
     cells_of,
+    explained,
+    flow_heads,
     head,
+    kept,
     link,
-    ranges,
+    moment,
+    refused_banner,
     table,
 )
-from ocpp_board.pictures import Scale, picture, strip
+from ocpp_board.pictures import Scale
 
-# Characters of a page from which on stations go on to the next, and sessions in one table of it.
-PAGE_CHARACTERS = 1_000_000
-TABLE_SESSIONS = 500
-
-
-def figures(total: Total | None) -> Iterator[str]:
-    """The figures of a site or a station; nothing where its total line was not read."""
-    if total is None:
-        return
-    flow = total.flow
-    rows = [
-        ("Up", kwh(flow.up) + " kWh", False),
-        ("Down", kwh(flow.down) + " kWh", False),
-        ("Export up", kwh(flow.export_up) + " kWh", False),
-        ("Export down", kwh(flow.export_down) + " kWh", False),
-        ("Net", kwh(flow.net) + " kWh", False),
-        ("Sessions", total.transactions, False),
-        (
-            "Complete",
-            f"{total.complete} of {total.transactions}",
-            total.complete < total.transactions,
-        ),
-        ("Missing numbers", total.missing, total.missing > 0),
-        ("Events", total.events, False),
-        ("Voided events", total.voided, total.voided > 0),
-    ]
-    yield '<dl class="figures">'
-    for name, value, marked in rows:
-        yield f'<div{MARK if marked else ""}><dt>{name}</dt><dd>{value}</dd></div>'
-    yield "</dl>\n"
+# Bytes of a page's body from which on it goes on on the next.
+PAGE_BYTES = 250_000
+# Stations that a row of the table of problems links to, days in one table, and boards in that of the sites.
+MOST_LINKS, TABLE_DAYS, MOST_BOARDS = 5, 366, 100
+SITES = ["Site", "Board", "Net, kWh", "Complete", "Sessions", "Missing numbers", "Days"]
 
 
-def periods_of(day: date, periods: list[Period], calendar: Calendar) -> Iterator[str]:
-    """The table of a day's periods, whose rows leave out what HTML lets be left out: pages have many."""
-    zone = "UTC" if calendar.is_utc else calendar.name
-    beside = "" if calendar.is_utc else '<th scope="col">From (UTC)'
-    yield (
-        f'<table class="plain"><caption>{day}, kWh</caption>\n<thead><tr><th scope="col">Period ({zone}){beside}'
-        + "".join(f'<th scope="col">{head}' for head in FLOW_HEADS)
-        + "</thead>\n<tbody>\n"
-    )
-    for p in periods:
-        yield (
-            f'<tr><th scope="row">{calendar.times(p.start, p.seconds)}'
-            + "".join(f"<td>{cell}" for cell in cells_of(p.flow))
-            + "\n"
-        )
-    yield "</tbody></table>\n"
+@dataclass
+class Board:
+    """A whole board: which of the text it is, in which line it begins, and what it says."""
+
+    number: int
+    site: Part
+    line: int
+    stations: list[Part] = field(default_factory=list)
+
+    @property
+    def is_whole(self) -> bool:
+        """Whether all its lines were read."""
+        return self.site.whole and all(part.whole for part in self.stations)
+
+    @property
+    def has_export(self) -> bool:
+        """Whether something was fed back, or an export register fell."""
+        parts = [self.site, *self.stations]
+        flows = (part.total.flow for part in parts if part.total)
+        return any(flow.export_up or flow.export_down for flow in flows)
 
 
-def said_of(whose: str, day: date, periods: list[Period]) -> str:
-    """What a day's periods come to, in one sentence."""
-    flow = sum_of(p.flow for p in periods)
-    count = "1 period" if len(periods) == 1 else f"{len(periods)} periods"
-    said = f"{whose} on {day}: {count}, {kwh(flow.up)} kWh up, {kwh(flow.down)} kWh down"
-    if flow.export_up or flow.export_down:
-        said += f", {kwh(flow.export_up)} kWh exported, {kwh(flow.export_down)} kWh export down"
-    return said
+class Boards:
+    """A sink that hands on whole boards."""
 
+    def __init__(self, takers: list[Callable[[Board], None]]) -> None:
+        self.takers = takers
+        self.number, self.line = 0, 0
+        self.parts: list[Part] = []
 
-def day_of_part(
-    whose: str, day: date, periods: list[Period], scale: Scale, calendar: Calendar
-) -> Iterator[str]:
-    """A day's picture with the table beside it."""
-    said = said_of(whose, day, periods)
-    yield f'<section aria-label="{whose}">\n<h3>{whose}</h3>\n<div class="day">\n<figure>\n'
-    yield from picture(f"Bars. {said}. The table has the numbers.", day, periods, scale, calendar)
-    yield f"<figcaption>{said}</figcaption>\n</figure>\n"
-    yield f'<div class="scroll" role="group" tabindex="0" aria-label="Periods of {whose} on {day}">\n'
-    yield from periods_of(day, periods, calendar)
-    yield "</div>\n</div>\n</section>\n"
+    def board(self, number: int, site: str, line: int) -> None:
+        """A board begins."""
+        self.number, self.line, self.parts = number, line, []
 
+    def part(self, part: Part) -> None:
+        """Keeps what the board says of its site or of a station."""
+        self.parts.append(part)
 
-def session_row(t: Session) -> Row:
-    """A session's row; one that is not complete is marked."""
-    state = "\N{HEAVY CHECK MARK} complete" if t.complete else f"\N{HEAVY BALLOT X} {t.state}"
-    missing = f"<b>{t.missing}</b>: {ranges(t.gaps)}" if t.missing else "0"
-    return (
-        "" if t.complete else MARK,
-        [
-            escape(t.tx),
-            str(t.evse) if t.evse else "not named",
-            state,
-            f"{t.first} to {t.last}",
-            str(t.last - t.first + 1),
-            str(t.events),
-            missing + "".join(strip(t)),
-            *cells_of(t.flow),
-        ],
-    )
-
-
-SESSION_HEADS = [
-    "Transaction",
-    "EVSE",
-    " State",
-    "First and last number",
-    "Numbers spanned",
-    "Events",
-    " Missing numbers",
-    *(f"{head}, kWh" for head in FLOW_HEADS),
-]
-
-
-def sections_of(part: Part, label: str) -> Iterator[str]:
-    """A station's sections: its figures and EVSEs, and its sessions, so many at a time."""
-    name = escape(part.name)
-    warning = (
-        ""
-        if part.whole
-        else (
-            '<p class="warning">This station is not whole: lines of its board could not be '
-            "read.</p>\n"
-        )
-    )
-    evses = ""
-    if part.evses:
-        rows = (
-            ("", [f"EVSE {e.number}" if e.number else "EVSE not named", *cells_of(e.flow)])
-            for e in part.evses
-        )
-        evses = "<h4>EVSEs</h4>\n" + "".join(
-            table("Energy by EVSE, kWh", ["EVSE", *FLOW_HEADS], rows)
-        )
-    none = "" if part.sessions else "<p>It shows no session.</p>\n"
-    yield (
-        f'<section aria-labelledby="{label}">\n<h3 id="{label}">Station {name}</h3>\n{warning}'
-        f'{"".join(figures(part.total))}{evses}{none}</section>\n'
-    )
-    for first in range(0, len(part.sessions), TABLE_SESSIONS):
-        some = part.sessions[first : first + TABLE_SESSIONS]
-        title = f"Sessions of {name}"
-        if len(some) < len(part.sessions):
-            title += f", {first + 1:,} to {first + len(some):,} of {len(part.sessions):,}"
-        yield (
-            f'<section aria-labelledby="{label}-{first}">\n<h4 id="{label}-{first}">{title}</h4>\n'
-            + "".join(
-                table(
-                    "In the order of their ids. A strip goes from the first number to the last; what is "
-                    "missing is a dashed hole.",
-                    SESSION_HEADS,
-                    map(session_row, some),
-                    cards=True,
-                )
-            )
-            + "</section>\n"
-        )
+    def end(self) -> None:
+        """Hands the board on."""
+        board = Board(self.number, self.parts[0], self.line, self.parts[1:])
+        for take in self.takers:
+            take(board)
 
 
 @dataclass(frozen=True)
 class Layout:
-    """Where the files of a text are written, and how pages look."""
+    """Where the files of a text are written, and what all pages tell."""
 
     # How the files begin, a folder included.
     out: str
     calendar: Calendar
+    # When the pages are written.
+    written: datetime
     # Seconds after which a browser draws the pages anew, where these follow a server.
     refresh: int | None = None
+    # Up to when the data is, where that is known, and how many seconds before the writing that may be.
+    until: datetime | None = None
+    oldest: int | None = None
+    # Messages that were refused, which lie in a file of their own.
+    refused: int = 0
+    # Days whose pages stand already, and are not written; None where every page is written.
+    standing: frozenset[date] | None = None
 
-    def index(self) -> str:
-        """The path of the page of all boards."""
-        return f"{self.out}.html"
+    def index(self, number: int = 1) -> str:
+        """The path of the page of all boards, and of those on which it goes on."""
+        return f"{self.out}{'' if number == 1 else f'.{number}'}.html"
 
-    def day(self, day: date) -> str:
-        """The path of the page of a day."""
-        return f"{self.out}.{day}.html"
+    def day(self, day: date, number: int = 1) -> str:
+        """The path of the page of a day, and of those on which it goes on."""
+        return f"{self.out}.{day}{'' if number == 1 else f'.{number}'}.html"
 
-    def further(self, number: int) -> str:
-        """The path of a further page of sessions."""
-        return f"{self.out}.{number}.html"
-
-    def head(self, title: str, said: str, links: str = "") -> str:
+    def head(self, title: str, said: str, links: str, is_one: bool, whole: str = "") -> str:
         """A page up to its main part."""
-        return head(title, said, links, self.refresh)
+        return head(title, said, links, self.refresh, is_one, whole)
+
+    def stamp(self, until: datetime | None) -> str:
+        """Up to when the data is and when the page was written, and a warning where that is too long before. `until`:
+        the end of the last period, which tells it where nothing else does."""
+        said = ""
+        if self.until:
+            said = f"Data up to {self.moment(self.until)}. "
+        elif until:
+            said = f"Periods up to {self.moment(until)}. "
+        return (
+            f"{self.stamped(f'{said}Page written {self.moment(self.written)}.')}{self.old()}"
+            f"{refused_banner(self.refused, f'{self.out}.refused.csv'.rpartition('/')[2])}"
+        )
+
+    def day_stamp(self, until: datetime | None) -> str:
+        """As `stamp`, on the page of a day. One that stands until its day changes tells nothing that others change."""
+        if self.standing is None:
+            return self.stamp(until)
+        written = self.moment(self.written)
+        return self.stamped(f"Page written {written}, and again when something on it changes.")
+
+    def stamped(self, said: str) -> str:
+        """What is told of times, with the zone, and how often a browser draws the page anew."""
+        if self.refresh:
+            pause = "second" if self.refresh == 1 else f"{self.refresh:,} seconds"
+            said += f" A browser draws it anew every {pause}."
+        return f'<p class="stamp">{said} {self.calendar.said()}.</p>\n'
+
+    def moment(self, at: datetime) -> str:
+        """A moment in the zone, to the second where pages are drawn anew."""
+        return moment(self.calendar.local(at), self.refresh is not None)
+
+    def old(self) -> str:
+        """A warning where the data is older than it should be."""
+        if self.oldest is None or self.until is None:
+            return ""
+        if self.written - self.until <= timedelta(seconds=self.oldest):
+            return ""
+        return (
+            '<p class="warning" role="status">The data is older than it should be: nothing came since '
+            f"{self.moment(self.until)}.</p>\n"
+        )
 
     def by_day(self, periods: list[Period]) -> Iterator[tuple[date, list[Period]]]:
         """The periods that are shown, day by day."""
@@ -207,204 +173,450 @@ class Layout:
 
 
 class Page:
-    """A page that grows."""
+    """A page whose body grows in its file, and which gets its frame at the end."""
 
-    def __init__(self, path: str, begin: str) -> None:
+    def __init__(self, path: str) -> None:
         self.path, self.size = path, 0
-        with open(path, "w", encoding="utf-8", newline="") as file:
-            file.write(begin)
+        with open(path, "w", encoding="utf-8"):
+            pass
 
     def put(self, text: str) -> None:
         """Adds a text to its end. Raises OSError."""
-        self.size += len(text)
         with open(self.path, "a", encoding="utf-8", newline="") as file:
             file.write(text)
+        self.size += len(text.encode())
+
+    def frame(self, begin: str, end: str) -> None:
+        """Puts texts around the body. Raises OSError."""
+        with open(self.path, encoding="utf-8", newline="") as file:
+            body = file.read()
+        with open(self.path, "w", encoding="utf-8", newline="") as file:
+            file.write(f"{begin}{body}{end}")
+
+
+class Series:
+    """A page and those on which it goes on. `path_of`: the path of the page of a number, from 1 on."""
+
+    def __init__(self, path_of: Callable[[int], str]) -> None:
+        self.path_of = path_of
+        self.pages = [Page(path_of(1))]
+
+    def places(self, sizes: Iterable[int]) -> list[int]:
+        """On which pages texts of so many bytes stand, one behind the other."""
+        number, size, found = len(self.pages), self.pages[-1].size, list[int]()
+        for more in sizes:
+            if size and size + more > PAGE_BYTES:
+                number, size = number + 1, 0
+            size += more
+            found.append(number)
+        return found
+
+    def put(self, number: int, text: str) -> None:
+        """Adds a text to the page of this number, which may be the next one. Raises OSError."""
+        if number > len(self.pages):
+            self.pages.append(Page(self.path_of(number)))
+        self.pages[number - 1].put(text)
+
+    def put_board(
+        self, board: Board, front: Callable[[list[str]], str], sections: list[str]
+    ) -> str:
+        """Adds a board's sections behind a front that is made of their paths, and gives the front's path."""
+        longest = self.path_of(9_999)
+        sizes = [len(text.encode()) for text in (front([longest for _ in sections]), *sections)]
+        first, *numbers = self.places(sizes)
+        texts = [front([self.path_of(number) for number in numbers]), *sections]
+        for before, number, text in zip((0, first, *numbers), (first, *numbers), texts):
+            self.put(number, ("" if number == before else site_head(board, number == first)) + text)
+        return self.path_of(first)
+
+    def links(self, here: int, where: str) -> str:
+        """Links from the page of this number to the others, where there are several. `where` they stand on it."""
+        if len(self.pages) == 1:
+            return ""
+        names = [
+            f'<b aria-current="page">{number}</b>'
+            if number == here
+            else link(page.path, str(number))
+            for number, page in enumerate(self.pages, 1)
+        ]
+        return f'<nav aria-label="Pages, {where}"><span>Page</span> {" ".join(names)}</nav>\n'
+
+
+def site_head(board: Board, is_first: bool) -> str:
+    """The heading of a board's site on a page, which goes on there where it is not the first of the board."""
+    label = f' id="b{board.number}"' if is_first else ""
+    on = "" if is_first else ", continued"
+    return (
+        f'<h2 class="site"{label}>Site {escape(board.site.name)}{on}</h2>\n'
+        f'<p class="site soft">Board {board.number:,} of the text, from its line {board.line:,} on.</p>\n'
+    )
+
+
+def page_of(number: int) -> str:
+    """The end of the title of a page, where it is not the first one."""
+    return "" if number == 1 else f", page {number:,}"
+
+
+def weekday(day: date) -> str:
+    """A day's name of the week."""
+    return ("Mon", "Tue", "Wed", "Thu", "Fri", "Sat", "Sun")[day.weekday()]
+
+
+class Names:
+    """The names of the sites whose boards a page has, for its title."""
+
+    def __init__(self) -> None:
+        self.boards = 0
+        self.site = ""
+
+    def add(self, board: Board) -> None:
+        """Another board is shown."""
+        self.boards += 1
+        self.site = board.site.name
+
+    @property
+    def is_one(self) -> bool:
+        """Whether there is one board alone."""
+        return self.boards == 1
+
+    def title(self) -> str:
+        """The title of a page."""
+        return f"Site {escape(self.site)}" if self.is_one else "Site boards"
 
 
 class DayPages:
-    """A page for each day, to which each board and each of its stations adds its bars."""
+    """A page for each day, with the bars of each board's site and stations."""
 
     def __init__(self, layout: Layout) -> None:
         self.layout, self.calendar = layout, layout.calendar
-        self.pages: dict[date, Page] = {}
-        self.site = ""
-        self.begun: set[date] = set()
+        # The days that boards have, and the pages of those that are written.
+        self.shown: set[date] = set()
+        self.days: dict[date, Series] = {}
+        self.names = Names()
+        self.until: datetime | None = None
 
-    def board(self, number: int, site: str, line: int) -> None:
-        """A board begins."""
-        self.site = f"<h2>Site {escape(site)}</h2>\n<p>Board {number} of the text.</p>\n"
-        self.begun = set()
+    def add(self, board: Board) -> None:
+        """Adds a board to the page of each of its days. All its stations have one scale."""
+        self.names.add(board)
+        self.until = last_end([board.site], self.until)
+        shown = self.calendar.shown
+        site = Scale(p.flow for p in shown(board.site.periods))
+        station = Scale(p.flow for part in board.stations for p in shown(part.periods))
+        days: dict[date, list[DayPart]] = {}
+        for number, part in enumerate((board.site, *board.stations)):
+            scale = site if part.is_site else station
+            for day, periods in self.layout.by_day(part.periods):
+                one = DayPart(part, f"b{board.number}-{number}", day, periods, scale)
+                days.setdefault(day, []).append(one)
+        self.shown.update(days)
+        for day in sorted(days.keys() - (self.layout.standing or ())):
+            self.add_day(board, day, days[day])
 
-    def part(self, part: Part) -> None:
-        """Adds the bars of a site or a station to the page of each day."""
-        whose = f"{'Site' if part.is_site else 'Station'} {escape(part.name)}"
-        scale = Scale(part.periods)
-        for day, periods in self.layout.by_day(part.periods):
-            self.put(day, "".join(day_of_part(whose, day, periods, scale, self.calendar)))
+    def add_day(self, board: Board, day: date, parts: list[DayPart]) -> None:
+        """Adds a day of a board: its site, the table of its stations, and each of these."""
+        series = self.days.get(day)
+        if series is None:
+            series = self.days[day] = Series(lambda number: self.layout.day(day, number))
+        has_export = board.has_export
+        stations = [one for one in parts if not one.part.is_site]
 
-    def end(self) -> None:
-        """The board ends."""
+        def text_of(one: DayPart) -> str:
+            return "".join(day_of_part(one, self.calendar, has_export))
 
-    def put(self, day: date, text: str) -> None:
-        """Adds a text to the page of a day, which begins with it where it is new."""
-        if day not in self.pages:
-            length = self.calendar.seconds(day) / 3600
-            zone = self.calendar.said() + (
-                "." if length == 24 else f", where this day has {length:g} hours."
-            )
-            links = f"<nav>{link(self.layout.index(), 'All days, stations and sessions')}</nav>\n"
-            self.pages[day] = Page(
-                self.layout.day(day),
-                self.layout.head(f"Site boards, {day}", f"<p>{zone}</p>\n{BARS}", links),
-            )
-        if day not in self.begun:
-            self.begun.add(day)
-            text = self.site + text
-        self.pages[day].put(text)
+        site = "".join(text_of(one) for one in parts if one.part.is_site)
+
+        def front(paths: list[str]) -> str:
+            return site + stations_of_day(day, stations, paths, has_export)
+
+        series.put_board(board, front, [text_of(one) for one in stations])
 
     def close(self) -> None:
-        """Ends each page with links to the days beside it."""
-        days = sorted(self.pages)
+        """Gives each page its title, and links to the days beside it."""
+        days = sorted(self.shown)
         for before, day, after in zip([None, *days], days, [*days[1:], None]):
-            links = [
-                link(self.layout.day(other), text + str(other))
-                for other, text in (
-                    (before, "\N{LEFTWARDS ARROW} "),
-                    (after, "\N{RIGHTWARDS ARROW} "),
-                )
-                if other
-            ]
-            self.pages[day].put(f"<nav>{' '.join(links)}</nav>\n{FOOT}")
+            if day in self.days:
+                links = [
+                    day_link(self.layout, before, "\N{LEFTWARDS ARROW} "),
+                    link(self.layout.index(), "All days, stations and sessions"),
+                    day_link(self.layout, after, "\N{RIGHTWARDS ARROW} "),
+                ]
+                self.frame(day, " ".join(filter(None, links)))
+
+    def frame(self, day: date, links: str) -> None:
+        """Gives the pages of a day their title and links."""
+        length = self.calendar.seconds(day) / 3600
+        said = "" if length == 24 else f"<p>This day has {length:g} hours.</p>\n"
+        series = self.days[day]
+        above, below = (
+            f'<nav aria-label="Days, {where}">{links}</nav>\n' for where in ("above", "below")
+        )
+        told = self.layout.day_stamp(self.until) + said
+        for number, page in enumerate(series.pages, 1):
+            begin = self.layout.head(
+                f"{self.names.title()},",
+                told,
+                above + series.links(number, "above"),
+                self.names.is_one,
+                f"{weekday(day)} {day}{page_of(number)}",
+            )
+            page.frame(begin, series.links(number, "below") + below + explained(BARS) + FOOT)
+
+
+NET_BAR = Column("Net as a bar", "bar wide", True)
+
+
+def day_link(layout: Layout, day: date | None, arrow: str) -> str:
+    """A link to another day, where there is one."""
+    return link(layout.day(day), f"{arrow}{day} {weekday(day)}") if day else ""
+
+
+def last_end(parts: Iterable[Part], before: datetime | None) -> datetime | None:
+    """The end of the last period of these, or the one before where that is later."""
+    ends = [p.start + timedelta(seconds=p.seconds) for part in parts for p in part.periods[-1:]]
+    return max(filter(None, [*ends, before]), default=None)
+
+
+def stations_of_day(day: date, stations: list[DayPart], paths: list[str], has_export: bool) -> str:
+    """The table of a day's stations, which stand on the pages of these paths."""
+    flows = [sum_of(p.flow for p in one.periods) for one in stations]
+    most = max((abs(flow.net) for flow in flows), default=0)
+    rows = (
+        (
+            "",
+            [
+                link(path, escape(one.part.name), one.label),
+                *cells_of(flow, has_export),
+                f"{len(one.periods):,}",
+                bar_cell(flow.net, most),
+            ],
+        )
+        for one, path, flow in zip(stations, paths, flows)
+    )
+    net, *others = (*flow_heads(has_export), "Periods")
+    heads: Heads = ["Station", net, *(Column(head, "wide") for head in others), NET_BAR]
+    text = "".join(table(f"Stations on {kept(str(day))}, kWh", heads, rows))
+    scale = " and ".join({one.scale.said() for one in stations})
+    told = f"The pictures of all stations have one scale on all days, to {scale}; the site's has its own."
+    return f'<p class="soft">{told}</p>\n{across(f"Stations on {day}", text)}' if stations else ""
 
 
 class Index:
-    """The page of all boards: figures, stations, days, and sessions, which go on on further pages where there are
-    many. A board's sections wait until the table of its stations, which comes first, is known."""
+    """The page of all boards: their figures, problems, days and stations, and the sessions of these, which go on on
+    further pages where there are many."""
 
-    STATIONS = [
+    STATIONS: Heads = [
         "Station",
-        "Sessions",
+        "Net, kWh",
         "Complete",
+        Column("Sessions", "wide"),
         "Missing numbers",
-        "Events",
-        "Voided events",
-        *(f"{head}, kWh" for head in FLOW_HEADS),
+        *(Column(f"{head}, kWh", "wide") for head in ("Up", "Down")),
+        Column("Events", "wide"),
+        Column("Voided events", "wide"),
     ]
 
     def __init__(self, layout: Layout) -> None:
-        self.layout, calendar = layout, layout.calendar
-        zone = f"<p>{calendar.said()}.</p>\n"
-        if not calendar.is_all():
-            zone += (
-                f"<p>Days from {calendar.first} to {calendar.last} are shown. The figures and the sessions are "
-                "those of all days.</p>\n"
-            )
-        self.index = Page(layout.index(), layout.head("Site boards", zone + BARS + SESSIONS))
-        self.further: list[Page] = []
-        self.begin(0, "", 0)
-
-    def begin(self, number: int, site: str, line: int) -> None:
-        """Nothing is known yet of a board of this site, which begins in this line."""
-        self.number, self.line, self.name = number, line, escape(site)
-        self.whole = True
-        self.site = Part(site, True, 0)
+        self.layout = layout
+        self.series = Series(layout.index)
+        self.names = Names()
         self.rows: list[Row] = []
-        self.waiting: list[str] = []
+        self.until: datetime | None = None
 
-    def board(self, number: int, site: str, line: int) -> None:
-        """A board begins."""
-        self.begin(number, site, line)
+    def add(self, board: Board) -> None:
+        """Adds a board: what it comes to in front, and then each station, those with troubles first."""
+        self.names.add(board)
+        self.until = last_end([board.site], self.until)
+        stations = sorted(board.stations, key=trouble_of)
+        labels = [f"b{board.number}-{number}" for number in range(1, len(stations) + 1)]
+        parts = [
+            list(sections_of(part, label, self.layout.calendar, board.has_export))
+            for part, label in zip(stations, labels)
+        ]
+        days, *more = self.days(board.site, board.has_export)
+        firsts = [len(more) + sum(map(len, parts[:number])) for number in range(len(parts))]
 
-    def part(self, part: Part) -> None:
-        """Takes a site, or puts a station's sections."""
-        self.whole &= part.whole
-        if part.is_site:
-            self.site = part
-            return
-        label = f"b{self.number}-{len(self.rows) + 1}"
-        sections = sections_of(part, label)
-        path = self.put(next(sections))
-        self.rows.append(self.station_row(part, link(path, escape(part.name), label)))
-        for section in sections:
-            self.put(section)
+        def front(paths: list[str]) -> str:
+            links = {
+                part.name: link(paths[first], escape(part.name), label)
+                for part, first, label in zip(stations, firsts, labels)
+            }
+            return self.front(board, stations, links, days)
 
-    def put(self, section: str) -> str:
-        """Puts a section where there is room, and gives the path of that page."""
-        if (
-            not self.further
-            and self.index.size + sum(map(len, self.waiting)) + len(section) <= PAGE_CHARACTERS
-        ):
-            self.waiting.append(section)
-            return self.index.path
-        if not self.further or self.further[-1].size + len(section) > PAGE_CHARACTERS:
-            links = f"<nav>{link(self.index.path, 'All days and stations')}</nav>\n"
-            number = len(self.further) + 2
-            page = Page(
-                self.layout.further(number),
-                self.layout.head(f"Site boards, page {number}", SESSIONS, links),
-            )
-            self.further.append(page)
-        self.further[-1].put(section)
-        return self.further[-1].path
+        sections = [*more, *(text for some in parts for text in some)]
+        path = self.series.put_board(board, front, sections)
+        self.rows.append(
+            self.site_row(board, link(path, escape(board.site.name), f"b{board.number}"))
+        )
 
-    @staticmethod
-    def station_row(part: Part, name: str) -> Row:
-        """A station's row in the table of a site's stations."""
-        total = part.total
+    def site_row(self, board: Board, name: str) -> Row:
+        """A board's row in the table of sites."""
+        days = [str(day) for day, _ in self.layout.by_day(board.site.periods)]
+        span = f"{days[0]} to {days[-1]}" if len(days) > 1 else "".join(days)
+        total = board.site.total
         if total is None:
-            return MARK, [name] + ["not read"] * 10
-        marked = (
-            not part.whole or total.complete < total.transactions or total.missing or total.voided
-        )
-        return (
-            MARK if marked else "",
-            [
-                name,
-                str(total.transactions),
-                str(total.complete),
-                str(total.missing),
-                str(total.events),
-                str(total.voided),
-                *cells_of(total.flow),
-            ],
-        )
+            return MARK, [name, f"{board.number:,}", *["not read"] * 4, span]
+        marked = not board.is_whole or any(True for _ in problems_of(board.stations))
+        return MARK if marked else "", [
+            name,
+            f"{board.number:,}",
+            kwh(total.flow.net),
+            share(total.complete, total.transactions),
+            f"{total.transactions:,}",
+            f"{total.missing:,}",
+            span,
+        ]
 
-    def day_rows(self) -> Iterator[Row]:
-        """A row for each day of the site."""
-        for day, periods in self.layout.by_day(self.site.periods):
-            flow = sum_of(p.flow for p in periods)
-            name = link(self.layout.day(day), str(day))
-            yield "", [name, str(len(periods)), *cells_of(flow)]
-
-    def end(self) -> None:
-        """Puts the board's figures, days and stations, and then the sections that waited for these."""
-        label = f"b{self.number}"
+    def front(self, board: Board, stations: list[Part], links: dict[str, str], days: str) -> str:
+        """A board's figures, problems, days and stations."""
         warning = (
             ""
-            if self.whole
+            if board.is_whole
             else (
                 '<p class="warning">This board is not whole: lines of it could not be read, '
                 "or its end is missing.</p>\n"
             )
         )
-        self.index.put(
-            f'<section aria-labelledby="{label}">\n<h2 id="{label}">Site {self.name}</h2>\n'
-            f"<p>Board {self.number} of the text, from its line {self.line} on.</p>\n{warning}"
+        has_export = board.has_export
+        return (
+            f'<section aria-labelledby="b{board.number}">\n{warning}'
+            + "".join(figures(board.site.total, has_export))
+            + self.problems(list(problems_of(board.stations)), links)
+            + days
+            + self.stations(stations, links, has_export)
+            + "</section>\n"
         )
-        self.index.put("".join(figures(self.site.total)))
-        heads = ["Day", "Periods", *FLOW_HEADS]
-        self.index.put(
-            "<h3>Days</h3>\n"
-            + "".join(table("Energy of the site by day, kWh", heads, self.day_rows()))
-        )
-        self.index.put(
-            "<h3>Stations</h3>\n"
-            + "".join(table("Stations of the site", self.STATIONS, self.rows, cards=True))
-        )
-        self.index.put("".join(self.waiting) + "</section>\n")
 
-    def close(self, has_board: bool) -> None:
-        """Ends the pages."""
-        self.index.put(("" if has_board else "<p>The text has no board.</p>\n") + FOOT)
-        for page in self.further:
-            page.put(FOOT)
+    @classmethod
+    def stations(cls, stations: list[Part], links: dict[str, str], has_export: bool) -> str:
+        """The table of a site's stations."""
+        rows = (cls.station_row(part, links[part.name], has_export) for part in stations)
+        caption = "Stations of the site, those with troubles first"
+        text = "".join(table(caption, cls.station_heads(has_export), rows))
+        return "<h3>Stations</h3>\n" + across("Stations", text)
+
+    @staticmethod
+    def problems(problems: list[Problem], links: dict[str, str]) -> str:
+        """The table of what is wrong, the gravest first."""
+        if not problems:
+            return "<h3>Problems</h3>\n<p>None was found.</p>\n"
+
+        def where(problem: Problem) -> str:
+            some = [links[name] for name in problem.stations[:MOST_LINKS]]
+            more = len(problem.stations) - len(some)
+            return ", ".join(some) + (f" and {more:,} more" if more else "")
+
+        rows = (
+            (
+                MARK,
+                [
+                    one.name,
+                    f"{one.sessions:,}" if one.sessions else "",
+                    f"{one.times:,}",
+                    where(one),
+                    one.meaning,
+                ],
+            )
+            for one in problems
+        )
+        heads = ["Problem", "Sessions", "Times", " Stations", " What it means"]
+        text = "".join(table("What is to be looked at, the gravest first", heads, rows, cards=True))
+        return f"<h3>Problems</h3>\n{text}"
+
+    def days(self, site: Part, has_export: bool) -> list[str]:
+        """The tables of a site's days, the last one first, each of a year at most."""
+        found = [
+            (day, len(periods), sum_of(p.flow for p in periods))
+            for day, periods in self.layout.by_day(site.periods)
+        ]
+        most = max((abs(flow.net) for _, _, flow in found), default=0)
+        rows: list[Row] = [
+            (
+                "",
+                [
+                    f"{link(self.layout.day(day), str(day))} {weekday(day)}",
+                    *cells_of(flow, has_export),
+                    f"{count:,}",
+                    bar_cell(flow.net, most),
+                ],
+            )
+            for day, count, flow in reversed(found)
+        ]
+        net, *others = flow_heads(has_export)
+        exports = (Column(head, "wide") for head in (*others[2:], "Periods"))
+        heads: Heads = ["Day", net, *others[:2], *exports, NET_BAR]
+        caption = "Energy by day, kWh, the last day first. The bars have one scale."
+        starts = range(0, max(1, len(rows)), TABLE_DAYS)
+        tables = (
+            table(caption, heads, rows[at : at + TABLE_DAYS], kind="plain days") for at in starts
+        )
+        return ["<h3>Days</h3>\n" + across("Days", "".join(text)) for text in tables]
+
+    @classmethod
+    def station_heads(cls, has_export: bool) -> Heads:
+        """The heads of the table of stations."""
+        exports = [Column(f"{head}, kWh", "wide") for head in flow_heads(has_export)[3:]]
+        return [*cls.STATIONS[:7], *exports, *cls.STATIONS[7:]]
+
+    @classmethod
+    def station_row(cls, part: Part, name: str, has_export: bool) -> Row:
+        """A station's row in the table of a site's stations."""
+        total = part.total
+        if total is None:
+            return MARK, [name] + ["not read"] * (len(cls.station_heads(has_export)) - 1)
+        net, *flow = cells_of(total.flow, has_export)
+        return (
+            MARK if trouble_of(part) < NO_TROUBLE else "",
+            [
+                name,
+                net,
+                share(total.complete, total.transactions),
+                f"{total.transactions:,}",
+                f"{total.missing:,}",
+                *flow,
+                f"{total.events:,}",
+                f"{total.voided:,}",
+            ],
+        )
+
+    def close(self) -> None:
+        """Gives each page its title, and the table of sites where there are several boards."""
+        calendar, layout = self.layout.calendar, self.layout
+        said = layout.stamp(self.until)
+        if not calendar.is_all():
+            said += (
+                f"<p>Days from {calendar.first} to {calendar.last} are shown. The figures and the sessions are "
+                "those of all days.</p>\n"
+            )
+        if not self.names.boards:
+            self.series.put(1, "<p>The text has no board.</p>\n")
+        sites = ""
+        if self.names.boards > 1:
+            some = self.rows[-MOST_BOARDS:]
+            left = f", the last {len(some):,} of {len(self.rows):,}"
+            caption = (
+                f"Boards of the text, in their order{left if len(some) < len(self.rows) else ''}"
+            )
+            sites = sites_table(caption, some)
+        for number, page in enumerate(self.series.pages, 1):
+            title = f"{self.names.title()}{page_of(number)}"
+            above, below = (self.series.links(number, where) for where in ("above", "below"))
+            begin = layout.head(title, said, above, self.names.is_one)
+            end = below + explained(BARS, SESSIONS) + FOOT
+            page.frame(begin + (sites if number == 1 else ""), end)
+
+
+def sites_table(caption: str, rows: list[Row]) -> str:
+    """The table of sites, by the rows that indexes have of their boards."""
+    return f"<h2>Sites</h2>\n{across('Sites', ''.join(table(caption, SITES, rows)))}"
+
+
+def write_sites(layout: Layout, rows: list[Row]) -> None:
+    """Writes a page that leads to those of several sites, by the rows that the indexes of their pages have. Raises
+    OSError."""
+    page = Page(layout.index())
+    page.put(sites_table("All sites", rows))
+    page.frame(layout.head("All sites", layout.stamp(None), "", False), FOOT)
+
+
+# The least of what `trouble_of` gives for a station without any.
+NO_TROUBLE = (0, 0, 0, 0)

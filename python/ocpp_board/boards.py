@@ -11,6 +11,8 @@ from typing import IO, NamedTuple, Protocol
 from ocpp_board.energies import FLOW, Flow
 from ocpp_board.limits import NAME, PERIODS, TRANSACTION
 from ocpp_board.progress import Progress
+from ocpp_board.quality import Finding
+from ocpp_board.session_times import SessionTimes
 
 log = logging.getLogger(__name__)
 
@@ -93,7 +95,10 @@ class Evse(NamedTuple):
 
 @dataclass
 class Session:
-    """A transaction's line, and the ranges of sequence numbers that are missing, ends included."""
+    """A transaction's line, and the ranges of sequence numbers that are missing, ends included.
+
+    Its times and findings are there where the messages were told, which boards don't have.
+    """
 
     tx: str
     evse: int
@@ -105,6 +110,8 @@ class Session:
     flow: Flow
     gaps: list[tuple[int, int]] = field(default_factory=list)
     state: str = ""
+    times: SessionTimes | None = None
+    findings: list[Finding] = field(default_factory=list)
 
 
 @dataclass
@@ -247,11 +254,18 @@ class Sink(Protocol):
         """The board ends."""
 
 
-class Reader:
-    """Reads boards from a text and hands their parts on."""
+class Marker(Protocol):
+    """Knows more of sessions than a board does."""
 
-    def __init__(self, sinks: list[Sink], progress: Progress) -> None:
-        self.sinks, self.progress = sinks, progress
+    def mark(self, site: str, part: Part) -> None:
+        """Gives each session of a part of this site what is known of it."""
+
+
+class Reader:
+    """Reads boards from a text and hands their parts on. `marker`: marks sessions before they are handed on."""
+
+    def __init__(self, sinks: list[Sink], progress: Progress, marker: Marker | None = None) -> None:
+        self.sinks, self.progress, self.marker = sinks, progress, marker
         self.part: Part | None = None
         self.before: str | None = None
         self.site, self.seconds = "", 0
@@ -315,6 +329,8 @@ class Reader:
         self.counts["periods"] += len(part.periods)
         self.counts["transactions"] += len(part.sessions)
         self.sessions.mark(self.counts["boards"], self.site, part)
+        if self.marker:
+            self.marker.mark(self.site, part)
         for sink in self.sinks:
             sink.part(part)
 

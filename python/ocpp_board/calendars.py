@@ -24,7 +24,7 @@ class Calendar:
 
     def day_of(self, moment: datetime) -> date:
         """The day of a moment."""
-        return moment.astimezone(self.zone).date()
+        return self.local(moment).date()
 
     def shown(self, periods: Iterable[Period]) -> list[Period]:
         """The periods that begin on a day that is shown."""
@@ -40,18 +40,22 @@ class Calendar:
 
     def time(self, moment: datetime) -> str:
         """The hour and the minute of a moment."""
-        return moment.astimezone(self.zone).strftime("%H:%M")
+        return self.local(moment).strftime("%H:%M")
 
     def times_of(self, start: datetime, seconds: int) -> str:
         """From when to when a period is, and from when in UTC as another cell; the end of a day is 24:00."""
         end = self.time(start + timedelta(seconds=seconds))
         beside = "" if self.is_utc else f"<td>{start:%H:%M}"
-        return f"{self.time(start)} to {'24:00' if end == '00:00' else end}{beside}"
+        return f"{self.time(start)}\N{EN DASH}{'24:00' if end == '00:00' else end}{beside}"
 
-    def cells_of(self, start: datetime) -> list[str]:
-        """A period's first moment in UTC, and in the zone where that is another, for the CSV file."""
-        local = [] if self.is_utc else [start.astimezone(self.zone).isoformat()]
-        return [start.strftime(MOMENT), *local]
+    def cells_of(self, moment: datetime) -> list[str]:
+        """A moment of UTC, and the same in the zone where that is another, for a CSV file."""
+        local = [] if self.is_utc else [self.local(moment).isoformat(timespec="seconds")]
+        return [moment.strftime(MOMENT), *local]
+
+    def local(self, moment: datetime) -> datetime:
+        """A moment in the zone."""
+        return moment.astimezone(self.zone)
 
     def said(self) -> str:
         """Which zone it is, as the beginning of a sentence."""

@@ -6,6 +6,7 @@ from typing import Any, NamedTuple
 # The names of a flow's numbers, in the order in which a board has them.
 FLOW = ("up", "down", "export_up", "export_down")
 MWH_OF_A_KWH = 1_000_000
+MINUS = "\N{MINUS SIGN}"
 
 
 class Flow(NamedTuple):
@@ -57,7 +58,19 @@ def kwh_of(mwh: int) -> str:
 
 
 def kwh(mwh: int) -> str:
-    """An energy of so many mWh in kWh, exactly, for a reader."""
-    whole, part = divmod(abs(mwh), MWH_OF_A_KWH)
-    sign = "\N{MINUS SIGN}" if mwh < 0 else ""
-    return f"{sign}{whole:,}" + f".{part:06}".rstrip("0").rstrip(".")
+    """An energy of so many mWh in kWh for a reader, to a watt-hour; one that is less, and not 0, shows so."""
+    watt_hours = (abs(mwh) + 500) // 1_000
+    if mwh and not watt_hours:
+        return "\N{ALMOST EQUAL TO}0.000"
+    whole, part = divmod(watt_hours, 1_000)
+    return f"{MINUS if mwh < 0 else ''}{whole:,}.{part:03}"
+
+
+def share(part: int, whole: int) -> str:
+    """A share in per cent with one decimal, which is 100.0% and 0.0% of all and of none alone."""
+    if not whole:
+        return ""
+    permille = (1_000 * part + whole // 2) // whole
+    if 0 < part < whole:
+        permille = min(max(permille, 1), 999)
+    return f"{permille // 10}.{permille % 10}%"

@@ -4,12 +4,18 @@ import re
 
 COPY_ESCAPE = re.compile(r"\\(.)")
 COPY_CHARACTERS = {"b": "\b", "f": "\f", "n": "\n", "r": "\r", "t": "\t", "v": "\v"}
+CONTROL = re.compile(r"[\x00-\x1f\x7f-\x9f]")
 FORMULA = tuple("=+-@")
 
 
 def shown(text: str, most: int = 60) -> str:
     """The text for a terminal: at most so many characters, quoted, and without control characters."""
     return ascii(text if len(text) <= most else text[:most] + "..")
+
+
+def without_controls(text: str) -> str:
+    """The text for a terminal, with a question mark for each control character."""
+    return CONTROL.sub("?", text)
 
 
 def csv_cell(text: str) -> str:

@@ -17,12 +17,10 @@ to tell the answers apart. Of a kind of mistake the first are told, and the othe
 import argparse
 import difflib
 import re
-import subprocess
-import threading
-from collections import deque
-from collections.abc import Iterable, Iterator, Sequence
-from typing import IO, NamedTuple
+from collections.abc import Iterable, Sequence
+from typing import IO
 
+from ocpp_board.answered import Answered, Line, Messages, ScriptReplay
 from ocpp_board.escapes import shown
 from ocpp_board.limits import (
     DEFAULT_READINGS,
@@ -31,8 +29,9 @@ from ocpp_board.limits import (
     MOST_SITES,
     MOST_STATIONS,
 )
-from ocpp_board.line_faults import Said, bad_line, words_of
+from ocpp_board.line_faults import NAMES, Said, bad_line, words_of
 from ocpp_board.message_faults import REMEDIES, message_fault
+from ocpp_board.near_limits import NearLimits
 from ocpp_board.progress import Progress
 from ocpp_board.sources import is_gzip, opened
 from ocpp_board.statuses import Status, ended
@@ -44,12 +43,6 @@ there, or a file can't be read or written."""
 # Mistakes of a kind that are told one by one, and characters of a line that are shown.
 MOST_TOLD = 10
 SHOWN = 200
-# Lines that may write nothing.
-SILENT = (b"limits", b"station", b"period", b"now")
-# A line that is always BadLine, and a declaration that is always refused: by their two faults in a row the text of
-# the line before them ends, since no line writes two faults.
-MARK = b"-\nlimits 0 0 0 0\n"
-MARKED = ("fault PlanLimit", "fault DeclaredLate")
 
 
 class Plan:
@@ -115,87 +108,15 @@ class Plan:
         return self.opened[0] if self.opened else 1
 
 
-class Line(NamedTuple):
-    """A line that was sent, and how its text ends."""
-
-    number: int
-    line: bytes
-    is_marked: bool
-
-
 class Run:
-    """A replay that runs over a script, whose answers are taken apart."""
+    """A replay that runs over a script, and what is wrong with it."""
 
     def __init__(self, program: str, script: IO[bytes]) -> None:
-        self.script, self.plan = script, Plan()
-        pipe = subprocess.PIPE
-        self.process = subprocess.Popen([program, "replay"], stdin=pipe, stdout=pipe, stderr=pipe)
-        assert self.process.stdin and self.process.stdout and self.process.stderr
-        self.input, self.output = self.process.stdin, self.process.stdout
-        self.errors = self.process.stderr
-        self.sent: deque[Line] = deque()
+        self.replay, self.plan = ScriptReplay(program, script), Plan()
+        self.messages = Messages()
+        self.near = NearLimits(self.messages.limits, self.tell_limit)
         self.progress = Progress(script)
         self.told: dict[str, int] = {}
-        self.lines = 0
-        self.fault: OSError | None = None
-        self.feeder = threading.Thread(target=self.feed, daemon=True)
-        self.feeder.start()
-
-    def feed(self) -> None:
-        """Sends the script, with marks after lines that may write nothing."""
-        try:
-            with self.input as out:
-                for number, line in enumerate(iter(self.script.readline, b""), 1):
-                    self.lines = number
-                    out.write(self.sendable(number, line))
-        except BrokenPipeError:
-            pass
-        except OSError as fault:
-            self.fault = fault
-            self.process.kill()
-
-    def sendable(self, number: int, line: bytes) -> bytes:
-        """The line as it is sent: with marks where it may write nothing. One that is answered is remembered."""
-        bare = line[:-1].removesuffix(b"\r") if line.endswith(b"\n") else line
-        is_long = len(line.removesuffix(b"\n")) > LONGEST_LINE
-        if not is_long and (not bare or bare.startswith(b"#")):
-            return line
-        is_marked = bare.split(b" ", 1)[0] in SILENT
-        self.sent.append(Line(number, bare[: LONGEST_LINE + 1], is_marked))
-        if not is_marked:
-            return line
-        # A last line without a line feed is a line of its own; before a mark it gets one.
-        end = b"" if line.endswith(b"\n") else b"\r\n" if line.endswith(b"\r") else b"\n"
-        return line + end + MARK
-
-    def answer(self) -> str:
-        """The next line that the replay writes; empty at its end."""
-        return self.output.readline().decode("utf-8", "replace").rstrip("\n")
-
-    def texts(self) -> Iterator[tuple[Line, str]]:
-        """Each line that was answered, and the first line of its text, which is empty where it wrote nothing."""
-        while text := self.answer():
-            line = self.sent.popleft()
-            self.progress.tell(line.number, len(line.line) + 1)
-            if line.is_marked:
-                texts = self.up_to_mark(text)
-                if not texts[-1]:
-                    return
-                yield line, texts[0] if len(texts) > 2 else ""
-            else:
-                is_board = text.startswith("board ")
-                while is_board and text != "end" and text:
-                    text = self.answer()
-                yield line, "" if is_board else text
-
-    def up_to_mark(self, text: str) -> list[str]:
-        """The answers from this one on up to a mark's; the last is empty where the replay ended before it."""
-        texts = [text]
-        while not (len(texts) > 1 and texts[-1] in MARKED and texts[-2] == "fault BadLine"):
-            texts.append(self.answer())
-            if not texts[-1]:
-                break
-        return texts
 
     def explain(self, line: Line, text: str) -> None:
         """Tells what is wrong with a line, where something is."""
@@ -241,9 +162,7 @@ class Run:
                 "leave one of them out",
             )
         if name == "UnknownStation":
-            return f"no station {words[1]} is declared", plan.near(
-                "station", words[1], plan.stations
-            )
+            return self.unknown_station(words)
         if name == "UnknownSite" and words[0] == "period":
             return (
                 f"no station of site {words[1]} is declared yet",
@@ -252,6 +171,16 @@ class Run:
         if name == "UnknownSite":
             return f"no site {words[1]} is declared", plan.near("site", words[1], plan.sites)
         return "it was refused", "see docs/formats.md"
+
+    def unknown_station(self, words: list[str]) -> Said:
+        """Why no station of this name is declared."""
+        cause = f"no station {words[1]} is declared"
+        if words[0] == "msg" and words[2] and not words[2].lstrip().startswith(("[", "{")):
+            return (
+                f"{cause}, and no message begins with {shown(words[2].split(' ')[0])}",
+                f"a name has no blank; {NAMES}",
+            )
+        return cause, self.plan.near("station", words[1], self.plan.stations)
 
     def tell(self, line: Line, text: str, cause: str, remedy: str) -> None:
         """Tells a mistake; of a kind the first ones."""
@@ -269,22 +198,28 @@ class Run:
                 f"  {kind}: {cause}\n  remedy: {remedy}"
             )
 
+    def tell_limit(self, answered: Answered, said: str, remedy: str) -> None:
+        """Tells that a station comes near to its limits, which is no mistake yet."""
+        self.progress.end()
+        print(f"line {answered.number}: {said}\n  remedy: {remedy}")
+
     def run(self) -> int:
         """Tells all that is wrong, and gives the exit status. Raises OSError."""
-        for line, text in self.texts():
-            self.explain(line, text)
+        for line, text in self.replay.texts():
+            self.progress.tell(line.number, len(line.line) + 1)
+            if message := self.messages.take(line, text):
+                self.near.take(message)
+                if message.is_accepted and self.plan.opened:
+                    continue
+            self.explain(line, text.partition(b"\n")[0].decode("utf-8", "replace"))
         self.progress.end()
-        self.feeder.join()
-        if self.fault:
-            raise self.fault
-        told = self.errors.read().decode("utf-8", "replace").strip()
-        status = self.process.wait()
+        status, told = self.replay.ended()
         for kind, count in self.told.items():
             if count > MOST_TOLD:
                 print(f"and {count - MOST_TOLD:,} more lines: {kind}")
         if status:
             print(f"the replay ended with status {status}: {told}")
-        print(f"lines: {self.lines:,}, told: {sum(self.told.values()):,}")
+        print(f"lines: {self.replay.lines:,}, told: {sum(self.told.values()):,}")
         return Status.TOLD if self.told or status else Status.DONE
 
 

@@ -11,12 +11,15 @@ GREATEST_SEQ_NO = 2_147_483_647
 LONGEST_LINE = 262_400
 LONGEST_MESSAGE = 262_144
 LONGEST_SCRIPT = 1_073_741_824
+# Bytes of a line of a log: room for a message of which each byte is escaped, and for other fields.
+LONGEST_LOG_LINE = 4_194_304
 # Sites and stations of a script, and the readings of all its stations together.
 MOST_SITES = 16
 MOST_STATIONS = 64
 MOST_READINGS = 1_048_576
 # What a station keeps without a `limits` line, and at most.
-DEFAULT_READINGS = 16_384
+DEFAULT_LIMITS = {"transactions": 1_024, "events": 16_384, "readings": 16_384, "changes": 2**63}
+DEFAULT_READINGS = DEFAULT_LIMITS["readings"]
 GREATEST_LIMITS = {"transactions": 4_096, "events": 65_536, "readings": 65_536, "changes": 2**63}
 # Settlement periods in seconds.
 PERIODS = (300, 900, 1800, 3600)

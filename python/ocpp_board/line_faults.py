@@ -34,6 +34,9 @@ NUMBER = re.compile(r"0|[1-9][0-9]*")
 BYTE_ORDER_MARK = b"\xef\xbb\xbf"
 UTF_16 = (b"\xff\xfe", b"\xfe\xff")
 GREATEST = 2**64 - 1
+NAMES = "names have 1 to 48 of A-Z a-z 0-9 * - _ = : + | @ ."
+# What is said of a time whose year no message may have.
+OUT_OF_RANGE = "is not from 2000 to 2099"
 
 Said = tuple[str, str]  # A cause and its remedy.
 
@@ -47,7 +50,7 @@ def name_fault(what: str, name: str) -> Said | None:
         return f"the {what} has {len(name)} characters, and not 1 to 48", "a shorter name"
     return (
         f"the {what} {shown(name)} has {shown(bad[0])}, which no name has",
-        "names have 1 to 48 of A-Z a-z 0-9 * - _ = : + | @ .",
+        NAMES,
     )
 
 
@@ -71,7 +74,7 @@ def time_fault(text: str) -> str | None:
         return "is no time"
     if moment.tzinfo is None:
         return "has no offset from UTC, such as Z"
-    return None if FIRST_MOMENT <= moment < PAST_MOMENTS else "is not from 2000 to 2099"
+    return None if FIRST_MOMENT <= moment < PAST_MOMENTS else OUT_OF_RANGE
 
 
 def words_fault(words: list[str]) -> Said | None:
@@ -172,5 +175,6 @@ def bad_line(line: bytes, number: int) -> Said:
         return said
     count = len(form.split(" <"))
     if len(words) != count:
-        return f"{len(words)} words, and not {count}", form
+        more = "; a name has no blank" if len(words) > count else ""
+        return f"{len(words)} words, and not {count}", form + more
     return words_fault(words) or ("no cause was found", "compare the line with docs/formats.md")

@@ -1,5 +1,6 @@
 """Why a message is refused: which member broke which check, and the remedy."""
 
+import decimal
 import difflib
 import json
 import re
@@ -7,14 +8,26 @@ from typing import Any
 
 from ocpp_board.escapes import shown
 from ocpp_board.limits import GREATEST_SEQ_NO, TRANSACTION
-from ocpp_board.line_faults import Said, time_fault
+from ocpp_board.line_faults import OUT_OF_RANGE, Said, time_fault
 
 ACTIONS = ["BootNotification", "Heartbeat", "StatusNotification", "MeterValues", "TransactionEvent"]
+# Actions of OCPP 2.0.1 that a station may call too, and of which the ledger keeps nothing.
+OTHER_ACTIONS = frozenset(
+    """Authorize ClearedChargingLimit DataTransfer FirmwareStatusNotification Get15118EVCertificate GetCertificateStatus
+    LogStatusNotification NotifyChargingLimit NotifyCustomerInformation NotifyDisplayMessages NotifyEVChargingNeeds
+    NotifyEVChargingSchedule NotifyEvent NotifyMonitoringReport NotifyReport PublishFirmwareStatusNotification
+    ReportChargingProfiles ReservationStatusUpdate SecurityEventNotification SignCertificate""".split()
+)
+# Actions of OCPP 1.6 that 2.0.1 has not.
+OLD_ACTIONS = frozenset(("StartTransaction", "StopTransaction", "DiagnosticsStatusNotification"))
 COUNTED = (None, "Energy.Active.Import.Register", "Energy.Active.Export.Register")
 KINDS = ("Started", "Updated", "Ended")
 # EVSEs of a station, exponents of a unit's multiplier, and readings of a message.
 MOST_EVSES, GREATEST_MULTIPLIER, MOST_READINGS = 64, 12, 1_024
 LONGEST_ID = 36
+UNSET_CLOCK = (
+    "set the station's clock; what it sent meanwhile is lost unless it sends it again with a time"
+)
 
 
 class Token(str):
@@ -27,6 +40,11 @@ def no_constant(token: str) -> Any:
 
 
 JSON = json.JSONDecoder(parse_int=Token, parse_float=Token, parse_constant=no_constant)
+
+# A reading: how long it may be written, its exponent, and the most milliwatt-hours.
+LONGEST_READING, GREATEST_EXPONENT, MOST_MWH = 36, 99, 10**13
+EXPONENT = re.compile(r"[eE]([+-]?)0*([0-9]+)$")
+EXACT = decimal.Context(prec=400)
 
 Failed = tuple[str, str, str]  # The fault, the member, and what is wrong with it.
 
@@ -46,6 +64,19 @@ WANTED: dict[type, str] = {
     list: "an array",
     Token: "a number",
 }
+
+
+def is_reading(token: str, unit: dict[str, Any]) -> bool:
+    """Whether a number is a reading in this unit. A unit that is wrong itself is another fault, and counts as Wh."""
+    exponent = EXPONENT.search(token)
+    if len(token) > LONGEST_READING or exponent and int(exponent[2]) > GREATEST_EXPONENT:
+        return False
+    multiplier = unit.get("multiplier")
+    power = 6 if unit.get("unit") == "kWh" else 3
+    if isinstance(multiplier, Token) and re.fullmatch(r"-?[0-9]{1,3}", multiplier):
+        power += int(multiplier)
+    mwh = decimal.Decimal(token).scaleb(power, EXACT)
+    return 0 <= mwh < MOST_MWH + 1
 
 
 class Checks:
@@ -162,7 +193,7 @@ class Checks:
                 False,
             )
         token = self.member(sampled, path, "value", Token)
-        if token is not None:
+        if token is not None and not is_reading(token, unit or {}):
             self.note(
                 "Decimal",
                 path + "value",
@@ -214,6 +245,30 @@ REMEDIES = {
 }
 
 
+def is_kept_nothing_of(action: str) -> bool:
+    """Whether this is an action of OCPP 2.0.1 of which the ledger keeps nothing."""
+    return action in OTHER_ACTIONS
+
+
+def unknown_action(action: str) -> Said:
+    """Why an action is none that is answered."""
+    if is_kept_nothing_of(action):
+        return (
+            f"the action {shown(action)} is one of OCPP 2.0.1 of which the ledger keeps nothing",
+            "nothing is to be done; whoever answers the station answers it",
+        )
+    if action in OLD_ACTIONS:
+        return (
+            f"the action {shown(action)} is one of OCPP 1.6, which the ledger does not read",
+            "leave out the messages of this station, which speaks OCPP 1.6",
+        )
+    near = difflib.get_close_matches(action, [*ACTIONS, *sorted(OTHER_ACTIONS)], 1, 0.6)
+    return (
+        f"the action {shown(action)} is none that is answered",
+        f"the nearest is {near[0]}" if near else "leave it out: it keeps nothing of a transaction",
+    )
+
+
 def message_fault(text: str, told: str) -> Said:
     """Why a message was refused with this description."""
     if told in REMEDIES and told != "Format":
@@ -235,18 +290,13 @@ def message_fault(text: str, told: str) -> Said:
             "the type 2 for a CALL",
         )
     if told == "UnknownAction":
-        near = difflib.get_close_matches(frame[2], ACTIONS, 1, 0.6)
-        return (
-            f"the action {shown(frame[2])} is none that is answered",
-            f"the nearest is {near[0]}"
-            if near
-            else "leave it out: it keeps nothing of a transaction",
-        )
+        return unknown_action(frame[2])
     is_moment = told == "Moment"
     other = ("a timestamp", "is no time") if is_moment else ("a member", "broke the check")
     failed = ((member, what) for fault, member, what in Checks(frame[3]).failed if fault == told)
     member, what = next(failed, other)
-    return f"{member} {what}", "the station's message is to be corrected, or left out"
+    remedy = "the station's message is to be corrected, or left out"
+    return f"{member} {what}", UNSET_CLOCK if is_moment and OUT_OF_RANGE in what else remedy
 
 
 def unread(text: str, fault: json.JSONDecodeError | RecursionError) -> Said:

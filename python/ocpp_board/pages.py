@@ -1,75 +1,91 @@
 """Pages as text: their style, their frame, tables, links and energies. They have no script and load nothing."""
 
 import os
-from collections.abc import Iterable, Iterator
+from collections.abc import Iterable, Iterator, Sequence
+from datetime import datetime
 from html import escape
+from typing import NamedTuple
 
 from ocpp_board.energies import Flow, kwh
 
 STYLE = """
-:root{color-scheme:light;--ink:#1a1a1a;--rise:#1f4e79;--fall:#8a3a00;--out:#1b5e20;--line:#c4c4c4}
+:root{color-scheme:light dark;--paper:#fff;--tint:#f3f4f5;--ink:#1b1b1b;--soft:#565656;--line:#cfcfcf;--rise:#1f5a94;
+--fall:#9a3d00;--out:#1b6b25;--link:#0b3d91;--bad:#a8071a}
+@media(prefers-color-scheme:dark){:root{--paper:#15181b;--tint:#22272c;--ink:#ececec;--soft:#a9afb6;--line:#42494f;
+--rise:#6fb1ef;--fall:#ff9d5c;--out:#79cf82;--link:#9ec5ff;--bad:#ff8a80}}
 *{box-sizing:border-box}
-body{margin:0 auto;max-width:74rem;padding:1rem;font:1rem/1.45 system-ui,sans-serif;color:var(--ink);background:#fff}
-h1{font-size:1.5rem}h2{font-size:1.35rem;border-bottom:3px solid var(--ink);margin-top:2.5rem}
-h3{font-size:1.15rem;margin-top:2rem}h4{font-size:1rem;margin:1.5rem 0 .5rem}h2,h3,h4{overflow-wrap:anywhere}
-dl.figures{display:flex;flex-wrap:wrap;gap:.5rem;margin:0}
-dl.figures div{border:1px solid var(--line);padding:.3rem .7rem}
-dl.figures div.mark{border:3px double var(--ink)}
-dl.figures dt{font-size:.8rem}dl.figures dd{margin:0;font-weight:600}
-.warning{border:3px double var(--ink);padding:.5rem .7rem;font-weight:600}
-.day{display:grid;grid-template-columns:minmax(0,1fr) 33rem;gap:0 1.25rem;margin:0 0 1.25rem}
-figure{margin:0;padding-left:4rem}figcaption,caption{text-align:left;font-size:.85rem;padding:.2rem 0}
-figcaption{margin-left:-4rem}
-svg{display:block;overflow:visible}
-svg text{font:11px system-ui,sans-serif;fill:var(--ink)}
-.grid{stroke:var(--line)}.zero{stroke:var(--ink)}
-.up{fill:var(--rise)}.down{fill:url(#falls);stroke:var(--fall)}
-.out{fill:url(#exports);stroke:var(--out)}.back{fill:url(#returns);stroke:var(--out)}
-.still{fill:#fff;stroke:var(--ink);stroke-width:1.5}
-.there{fill:var(--rise)}.gap{fill:#fff;stroke:var(--ink);stroke-dasharray:2 2}
-.scroll{overflow:auto;max-height:17rem}
+body{margin:0 auto;max-width:84rem;padding:1rem;font:1rem/1.45 system-ui,sans-serif;color:var(--ink);
+background:var(--paper);overflow-wrap:break-word}
+h1{font-size:1.6rem;margin:.5rem 0}h2{font-size:1.35rem;border-bottom:2px solid var(--ink);margin-top:2.5rem}
+h3{font-size:1.15rem;margin:2rem 0 .5rem}h3.sub{font-size:1rem;margin:1.5rem 0 .5rem}h1,h2,h3{overflow-wrap:anywhere}
+time,.whole,.periods tbody th{white-space:nowrap}.stamp,.soft{color:var(--soft);font-size:.85rem}
+.unseen,.one .site{position:absolute;width:1px;height:1px;margin:0;overflow:hidden;clip-path:inset(50%)}
+dl.figures{display:flex;flex-wrap:wrap;gap:.25rem 1.75rem;margin:.5rem 0;align-items:baseline}
+dl.figures dt{font-size:.8rem;color:var(--soft)}dl.figures dd{margin:0;font-weight:600;white-space:nowrap}
+dl.figures div.lead dd{font-size:1.6rem}
+.mark>th::before,dl.figures div.mark dd::before,.flag::before{content:"\\25B2\\A0";color:var(--bad);font-size:.8em}
+.warning{border-left:4px solid var(--bad);background:var(--tint);padding:.5rem .7rem;font-weight:600}
+.refused{background:var(--bad);color:var(--paper);padding:.5rem .7rem;font-weight:600}.refused a{color:var(--paper)}
+.day{display:grid;grid-template-columns:minmax(0,1fr) calc(var(--columns)*5.25rem);gap:0 1.5rem;
+margin:0 0 1.25rem}
+figure{margin:0;padding-left:3.5rem}
+figcaption,caption{text-align:left;font-size:.85rem;padding:.2rem 0;color:var(--soft)}
+figcaption{margin-left:-3.5rem}
+svg{display:block;overflow:visible}svg text{font:11px system-ui,sans-serif;fill:var(--ink)}
+path{vector-effect:non-scaling-stroke}.grid{stroke:var(--line)}.zero{stroke:var(--ink)}
+.up,.there{fill:var(--rise)}.down{fill:url(#falls);stroke:var(--fall)}.out{fill:var(--out)}
+.back{fill:url(#returns);stroke:var(--out)}.still{stroke:var(--ink);stroke-width:4}
+.fall{fill:var(--fall)}.return{fill:var(--out)}.gap{fill:var(--paper);stroke:var(--ink);stroke-dasharray:2 2}
+.scroll,.across{position:relative;overflow:auto}.scroll{max-height:15.5rem}
 table{border-collapse:collapse;width:100%;font-size:.85rem;font-variant-numeric:tabular-nums}
-th,td{border-bottom:1px solid var(--line);padding:.25rem .5rem;text-align:right;vertical-align:top}
+th,td{border-bottom:1px solid var(--line);padding:.2rem .5rem;text-align:right;vertical-align:top;white-space:nowrap}
 th:first-child,td:first-child,.left{text-align:left}
-thead th{position:sticky;top:0;background:#fff;border-bottom:2px solid var(--ink);vertical-align:bottom}
-table.plain{max-width:38rem}td.left{min-width:9rem}td.id,tbody th{font-weight:400;overflow-wrap:anywhere}
-tr.mark{outline:3px double var(--ink);outline-offset:-2px}
-nav{display:flex;flex-wrap:wrap;gap:.5rem 1.5rem;margin:1rem 0}
-a{color:#0b3d91}a:focus,.scroll:focus{outline:3px solid #0b3d91}
+thead th{position:sticky;top:0;background:var(--paper);border-bottom:2px solid var(--ink);vertical-align:bottom;
+white-space:normal}
+table.plain{width:auto}.day table.plain{width:100%}
+tbody th{font-weight:400;white-space:normal;overflow-wrap:anywhere;min-width:8rem}
+td.left{white-space:normal;min-width:8rem;overflow-wrap:anywhere}
+tr.sum>*{border-top:2px solid var(--ink);font-weight:600}
+.bar{width:10rem;min-width:10rem}td.bar{padding:.35rem .5rem}
+td.bar span{display:block;height:.75rem;background:var(--rise)}td.bar span.less{background:var(--out)}
+nav{display:flex;flex-wrap:wrap;gap:.25rem 1.5rem;margin:.75rem 0}
+a{color:var(--link)}a:focus,.scroll:focus,.across:focus,summary:focus{outline:3px solid var(--link)}
+details{margin:2.5rem 0 1rem;border-top:1px solid var(--line);padding-top:.5rem}details p,details li{max-width:48rem}
 @media(max-width:70rem){.day{grid-template-columns:minmax(0,1fr)}}
 @media(max-width:48rem){
+body{padding:.75rem}figure{padding-left:2.75rem}figcaption{margin-left:-2.75rem}.wide{display:none}
+th,td{padding:.2rem .25rem}table.plain{width:100%;font-size:.8rem}
+.plain tbody th{min-width:7rem}.days tbody th{white-space:nowrap}
 .cards thead{position:absolute;width:1px;height:1px;overflow:hidden;clip-path:inset(50%)}
-.cards,.cards caption,.cards tbody,.cards tr,.cards th,.cards td{display:block}
-.cards tr{border:1px solid var(--ink);margin:0 0 .75rem}
-.cards tr.mark{outline:0;border:3px double var(--ink)}
-.cards td{display:flex;justify-content:space-between;gap:1rem;text-align:right}
-.cards tbody th{background:#eee}
-.cards td::before{content:attr(data-head);text-align:left;flex:none}
-.cards td>*{flex:1;min-width:0}}
+.cards,.cards caption,.cards tbody{display:block}
+.cards tr{display:grid;grid-template-columns:1fr 1fr;gap:0 1rem;border-top:2px solid var(--line);padding:.35rem 0}
+.cards th,.cards td{display:block;text-align:left;border:0;padding:.1rem 0;min-width:0}
+.cards td{white-space:normal}.cards tbody th,.cards td.left{grid-column:1/-1}.cards tbody th{font-weight:600}
+.cards td::before{content:attr(data-head) ": ";color:var(--soft)}.cards td:empty{display:none}}
 @media print{.scroll{max-height:none;overflow:visible}}
 """
 
+# What hatched bars are filled with. Stripes lie flat, so that they keep their width however wide a picture is.
 FALLS = """<svg width="0" height="0" style="position:absolute" aria-hidden="true"><defs><pattern id="falls" width="4" \
-height="4" patternUnits="userSpaceOnUse" patternTransform="rotate(45)"><rect width="4" height="4" fill="#fff"/>\
-<rect width="1.6" height="4" fill="#8a3a00"/></pattern>\
-<pattern id="exports" width="5" height="5" patternUnits="userSpaceOnUse" patternTransform="rotate(-45)">\
-<rect width="5" height="5" fill="#fff"/><rect width="3" height="5" fill="#1b5e20"/></pattern>\
-<pattern id="returns" width="5" height="5" patternUnits="userSpaceOnUse"><rect width="5" height="5" fill="#fff"/>\
-<circle cx="2.5" cy="2.5" r="1.2" fill="#1b5e20"/></pattern></defs></svg>
+height="4" patternUnits="userSpaceOnUse"><rect class="fall" width="4" height="2"/></pattern>\
+<pattern id="returns" width="4" height="4" patternUnits="userSpaceOnUse"><rect class="return" width="4" height="2"/>\
+</pattern></defs></svg>
 """
 
-BARS = """<p>Energy is in kWh. A bar stands for a settlement period: a full bar goes up by what the meters rose, \
-a hatched bar goes down by what they fell, and a ring is a period whose readings show no difference. What was fed back \
-goes down below it, green and hatched the other way; a dotted bar goes up by what the export register fell. Each \
-picture has its numbers in a table, and there the net energy: what was imported less what was exported.</p>
+BARS = """<p>Energy is in kWh, to a watt-hour; the CSV files have it exactly. Net is what was imported less what was \
+exported: up less down, less export up and more export down.</p>
+<p>A bar stands for a settlement period. A full bar goes up by what the meters rose, a striped one goes down by what \
+they fell, and a thick line at zero is a period whose readings show no difference. What was fed back goes down, full \
+and green; what the export register fell by goes up, striped and green. Each picture has its numbers in the table \
+beside.</p>
 <p>A difference of two readings counts in the period of its later reading: what a meter read at 10:15:00 has risen \
 since the reading before belongs to the period that begins at 10:15. Readings that an Ended event lists again show as \
 down, and again as up.</p>
 """
 
 SESSIONS = """<p>A session is complete when its first event is its start, its last one its end, no number between them \
-is missing, and none of those between is a start or an end. A board has no times of sessions: their length is told in \
-sequence numbers. Voided events count for nothing. A double frame marks what is missing, not complete or voided.</p>
+is missing, and none of those between is a start or an end. Voided events count for nothing. A red triangle marks what \
+is missing, not complete or voided.</p>
 """
 
 MARK = ' class="mark"'
@@ -77,15 +93,51 @@ MARK = ' class="mark"'
 FOOT = "</main>\n</body>\n</html>\n"
 
 
-def head(title: str, said: str, links: str = "", refresh: int | None = None) -> str:
-    """A page up to its main part. A browser draws it anew every `refresh` seconds, where these are given."""
+def head(
+    title: str,
+    said: str,
+    links: str = "",
+    refresh: int | None = None,
+    is_one: bool = False,
+    whole: str = "",
+) -> str:
+    """A page up to its main part. A browser draws it anew every `refresh` seconds, where these are given. `is_one`:
+    it is of one site, which its title names. `whole`: the end of its title, which is not broken."""
+    more = f" {whole}" if whole else ""
+    kept = f' <span class="whole">{whole}</span>' if whole else ""
+    kind = ' class="one"' if is_one else ""
     anew = f'<meta http-equiv="refresh" content="{refresh}">\n' if refresh else ""
     return (
         f'<!DOCTYPE html>\n<html lang="en">\n<head>\n<meta charset="utf-8">\n'
         '<meta name="viewport" content="width=device-width, initial-scale=1">\n'
-        f"{anew}<title>{title}</title>\n<style>{STYLE}</style>\n</head>\n<body>\n{FALLS}<header>\n<h1>{title}</h1>\n"
-        f"{links}{said}</header>\n<main>\n"
+        f"{anew}<title>{title}{more}</title>\n<style>{STYLE}</style>\n</head>\n<body>\n{FALLS}<header>\n"
+        f"<h1>{title}{kept}</h1>\n{links}{said}</header>\n"
+        f"<main{kind}>\n"
     )
+
+
+def kept(time: str) -> str:
+    """A day or a time that is not broken."""
+    return f"<time>{time}</time>"
+
+
+def moment(at: datetime, to_second: bool = False) -> str:
+    """A moment for a reader, to the minute or to the second, in the zone that it has."""
+    text = f"{at:%Y-%m-%d %H:%M:%S}" if to_second else f"{at:%Y-%m-%d %H:%M}"
+    return f'<time datetime="{at.isoformat(timespec="seconds")}">{text}</time>'
+
+
+def refused_banner(count: int, href: str) -> str:
+    """How many messages were refused, with the file that has them; nothing where none was."""
+    if not count:
+        return ""
+    what = "1 message was" if count == 1 else f"{count:,} messages were"
+    return f'<p class="refused" role="status"><a href="{escape(href)}">{what} refused: which, and why</a></p>\n'
+
+
+def explained(*texts: str) -> str:
+    """What explains a page, to be opened at its end."""
+    return f"<details>\n<summary>How to read this page</summary>\n{''.join(texts)}</details>\n"
 
 
 def link(path: str, text: str, label: str = "") -> str:
@@ -93,13 +145,15 @@ def link(path: str, text: str, label: str = "") -> str:
     return f'<a href="{escape(os.path.basename(path))}{"#" + label if label else ""}">{text}</a>'
 
 
-# The columns of a table that has energies in kWh, and a row's cells of them.
-FLOW_HEADS = ["Up", "Down", "Export up", "Export down", "Net"]
+def flow_heads(has_export: bool) -> list[str]:
+    """The heads of the columns of an energy: the net one first, and exports where there are some."""
+    return ["Net", "Up", "Down", *(["Export up", "Export down"] if has_export else [])]
 
 
-def cells_of(flow: Flow) -> list[str]:
-    """A row's cells of energies, in kWh."""
-    return [*map(kwh, flow), kwh(flow.net)]
+def cells_of(flow: Flow, has_export: bool) -> list[str]:
+    """A row's cells of an energy, in kWh."""
+    cells = [kwh(flow.net), kwh(flow.up), kwh(flow.down)]
+    return cells + ([kwh(flow.export_up), kwh(flow.export_down)] if has_export else [])
 
 
 def ranges(gaps: list[tuple[int, int]]) -> str:
@@ -107,28 +161,60 @@ def ranges(gaps: list[tuple[int, int]]) -> str:
     return ", ".join(str(a) if a == b else f"{a} to {b}" for a, b in gaps)
 
 
+class Column(NamedTuple):
+    """A column: its head, and the class of its cells. `is_unseen`: the head is read out, and not seen."""
+
+    text: str
+    kind: str = ""
+    is_unseen: bool = False
+
+    @property
+    def head(self) -> str:
+        """The head as HTML."""
+        return f'<span class="unseen">{self.text}</span>' if self.is_unseen else self.text
+
+
+Heads = list[str | Column]
 Row = tuple[str, list[str]]  # A row's attributes, and its cells as HTML.
 
 
+def column_of(head: str | Column) -> Column:
+    """The column of a head; one that begins with a blank is set to the left."""
+    if isinstance(head, Column):
+        return head
+    return Column(head.strip(), "left" if head.startswith(" ") else "")
+
+
 def table(
-    caption: str, heads: list[str], rows: Iterable[Row], cards: bool = False
+    caption: str,
+    heads: Sequence[str | Column],
+    rows: Iterable[Row],
+    cards: bool = False,
+    kind: str = "plain",
 ) -> Iterator[str]:
     """A table as text. The column of a head that begins with a blank is set to the left. On a phone the style makes a
-    card of each row where `cards` is set, and the roles keep it a table."""
+    card of each row where `cards` is set, and the roles keep it a table. `kind`: its class where it has no cards.
+    """
 
     def role(name: str) -> str:
         return f' role="{name}"' if cards else ""
 
-    left = [' class="left"' if head.startswith(" ") else "" for head in heads]
-    labels = [f' data-head="{head.strip()}"' if cards else "" for head in heads]
-    yield f'<table{role("table")} class="{"cards" if cards else "plain"}">\n<caption>{caption}</caption>\n'
+    columns = [column_of(head) for head in heads]
+    sides = [f' class="{one.kind}"' if one.kind else "" for one in columns]
+    labels = [f' data-head="{one.text}"' if cards else "" for one in columns]
+    yield f'<table{role("table")} class="{"cards" if cards else kind}">\n<caption>{caption}</caption>\n'
     yield f'<thead{role("rowgroup")}><tr{role("row")}>'
-    for text, side in zip(heads, left):
-        yield f'<th{role("columnheader")} scope="col"{side}>{text.strip()}</th>'
+    for column, side in zip(columns, sides):
+        yield f'<th{role("columnheader")} scope="col"{side}>{column.head}</th>'
     yield f'</tr></thead>\n<tbody{role("rowgroup")}>\n'
     for mark, cells in rows:
         yield f'<tr{role("row")}{mark}><th{role("rowheader")} scope="row">{cells[0]}</th>'
-        for side, label, cell in zip(left[1:], labels[1:], cells[1:]):
-            yield f'<td{role("cell")}{side}{label}>{f"<span>{cell}</span>" if cards else cell}</td>'
+        for side, label, cell in zip(sides[1:], labels[1:], cells[1:]):
+            yield f'<td{role("cell")}{side}{label}>{cell}</td>'
         yield "</tr>\n"
     yield "</tbody>\n</table>\n"
+
+
+def across(label: str, text: str) -> str:
+    """A table that scrolls from side to side by itself where the page is too narrow for it."""
+    return f'<div class="across" role="group" tabindex="0" aria-label="{label}">\n{text}</div>\n'

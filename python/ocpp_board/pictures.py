@@ -1,54 +1,90 @@
 """A day's settlement periods as bars, and the sequence numbers of a session as a strip."""
 
-from collections.abc import Iterator
+from collections.abc import Iterable, Iterator
 from datetime import date, timedelta
+from decimal import Decimal
 from functools import lru_cache
 
 from ocpp_board.boards import Period, Session
 from ocpp_board.calendars import Calendar
-from ocpp_board.energies import kwh
+from ocpp_board.energies import MINUS, MWH_OF_A_KWH, Flow
+
+# Seconds that one unit of a picture's width stands for: every period has a whole number of tenths of its width.
+UNIT = 30
+# Lines above each other that a picture has at most, the one at zero left out.
+MOST_LINES = 5
 
 
 class Scale:
-    """Where an energy stands in a picture: rises above the zero line, falls below it."""
+    """Where an energy stands in a picture: rises above the zero line, falls below it, and a line beyond each.
 
-    TOP, HEIGHT = 14, 170
+    The unit of its axis is the first of its units in which the numbers are not too long for a phone.
+    """
 
-    def __init__(self, periods: list[Period]) -> None:
-        self.up = max((p.flow.above for p in periods), default=0)
-        self.down = max((p.flow.below for p in periods), default=0)
-        self.span = self.up + self.down or 1
+    TOP, HEIGHT = 20, 160
+    UNITS = (
+        ("kWh", MWH_OF_A_KWH),
+        ("MWh", 1_000 * MWH_OF_A_KWH),
+        ("GWh", 1_000_000 * MWH_OF_A_KWH),
+    )
+    LONG = 10_000
+
+    def __init__(self, flows: Iterable[Flow]) -> None:
+        ends = [(flow.above, flow.below) for flow in flows]
+        up, down = (max((end[side] for end in ends), default=0) for side in (0, 1))
+        up = up if up or down else MWH_OF_A_KWH
+        self.step = round_step(up, down)
+        self.up, self.down = lines_to(up, self.step), lines_to(down, self.step)
         self.zero = self.at(0)
-        self.step = self.round_step()
+        found = (one for one in self.UNITS if max(self.up, self.down) < self.LONG * one[1])
+        self.unit, self.mwh = next(found, self.UNITS[-1])
 
     def at(self, mwh: int) -> float:
         """The height of an energy, in pixels from the top."""
-        return self.TOP + self.HEIGHT * (self.up - mwh) / self.span
-
-    def round_step(self) -> int:
-        """The distance of the lines: 1, 2 or 5 times a power of ten, so that there are few lines."""
-        power = 1
-        while True:
-            for step in (power, 2 * power, 5 * power):
-                if self.span <= 5 * step:
-                    return step
-            power *= 10
+        return self.TOP + self.HEIGHT * (self.up - mwh) / (self.up + self.down)
 
     def marks(self) -> range:
         """The energies of the lines, in mWh."""
-        return range(-(self.down // self.step) * self.step, self.up + 1, self.step)
+        return range(-self.down, self.up + 1, self.step)
+
+    def label(self, mwh: int) -> str:
+        """The text of a line, in the axis' unit and with as many decimals as the distance of the lines has."""
+        step = Decimal(self.step) / self.mwh
+        decimals = max(0, -int(step.normalize().as_tuple().exponent))
+        number = f"{Decimal(abs(mwh)) / self.mwh:,.{decimals}f}"
+        return MINUS + number if mwh < 0 else number
+
+    def said(self) -> str:
+        """How far it goes, for a reader."""
+        return f"{self.label(self.up)} {self.unit}"
+
+
+def lines_to(mwh: int, step: int) -> int:
+    """The first line that is not below an energy."""
+    return -(-mwh // step) * step
+
+
+def round_step(up: int, down: int) -> int:
+    """The distance of the lines: 1, 2 or 5 times a power of ten, so that there are few lines."""
+    power = 1
+    while True:
+        for step in (power, 2 * power, 5 * power):
+            if (lines_to(up, step) + lines_to(down, step)) // step <= MOST_LINES:
+                return step
+        power *= 10
 
 
 def short(number: float) -> str:
-    """A number with at most two digits behind the point."""
-    return f"{number:.2f}".rstrip("0").rstrip(".")
+    """A number with at most one digit behind the point."""
+    return f"{number:.1f}".removesuffix(".0")
 
 
-def bar(left: float, wide: float, p: Period, scale: Scale) -> Iterator[str]:
-    """The bars of a period, which begins and is wide as these parts of the picture's width say, in per cent."""
-    flow = p.flow
+def bar(left: int, wide: int, p: Period, scale: Scale) -> Iterator[tuple[str, str]]:
+    """The parts of a period's bars, each with its kind; where it begins and how wide it is are told in units."""
+    flow, x = p.flow, left + wide // 10
+    across = wide - 2 * (wide // 10)
     if not any(flow):
-        yield f'<circle class="still" cx="{short(left + wide / 2)}%" cy="{short(scale.zero)}" r="3"/>'
+        yield "still", f"M{x} {short(scale.zero)}h{across}"
     for side, parts in (
         (-1, (("up", flow.up), ("back", flow.export_down))),
         (1, (("down", flow.down), ("out", flow.export_up))),
@@ -56,13 +92,10 @@ def bar(left: float, wide: float, p: Period, scale: Scale) -> Iterator[str]:
         end = scale.zero
         for kind, mwh in parts:
             if mwh:
-                height = max(abs(scale.at(mwh) - scale.zero), 1.5)
-                y = end - height if side < 0 else end
-                end += side * height
-                yield (
-                    f'<rect class="{kind}" x="{short(left + wide / 10)}%" width="{short(wide * 0.8)}%" '
-                    f'y="{short(y)}" height="{short(height)}"/>'
-                )
+                height = short(max(abs(scale.at(mwh) - scale.zero), 1.5))
+                sign = "-" if side < 0 else ""
+                yield kind, f"M{x} {short(end)}v{sign}{height}h{across}V{short(end)}z"
+                end += side * float(height)
 
 
 @lru_cache(2)
@@ -78,27 +111,44 @@ def hours(calendar: Calendar, day: date) -> list[tuple[float, str]]:
     ]
 
 
+def paths(
+    day: date, periods: list[Period], scale: Scale, calendar: Calendar
+) -> Iterator[tuple[str, str]]:
+    """The lines and the bars of a day, each kind as one path."""
+    begin, width = calendar.begin(day), round(calendar.seconds(day) / UNIT)
+    bottom = Scale.TOP + Scale.HEIGHT
+    yield "grid", "".join(f"M0 {short(scale.at(mwh))}h{width}" for mwh in scale.marks() if mwh)
+    ticks = (round(x * width / 100) for x, _ in hours(calendar, day))
+    yield "grid", "".join(f"M{x} {bottom}v5" for x in ticks)
+    kinds: dict[str, list[str]] = {}
+    for p in periods:
+        left = round((p.start - begin).total_seconds() / UNIT)
+        for kind, path in bar(left, p.seconds // UNIT, p, scale):
+            kinds.setdefault(kind, []).append(path)
+    still = kinds.pop("still", [])
+    yield from ((kind, "".join(parts)) for kind, parts in kinds.items())
+    yield "zero", f"M0 {short(scale.zero)}h{width}"
+    if still:
+        yield "still", "".join(still)
+
+
 def picture(
     label: str, day: date, periods: list[Period], scale: Scale, calendar: Calendar
 ) -> Iterator[str]:
-    """The periods of one day as bars. Widths are in parts of the page's, so that letters keep their size."""
-    bottom, begin, length = Scale.TOP + Scale.HEIGHT, calendar.begin(day), calendar.seconds(day)
-    yield f'<svg role="img" aria-label="{label}" width="100%" height="{bottom + 20}">\n'
+    """The periods of one day as bars. They are as wide as the page lets them be, and letters keep their size."""
+    height, width = Scale.TOP + Scale.HEIGHT + 20, round(calendar.seconds(day) / UNIT)
+    yield f'<svg role="img" aria-label="{label}" width="100%" height="{height}">\n'
+    yield f'<svg width="100%" height="{height}" viewBox="0 0 {width} {height}" preserveAspectRatio="none">'
+    for kind, path in paths(day, periods, scale, calendar):
+        yield f'<path class="{kind}" d="{path}"/>'
+    yield f'</svg>\n<text x="-5" y="9" text-anchor="end">{scale.unit}</text>'
     for mwh in scale.marks():
-        kind = "grid" if mwh else "zero"
-        yield f'<line class="{kind}" x1="0" x2="100%" y1="{short(scale.at(mwh))}" y2="{short(scale.at(mwh))}"/>'
-    for x, _ in hours(calendar, day):
-        yield f'<line class="grid" x1="{short(x)}%" x2="{short(x)}%" y1="{bottom}" y2="{bottom + 5}"/>'
-    for p in periods:
-        left = (p.start - begin).total_seconds() / length * 100
-        yield from bar(left, p.seconds / length * 100, p, scale)
-    for mwh in scale.marks():
-        text = kwh(abs(mwh)) + (" up" if mwh > 0 else " down" if mwh else "")
-        yield f'<text x="-5" y="{short(scale.at(mwh) + 4)}" text-anchor="end">{text}</text>'
+        y = short(scale.at(mwh) + 4)
+        yield f'<text x="-5" y="{y}" text-anchor="end">{scale.label(mwh)}</text>'
     for x, text in hours(calendar, day):
         if int(text[:2]) % 6 == 0:
             anchor = "start" if x == 0 else "end" if x == 100 else "middle"
-            yield f'<text x="{short(x)}%" y="{bottom + 17}" text-anchor="{anchor}">{text}</text>'
+            yield f'<text x="{short(x)}%" y="{height - 3}" text-anchor="{anchor}">{text}</text>'
     yield "\n</svg>\n"
 
 
@@ -113,7 +163,7 @@ def strip(session: Session) -> Iterator[str]:
             holes[-1][1] = end
         else:
             holes.append([start, end])
-    yield '<svg aria-hidden="true" width="100%" height="15"><rect class="there" width="100%" height="14"/>'
+    yield '<svg aria-hidden="true" width="100%" height="12"><rect class="there" width="100%" height="11"/>'
     for start, end in holes:
-        yield f'<rect class="gap" x="{start / 4}%" width="{(end - start) / 4}%" height="14"/>'
+        yield f'<rect class="gap" x="{start / 4}%" width="{(end - start) / 4}%" height="11"/>'
     yield "</svg>"

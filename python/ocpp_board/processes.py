@@ -1,10 +1,15 @@
-"""Tools that other tools run as processes of their own."""
+"""Tools that other tools run as processes of their own, or whose output they read."""
 
 import os
+import select
+import stat
 import subprocess
 import sys
+import threading
 from collections.abc import Sequence
 from pathlib import Path
+
+from ocpp_board.statuses import Status
 
 PACKAGES = Path(__file__).resolve().parent.parent
 
@@ -23,3 +28,16 @@ def run_tool(name: str, words: Sequence[str], data: bytes) -> "subprocess.Comple
         env=os.environ | {"PYTHONPATH": path},
         check=False,
     )
+
+
+def end_without_reader(output: int) -> None:
+    """Ends this process once nobody reads what it writes to a pipe, though nothing is written meanwhile."""
+
+    def watch() -> None:
+        poll = select.poll()
+        poll.register(output, 0)
+        poll.poll()
+        os._exit(Status.MISTAKEN)
+
+    if stat.S_ISFIFO(os.fstat(output).st_mode):
+        threading.Thread(target=watch, daemon=True).start()

@@ -7,8 +7,9 @@ skipped and counted. It writes
 
     NAME.periods.csv        the energy of each settlement period, of each site and of each station
     NAME.transactions.csv   the transactions of each station, with their gaps (missing seqNo)
-    NAME.html               the figures of each board, its stations, days and sessions; what is missing or voided
+    NAME.html               the figures of each board, its problems, days, stations and sessions
     NAME.<day>.html         a page for each day: bars and a table for each site and each station
+    NAME.<n>.html, NAME.<day>.<n>.html     what these have no room for
 
 In the CSV files energies are whole mWh (milliwatt-hours), and the same in kWh. Times are UTC; with --tz
 the days and hours are those of that zone, and UTC stands beside. `board` counts the boards of the text,
@@ -23,10 +24,19 @@ again as `up`. `export up` and `export down` are the same of the export register
 back have. The net energy, which the pages show, is what was imported less what was exported: `up` less
 `down`, less `export up` and more `export down`.
 
-A board has no times of transactions: how long a session was is told in sequence numbers, from its first
-to its last. Where no number is missing and a session is still not complete, one board doesn't tell
-whether its end is yet to come or a start or an end is misplaced; an earlier board of the same station in
-the text may tell, and then the table does.
+A board has no times of transactions. With --script the tool replays the script that the text is of, and takes
+from its messages when each session began and ended, what its registers read first and last, and why it stopped:
+these stand on the pages and in NAME.transactions.csv, for comparing with bills. It looks at the quality of the data
+and at what was refused, too, and writes
+
+    NAME.findings.csv       what is doubtful in which session: its name, how often, when first, and what it means
+    NAME.refused.csv        what was refused: when, whose, the cause by name and what to do; the pages link to it
+
+    ocpp-board tables --script SCRIPT --program ocpp_board --out NAME TEXT
+
+Where no number is missing and a session is still not complete, one board doesn't tell whether its end is yet to
+come or a start or an end is misplaced; an earlier board of the same station in the text may tell, and then the
+table does.
 
 --follow reads a board from a server that lives, `ocpp_board serve --live --board-port 9080 ..`, again and again,
 and writes the files anew each time; the pages draw themselves anew as often:
@@ -39,40 +49,85 @@ error with their numbers, and the page says where it is not whole.
 """
 
 import argparse
+import contextlib
 import csv
 import logging
 import re
 import shutil
 import tempfile
 import time
-from collections.abc import Sequence
-from datetime import date, timezone
+from collections.abc import Callable, Iterable, Sequence
+from dataclasses import replace
+from datetime import date, datetime, timezone
+from pathlib import Path
 from typing import IO, NoReturn, TextIO
 from urllib.request import urlopen
 
-from ocpp_board.board_pages import DayPages, Index, Layout
-from ocpp_board.boards import Part, Reader, Session
+from ocpp_board.answered import Answered, answered
+from ocpp_board.board_pages import Boards, DayPages, Index, Layout
+from ocpp_board.boards import Part, Reader, Session, Sink
 from ocpp_board.calendars import Calendar
 from ocpp_board.energies import Flow, kwh_of
 from ocpp_board.escapes import csv_cell
+from ocpp_board.pages import Row
 from ocpp_board.progress import Progress
+from ocpp_board.quality import Kind
+from ocpp_board.refusals import Refusals, UntakenLines
+from ocpp_board.session_times import Registers
 from ocpp_board.sources import is_gzip, opened
 from ocpp_board.statuses import Mistaken, Status, ended
-from ocpp_board.words import parsed, parser_of, zone
+from ocpp_board.told import Told
+from ocpp_board.words import add_program, parsed, parser_of, zone
 
 log = logging.getLogger(__name__)
 
-# Seconds that a server may take to answer.
+# Seconds that a server may take to answer, and times of waiting after which its board is too old.
 LONGEST_ANSWER = 30
+LATE = 3
 SECONDS = re.compile("[1-9][0-9]{0,4}")
 ENDING = """\
-One station at a time is held in memory, the periods of one site, and a line for each session. Pages of days that
-an earlier run wrote and this one has not stay. Exit status: 0; 1 when the text has no board, a line of a board could
-not be read or a board has no end; 2 when the words are wrong or a file can't be read or written."""
+One board at a time is held in memory, a line for each session, and with --script half a kilobyte for each event.
+Pages of days that an earlier run wrote and this one has not stay. Exit status: 0; 1 when the text has no board, a line
+of a board could not be read or a board has no end; 2 when the words are wrong or a file can't be read or written."""
 
 
-class Tables:
-    """The two CSV files, as a sink of boards. `raw`: names and ids stand there as they are."""
+def moments(calendar: Calendar, at: datetime | None) -> list[str]:
+    """The cells of a moment, which are empty where it is not known."""
+    return calendar.cells(at) if at else [""] * (1 if calendar.is_utc else 2)
+
+
+def moment_heads(calendar: Calendar, name: str) -> list[str]:
+    """The heads of the columns of a moment."""
+    return [f"{name} (UTC)", *([] if calendar.is_utc else [f"{name} ({calendar.name})"])]
+
+
+def registers(read: Registers | None) -> list[str]:
+    """The cells of what a register read first and last."""
+    return [kwh_of(mwh) for mwh in read] if read else ["", ""]
+
+
+class CsvSink:
+    """A sink of boards that writes CSV files. `raw`: texts from outside stand there as they are."""
+
+    def __init__(self, raw: bool, calendar: Calendar) -> None:
+        self.raw, self.calendar = raw, calendar
+        self.number, self.site = 0, ""
+
+    def cell(self, text: str) -> str:
+        """A text from outside: a name, an id or a reason."""
+        return text if self.raw else csv_cell(text)
+
+    def board(self, number: int, site: str, line: int) -> None:
+        """A board begins."""
+        self.number, self.site = number, self.cell(site)
+
+    def end(self) -> None:
+        """The board ends."""
+
+
+class Tables(CsvSink):
+    """The CSV files of periods and of transactions. `has_times`: messages were told, which have the times of
+    sessions."""
 
     FLOWS = [
         "up (mWh)",
@@ -84,7 +139,7 @@ class Tables:
         "export up (kWh)",
         "export down (kWh)",
     ]
-    PERIODS = ["board", "level", "site", "station", "seconds", "period start (UTC)"]
+    PERIODS = ["board", "level", "site", "station", "seconds"]
     TRANSACTIONS = [
         "board",
         "site",
@@ -98,21 +153,36 @@ class Tables:
         "missing",
         "gaps (from..to)",
     ]
+    REGISTERS = [
+        "first register (kWh)",
+        "last register (kWh)",
+        "first export register (kWh)",
+        "last export register (kWh)",
+    ]
 
     def __init__(
-        self, periods: TextIO, transactions: TextIO, raw: bool, calendar: Calendar
+        self,
+        periods: TextIO,
+        transactions: TextIO,
+        raw: bool,
+        calendar: Calendar,
+        has_times: bool = False,
     ) -> None:
-        self.raw, self.calendar = raw, calendar
-        self.number, self.site = 0, ""
+        super().__init__(raw, calendar)
+        self.has_times = has_times
         self.periods = csv.writer(periods, lineterminator="\n")
         self.transactions = csv.writer(transactions, lineterminator="\n")
-        local = [] if calendar.is_utc else [f"period start ({calendar.name})"]
-        self.periods.writerow([*self.PERIODS, *local, *self.FLOWS])
-        self.transactions.writerow([*self.TRANSACTIONS, *self.FLOWS, "state"])
+        starts = moment_heads(calendar, "period start")
+        self.periods.writerow([*self.PERIODS, *starts, *self.FLOWS])
+        self.transactions.writerow([*self.TRANSACTIONS, *self.FLOWS, "state", *self.time_heads()])
 
-    def cell(self, text: str) -> str:
-        """A name or an id."""
-        return text if self.raw else csv_cell(text)
+    def time_heads(self) -> list[str]:
+        """The heads of the columns that boards don't tell."""
+        if not self.has_times:
+            return []
+        ends = [head for name in ("start", "end") for head in moment_heads(self.calendar, name)]
+        times = [*ends, "duration (s)", *self.REGISTERS, "stopped reason"]
+        return ["net (kWh)", *times, "findings"]
 
     @staticmethod
     def flows(flow: Flow) -> list[int | str]:
@@ -121,10 +191,6 @@ class Tables:
         imported: list[int | str] = [up, down, kwh_of(up), kwh_of(down)]
         return imported + [export_up, export_down, kwh_of(export_up), kwh_of(export_down)]
 
-    def board(self, number: int, site: str, line: int) -> None:
-        """A board begins."""
-        self.number, self.site = number, self.cell(site)
-
     def part(self, part: Part) -> None:
         """The rows of a site or a station."""
         level, station = ("site", "") if part.is_site else ("station", self.cell(part.name))
@@ -132,7 +198,8 @@ class Tables:
             front = [self.number, level, self.site, station, p.seconds]
             self.periods.writerow([*front, *self.calendar.cells(p.start), *self.flows(p.flow)])
         for t in part.sessions:
-            self.transactions.writerow([self.number, self.site, station, *self.session(t)])
+            row = [self.number, self.site, station, *self.session(t), *self.times(t)]
+            self.transactions.writerow(row)
 
     def session(self, t: Session) -> list[int | str]:
         """The cells of a session."""
@@ -145,8 +212,51 @@ class Tables:
             t.state,
         ]
 
-    def end(self) -> None:
-        """The board ends."""
+    def times(self, t: Session) -> list[int | str]:
+        """The cells of what the messages tell of a session."""
+        if not self.has_times or t.times is None:
+            return []
+        times = t.times
+        seconds: int | str = "" if times.seconds is None else times.seconds
+        net = t.flow.net
+        return [
+            f"{'-' if net < 0 else ''}{kwh_of(abs(net))}",
+            *moments(self.calendar, times.start),
+            *moments(self.calendar, times.end),
+            seconds,
+            *registers(times.imported),
+            *registers(times.exported),
+            self.cell(times.reason),
+            "; ".join(one.kind.label for one in t.findings),
+        ]
+
+
+class Findings(CsvSink):
+    """The CSV file of findings."""
+
+    def __init__(self, file: TextIO, raw: bool, calendar: Calendar) -> None:
+        super().__init__(raw, calendar)
+        # By the kinds' names, how many sessions have a finding.
+        self.counts = dict.fromkeys((kind.label for kind in Kind), 0)
+        self.rows = csv.writer(file, lineterminator="\n")
+        first = moment_heads(calendar, "first")
+        front = ["board", "site", "station", "transaction", "finding", "times"]
+        self.rows.writerow([*front, *first, "detail", "meaning"])
+
+    def part(self, part: Part) -> None:
+        """The rows of a station."""
+        for t in part.sessions:
+            front = [self.number, self.site, self.cell(part.name), self.cell(t.tx)]
+            for one in t.findings:
+                self.counts[one.kind.label] += 1
+                first = moments(self.calendar, one.first)
+                told = [one.kind.label, one.times, *first, self.cell(one.detail), one.kind.meaning]
+                self.rows.writerow([*front, *told])
+
+    def tell(self) -> None:
+        """How many sessions have a finding of each kind."""
+        found = [f"{label}: {count:,}" for label, count in self.counts.items() if count]
+        log.info("sessions with findings: %s", ", ".join(found) or "none")
 
 
 def add_days(parser: argparse.ArgumentParser) -> None:
@@ -165,6 +275,45 @@ def add_days(parser: argparse.ArgumentParser) -> None:
     )
     parser.add_argument(
         "--to", dest="last", metavar="DAY", type=day, default=date.max, help="no day after it"
+    )
+
+
+def moment_word(text: str) -> datetime:
+    """A moment with its offset from UTC. Raises ArgumentTypeError."""
+    try:
+        at = datetime.fromisoformat(text)
+    except ValueError:
+        at = None
+    if at is None or at.tzinfo is None:
+        raise argparse.ArgumentTypeError(f"no time such as 2026-03-01T10:00:00Z: {text!r}")
+    return at
+
+
+def add_moments(parser: argparse.ArgumentParser) -> None:
+    """The options that say when pages are written, and how old their data may be."""
+    parser.add_argument(
+        "--written",
+        metavar="TIME",
+        type=moment_word,
+        help="the time that pages tell as that of their writing (default: now)",
+    )
+    parser.add_argument(
+        "--until",
+        metavar="TIME",
+        type=moment_word,
+        help="up to when the data is (default: what the messages of --script tell)",
+    )
+    parser.add_argument(
+        "--oldest",
+        metavar="SECONDS",
+        type=int,
+        help="how old data may be when pages are written; they tell where it is older",
+    )
+    parser.add_argument(
+        "--refresh",
+        metavar="SECONDS",
+        type=int,
+        help="have a browser draw the pages anew every so many seconds",
     )
 
 
@@ -194,46 +343,110 @@ def arguments(argv: Sequence[str], prog: str) -> argparse.Namespace:
     parser.add_argument(
         "--raw", action="store_true", help="write names and ids into the CSV files as they are"
     )
+    parser.add_argument(
+        "--script",
+        metavar="SCRIPT",
+        help="the script that the text is of: its messages tell times of sessions, findings, and what was refused",
+    )
+    add_program(parser)
+    add_moments(parser)
     words = parsed(parser, argv)
     if words.day:
         words.first = words.last = words.day
     if words.first > words.last:
         parser.error("--from is after --to")
-    if words.follow and (not SECONDS.fullmatch(words.follow[1]) or words.text != "-"):
-        parser.error("--follow takes an address and seconds, 1 to 99999, and no text")
+    if words.follow and (
+        not SECONDS.fullmatch(words.follow[1]) or words.text != "-" or words.script
+    ):
+        parser.error("--follow takes an address and seconds, 1 to 99999, and no text or script")
     return words
 
 
+def fetched(url: str) -> IO[bytes]:
+    """What a server answers. Raises OSError or ValueError."""
+    text = tempfile.TemporaryFile()
+    with urlopen(url, timeout=LONGEST_ANSWER) as answer:
+        shutil.copyfileobj(answer, text)
+    return text
+
+
 def follow(words: argparse.Namespace, url: str, seconds: int) -> NoReturn:
-    """Writes the files anew every so many seconds. Where the server is not there the files stay as they are."""
+    """Writes the files anew every so many seconds. Where the server is not there, those of the board before, which tell
+    that it is too old when it is."""
+    words.oldest = LATE * seconds if words.oldest is None else words.oldest
+    text: IO[bytes] | None = None
+    got: datetime | None = None
     while True:
-        with tempfile.TemporaryFile() as text:
-            try:
-                with urlopen(url, timeout=LONGEST_ANSWER) as answer:
-                    shutil.copyfileobj(answer, text)
-            except (OSError, ValueError) as fault:
-                log.error("%s: %s", url, fault)
-            else:
-                text.seek(0)
-                write_files(words, text, seconds)
+        try:
+            text, got = fetched(url), datetime.now(timezone.utc)
+        except (OSError, ValueError) as fault:
+            log.error("%s: %s", url, fault)
+        if text:
+            text.seek(0)
+            write_files(words, text, replace(layout_of(words), refresh=seconds, until=got))
         time.sleep(seconds)
 
 
-def write_files(words: argparse.Namespace, text: IO[bytes], refresh: int | None = None) -> int:
-    """Writes the files of a text, and gives the exit status. `refresh`: seconds until browsers draw pages anew."""
-    layout = Layout(words.out, Calendar(words.tz, words.first, words.last), refresh)
-    with (
-        open(f"{words.out}.periods.csv", "w", encoding="utf-8", newline="") as periods,
-        open(f"{words.out}.transactions.csv", "w", encoding="utf-8", newline="") as transactions,
-    ):
-        tables = Tables(periods, transactions, words.raw, layout.calendar)
-        days, index = DayPages(layout), Index(layout)
-        reader = Reader([tables, days, index], Progress(text))
+def layout_of(words: argparse.Namespace) -> Layout:
+    """Where the files go and what pages tell, by the words."""
+    calendar = Calendar(words.tz, words.first, words.last)
+    written = words.written or datetime.now(timezone.utc)
+    return Layout(words.out, calendar, written, words.refresh, words.until, words.oldest)
+
+
+def hand_on(messages: Iterable[Answered], takers: Sequence[Callable[[Answered], None]]) -> None:
+    """Hands each message with its answer to all takers."""
+    for message in messages:
+        for take in takers:
+            take(message)
+
+
+def write_files(
+    words: argparse.Namespace,
+    text: IO[bytes],
+    layout: Layout,
+    told: Told | None = None,
+    sites: list[Row] | None = None,
+) -> int:
+    """Writes the files of a text, and gives the exit status. `told`: what the messages tell besides. `sites` gets a row
+    for each board, for a page that leads to several texts' pages."""
+
+    def file(name: str) -> TextIO:
+        path = f"{words.out}.{name}.csv"
+        return files.enter_context(open(path, "w", encoding="utf-8", newline=""))
+
+    days, index = DayPages(layout), Index(layout)
+    with contextlib.ExitStack() as files:
+        csv_files = file("periods"), file("transactions")
+        sinks: list[Sink] = [Tables(*csv_files, words.raw, layout.calendar, told is not None)]
+        findings = Findings(file("findings"), words.raw, layout.calendar) if told else None
+        sinks += [findings] if findings else []
+        sinks.append(Boards([days.add, index.add]))
+        reader = Reader(sinks, Progress(text), told)
         reader.read(text)
         days.close()
-        index.close(reader.counts["boards"] > 0)
+        index.close()
+    if sites is not None:
+        sites += index.rows
     reader.tell()
+    if findings:
+        findings.tell()
     return Status.TOLD if reader.counts["unread"] else Status.DONE
+
+
+def read_script(words: argparse.Namespace) -> tuple[Told, Refusals]:
+    """Replays the script, and gives what its messages tell and what was refused of them, which it writes."""
+    told, refusals = Told(), Refusals()
+    with opened(words.script) as file:
+        if is_gzip(file):
+            raise Mistaken("the script is compressed by gzip: gunzip it first")
+        script = UntakenLines(file)
+        hand_on(answered(words.program, script), [told.take, refusals.take])
+    for refusal in script.refusals:
+        refusals.add(refusal)
+    refusals.end()
+    refusals.write(Path(f"{words.out}.refused.csv"))
+    return told, refusals
 
 
 def run(words: argparse.Namespace) -> int:
@@ -243,7 +456,13 @@ def run(words: argparse.Namespace) -> int:
     with opened(words.text) as text:
         if is_gzip(text):
             raise Mistaken("the text is compressed by gzip: gunzip -c TEXT | ocpp-board tables")
-        return write_files(words, text)
+        layout = layout_of(words)
+        if words.script is None:
+            return write_files(words, text, layout)
+        told, refusals = read_script(words)
+        until = words.until or told.until()
+        layout = replace(layout, until=until, refused=refusals.count())
+        return write_files(words, text, layout, told)
 
 
 def main(argv: Sequence[str], prog: str) -> int:

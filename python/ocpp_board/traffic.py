@@ -11,12 +11,17 @@ With `unchanging` four events of one station are followed by N heartbeats and re
 
 The script ends with an `energy` line for each station, and what these must print can be told without the
 program: 250,000 mWh for each of its events but the first of each session.
+
+With `troubles` N sessions of each kind of trouble come, each kind from a station of its name: what stations do wrong,
+what the ledger refuses, and what an operator voids. Before each message stands when it was received, as a comment,
+and the script ends with a board.
 """
 
 import argparse
 from collections.abc import Iterator, Sequence
 from datetime import datetime, timedelta, timezone
 
+from ocpp_board import troubles
 from ocpp_board.limits import GREATEST_LIMITS, MOMENT, MOST_READINGS, MOST_STATIONS
 from ocpp_board.statuses import Status, ended
 from ocpp_board.words import parsed, parser_of
@@ -76,14 +81,14 @@ def arguments(argv: Sequence[str], prog: str) -> argparse.Namespace:
         "count",
         type=int,
         metavar="N",
-        help="how many events, or messages that change nothing",
+        help="how many events, messages that change nothing, or sessions of each kind of trouble",
     )
     parser.add_argument(
-        "unchanging",
+        "kind",
         nargs="?",
-        choices=["unchanging"],
-        metavar="unchanging",
-        help="messages that change nothing",
+        choices=["unchanging", "troubles"],
+        metavar="unchanging|troubles",
+        help="messages that change nothing, or sessions with troubles",
     )
     parser.add_argument(
         "--stations",
@@ -92,13 +97,15 @@ def arguments(argv: Sequence[str], prog: str) -> argparse.Namespace:
         help="how many stations take turns, up to 64 (default: as few as have room)",
     )
     words = parsed(parser, argv)
-    if words.count < 0 or not words.unchanging and words.count > MOST_READINGS:
+    if words.count < 0 or words.kind is None and words.count > MOST_READINGS:
         parser.error(f"N is from 0 to {MOST_READINGS:,}")
+    if words.kind == "troubles" and words.count > troubles.MOST_SESSIONS:
+        parser.error(f"N is from 0 to {troubles.MOST_SESSIONS} with troubles")
     fewest = max(1, -(-words.count // GREATEST_LIMITS["events"]))
     words.stations = fewest if words.stations is None else words.stations
-    if not words.unchanging and not fewest <= words.stations <= MOST_STATIONS:
+    if words.kind is None and not fewest <= words.stations <= MOST_STATIONS:
         parser.error(f"{words.count:,} events need {fewest} to {MOST_STATIONS} stations")
-    if not words.unchanging and -(-words.count // words.stations) * words.stations > MOST_READINGS:
+    if words.kind is None and -(-words.count // words.stations) * words.stations > MOST_READINGS:
         parser.error(
             f"{words.stations} stations with room for the same number each have none for "
             f"{words.count:,}"
@@ -106,10 +113,20 @@ def arguments(argv: Sequence[str], prog: str) -> argparse.Namespace:
     return words
 
 
+def lines_of(words: argparse.Namespace) -> Iterator[str]:
+    """The lines of the script that the words ask for."""
+    if words.kind == "troubles":
+        return troubles.script(words.count)
+    return (
+        unchanging(words.count)
+        if words.kind == "unchanging"
+        else script(words.count, words.stations)
+    )
+
+
 def write(words: argparse.Namespace) -> int:
     """Writes the script to standard output, and gives the exit status."""
-    count = words.count
-    for line in unchanging(count) if words.unchanging else script(count, words.stations):
+    for line in lines_of(words):
         print(line)
     return Status.DONE
 

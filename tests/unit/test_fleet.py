@@ -33,8 +33,14 @@ from ocpp_board.fleet.lines import (  # noqa: E402
     readings_of,
     transaction_of,
 )
-from ocpp_board.fleet.page import fields_of  # noqa: E402
-from ocpp_board.fleet.page_texts import Words, Wrong, answer_page, question_page  # noqa: E402
+from ocpp_board.fleet.page import FILE, fields_of  # noqa: E402
+from ocpp_board.fleet.page_texts import (  # noqa: E402
+    Words,
+    Wrong,
+    answer_page,
+    question_page,
+    with_links,
+)
 from ocpp_board.fleet.plans import Plan  # noqa: E402
 from ocpp_board.fleet.worker import order, payloads_of  # noqa: E402
 from ocpp_board.messages import Refused  # noqa: E402
@@ -352,3 +358,25 @@ def test_fields_of_a_form() -> None:
     assert fields_of("a=1&b=+x+&a=2") == {"a": "2", "b": "x"}
     with pytest.raises(Wrong):
         fields_of("&".join(f"a{n}=1" for n in range(17)))
+
+
+@pytest.mark.parametrize(
+    ("name", "is_known"),
+    [
+        ("board.html", True),
+        ("board.2.html", True),
+        ("board.2026-03-01.html", True),
+        ("board.2026-03-01.12.html", True),
+        ("board.periods.csv", True),
+        ("board.2026-03-01.2.3.html", False),
+        ("board..html", False),
+    ],
+)
+def test_files_of_a_site(name: str, is_known: bool) -> None:
+    assert bool(FILE.fullmatch(name)) == is_known
+
+
+def test_a_page_names_its_site_once() -> None:
+    for title in ("Site north, Sun 2026-03-01", "Site boards"):
+        text = with_links(f"<title>{title}</title>", "north", 0, []).decode()
+        assert text.count("Site north") == 1

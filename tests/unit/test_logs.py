@@ -1,20 +1,18 @@
 """Forms of logs, and how they become scripts."""
 
+import argparse
 import io
 import json
+from collections import Counter
 from pathlib import Path
 from typing import Any
 
 import pytest
 
-from ocpp_board.log_to_script import (
-    Conversion,
-    arguments,
-    lines,
-    moment_of,
-    pairs_of,
-)
+from ocpp_board.log_reader import moment_of
+from ocpp_board.log_to_script import Conversion, arguments, convert, lines, shares_of
 from ocpp_board.logforms import (
+    ArrowForm,
     CitrineCsvForm,
     CitrineForm,
     Entry,
@@ -22,10 +20,13 @@ from ocpp_board.logforms import (
     JsonForm,
     MaeveForm,
     OcppForm,
+    RegexForm,
+    expression,
 )
 from ocpp_board.messages import Refused
 from ocpp_board.progress import Progress
-from ocpp_board.statuses import Mistaken
+from ocpp_board.script_plan import pairs_of
+from ocpp_board.statuses import Mistaken, Status
 
 HEARTBEAT = '[2,"1","Heartbeat",{}]'
 
@@ -44,6 +45,22 @@ def test_json_fields_by_name() -> None:
     assert JsonForm(fields._replace(has_site=False)).read(text) == Entry(
         None, "A", "x", "[]", False
     )
+
+
+def test_dotted_names_lead_into_objects() -> None:
+    fields = JsonFields(station="from.id", time="meta.at", message="body.frame", has_site=False)
+    text = '{"from":{"id":"A"},"meta":{"at":1772352000.5},"body":{"frame":"[]"}}'
+    assert JsonForm(fields).read(text) == Entry(None, "A", "1772352000.500", "[]")
+    # A field that has this very name comes first.
+    assert JsonForm(fields).read('{"from.id":"B",' + text[1:]) == Entry(
+        None, "B", "1772352000.500", "[]"
+    )
+    with pytest.raises(Refused, match="'body.frame' is missing"):
+        JsonForm(fields).read('{"from":{"id":"A"},"body":[]}')
+    cut = JsonForm(fields._replace(is_json_message=True)).read(
+        '{"from":{"id":"A"},"body":{ "frame" : [2,  1.50] }}'
+    )
+    assert cut == Entry(None, "A", None, "[2,  1.50]")
 
 
 def test_a_json_message_is_cut_out() -> None:
@@ -75,15 +92,16 @@ def test_rows_of_citrineos() -> None:
         '{"stationId":"A","origin":"cs","timestamp":"t","message":[2, "1"],"protocol":"ocpp2.0.1"}'
     )
     assert CitrineForm().read(text) == Entry(None, "A", "t", '[2, "1"]', True)
-    with pytest.raises(Refused, match="'protocol' is not ocpp2.0.1: 'ocpp1.6'"):
-        CitrineForm().read(text.replace("ocpp2.0.1", "ocpp1.6"))
+    old = CitrineForm().read(text.replace("ocpp2.0.1", "ocpp1.6"))
+    assert old and old.is_old and not old.is_stations
     with pytest.raises(Refused, match="neither cs nor csms"):
         CitrineForm().read(text.replace('"cs"', '"x"'))
 
 
 def test_rows_of_citrineos_as_csv() -> None:
     form = CitrineCsvForm()
-    assert form.read("timestamp,stationId,origin,message\n") is None
+    for _ in range(2):
+        assert form.read("timestamp,stationId,origin,message\n") is None
     assert form.read('t,A,csms,"[2,""1""]"\n') == Entry(None, "A", "t", '[2,"1"]', False)
     with pytest.raises(Refused, match="not as many cells"):
         form.read("t,A\n")
@@ -96,8 +114,66 @@ def test_messages_of_maeve() -> None:
     assert MaeveForm().read(text) == Entry(None, "A", None, '[2,"1","Heartbeat",{ }]', True)
     answer = 'cs/out/ocpp2.0.1/A {"type":"call-result"}'
     assert MaeveForm().read(answer) == Entry(None, "A", None, "[3]", False)
+    old = MaeveForm().read('cs/in/ocpp1.6/A {"type":"call"}')
+    assert old and old.is_old
+    assert MaeveForm().read("manager/status up") is None
     with pytest.raises(Refused, match="'request' is missing"):
         MaeveForm().read(text.replace("request", "response"))
+
+
+@pytest.mark.parametrize(
+    ("text", "entry"),
+    [
+        (f"CS -> CSMS: {HEARTBEAT}", None),
+        (f"A -> CSMS: {HEARTBEAT}\n", Entry(None, "A", None, HEARTBEAT)),
+        (f"A->CSMS:{HEARTBEAT}", Entry(None, "A", None, HEARTBEAT)),
+        (f"A-1 --> {HEARTBEAT}", Entry(None, "A-1", None, HEARTBEAT)),
+        ('CSMS => A [3,"1",{}]', Entry(None, "A", None, '[3,"1",{}]', False)),
+        (f"CSMS <- A {HEARTBEAT}", Entry(None, "A", None, HEARTBEAT)),
+        (f"1772352000 <- A {HEARTBEAT}", Entry(None, "A", "1772352000", HEARTBEAT)),
+        (
+            f"2026-03-01 08:00:00,5 [x] A \N{RIGHTWARDS ARROW} {HEARTBEAT}",
+            Entry(None, "A", "2026-03-01 08:00:00,5", HEARTBEAT),
+        ),
+        (
+            f"2026-03-01T08:00:00Z A << {HEARTBEAT}",
+            Entry(None, "A", "2026-03-01T08:00:00Z", HEARTBEAT, False),
+        ),
+        ("A -> B: started", None),
+        (f"A -> B {HEARTBEAT}", None),
+    ],
+)
+def test_lines_with_arrows(text: str, entry: Entry | None) -> None:
+    assert ArrowForm().read(text) == entry
+
+
+def test_an_arrow_may_be_named() -> None:
+    assert ArrowForm("<<").read(f"A << {HEARTBEAT}") == Entry(None, "A", None, HEARTBEAT)
+    assert ArrowForm("<<").read('A >> [3,"1",{}]') == Entry(None, "A", None, '[3,"1",{}]', False)
+
+
+def test_an_expression_names_groups() -> None:
+    text = r"^(?P<time>\S+) (?P<site>\w+)/(?P<station>\w+) (?P<direction>in|out) (?P<message>.*)"
+    form = RegexForm(expression(text), "in")
+    assert form.read("t north/A in []\r\n") == Entry("north", "A", "t", "[]")
+    assert form.read("t north/A out []") == Entry("north", "A", "t", "[]", False)
+    assert form.read("started") is None
+    old = RegexForm(expression("(?P<protocol>[^ ]+) (?P<station>.) (?P<message>.*)"), "in")
+    assert old.read("ocpp1.6 A []") == Entry(None, "", None, "", False, True)
+    assert old.read("OCPP2.0.1 A []") == Entry(None, "A", None, "[]")
+
+
+@pytest.mark.parametrize(
+    ("text", "why"),
+    [
+        ("(", "no regular expression"),
+        ("(?P<station>.)", "no group .*message"),
+        ("(?P<station>.)(?P<message>.)(?P<to>.)", "groups are .*: to"),
+    ],
+)
+def test_expressions_that_are_refused(text: str, why: str) -> None:
+    with pytest.raises(argparse.ArgumentTypeError, match=why):
+        expression(text)
 
 
 @pytest.mark.parametrize(
@@ -107,6 +183,12 @@ def test_messages_of_maeve() -> None:
         ("2026-03-01T09:00:00.999+01:00", False, "2026-03-01T08:00:00Z"),
         ("2026-03-01 08:00:00", True, "2026-03-01T08:00:00Z"),
         ("1999-12-31T23:00:00-01:00", False, "2000-01-01T00:00:00Z"),
+        ("1772352000", False, "2026-03-01T08:00:00Z"),
+        ("1772352000.999", False, "2026-03-01T08:00:00Z"),
+        ("1772352000123", False, "2026-03-01T08:00:00Z"),
+        ("1772352000123.000", False, "2026-03-01T08:00:00Z"),
+        ("1772352000123456", False, "2026-03-01T08:00:00Z"),
+        ("1772352000123456789", False, "2026-03-01T08:00:00Z"),
     ],
 )
 def test_moments(text: str, is_utc: bool, moment: str) -> None:
@@ -121,6 +203,8 @@ def test_moments(text: str, is_utc: bool, moment: str) -> None:
         ("1999-12-31T23:59:59Z", "a time is not from 2000 to 2099"),
         ("0001-01-01T00:00:00+01:00", "a time is none"),
         ("yesterday", "a time is none"),
+        ("17723520", "a time is none"),
+        ("4102444800", "a time is not from 2000 to 2099"),
     ],
 )
 def test_times_that_are_refused(text: str, why: str) -> None:
@@ -133,6 +217,12 @@ def test_pairs_of_names(tmp_path: Path) -> None:
     assert pairs_of(str(tmp_path / "pairs")) == [("north", "A"), ("south", "B")]
     (tmp_path / "pairs").write_text("north A x\n")
     with pytest.raises(Mistaken, match="line 1: not two names"):
+        pairs_of(str(tmp_path / "pairs"))
+    (tmp_path / "pairs").write_text("north CS 01\n")
+    with pytest.raises(Mistaken, match="a name has no blank; names have 1 to 48"):
+        pairs_of(str(tmp_path / "pairs"))
+    (tmp_path / "pairs").write_text("north CS/01\n")
+    with pytest.raises(Mistaken, match="the name 'CS/01' has '/', which no name has; names have 1"):
         pairs_of(str(tmp_path / "pairs"))
 
 
@@ -158,6 +248,8 @@ def test_stations_are_declared_before_messages(tmp_path: Path) -> None:
     assert script == (
         "limits 1 2 3 4\nstation north A\nstation south B\nperiod south 300\n"
         f"now 2026-03-01T08:00:00Z\nmsg A {HEARTBEAT}\nmsg B {HEARTBEAT}\n"
+        '# untaken {"advice":"look at the line of the log; the options of log-to-script tell its '
+        'form","what":"not JSON: Expecting value at character 1"}\n'
         "board north\nboard south\n"
     )
     assert counts == {
@@ -165,6 +257,7 @@ def test_stations_are_declared_before_messages(tmp_path: Path) -> None:
         "messages": 2,
         "answers": 1,
         "sent": 0,
+        "old": 0,
         "other": 0,
         "blank": 1,
         "refused": 1,
@@ -173,7 +266,7 @@ def test_stations_are_declared_before_messages(tmp_path: Path) -> None:
 
 def test_a_plan_has_at_most_so_many_stations(tmp_path: Path) -> None:
     script, counts = script_of([row(station=f"S{n}") for n in range(66)], tmp_path, "--no-boards")
-    assert script.count("station ") == 64
+    assert script.count("station north ") == 64 and script.count("# untaken ") == 2
     assert (counts["messages"], counts["refused"]) == (64, 2)
 
 
@@ -199,6 +292,66 @@ def test_a_site_map_names_sites(tmp_path: Path) -> None:
     assert script.startswith("station west A\nstation east B\n")
 
 
+def test_what_is_left_out_changes_no_status(tmp_path: Path) -> None:
+    log = [row(), row(message='[2,"1","StartTransaction",{}]'), row(proto="ocpp1.6")]
+    words = ("--no-boards", "--protocol-field", "proto")
+    script, counts = script_of(log, tmp_path, *words)
+    assert script.count("msg ") == 1
+    assert (counts["messages"], counts["old"], counts["refused"]) == (1, 2, 0)
+
+
+def test_no_message_is_left_out_for_its_time(tmp_path: Path) -> None:
+    event = '[2,"1","TransactionEvent",{}]'
+    times: list[object] = ["yesterday", None, 7, "1999-01-01T00:00:00Z", "2026-03-01T08:00:00"]
+    log = [row(time=time) for time in times] + [row(time="never", message=event)]
+    script, counts = script_of(log, tmp_path, "--no-boards")
+    assert script == "station north A\n" + 5 * f"msg A {HEARTBEAT}\n" + f"msg A {event}\n"
+    assert (counts["messages"], counts["refused"]) == (6, 0)
+
+
+def test_times_of_receipt_stand_in_comments(tmp_path: Path) -> None:
+    log = [row(), row(message='[2,"1","TransactionEvent",{}]', time="x"), row()]
+    script, _ = script_of(log, tmp_path, "--no-boards", "--received")
+    comment = "# received 2026-03-01T08:00:00Z\n"
+    assert script == (
+        f"station north A\nnow 2026-03-01T08:00:00Z\n{comment}msg A {HEARTBEAT}\n"
+        f'msg A [2,"1","TransactionEvent",{{}}]\n{comment}msg A {HEARTBEAT}\n'
+    )
+
+
+def test_shares_keep_sites_whole_where_they_fit() -> None:
+    sites = {"a": 40, "b": 30, "c": 20, "d": 70}
+    site_of = {f"{site}{n}": site for site, count in sites.items() for n in range(count)}
+    shares = [Counter(share.values()) for share in shares_of(site_of, 64)]
+    assert shares == [{"a": 40, "c": 20}, {"b": 30, "d": 6}, {"d": 64}]
+    # Of a 16, 16, 8 with 4 of c; of b 16, 14; of c 16; of d 64 and 6.
+    few = [len(share) for share in shares_of(site_of, 16)]
+    assert few == [16, 16, 12, 16, 14, 16, 16, 16, 16, 16, 6]
+    many = {f"S{n}": f"site{n}" for n in range(20)}
+    assert [len(share) for share in shares_of(many, 64)] == [16, 4]
+
+
+def test_a_log_of_many_stations_is_split(tmp_path: Path) -> None:
+    log = [row(station=f"N{n}") for n in range(50)]
+    log += [row(station=f"S{n}", site="south", time="2026-03-01T09:00:00Z") for n in range(50)]
+    log += [row(time="2026-03-01T09:00:00Z", station="N0")]
+    (tmp_path / "log").write_text("".join(line + "\n" for line in log))
+    folder = tmp_path / "scripts"
+    words = [str(tmp_path / "log"), "--split", str(folder), "--period", "300"]
+    assert convert(arguments(words, "log-to-script")) == Status.DONE
+    assert sorted(path.name for path in folder.iterdir()) == ["1.script", "2.script"]
+    north, south = ((folder / f"{n}.script").read_text() for n in (1, 2))
+    stations = "".join(f"station north N{n}\n" for n in range(50))
+    messages = "".join(f"msg N{n} {HEARTBEAT}\n" for n in range(50))
+    assert north == (
+        f"{stations}period north 300\nnow 2026-03-01T08:00:00Z\n{messages}"
+        f"now 2026-03-01T09:00:00Z\nmsg N0 {HEARTBEAT}\nboard north\n"
+    )
+    assert south.count("now ") == 1 and south.endswith("board south\n")
+    with pytest.raises(Mistaken, match="is not empty"):
+        convert(arguments(words, "log-to-script"))
+
+
 @pytest.mark.parametrize(
     "words",
     [
@@ -209,6 +362,10 @@ def test_a_site_map_names_sites(tmp_path: Path) -> None:
         ("--site", "a b"),
         ("--form", "ocpp"),
         ("--form", "xml"),
+        ("--form", "arrows"),
+        ("--regex", "(?P<station>.)(?P<message>.)"),
+        ("--regex", "("),
+        ("--split", "x", "--stations", "y"),
     ],
 )
 def test_wrong_words_end_with_2(words: tuple[str, ...]) -> None:

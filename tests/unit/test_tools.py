@@ -15,6 +15,7 @@ from ocpp_board.message_faults import message_fault
 from ocpp_board.statuses import Mistaken, Status
 from ocpp_board.telling import JsonFormatter, PlainFormatter
 from ocpp_board.traffic import arguments, event, script, unchanging
+from ocpp_board.troubles import KINDS, MOST_SESSIONS, script as troubled
 from ocpp_board.version import version
 
 
@@ -116,7 +117,21 @@ def test_messages_that_change_nothing() -> None:
     assert "Heartbeat" in lines[5] and "TransactionEvent" in lines[6]
 
 
-@pytest.mark.parametrize("words", [["-1"], ["1048577"], ["200000", "--stations", "3"], ["x"]])
+def test_each_trouble_has_its_station_and_each_message_its_receipt() -> None:
+    lines = list(troubled(2))
+    assert lines[: len(KINDS)] == [f"station troubled {name}" for name in KINDS]
+    messages = [at for at, line in enumerate(lines) if line.startswith("msg ")]
+    assert all(lines[at - 1].startswith("# received 2026-0") for at in messages)
+    senders = {lines[at].split()[1] for at in messages}
+    assert senders == {*KINDS, "unknown"}
+    assert lines.count("void voided t1 2") == 1 and lines[-1] == "board troubled"
+    assert arguments([str(MOST_SESSIONS), "troubles"], "traffic").kind == "troubles"
+
+
+@pytest.mark.parametrize(
+    "words",
+    [["-1"], ["1048577"], ["200000", "--stations", "3"], ["x"], ["1001", "troubles"], ["1", "x"]],
+)
 def test_traffic_that_has_no_room(words: list[str]) -> None:
     with pytest.raises(SystemExit):
         arguments(words, "traffic")

@@ -2,7 +2,6 @@
 
 import argparse
 import asyncio
-import hashlib
 import logging
 import os
 import stat
@@ -16,7 +15,9 @@ from ocpp_board.escapes import from_copy
 from ocpp_board.fleet.database import Fault, said
 from ocpp_board.fleet.events import Event, citrine_event, event_of, is_object, maeve_event, text_of
 from ocpp_board.fleet.feed_log import AGAIN, Batch, Counts, Log, nothing
-from ocpp_board.logforms import LONGEST_LOG_LINE, form_of
+from ocpp_board.followed import front_of, is_replaced, known
+from ocpp_board.limits import LONGEST_LOG_LINE
+from ocpp_board.logforms import form_of
 from ocpp_board.messages import Refused
 
 log = logging.getLogger(__name__)
@@ -26,9 +27,8 @@ FED = "select place, front from fed where source = $1"
 BATCH, BATCH_BYTES, AHEAD = 1000, 4_000_000, 1000
 # Seconds until an empty queue is looked for.
 LOOK = 30
-# Bytes at the beginning of a file by which it is known again, and looks after which one that has another name by now is
-# taken to be at its end.
-FRONT, GONE = 4096, 4
+# Looks after which a file that has another name by now is taken to be at its end.
+GONE = 4
 
 
 class Source:
@@ -91,18 +91,9 @@ class FileSource(Source):
                 {"place": 0}
             ]
         path, taken = Path(self.words.path), [row for row in found if row["place"]]
-        others = (
-            [one for one in path.parent.glob(f"{path.name}?*") if one.is_file()] if taken else []
-        )
-        for one in [path, *others]:
-            file = open(one, "rb")
-            size = os.fstat(file.fileno()).st_size
-            if all(
-                row["place"] <= size and front_of(file, row["place"]) == row["front"]
-                for row in taken
-            ):
-                return file, min(row["place"] for row in found)
-            file.close()
+        file = known(path, ((row["place"], row["front"]) for row in taken))
+        if file:
+            return file, min(row["place"] for row in found)
         raise Fault(
             f"{path} is another file than the one of which {taken[0]['place']:,} bytes were taken as "
             f"{self.log.source}, and none beside it is that: give it a --name of its own"
@@ -179,22 +170,9 @@ class FileSource(Source):
                     yield Batch([], 0, front_of(file, 0), nothing)
                 return
             else:
-                gone = gone + 1 if is_kept and self.is_replaced(file, place) else 0
+                gone = gone + 1 if is_kept and is_replaced(self.path, file, place) else 0
                 yield None
                 await asyncio.sleep(AGAIN)
-
-    def is_replaced(self, file: Any, place: int) -> bool:
-        """Whether there is another file of this name, or this one was cut short."""
-        try:
-            now = os.fstat(file.fileno())
-            return now.st_size < place or not os.path.samestat(os.stat(self.path), now)
-        except FileNotFoundError:
-            return False
-
-
-def front_of(file: Any, place: int) -> str:
-    """By what a file is known again of which so many bytes were taken."""
-    return hashlib.sha256(os.pread(file.fileno(), min(FRONT, place), 0)).hexdigest()
 
 
 class BrokerSource(Source):
@@ -394,16 +372,9 @@ class MqttSource(BrokerSource):
         """A client that acknowledges nothing by itself."""
         import paho.mqtt.client as mqtt
 
-        class Client(mqtt.Client):  # type: ignore[misc]
-            """Acknowledges what is on disk, and nothing before."""
-
-            def _send_puback(self, mid: int) -> int:
-                return 0
-
-            def acknowledge(self, mid: int) -> None:
-                super()._send_puback(mid)
-
-        client = Client(client_id=self.words.name, clean_session=False)
+        client: Any = mqtt.Client(client_id=self.words.name, clean_session=False)
+        # It acknowledges what is on disk, and nothing before: not by itself, but where `acknowledge` is called.
+        client.acknowledge, client._send_puback = client._send_puback, lambda mid: 0
         if self.user:
             client.username_pw_set(self.user, self.password)
         if self.scheme == "mqtts":

@@ -128,7 +128,9 @@ left join own_board_transaction t on t.shard = p.shard and t.station = p.station
 where p.station = $1 and h.moving_to is null
 """
 OPERATE = "select operate($1, $2, $3, $4, $5, $6)"
-FILE = re.compile(r"board(\.\d{4}-\d\d-\d\d|\.\d{1,4})?\.html|board\.(periods|transactions)\.csv")
+FILE = re.compile(
+    r"board(\.\d{4}-\d\d-\d\d(\.\d{1,4})?|\.\d{1,4})?\.html|board\.(periods|transactions)\.csv"
+)
 # Seconds: for which a question may be answered, for the database, for the ledger's answer, for a browser's request, and
 # that a wrong password costs.
 HOLDS, PATIENCE, ANSWERED, REQUEST, WRONG = 600, 15, 15, 20, 1

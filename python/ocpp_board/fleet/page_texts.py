@@ -148,9 +148,11 @@ def with_links(text: str, name: str, archived: int, faults: list[str]) -> bytes:
             f"<p>Sessions in the archives of closed days: {archived:,}. Energies and numbers of sessions are with "
             "these; EVSEs, events and the tables of sessions are those of the log alone.</p>\n"
         )
-    text = text.replace("</style>", STYLE + "</style>", 1).replace(
-        "<title>", f"<title>Site {escape(name)}: ", 1
-    )
+    text = text.replace("</style>", STYLE + "</style>", 1)
+    site = f"Site {escape(name)}"
+    # The page of one board names its site itself.
+    if f"<title>{site}" not in text:
+        text = text.replace("<title>", f"<title>{site}: ", 1)
     return text.replace("</h1>\n", "</h1>\n" + above, 1).encode()
 
 
@@ -182,7 +184,7 @@ def sites_page(sites: list[SiteFigures], faults: list[str]) -> bytes:
     rows.append(("", ["All sites", *cells(summed(site.numbers for site in sites)), "", ""]))
     told = (
         "<p>Energy is in kWh. Sessions and energies are of the log and of the archives of closed days; events are of "
-        "the log alone. The last change is in the site's zone. A double frame marks a site where something is missing, "
+        "the log alone. The last change is in the site's zone. A red triangle marks a site where something is missing, "
         "not complete or voided.</p>\n"
     )
     return page(

@@ -1,0 +1,227 @@
+"""A replay that runs, whose answers are matched with the lines that they answer.
+
+Behind each line that may write nothing go lines of its own, which are faults and change nothing, so that the end
+of such a line's text is known.
+"""
+
+import subprocess
+import threading
+from collections import deque
+from collections.abc import Iterator
+from datetime import datetime
+from typing import NamedTuple, Protocol
+
+from ocpp_board.limits import DEFAULT_LIMITS, LONGEST_LINE
+from ocpp_board.line_faults import words_of
+from ocpp_board.statuses import Mistaken
+
+# The first words of lines that may write nothing.
+SILENT = (b"limits", b"station", b"period", b"now")
+# A line that is always BadLine, and a declaration that is always refused: by their two faults in a row the text of
+# the line before them ends, since no line writes two faults.
+MARK = b"-\nlimits 0 0 0 0\n"
+MARKED = (b"fault PlanLimit\n", b"fault DeclaredLate\n")
+BAD_LINE = b"fault BadLine\n"
+# Bytes that are handed to the replay at once.
+BUFFER = 65_536
+# A comment that tells when the message behind it was received.
+RECEIVED = b"# received "
+
+
+class Lines(Protocol):
+    """What is read line by line: a file, or something in front of one."""
+
+    def readline(self) -> bytes:
+        """The next line; empty at the end."""
+
+
+class Line(NamedTuple):
+    """A line that was sent, of which something comes back."""
+
+    # Its number in the script, from 1; 0 where it is none of the script's.
+    number: int
+    # Its bytes, without what ends it. Of one that is too long only the beginning.
+    line: bytes
+    is_marked: bool
+    # When it was received, as the line before it tells.
+    received: bytes
+
+
+class Replay:
+    """A replay that runs: lines go in, and each comes back with what it wrote."""
+
+    def __init__(self, program: str, *, is_apart: bool = False, is_heard: bool = False) -> None:
+        """`is_apart`: a signal to this process's group is none to the replay. `is_heard`: what it tells is kept."""
+        self.process = subprocess.Popen(
+            [program, "replay"],
+            bufsize=BUFFER,
+            stdin=subprocess.PIPE,
+            stdout=subprocess.PIPE,
+            stderr=subprocess.PIPE if is_heard else None,
+            start_new_session=is_apart,
+        )
+        assert self.process.stdin and self.process.stdout
+        self.input, self.output = self.process.stdin, self.process.stdout
+        self.sent: deque[Line] = deque()
+        self.received = b""
+
+    def sendable(self, number: int, line: bytes) -> bytes:
+        """The line as it is sent: with a mark where it may write nothing. One that is answered is remembered."""
+        bare = line[:-1].removesuffix(b"\r") if line.endswith(b"\n") else line
+        is_long = len(line.removesuffix(b"\n")) > LONGEST_LINE
+        if not is_long and (not bare or bare.startswith(b"#")):
+            if bare.startswith(RECEIVED):
+                self.received = bare.removeprefix(RECEIVED)
+            return line
+        word, _, rest = bare.partition(b" ")
+        is_marked = word in SILENT
+        self.sent.append(Line(number, bare[: LONGEST_LINE + 1], is_marked, self.received))
+        self.received = rest if word == b"now" else b""
+        if not is_marked:
+            return line
+        # A last line without a line feed is a line of its own; before a mark it gets one.
+        end = b"" if line.endswith(b"\n") else b"\r\n" if line.endswith(b"\r") else b"\n"
+        return line + end + MARK
+
+    def texts(self) -> Iterator[tuple[Line, bytes]]:
+        """Each line that was answered, and its text, which is empty where it wrote nothing."""
+        while text := self.output.readline():
+            line = self.sent.popleft()
+            if line.is_marked:
+                texts = self.up_to_mark(text)
+                if not texts[-1]:
+                    return
+                yield line, b"".join(texts[:-2])
+            elif text.startswith(b"board "):
+                yield line, text + b"".join(self.up_to_end())
+            else:
+                yield line, text
+
+    def up_to_mark(self, text: bytes) -> list[bytes]:
+        """The answers from this one on up to a mark's; the last is empty where the replay ended before it."""
+        texts = [text]
+        while not (len(texts) > 1 and texts[-1] in MARKED and texts[-2] == BAD_LINE):
+            texts.append(self.output.readline())
+            if not texts[-1]:
+                break
+        return texts
+
+    def up_to_end(self) -> Iterator[bytes]:
+        """The lines of a board behind its first one."""
+        for line in self.output:
+            yield line
+            if line == b"end\n":
+                return
+
+
+class ScriptReplay(Replay):
+    """A replay of a whole script, which a thread feeds."""
+
+    def __init__(self, program: str, script: Lines) -> None:
+        super().__init__(program, is_heard=True)
+        self.script, self.lines = script, 0
+        self.fault: OSError | None = None
+        self.feeder = threading.Thread(target=self.feed, daemon=True)
+        self.feeder.start()
+
+    def feed(self) -> None:
+        """Sends the script, with marks after lines that may write nothing."""
+        try:
+            with self.input as out:
+                for number, line in enumerate(iter(self.script.readline, b""), 1):
+                    self.lines = number
+                    out.write(self.sendable(number, line))
+        except BrokenPipeError:
+            pass
+        except OSError as fault:
+            self.fault = fault
+            self.process.kill()
+
+    def ended(self) -> tuple[int, str]:
+        """The replay's exit status, and what it told. Raises OSError where the script could not be read."""
+        self.feeder.join()
+        if self.fault:
+            raise self.fault
+        assert self.process.stderr
+        told = self.process.stderr.read().decode("utf-8", "replace").strip()
+        return self.process.wait(), told
+
+
+class Answered(NamedTuple):
+    """A message of a script, and what the replay answered."""
+
+    # The line of the script, from 1.
+    number: int
+    # The site that declared the station; empty where none did.
+    site: str
+    station: str
+    # When it was received, where the script tells it right before: by `# received <time>` or by `now <time>`.
+    received: datetime | None
+    # The message of OCPP-J.
+    message: str
+    # `[3,..`, `[4,..`, `silent` or `fault ..`.
+    answer: str
+
+    @property
+    def is_accepted(self) -> bool:
+        """Whether the message was answered by a CALLRESULT."""
+        return self.answer.startswith("[3,")
+
+    @property
+    def is_refused(self) -> bool:
+        """Whether the message was answered by a CALLERROR, or its line is a fault."""
+        return self.answer.startswith(("[4,", "fault "))
+
+
+def moment_of(text: bytes) -> datetime | None:
+    """The moment that a line of a script tells; None where it is none."""
+    try:
+        moment = datetime.fromisoformat(text.decode("ascii")) if text else None
+    except ValueError:
+        return None
+    return moment if moment and moment.tzinfo else None
+
+
+class Messages:
+    """Makes of each line that is a message, with its text, what was answered: it knows what was declared."""
+
+    def __init__(self) -> None:
+        # The sites of stations, and what they may keep: as many as DEFAULT_LIMITS has, in this order.
+        self.sites: dict[str, str] = {}
+        self.limits: dict[str, tuple[int, ...]] = {}
+        self.next_limits = tuple(DEFAULT_LIMITS.values())
+
+    def declare(self, line: Line) -> None:
+        """A line that may be a declaration, and was no fault."""
+        word, *words = line.line.decode("utf-8", "replace").split(" ")
+        if word == "limits":
+            self.next_limits = tuple(map(int, words))
+        elif word == "station":
+            site, station = words
+            self.sites[station], self.limits[station] = site, self.next_limits
+
+    def take(self, line: Line, text: bytes) -> Answered | None:
+        """The message that a line is; None of another line."""
+        if line.is_marked and not text:
+            self.declare(line)
+        if not line.line.startswith(b"msg "):
+            return None
+        _, station, message = (*words_of(line.line.decode("utf-8", "replace")), "", "")[:3]
+        answer = text.decode("utf-8", "replace").rstrip("\n")
+        received, site = moment_of(line.received), self.sites.get(station, "")
+        return Answered(line.number, site, station, received, message, answer)
+
+
+def answered(program: str, script: Lines) -> Iterator[Answered]:
+    """Each message of a script with its answer, by a replay that runs.
+
+    Raises OSError where the script can't be read or the program not be started, and Mistaken where the replay ends
+    with a fault.
+    """
+    replay, messages = ScriptReplay(program, script), Messages()
+    for line, text in replay.texts():
+        if message := messages.take(line, text):
+            yield message
+    status, told = replay.ended()
+    if status:
+        raise Mistaken(f"the replay ended with status {status}: {told}")

@@ -1,0 +1,193 @@
+"""A log that grows and is rotated: which file it is, how far it was read, and what comes."""
+
+import gzip
+import hashlib
+import logging
+import os
+import time
+import zlib
+from collections.abc import Iterable
+from pathlib import Path
+from typing import IO, NamedTuple
+
+from ocpp_board.limits import LONGEST_LOG_LINE
+from ocpp_board.sources import unpacked
+
+log = logging.getLogger(__name__)
+
+# Bytes at the beginning of a file by which it is known again, and of a compressed one that surely have these.
+FRONT, PACKED_FRONT = 4_096, 65_536
+# Looks after which a file that has another name by now is taken to be at its end, and seconds without a change of it
+# after which one look will do.
+GONE, STILL = 4, 5
+# Lines and bytes that are given at once, at most.
+MOST_LINES, MOST_BYTES = 1_000, 4_000_000
+# The names' ends of files that can't be read.
+PACKED = (".bz2", ".xz", ".zst")
+
+
+def front_of(file: IO[bytes], place: int) -> str:
+    """By what a file is known again of which so many bytes were taken."""
+    count = min(FRONT, place)
+    if isinstance(file, gzip.GzipFile):
+        packed = os.pread(file.fileno(), PACKED_FRONT, 0)
+        data = zlib.decompressobj(wbits=31).decompress(packed, count) if count else b""
+    else:
+        data = os.pread(file.fileno(), count, 0)
+    return hashlib.sha256(data).hexdigest()
+
+
+def is_replaced(path: str | Path, file: IO[bytes], place: int) -> bool:
+    """Whether there is another file of this name, or this one was cut short."""
+    try:
+        is_same = os.path.samestat(os.stat(path), os.fstat(file.fileno()))
+        return not is_same or is_cut_short(file, place)
+    except FileNotFoundError:
+        return False
+
+
+def is_cut_short(file: IO[bytes], place: int) -> bool:
+    """Whether a file has less than what was read of it. Of a compressed one that can't be told."""
+    is_packed = isinstance(file, gzip.GzipFile)
+    return not is_packed and os.fstat(file.fileno()).st_size < place
+
+
+def beside(path: Path) -> list[Path]:
+    """The files that a rotation leaves: those whose names begin as this one's, and go on."""
+    found = sorted(path.parent.glob(f"{path.name}?*"))
+    return [one for one in found if one.is_file() and one.suffix not in PACKED]
+
+
+def has(file: IO[bytes], place: int) -> bool:
+    """Whether a file has so many bytes. It is at this place then."""
+    return file.seek(place) == place and not is_cut_short(file, place)
+
+
+def known(path: Path, taken: Iterable[tuple[int, str]]) -> IO[bytes] | None:
+    """The file of which so many bytes were taken, each time with its front: the one of this name, or one beside it.
+
+    Where nothing was taken it is the one of this name. None where it is none of them. Raises OSError.
+    """
+    places = [(place, front) for place, front in taken if place]
+    for one in [path, *(beside(path) if places else [])]:
+        file = unpacked(open(one, "rb"))
+        try:
+            if all(front_of(file, place) == front and has(file, place) for place, front in places):
+                return file
+        except (EOFError, zlib.error, gzip.BadGzipFile):
+            pass
+        file.close()
+    return None
+
+
+class Place(NamedTuple):
+    """How far a file was read, and by what it is known again."""
+
+    place: int
+    front: str
+
+
+class Followed:
+    """The lines of a log that grows. A file that was rotated is read to its end, and then those that came after it."""
+
+    def __init__(self, path: Path, place: Place | None) -> None:
+        """`place`: how far it was read before. Raises OSError where there is no file of this name."""
+        self.path = path
+        # A compressed file ended in its middle.
+        self.is_damaged = False
+        self.begin(place or Place(0, ""))
+
+    def begin(self, place: Place) -> None:
+        """Goes on at a place; where no file is the one that was read, with the one of the name from its start."""
+        file = known(self.path, [place])
+        self.take(file or unpacked(open(self.path, "rb")), place.place if file else 0)
+
+    def take(self, file: IO[bytes], at: int) -> None:
+        """Reads this file from here on."""
+        self.file, self.at, self.gone = file, at, 0
+        file.seek(at)
+        # What was read of a line that has not ended, and how many bytes that are.
+        self.rest, self.pending = b"", 0
+        # How far the lines go that were given.
+        self.place = Place(at, front_of(file, at))
+
+    def is_current(self) -> bool:
+        """Whether the file that is read is the one of the name."""
+        return not is_replaced(self.path, self.file, self.at)
+
+    def first_line(self) -> bytes:
+        """The first line of the file that is read."""
+        self.file.seek(0)
+        line = self.file.readline(LONGEST_LOG_LINE + 1)
+        self.file.seek(self.at + self.pending)
+        return line
+
+    def lines(self) -> list[bytes | None]:
+        """The lines that came, so many at most; None for one that is too long. There are none where nothing came."""
+        lines: list[bytes | None] = []
+        before = self.at
+        while len(lines) < MOST_LINES and self.at < before + MOST_BYTES:
+            part = self.part()
+            if not part:
+                break
+            self.pending += len(part)
+            self.rest = (self.rest + part)[: LONGEST_LOG_LINE + 1]
+            if part.endswith(b"\n"):
+                lines.append(self.line())
+        if not lines:
+            return self.at_end()
+        self.place = Place(self.at, front_of(self.file, self.at))
+        return lines
+
+    def part(self) -> bytes:
+        """What is read next, up to the end of a line; empty at the end of the file."""
+        try:
+            return b"" if self.is_damaged else self.file.readline(LONGEST_LOG_LINE + 1)
+        except (EOFError, zlib.error, gzip.BadGzipFile) as fault:
+            log.error("beside %s: %s; what follows in that file is left out", self.path, fault)
+            self.is_damaged = True
+            return b""
+
+    def line(self) -> bytes | None:
+        """The line that was read; None where it is too long."""
+        line = self.rest if self.pending <= LONGEST_LOG_LINE + 1 else None
+        self.at += self.pending
+        self.rest, self.pending = b"", 0
+        return line
+
+    def at_end(self) -> list[bytes | None]:
+        """What is left of a file that is at its end for good; the next one is read then."""
+        if self.is_current():
+            self.gone = 0
+            return []
+        self.gone += 1
+        now = os.fstat(self.file.fileno())
+        if self.gone < GONE and time.time() < now.st_mtime + STILL and not self.is_damaged:
+            return []
+        lines = [self.line()] if self.pending else []
+        try:
+            self.go_on(now)
+        except FileNotFoundError:
+            pass  # A rotation is under way; it is tried again.
+        return lines
+
+    def go_on(self, now: os.stat_result) -> None:
+        """Reads the next file. Raises FileNotFoundError where it is not there yet."""
+        old = self.file
+        if os.path.samestat(os.stat(self.path), now):
+            # It was copied and cut short: the copy may have more than was read of it.
+            self.begin(self.place)
+        else:
+            self.take(unpacked(open(self.after(now), "rb")), 0)
+        self.is_damaged = False
+        old.close()
+
+    def after(self, now: os.stat_result) -> Path:
+        """The file that was written next after this one: one beside it, or the one of the name."""
+        later = [
+            (stat.st_mtime_ns, one)
+            for one in beside(self.path)
+            if (stat := one.stat()).st_mtime_ns > now.st_mtime_ns
+            and not os.path.samestat(stat, now)
+        ]
+        return min(later)[1] if later else self.path

@@ -1,0 +1,151 @@
+"""A replay that lives: lines of a script go in as they come, questions between them, and each gets its own answer."""
+
+import queue
+import threading
+from collections import deque
+from collections.abc import Callable
+
+from ocpp_board.answered import Answered, Line, Messages, Replay
+from ocpp_board.limits import LONGEST_LINE
+from ocpp_board.refusals import Refusal, commented, is_left
+
+# The first words of lines that need the ledgers.
+OPENING = (b"msg", b"void", b"restore", b"erase", b"energy", b"export", b"total", b"board")
+# Faults of lines that open no ledgers.
+CLOSED = (b"fault BadLine\n", b"fault LineTooLong\n")
+# The beginnings of what a replay writes, by what they count as.
+FRONTS = {b"[3,": "accepted", b"[4,": "refused", b"fau": "faults"}
+
+
+class Ended(Exception):
+    """The replay ended before its input did."""
+
+
+class Ledger:
+    """A replay that runs, and what became of the script's messages."""
+
+    def __init__(
+        self,
+        program: str,
+        takers: list[Callable[[Answered], None]],
+        untaken: Callable[[Refusal], None],
+    ) -> None:
+        """`takers` get each message with its answer; `untaken` what the script keeps of lines that a log had."""
+        self.replay, self.messages = Replay(program, is_apart=True), Messages()
+        self.takers, self.untaken = takers, untaken
+        # Held while a line is sent, and while takers take a message.
+        self.sending, self.taking = threading.Lock(), threading.Lock()
+        # Set where the ledgers stand, or where the replay has ended.
+        self.is_open, self.has_ended = threading.Event(), False
+        # Whether a line of the script needs the ledgers.
+        self.is_needed = False
+        self.questions: deque[queue.Queue[bytes | None]] = deque()
+        self.counts = dict.fromkeys(("lines", "bytes", *FRONTS.values(), "left"), 0)
+        self.reader = threading.Thread(target=self.read, daemon=True)
+        self.reader.start()
+
+    def sites(self) -> list[str]:
+        """The sites of the stations that are declared, in their order."""
+        return list(dict.fromkeys(self.messages.sites.values()))
+
+    def send(self, line: bytes, before: Callable[[], None] | None = None) -> None:
+        """Hands on a line of the script, which reaches the replay by the next flush. Raises Ended.
+
+        `before` is done right before the line is sent, and no other line is sent between.
+        """
+        with self.sending:
+            if before:
+                before()
+            self.counts["lines"] += 1
+            self.counts["bytes"] += len(line)
+            sent = self.replay.sendable(self.counts["lines"], line)
+            if line.startswith(b"#"):
+                self.comment(line)
+                return
+            if not self.is_needed:
+                self.is_needed = line.split(b" ", 1)[0] in OPENING
+            self.write(sent if sent.endswith(b"\n") else sent + b"\n")
+
+    def comment(self, line: bytes) -> None:
+        """A comment, which would only take room of what the replay may read. One that is too long is none."""
+        if refusal := commented(line):
+            with self.taking:
+                self.untaken(refusal)
+        elif len(line) > LONGEST_LINE:
+            self.write(line.rstrip(b"\n") + b"\n")
+
+    def ask(self, line: bytes, before: Callable[[], None] | None = None) -> bytes:
+        """What a line that is none of the script's writes. Raises Ended where the replay ends before it is answered.
+
+        `before` is done right before it, as for a line of the script.
+        """
+        self.is_open.wait()
+        bare = line.rstrip(b"\r\n")
+        if len(bare) <= LONGEST_LINE and (not bare or bare.startswith(b"#")):
+            return b""
+        answer: queue.Queue[bytes | None] = queue.Queue()
+        with self.sending:
+            if self.has_ended:
+                raise Ended
+            if before:
+                before()
+            self.questions.append(answer)
+            self.write(self.replay.sendable(0, bare + b"\n"))
+        self.flush()
+        if (text := answer.get()) is None:
+            raise Ended
+        return text
+
+    def write(self, data: bytes) -> None:
+        """Hands bytes to the replay. Raises Ended where it is gone."""
+        try:
+            self.replay.input.write(data)
+        except (BrokenPipeError, ValueError):
+            raise Ended from None
+
+    def flush(self) -> None:
+        """Has what was sent reach the replay. Raises Ended where it is gone."""
+        with self.sending:
+            try:
+                self.replay.input.flush()
+            except (BrokenPipeError, ValueError):
+                raise Ended from None
+
+    def read(self) -> None:
+        """Takes what the replay writes: answers to questions go to those who asked, others to the takers."""
+        is_open = False
+        for line, text in self.replay.texts():
+            if line.number:
+                self.take(line, text)
+            else:
+                self.questions.popleft().put(text)
+            if not is_open and not line.is_marked and text not in CLOSED:
+                is_open = True
+                self.is_open.set()
+        with self.sending:
+            self.has_ended = True
+        for question in self.questions:
+            question.put(None)
+        self.is_open.set()
+
+    def take(self, line: Line, text: bytes) -> None:
+        """Counts what a line of the script wrote, and hands a message with its answer on."""
+        if kind := FRONTS.get(text[:3]):
+            self.counts[kind] += 1
+        if message := self.messages.take(line, text):
+            if is_left(message):
+                self.counts["left"] += 1
+                self.counts["refused"] -= 1
+            with self.taking:
+                for taker in self.takers:
+                    taker(message)
+
+    def close(self) -> int:
+        """Ends the input, and gives the replay's exit status."""
+        with self.sending:
+            try:
+                self.replay.input.close()
+            except BrokenPipeError:
+                pass
+        self.reader.join()
+        return self.replay.process.wait()

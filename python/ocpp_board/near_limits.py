@@ -1,0 +1,86 @@
+"""Stations that come near to what their limits have room for, each told once."""
+
+import math
+import re
+from collections.abc import Callable, Iterator, Mapping
+from dataclasses import dataclass, field
+
+from ocpp_board.answered import Answered
+from ocpp_board.limits import DEFAULT_LIMITS
+
+TRANSACTION = re.compile(r'"transactionId"\s*:\s*"((?:[^"\\]|\\.)*)"')
+NAMES = tuple(DEFAULT_LIMITS)
+# Values of registers have a measurand of these, or none.
+VALUE = '"value"'
+OTHER = re.compile(r'"measurand"\s*:\s*"(?!Energy\.Active\.(?:Import|Export)\.Register")')
+REMEDY = (
+    "give it more by a line `limits <transactions> <events> <readings> <changes>` before its `station` line, "
+    "--limits of the tools; or erase what was voided"
+)
+
+
+@dataclass
+class Counts:
+    """What a station sent and was taken, what came again included."""
+
+    limits: tuple[int, ...]
+    # The numbers from which on a limit is told; past all numbers once it was.
+    marks: list[float]
+    transactions: set[str] = field(default_factory=set)
+    events: int = 0
+    readings: int = 0
+
+    @classmethod
+    def of(cls, limits: tuple[int, ...]) -> "Counts":
+        """Nothing yet, of a station with these limits."""
+        return cls(limits, [-(-9 * most // 10) for most in limits])
+
+    def take(self, message: str) -> None:
+        """An event that was taken."""
+        if transaction := TRANSACTION.search(message):
+            self.transactions.add(transaction[1].lower())
+        self.events += 1
+        self.readings += message.count(VALUE)
+        if '"measurand"' in message:
+            self.readings -= len(OTHER.findall(message))
+
+    def is_reached(self) -> bool:
+        """Whether nine tenths of a limit are reached that was not told yet."""
+        transactions, events, readings, changes = self.marks
+        return (
+            self.events >= events
+            or self.readings >= readings
+            or len(self.transactions) >= transactions
+            or self.events >= changes
+        )
+
+    def reached(self) -> Iterator[str]:
+        """What is told now of limits of which nine tenths are reached. A change is an event."""
+        numbers = (len(self.transactions), self.events, self.readings, self.events)
+        for place, (number, mark) in enumerate(zip(numbers, self.marks)):
+            if number >= mark:
+                self.marks[place] = math.inf
+                yield f"{number:,} {NAMES[place]}, repeats included, and keeps {self.limits[place]:,} at most"
+
+
+class NearLimits:
+    """Takes messages, and tells once of each limit of a station of which nine tenths are reached."""
+
+    def __init__(
+        self, limits: Mapping[str, tuple[int, ...]], tell: Callable[[Answered, str, str], None]
+    ) -> None:
+        """`limits` are those of the stations; `tell` gets the message that reached it, what is told, and a remedy."""
+        self.limits, self.tell = limits, tell
+        self.counts: dict[str, Counts] = {}
+
+    def take(self, answered: Answered) -> None:
+        """Takes a message with its answer."""
+        if not answered.is_accepted or '"TransactionEvent"' not in answered.message:
+            return
+        counts = self.counts.get(answered.station)
+        if counts is None:
+            limits = self.limits.get(answered.station, tuple(DEFAULT_LIMITS.values()))
+            counts = self.counts[answered.station] = Counts.of(limits)
+        counts.take(answered.message)
+        for said in counts.reached() if counts.is_reached() else ():
+            self.tell(answered, f"station {answered.station} sent {said}", REMEDY)

@@ -1,0 +1,264 @@
+"""What a station sent and the ledger did not take: whose it was, the cause by name, and what to do.
+
+The same again, as a station sends it that gets no answer, is one row with how often it came.
+"""
+
+import csv
+import json
+import logging
+import os
+import re
+from collections import Counter
+from dataclasses import dataclass
+from datetime import datetime, timezone
+from pathlib import Path
+from typing import Any, NamedTuple
+
+from ocpp_board.answered import Answered, Lines, moment_of
+from ocpp_board.escapes import csv_cell, shown, without_controls
+from ocpp_board.limits import LONGEST_LINE, MOMENT
+from ocpp_board.line_faults import Said, bad_line
+from ocpp_board.message_faults import JSON, is_kept_nothing_of, message_fault
+from ocpp_board.messages import CALL
+
+log = logging.getLogger(__name__)
+
+# Refusals of a cause that are told one by one; then each is told whose count is a power of ten.
+MOST_TOLD = 10
+# Rows of a site. Further refusals are one row for each station and cause.
+MOST_ROWS = 65_536
+# Characters of a message's text that are kept.
+LONGEST_TEXT = 64
+# The cause of a line of a log that is no message of a station for the ledger.
+UNTAKEN = "Untaken"
+# Lines of a kind that can't be taken, which a script keeps; the others are counted.
+MOST_UNTAKEN = 10_000
+# A comment of a script that has a refusal of a line of the log.
+COMMENT = b"# untaken "
+# What is read of a message that is no JSON.
+TRANSACTION = re.compile(r'"transactionId"\s*:\s*"([^"\\]{1,36})"')
+NUMBER = re.compile(r'"seqNo"\s*:\s*([0-9]{1,10})(?![0-9.eE])')
+DESCRIPTION = re.compile(r',"([A-Za-z]+)",\{\}\]$')
+HEADS = [
+    "first (UTC)",
+    "last (UTC)",
+    "times",
+    "site",
+    "station",
+    "transaction",
+    "seqNo",
+    "cause",
+    "what",
+    "advice",
+]
+
+
+class Refusal(NamedTuple):
+    """A message that was refused. Its texts are empty where they can't be read."""
+
+    # When it was received, or else the time that it names; in UTC.
+    time: str
+    station: str
+    transaction: str
+    number: str
+    cause: str
+    advice: str
+    site: str = ""
+    what: str = ""
+
+
+class Named(NamedTuple):
+    """What a message names, as far as it can be read: the texts are empty where it can't."""
+
+    time: str
+    transaction: str
+    number: str
+
+
+def text_of(value: Any) -> str:
+    """A text or a number of JSON as far as a table has room for it; empty where it is neither."""
+    if not isinstance(value, str):
+        return ""
+    # Half a surrogate pair can't be written.
+    text = value.encode("utf-8", "replace").decode("utf-8")
+    return text if len(text) <= LONGEST_TEXT else text[:LONGEST_TEXT] + ".."
+
+
+def named_in(message: str) -> Named:
+    """What a TransactionEvent names; of a text that is no JSON what looks like it."""
+    try:
+        frame = JSON.decode(message)
+        payload = frame[3] if isinstance(frame, list) and len(frame) > 3 else {}
+    except (ValueError, RecursionError):
+        found = [pattern.search(message) for pattern in (TRANSACTION, NUMBER)]
+        return Named("", *(match[1] if match else "" for match in found))
+    if not isinstance(payload, dict):
+        return Named("", "", "")
+    info = payload.get("transactionInfo")
+    transaction = info.get("transactionId") if isinstance(info, dict) else None
+    return Named(*map(text_of, (payload.get("timestamp"), transaction, payload.get("seqNo"))))
+
+
+def utc(moment: datetime) -> str:
+    """A moment in UTC, as scripts write it."""
+    return moment.astimezone(timezone.utc).strftime(MOMENT)
+
+
+def is_left(answered: Answered) -> bool:
+    """Whether the message is of an action of OCPP 2.0.1 of which the ledger keeps nothing: it loses nothing."""
+    if not answered.answer.endswith(',"UnknownAction",{}]'):
+        return False
+    call = CALL.match(answered.message)
+    return call is not None and is_kept_nothing_of(call[2])
+
+
+def refusal_of(answered: Answered) -> Refusal | None:
+    """Why a message was refused; None where it was not, and where the ledger keeps nothing of its action."""
+    if not answered.is_refused or is_left(answered):
+        return None
+    cause, said = said_of(answered)
+    named = named_in(answered.message)
+    moment = answered.received or moment_of(named.time.encode())
+    time = utc(moment) if moment else named.time
+    return Refusal(
+        time,
+        answered.station,
+        named.transaction,
+        named.number,
+        cause,
+        said[1],
+        answered.site,
+        said[0],
+    )
+
+
+def said_of(answered: Answered) -> tuple[str, Said]:
+    """The name of a refusal's cause, the cause in words and what to do."""
+    if answered.answer.startswith("[4,"):
+        told = DESCRIPTION.search(answered.answer)
+        name = told[1] if told else "refused"
+        return name, message_fault(answered.message, name)
+    name = answered.answer.removeprefix("fault ")
+    if name == "UnknownStation":
+        what = f"no station {shown(answered.station)} is declared"
+        return name, (what, "declare the station, or name it in the file of stations")
+    if name == "LineTooLong":
+        return name, (f"its line has more than {LONGEST_LINE:,} bytes", "a shorter message")
+    line = f"msg {answered.station} {answered.message}".encode()
+    return name, bad_line(line, answered.number)
+
+
+@dataclass
+class Row:
+    """A refusal, when it came first and last, and how often."""
+
+    refusal: Refusal
+    first: str
+    last: str
+    times: int = 0
+
+    def cells(self) -> list[str]:
+        """The cells of its row in a table."""
+        r = self.refusal
+        texts = (r.site, r.station, r.transaction, r.number, r.cause, r.what, r.advice)
+        return [self.first, self.last, str(self.times), *map(csv_cell, texts)]
+
+
+class UntakenLines:
+    """A script in front of a replay, which keeps the refusals that its comments have."""
+
+    def __init__(self, script: Lines) -> None:
+        self.script = script
+        self.refusals: list[Refusal] = []
+
+    def readline(self) -> bytes:
+        """The next line; empty at the end."""
+        line = self.script.readline()
+        if refusal := commented(line):
+            self.refusals.append(refusal)
+        return line
+
+
+class Refusals:
+    """What was refused, each with how often. It is told at once; of a cause that comes often only now and then."""
+
+    def __init__(self) -> None:
+        self.rows: dict[Refusal, Row] = {}
+        self.causes: Counter[str] = Counter()
+        self.of_site: Counter[str] = Counter()
+
+    def take(self, answered: Answered) -> None:
+        """Takes a message with its answer; nothing is kept of one that was not refused."""
+        if answered.is_refused and (refusal := refusal_of(answered)):
+            self.add(refusal)
+
+    def add(self, refusal: Refusal) -> None:
+        """Takes a refusal, and tells it."""
+        key = refusal._replace(time="")
+        if key not in self.rows and len(self.rows) >= MOST_ROWS:
+            key = key._replace(transaction="", number="", what="one of many")
+        row = self.rows.setdefault(key, Row(refusal, refusal.time, refusal.time))
+        row.times += 1
+        row.first, row.last = row.first or refusal.time, refusal.time or row.last
+        self.of_site[refusal.site] += 1
+        self.causes[refusal.cause] += 1
+        self.tell(refusal, self.causes[refusal.cause])
+
+    def tell(self, refusal: Refusal, count: int) -> None:
+        """Tells a refusal, the one of this count of its cause."""
+        if count <= MOST_TOLD:
+            log.warning("refused: %s", sentence(refusal))
+        elif str(count).strip("0") == "1":
+            log.warning("refused: %s messages by now: %s", f"{count:,}", refusal.cause)
+
+    def count(self, site: str | None = None) -> int:
+        """How many messages of a site were refused, those included whose site is not known; without a site of all."""
+        if site is None:
+            return sum(self.of_site.values())
+        return self.of_site[site] + (self.of_site[""] if site else 0)
+
+    def write(self, path: Path, site: str | None = None) -> None:
+        """Writes the rows of a site, and those whose site is not known, as CSV; without a site all.
+
+        The file is there whole or not at all. Raises OSError.
+        """
+        made = path.with_name(f".{path.name}.made")
+        with open(made, "w", encoding="utf-8", newline="") as file:
+            table = csv.writer(file, lineterminator="\n")
+            table.writerow(HEADS)
+            for row in self.rows.values():
+                if site is None or row.refusal.site in (site, ""):
+                    table.writerow(row.cells())
+        os.replace(made, path)
+
+    def end(self) -> None:
+        """Tells how many there were of each cause."""
+        if self.causes:
+            causes = ", ".join(f"{name} {count:,}" for name, count in sorted(self.causes.items()))
+            log.warning("refused: %s messages in all: %s", f"{self.count():,}", causes)
+
+
+def sentence(refusal: Refusal) -> str:
+    """A refusal in words."""
+    whose = " ".join(filter(None, (refusal.station, refusal.transaction, refusal.number)))
+    at = f" at {shown(refusal.time)[1:-1]}" if refusal.time else ""
+    said = f"{refusal.cause}: {refusal.what}; {refusal.advice}"
+    return f"{shown(whose)[1:-1] or 'a line'}{at}: {without_controls(said)}"
+
+
+def comment_of(refusal: Refusal) -> bytes:
+    """A line of a script that keeps the refusal of a line of a log; a replay passes over it."""
+    told = {name: text for name, text in refusal._asdict().items() if text and name != "cause"}
+    return COMMENT + json.dumps(told, separators=(",", ":")).encode() + b"\n"
+
+
+def commented(line: bytes) -> Refusal | None:
+    """The refusal that a line of a script keeps; None of another line."""
+    if not line.startswith(COMMENT):
+        return None
+    try:
+        told = json.loads(line.removeprefix(COMMENT))
+        texts = {name: str(told.get(name, "")) for name in Refusal._fields}
+    except (ValueError, AttributeError, RecursionError):
+        return None
+    return Refusal(**texts | {"cause": UNTAKEN})

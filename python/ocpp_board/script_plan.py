@@ -1,0 +1,173 @@
+"""The stations that a script of a log declares, with their sites, limits and settlement periods."""
+
+import argparse
+
+from ocpp_board.escapes import shown
+from ocpp_board.limits import (
+    DEFAULT_READINGS,
+    GREATEST_LIMITS,
+    MOST_READINGS,
+    MOST_SITES,
+    MOST_STATIONS,
+    PERIODS,
+    is_name,
+)
+from ocpp_board.line_faults import NAMES, name_fault
+from ocpp_board.logforms import Entry
+from ocpp_board.messages import Refused
+from ocpp_board.statuses import Mistaken
+
+
+def named(field: str, name: str | None) -> str:
+    """A name of a site or a station. Raises Refused where it is none."""
+    said = name_fault("name", name or "")
+    if name and said is None:
+        return name
+    raise Refused(f"a {field} is no name", said[0] if said else "")
+
+
+def pairs_of(path: str) -> list[tuple[str, str]]:
+    """The two names of each line of a file. Empty lines and lines that begin with # are left out.
+
+    Raises OSError, or Mistaken where a line has not two names.
+    """
+    pairs = []
+    with open(path, encoding="utf-8") as file:
+        for number, line in enumerate(file, 1):
+            names = line.split()
+            if not names or line.startswith("#"):
+                continue
+            if len(names) != 2 or not all(map(is_name, names)):
+                raise Mistaken(f"{path} line {number}: not two names: {why_no_names(line, names)}")
+            pairs.append((names[0], names[1]))
+    return pairs
+
+
+def why_no_names(line: str, names: list[str]) -> str:
+    """Why a line has not two names."""
+    if len(names) == 1:
+        return shown(names[0])
+    faults = (name_fault("name", name) for name in names)
+    told = next(filter(None, faults), ("a name has no blank", NAMES))
+    return f"{shown(line.strip())}: {told[0]}; {told[1]}"
+
+
+class ScriptPlan:
+    """The stations so far. With `--stations` they are those of its file, and no others."""
+
+    def __init__(self, words: argparse.Namespace, most_stations: int = MOST_STATIONS) -> None:
+        """Raises OSError, and Mistaken where a file of the words has not two names a line or too many stations."""
+        self.words, self.most_stations = words, most_stations
+        self.most_sites = MOST_SITES if most_stations == MOST_STATIONS else most_stations
+        self.readings = words.limits[2] if words.limits else DEFAULT_READINGS
+        self.site_of: dict[str, str] = {}
+        self.map = {station: site for station, site in pairs_of(words.site_map or "/dev/null")}
+        self.is_fixed = words.stations is not None
+        try:
+            for site, station in pairs_of(words.stations or "/dev/null"):
+                self.admit(site, station)
+        except Refused as why:
+            raise Mistaken(f"{words.stations}: {why}") from None
+
+    def sites(self) -> list[str]:
+        """The sites, in the order in which they came."""
+        return list(dict.fromkeys(self.site_of.values()))
+
+    def place(self, entry: Entry) -> tuple[str, str]:
+        """The site and the station of a line. Raises Refused where they are not known."""
+        station, words = entry.station, self.words
+        if self.is_fixed:
+            if station not in self.site_of:
+                raise Refused(f"a station is not in {words.stations}", shown(station))
+            return self.site_of[station], station
+        if station in self.map:
+            return self.map[station], station
+        if words.one_site:
+            return words.one_site, named("station", station)
+        if words.site_map:
+            raise Refused(f"a station is not in {words.site_map}", shown(station))
+        return named("site", entry.site), named("station", station)
+
+    def admit(self, site: str, station: str) -> bool:
+        """Declares the station, and gives whether it is new. Raises Refused where the plan's limits are reached."""
+        known = self.site_of.get(station)
+        if known == site:
+            return False
+        if known is not None:
+            raise Refused(f"station {station} stands on site {known} already, and not on {site}")
+        if len(self.site_of) == self.most_stations:
+            raise Refused(f"one station more than {self.most_stations}", station)
+        if site not in self.site_of.values() and len(self.sites()) == self.most_sites:
+            raise Refused(f"one site more than {self.most_sites}", site)
+        if (
+            self.most_stations == MOST_STATIONS
+            and (len(self.site_of) + 1) * self.readings > MOST_READINGS
+        ):
+            raise Refused(
+                f"the stations' limits of readings would add up to more than {MOST_READINGS:,}",
+                station,
+            )
+        self.site_of[station] = site
+        return True
+
+    def limits_line(self) -> bytes:
+        """The line with the limits of all stations, where some are asked for."""
+        if not self.words.limits:
+            return b""
+        return f"limits {' '.join(map(str, self.words.limits))}\n".encode()
+
+    def period_line(self, site: str) -> bytes:
+        """The settlement period of a site, where one is asked for."""
+        seconds = self.words.period.get(site, self.words.period.get(""))
+        return f"period {site} {seconds}\n".encode() if seconds else b""
+
+    def declarations(self, site_of: dict[str, str] | None = None) -> bytes:
+        """The lines in front of the first message, of these stations or of all."""
+        stations = self.site_of if site_of is None else site_of
+        lines = [f"station {site} {station}\n".encode() for station, site in stations.items()]
+        periods = map(self.period_line, dict.fromkeys(stations.values()))
+        return b"".join([self.limits_line(), *lines, *periods])
+
+    def boards(self, site_of: dict[str, str] | None = None) -> bytes:
+        """The lines that ask for the board of each site, where they are asked for."""
+        sites = dict.fromkeys((self.site_of if site_of is None else site_of).values())
+        return b"".join(f"board {site}\n".encode() for site in sites if self.words.boards)
+
+
+def period(text: str) -> tuple[str, int]:
+    """A site and its settlement period in seconds; without a site that of all others."""
+    site, _, seconds = text.rpartition("=")
+    if seconds not in map(str, PERIODS):
+        raise argparse.ArgumentTypeError(f"not 300, 900, 1800 or 3600 seconds: {shown(text)}")
+    if "=" in text and not is_name(site):
+        raise argparse.ArgumentTypeError(f"no name of a site: {shown(text)}")
+    return site, int(seconds)
+
+
+def add_plan(parser: argparse.ArgumentParser) -> None:
+    """The options that say what the script declares."""
+    parser.add_argument(
+        "--limits",
+        nargs=4,
+        type=int,
+        metavar=("TRANSACTIONS", "EVENTS", "READINGS", "CHANGES"),
+        help="a `limits` line for all stations, up to 4096 65536 65536 9223372036854775808, and "
+        "the readings of all stations up to 1,048,576",
+    )
+    parser.add_argument(
+        "--period",
+        type=period,
+        action="append",
+        default=[],
+        metavar="[SITE=]SECONDS",
+        help="the settlement period of a site's boards, or of all sites that are not named so: "
+        "300, 900, 1800 or 3600 seconds (900 where none is told)",
+    )
+
+
+def check_plan(parser: argparse.ArgumentParser, words: argparse.Namespace) -> None:
+    """Brings these options into their form. Wrong ones end the program with status 2."""
+    words.period = dict(words.period)
+    greatest = GREATEST_LIMITS.values()
+    if words.limits and not all(1 <= n <= most for n, most in zip(words.limits, greatest)):
+        parser.error("--limits are from 1 to 4096, 65536, 65536 and 9223372036854775808")

@@ -1,0 +1,204 @@
+"""Transactions as the messages tell them: times, counted readings and reasons, which boards don't have.
+
+About half a kilobyte is kept of each event.
+"""
+
+import json
+import re
+from bisect import bisect_right
+from collections.abc import Iterator
+from dataclasses import dataclass, field
+from datetime import datetime, timezone
+from decimal import Context, Decimal
+from functools import lru_cache
+from typing import Any, NamedTuple
+
+from ocpp_board.answered import Answered
+from ocpp_board.messages import HEAD
+
+IMPORT, EXPORT = "Energy.Active.Import.Register", "Energy.Active.Export.Register"
+# What a measurand of active energy begins with, whether its readings count or not.
+ENERGY = "Energy.Active."
+CONFLICT = '"ConflictingEvent",{}]'
+# Seconds by which an event may lie after its receipt, and before it where it was not queued offline.
+FAR_AHEAD, FAR_BEHIND = 300, 3_600
+# Characters of a text of a message that are kept.
+LONGEST_TEXT = 80
+# Moments whose texts are kept, since an event and its readings often have the same.
+KEPT_MOMENTS = 1_024
+# Conflicts of a transaction that are kept. Further ones are not counted.
+MOST_CONFLICTS = 1_000
+ANNOTATION = re.compile(r"\[.*\]$")
+# Digits for a reading's value, however its exponent is written.
+EXACT = Context(prec=250)
+JSON = json.JSONDecoder(parse_int=str, parse_float=str)
+
+
+class Reading(NamedTuple):
+    """A counted reading: when it was taken (seconds since 1970), what the register read, and which one."""
+
+    at: float | None
+    mwh: int
+    is_export: bool
+
+
+class Event(NamedTuple):
+    """An event as its message tells it. `others`: what it has of energy that doesn't count; `is_far`: whether its time
+    lies far from its receipt."""
+
+    number: int
+    kind: str
+    at: float | None
+    readings: tuple[Reading, ...]
+    others: tuple[str, ...]
+    is_far: bool
+    reason: str
+
+
+@dataclass
+class Transaction:
+    """The accepted events of a transaction by their numbers, and those that were refused since they conflict."""
+
+    events: dict[int, Event] = field(default_factory=dict)
+    conflicts: list[Event] = field(default_factory=list)
+
+    def live(self, first: int, last: int, gaps: list[tuple[int, int]]) -> list[Event]:
+        """The events that a board counts, which tells their first and last number and the gaps between."""
+        starts = [start for start, _ in gaps]
+
+        def is_live(number: int) -> bool:
+            before = bisect_right(starts, number) - 1
+            return first <= number <= last and (before < 0 or gaps[before][1] < number)
+
+        return [self.events[number] for number in sorted(self.events) if is_live(number)]
+
+
+@lru_cache(KEPT_MOMENTS)
+def seconds_of(text: str) -> float | None:
+    """A time of a message in seconds since 1970; None where Python can't read what the program took."""
+    try:
+        bare = ANNOTATION.sub("", text).upper().replace(":60", ":59")
+        return datetime.fromisoformat(bare).timestamp()
+    except (ValueError, OverflowError):
+        return None
+
+
+def moment(seconds: float | None) -> datetime | None:
+    """A moment that is told in seconds since 1970, in UTC."""
+    return None if seconds is None else datetime.fromtimestamp(seconds, timezone.utc)
+
+
+def mwh_of(value: str, unit: dict[str, Any]) -> int:
+    """A reading's value in whole mWh, rounded down."""
+    power = 3 + (3 if unit.get("unit") == "kWh" else 0) + int(unit.get("multiplier") or 0)
+    if value.isdigit() and power >= 0:
+        return int(value + "0" * power)
+    return int(Decimal(value).scaleb(power, EXACT))
+
+
+def sampled_values(payload: dict[str, Any]) -> Iterator[tuple[float | None, dict[str, Any]]]:
+    """The sampled values of an event, each with when it was taken."""
+    for one in payload.get("meterValue") or []:
+        at = seconds_of(one["timestamp"])
+        for sampled in one["sampledValue"]:
+            yield at, sampled
+
+
+def measurand_of(sampled: dict[str, Any]) -> str:
+    """What is measured and where; a counted reading's is that of its register alone."""
+    if len(sampled) == 1 and "value" in sampled:
+        return IMPORT
+    named: str | None = sampled.get("measurand")
+    parts = [IMPORT if named is None else named]
+    if sampled.get("phase") is not None:
+        parts.append(f"phase {sampled['phase']}")
+    if sampled.get("location") not in (None, "Outlet"):
+        parts.append(f"location {sampled['location']}")
+    return " ".join(parts)
+
+
+def plain(value: Any) -> str:
+    """A text of a message that the program does not look at: its beginning, without control characters. It is empty
+    where it is no text."""
+    if not isinstance(value, str):
+        return ""
+    text = "".join(one if one.isprintable() else "?" for one in value[:LONGEST_TEXT])
+    return text if len(value) <= LONGEST_TEXT else text + ".."
+
+
+def event_of(payload: dict[str, Any], received: datetime | None) -> Event:
+    """The event of a payload that passed the program's checks."""
+    readings, others = list[Reading](), set[str]()
+    for at, sampled in sampled_values(payload):
+        measurand = measurand_of(sampled)
+        if measurand in (IMPORT, EXPORT):
+            mwh = mwh_of(sampled["value"], sampled.get("unitOfMeasure") or {})
+            readings.append(Reading(at, mwh, measurand == EXPORT))
+        elif measurand.startswith(ENERGY):
+            others.add(plain(measurand))
+    at = seconds_of(payload["timestamp"])
+    return Event(
+        int(payload["seqNo"]),
+        payload["eventType"],
+        at,
+        tuple(readings),
+        tuple(sorted(others)),
+        is_far(at, received, payload.get("offline") is True),
+        plain(payload["transactionInfo"].get("stoppedReason")),
+    )
+
+
+def is_far(at: float | None, received: datetime | None, is_offline: bool) -> bool:
+    """Whether an event's time lies too long after its receipt, or too long before it and it was not offline."""
+    if at is None or received is None:
+        return False
+    late = received.timestamp() - at
+    return late < -FAR_AHEAD or late > FAR_BEHIND and not is_offline
+
+
+class Transactions:
+    """All transactions, by site, station and id, as messages come."""
+
+    def __init__(self) -> None:
+        self.known: dict[tuple[str, str, str], Transaction] = {}
+        # The latest receipt of a message, or time of an event whose receipt is not told.
+        self.latest: datetime | None = None
+
+    def take(self, answered: Answered) -> None:
+        """Takes a message with its answer. One that is no event, or was refused for another cause, tells nothing."""
+        self.came(answered.received)
+        head = HEAD.match(answered.message)
+        is_conflict = answered.answer.endswith(CONFLICT)
+        if head and head[1] != "TransactionEvent" or not (answered.is_accepted or is_conflict):
+            return
+        try:
+            _, _, action, payload = JSON.decode(answered.message)
+        except (ValueError, RecursionError):
+            return
+        if action != "TransactionEvent":
+            return
+        event = event_of(payload, answered.received)
+        tx = payload["transactionInfo"]["transactionId"].lower()
+        key = answered.site, answered.station, tx
+        whole = self.known.get(key)
+        if whole is None:
+            whole = self.known[key] = Transaction()
+        if is_conflict:
+            if len(whole.conflicts) < MOST_CONFLICTS:
+                whole.conflicts.append(event)
+            return
+        had = whole.events.get(event.number)
+        # Of an event that was sent again the first receipt is kept.
+        if had is None or had[:4] != event[:4]:
+            whole.events[event.number] = event
+        if answered.received is None:
+            self.came(moment(event.at))
+
+    def of(self, site: str, station: str, tx: str) -> Transaction:
+        """A transaction by its id as a board has it; an empty one where no message told of it."""
+        return self.known.get((site, station, tx)) or Transaction()
+
+    def came(self, at: datetime | None) -> None:
+        """Something came then, where that is known."""
+        if at is not None and (self.latest is None or at > self.latest):
+            self.latest = at

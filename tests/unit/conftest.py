@@ -1,0 +1,36 @@
+"""What several unit tests take."""
+
+import stat
+from pathlib import Path
+
+import pytest
+
+# A replay in place of the program: it takes only what these tests send, and fails at a line `fail`.
+STUB = """#!/usr/bin/env -S python3 -u
+import sys
+opened = False
+for line in sys.stdin:
+    words = line.rstrip("\\n").split(" ")
+    if words[0] == "msg":
+        opened = True
+        print("fault UnknownStation" if words[1] == "X" else '[3,"' + words[2] + '",{}]')
+    elif words[0] == "board":
+        print("board north period=900\\ntotal events=0\\nend")
+    elif words[0] == "void":
+        print("accepted 2")
+    elif words[0] == "-" or words[:2] == ["now", "x"]:
+        print("fault BadLine")
+    elif words[0] == "limits":
+        print("fault DeclaredLate" if opened else "fault PlanLimit")
+    elif words[0] == "fail":
+        sys.exit("fault ReadFault")
+"""
+
+
+@pytest.fixture(name="stub")
+def made_stub(tmp_path: Path) -> str:
+    """The path of that replay."""
+    path = tmp_path / "replay"
+    path.write_text(STUB)
+    path.chmod(stat.S_IRWXU)
+    return str(path)

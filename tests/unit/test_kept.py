@@ -1,0 +1,217 @@
+"""Logs that grow and are rotated, and the script that is kept of them."""
+
+import gzip
+import logging
+import os
+import shutil
+import time
+from pathlib import Path
+
+import pytest
+
+from ocpp_board.followed import GONE, Followed, Place, front_of, is_replaced, known
+from ocpp_board.kept_script import BEGIN, KeptScript
+from ocpp_board.limits import LONGEST_LOG_LINE
+from ocpp_board.statuses import Mistaken
+
+STATIONS = b"station north A\n"
+
+
+def age(path: Path, seconds: float) -> None:
+    """Has a file be written so long ago."""
+    moment = time.time() - seconds
+    os.utime(path, (moment, moment))
+
+
+def taken(followed: Followed) -> list[bytes | None]:
+    """All lines that come, over as many files as there are."""
+    lines = []
+    for _ in range(10 * GONE):
+        lines += followed.lines()
+    return lines
+
+
+def test_a_line_is_given_once_it_ends(tmp_path: Path) -> None:
+    log = tmp_path / "log"
+    log.write_bytes(b"a\nb")
+    followed = Followed(log, None)
+    assert taken(followed) == [b"a\n"]
+    assert followed.place == Place(2, front_of(open(log, "rb"), 2))
+    with open(log, "ab") as file:
+        file.write(b"c\n" + b"x" * (LONGEST_LOG_LINE + 1) + b"\nd\n")
+    assert taken(followed) == [b"bc\n", None, b"d\n"]
+    assert followed.place.place == log.stat().st_size
+
+
+def test_a_rotated_file_is_read_to_its_end_and_then_the_next(tmp_path: Path) -> None:
+    log = tmp_path / "log"
+    log.write_bytes(b"a\n")
+    followed = Followed(log, None)
+    assert taken(followed) == [b"a\n"]
+    log.rename(tmp_path / "log.1")
+    with open(tmp_path / "log.1", "ab") as file:
+        file.write(b"b\nlast")
+    log.write_bytes(b"c\n")
+    age(tmp_path / "log.1", 60)
+    assert taken(followed) == [b"b\n", b"last", b"c\n"]
+
+
+def test_a_rotated_file_waits_for_late_lines(tmp_path: Path) -> None:
+    log = tmp_path / "log"
+    log.write_bytes(b"a\n")
+    followed = Followed(log, None)
+    assert followed.lines() == [b"a\n"]
+    log.rename(tmp_path / "log.1")
+    log.write_bytes(b"c\n")
+    assert followed.lines() == []
+    with open(tmp_path / "log.1", "ab") as file:
+        file.write(b"b\n")
+    assert taken(followed) == [b"b\n", b"c\n"]
+
+
+def test_several_rotations_while_nobody_read(tmp_path: Path) -> None:
+    log = tmp_path / "log"
+    log.write_bytes(b"a\nb\n")
+    place = Followed(log, None)
+    first = place.lines()
+    assert first == [b"a\n", b"b\n"]
+    after_a = Place(2, front_of(open(log, "rb"), 2))
+    log.rename(tmp_path / "log.2")
+    (tmp_path / "log.1").write_bytes(b"c\n")
+    log.write_bytes(b"d\n")
+    age(tmp_path / "log.2", 300)
+    age(tmp_path / "log.1", 200)
+    assert taken(Followed(log, after_a)) == [b"b\n", b"c\n", b"d\n"]
+    # The same where a rotation compressed them.
+    for number in (1, 2):
+        path = tmp_path / f"log.{number}"
+        with open(path, "rb") as plain, gzip.open(f"{path}.gz", "wb") as packed:
+            shutil.copyfileobj(plain, packed)
+        shutil.copystat(path, f"{path}.gz")
+        path.unlink()
+    assert taken(Followed(log, after_a)) == [b"b\n", b"c\n", b"d\n"]
+
+
+def test_a_file_that_is_copied_and_cut_short(tmp_path: Path) -> None:
+    log = tmp_path / "log"
+    log.write_bytes(b"a\n")
+    followed = Followed(log, None)
+    assert taken(followed) == [b"a\n"]
+    with open(log, "ab") as file:
+        file.write(b"b\n")
+    shutil.copy(log, tmp_path / "log.1")
+    age(tmp_path / "log.1", 60)
+    os.truncate(log, 0)
+    age(log, 30)
+    assert taken(followed) == [b"b\n"]
+    log.write_bytes(b"d\n")
+    assert taken(followed) == [b"d\n"]
+
+
+def test_a_log_that_is_compressed_itself(tmp_path: Path) -> None:
+    log = tmp_path / "log.gz"
+    with gzip.open(log, "wb") as file:
+        file.write(b"a\n" * 9_999)
+    followed = Followed(log, None)
+    assert len(taken(followed)) == 9_999 and followed.is_current()
+    again = Followed(log, followed.place)
+    assert taken(again) == [] and again.is_current()
+    # Cut short, as by a copy that did not end, it gives what can be read.
+    os.truncate(log, log.stat().st_size - 4)
+    assert len(taken(Followed(log, None))) == 9_999
+
+
+def test_where_no_file_is_known_again_the_one_of_the_name_is_read(tmp_path: Path) -> None:
+    log = tmp_path / "log"
+    log.write_bytes(b"x\n")
+    assert taken(Followed(log, Place(2, "another"))) == [b"x\n"]
+    with pytest.raises(FileNotFoundError):
+        Followed(tmp_path / "none", None)
+
+
+def test_a_file_is_known_by_all_its_places(tmp_path: Path) -> None:
+    log = tmp_path / "log"
+    log.write_bytes(b"abc")
+    with open(log, "rb") as file:
+        fronts = {place: front_of(file, place) for place in (1, 2)}
+        assert not is_replaced(log, file, 3)
+        assert is_replaced(log, file, 4)
+        log.unlink()
+        assert not is_replaced(log, file, 3)
+        log.write_bytes(b"abc")
+        assert is_replaced(log, file, 3)
+    both = known(log, list(fronts.items()))
+    assert both and both.tell() == 2
+    assert known(log, [(1, fronts[1]), (2, fronts[1])]) is None
+    assert known(log, [(4, fronts[1])]) is None
+    assert known(log, [(0, "")]) is not None
+
+
+def test_a_script_is_gone_on_with(tmp_path: Path) -> None:
+    kept = KeptScript(tmp_path / "state", STATIONS)
+    assert kept.place() is None
+    kept.append(b"msg A 1\n")
+    kept.keep(Place(7, "front"))
+    kept.append(b"msg A 2\nmsg A")
+    kept.keep(None)
+    kept.lock.close()
+    again = KeptScript(tmp_path / "state", STATIONS)
+    assert list(again.lines()) == [BEGIN, STATIONS, b"#\n", b"msg A 1\n", b"msg A 2\n"]
+    assert again.place() == Place(7, "front")
+    again.append(b"msg A 3\n")
+    again.keep(None)
+    assert list(again.lines())[-1] == b"msg A 3\n"
+
+
+def test_two_keep_no_script_together(tmp_path: Path) -> None:
+    kept = KeptScript(tmp_path, STATIONS)
+    with pytest.raises(Mistaken, match="another ocpp-board live keeps its script in"):
+        KeptScript(tmp_path, STATIONS)
+    kept.lock.close()
+    KeptScript(tmp_path, STATIONS)
+
+
+def test_a_new_station_is_declared_before_what_was_sent(tmp_path: Path) -> None:
+    kept = KeptScript(tmp_path, STATIONS)
+    kept.append(b"msg A 1\n")
+    kept.keep(None)
+    kept.lock.close()
+    more = STATIONS + b"station north B\n"
+    assert list(KeptScript(tmp_path, more).lines()) == [
+        BEGIN,
+        *more.splitlines(True),
+        b"#\n",
+        b"msg A 1\n",
+    ]
+
+
+@pytest.mark.parametrize("text", [b"msg A 1\n", BEGIN + b"station north A\n", b"x"])
+def test_a_script_of_another_is_left_alone(text: bytes, tmp_path: Path) -> None:
+    (tmp_path / "script").write_bytes(text)
+    with pytest.raises(Mistaken, match="is no script that ocpp-board live keeps"):
+        KeptScript(tmp_path, STATIONS)
+
+
+def test_a_script_has_an_end(
+    tmp_path: Path, monkeypatch: pytest.MonkeyPatch, caplog: pytest.LogCaptureFixture
+) -> None:
+    monkeypatch.setattr("ocpp_board.kept_script.LONGEST_SCRIPT", 200)
+    monkeypatch.setattr(logging.getLogger("ocpp_board"), "propagate", True)
+    kept = KeptScript(tmp_path, STATIONS)
+    kept.append(b"#" * (180 - kept.size))
+    assert not caplog.records
+    for _ in range(2):
+        kept.append(b"#")
+    assert [record.getMessage() for record in caplog.records] == [
+        f"{tmp_path}/script has 181 of at most 200 bytes: soon begin with another folder, or take "
+        "the fleet"
+    ]
+    with pytest.raises(Mistaken, match="has no room for more"):
+        kept.append(b"#" * 19)
+
+
+def test_how_far_the_log_was_read_is_whole_or_told(tmp_path: Path) -> None:
+    kept = KeptScript(tmp_path, STATIONS)
+    kept.read.write_text('{"place": ')
+    with pytest.raises(Mistaken, match="is not whole"):
+        kept.place()

@@ -1,0 +1,164 @@
+"""The check of pages: it finds what is missing, and nothing on a page that has all."""
+
+from datetime import datetime, timedelta, timezone
+from pathlib import Path
+
+import pytest
+
+from ocpp_board.boards import Part, Period, Session, Total
+from ocpp_board.calendars import Calendar
+from ocpp_board.energies import Flow
+from ocpp_board.page_sections import DayPart, bar_cell, day_of_part, sections_of
+from ocpp_board.pages import (
+    FOOT,
+    Column,
+    Heads,
+    across,
+    explained,
+    head,
+    refused_banner,
+    table,
+)
+from ocpp_board.pictures import Scale
+from ocpp_board.quality import Finding, Kind
+from tests.page_check import Check, color_of, contrast
+from tests.page_tree import Tree, fits, rules_of
+
+PICTURE = '<svg role="img" aria-label="Bars"><path class="up" d="M0 0h1v1z"/></svg>'
+SECTION = '<section aria-labelledby="a"><h2 id="a">Day</h2>'
+PERIODS = '<table><caption>c</caption><tr><th scope="col">a<th scope="col">b<tr><th scope="row">x<td>1</table>'
+BODY = f'{SECTION}{PICTURE}{PERIODS}<a href="#a">up</a></section>\n'
+
+
+def page(body: str = BODY, style: str = "") -> str:
+    text = head("Title", '<p class="warning">old</p>') + body + explained("<p>why</p>") + FOOT
+    return text.replace("</style>", style + "</style>", 1)
+
+
+def found(text: str, folder: Path) -> list[str]:
+    path = folder / "page.html"
+    path.write_text(text)
+    return list(Check(path).found())
+
+
+def test_a_page_that_has_all_is_fine(tmp_path: Path) -> None:
+    heads: Heads = ["Site", " Zone", Column("Bar", "wide", True)]
+    more = across("Sites", "".join(table("All", heads, [("", ["n", "UTC", ""])], cards=True)))
+    assert found(page(BODY + more), tmp_path) == []
+
+
+def test_all_that_pages_are_made_of_is_fine(tmp_path: Path) -> None:
+    """Marks, warnings, strips, findings and each kind of bar, whose contrasts are looked at in light and in dark."""
+    day = datetime(2026, 3, 1, tzinfo=timezone.utc)
+    flows = [Flow(5, 2, 3, 1), Flow()]
+    periods = [Period(day + n * timedelta(minutes=15), 900, flow) for n, flow in enumerate(flows)]
+    total = Total(3, 1, 1, 0, 2, flows[0])
+    session = Session("t", 1, 3, 0, 4, False, 2, flows[0], [(1, 2)], "numbers missing")
+    session.findings = [Finding(Kind.CLOCK_BACK, 2)]
+    part = Part("A", False, 900, False, total, [], periods, [session])
+    scale, calendar = Scale(flows), Calendar()
+    parts = [*sections_of(part, "s", calendar, True), refused_banner(1, "page.html")]
+    parts += day_of_part(DayPart(part, "d", day.date(), periods, scale), calendar, True)
+    parts += table("All", ["Site", Column("Bar", "bar")], [("", ["A", bar_cell(-1, 2)])])
+    text = head("Title", "") + "<h2>A</h2>" + "".join(parts) + FOOT
+    for kind in ("up", "down", "out", "back", "still", "zero", "gap", "less", "flag", "refused"):
+        assert f'class="{kind}"' in text
+    assert found(text, tmp_path) == []
+
+
+@pytest.mark.parametrize(
+    ("old", "new", "told"),
+    [
+        (' lang="en"', "", "tells no language"),
+        ("<title>Title</title>", "<title></title>", "no title"),
+        ('name="viewport"', 'name="x"', "no viewport"),
+        ("<h1>Title</h1>", "", "not one h1"),
+        ('<h2 id="a">Day</h2>', '<h3 id="a">Day</h3>', "leaves out a level"),
+        ('<h2 id="a">Day</h2>', '<h2 id="a"> </h2>', "is empty"),
+        ('aria-labelledby="a"', "", "has no label"),
+        ('aria-labelledby="a"', 'aria-labelledby="b"', "has no label"),
+        (' aria-label="Bars"', "", "picture without a label"),
+        (' aria-label="Bars"', ' aria-label=" "', "picture without a label"),
+        (PERIODS, "", "without a table"),
+        ("<caption>c</caption>", "", "no caption"),
+        ('<th scope="col">a', "<th>a", "no scope"),
+        ('<th scope="col">a', '<th scope="col">', "no text"),
+        ("<td>1", "<td>1<td>2", "rows of [2, 3] cells"),
+        ('<th scope="row">x', "<td>x", "row without a head"),
+        ('href="#a"', 'href="#b"', "that label is not"),
+        ('href="#a"', 'href="other.html"', "is not there"),
+        ("<table>", '<input id="i"><table>', "field without a label"),
+        ("<table>", '<div tabindex="0">x</div><table>', "has no label"),
+        ("<table>", "<img><table>", "picture without a label"),
+        ("<table>", "<script>1</script><table>", "is a script"),
+        ("<table>", '<p onclick="x">x</p><table>', "is a script"),
+        ("<table>", '<p id="a">x</p><table>', "stands twice"),
+        ("<table>", '<iframe src="x"></iframe><table>', "loads something"),
+        ("up</a>", "</a>", "has no text"),
+    ],
+)
+def test_what_a_page_lacks_is_found(old: str, new: str, told: str, tmp_path: Path) -> None:
+    assert old in page()
+    assert any(told in what for what in found(page().replace(old, new), tmp_path))
+
+
+@pytest.mark.parametrize(
+    ("style", "told"),
+    [
+        ("p{color:#777777}", "<p.warning> in light"),
+        ("p{color:#999}", "<p.warning> in light has a contrast of 2.6 to 1, and not 4.5"),
+        ("main td{background:#333}", "<td> in light has a contrast of"),
+        ("section>table td{color:#aaa}", "<td> in light has a contrast of 2.3"),
+        ("@media(prefers-color-scheme:dark){:root{--ink:#333}}", "<td> in dark"),
+        ("@media(max-width:48rem){td{color:#ccc}}", "<td> in light"),
+        ("th::before{content:'x';color:#bbb}", "<th>::before in light"),
+        ("path.up{fill:#ddd}", "<path.up> in light"),
+        (":root{--bad:#f99}.warning::before{content:'x';color:var(--bad)}", "::before in light"),
+    ],
+)
+def test_poor_contrast_is_found(style: str, told: str, tmp_path: Path) -> None:
+    assert any(what.startswith(told) or told in what for what in found(page(style=style), tmp_path))
+
+
+@pytest.mark.parametrize(
+    "style",
+    [
+        "a:focus{color:#fff}",
+        "li>td{color:#fff}",
+        "td.other{color:#fff}",
+        "nav td{color:#fff}",
+        ".grid{stroke:#eee}",
+    ],
+)
+def test_rules_that_are_of_nothing_that_is_seen_do_no_harm(style: str, tmp_path: Path) -> None:
+    assert found(page(style=style), tmp_path) == []
+
+
+def test_contrast_is_that_of_the_standard() -> None:
+    black, white, grey = color_of("#000"), color_of("#ffffff"), color_of("#767676")
+    assert black and white and grey and color_of("red") is None
+    assert contrast(black, white) == contrast(white, black) == pytest.approx(21)
+    assert contrast(grey, white) == pytest.approx(4.54, abs=0.01)
+
+
+def test_elements_that_are_left_open_are_closed_by_the_next() -> None:
+    root = Tree("<table><tr><th>a<td>b\n<tr><th>c<td>d<br></table><p>e").root
+    assert [[cell.tag for cell in row.children] for row in root.all() if row.tag == "tr"] == [
+        ["th", "td"],
+        ["th", "td"],
+    ]
+    assert root.children[-1].tag == "p" and root.children[-1].whole_text() == "e"
+
+
+def test_selectors() -> None:
+    cell = next(
+        one
+        for one in Tree('<table class="a b"><tr class="c"><td id="i">').root.all()
+        if one.tag == "td"
+    )
+    for selector in ("td", ".a td", ".a.b tr>td", "table .c>*", "#i", "td:first-child"):
+        assert fits(cell, selector), selector
+    for selector in ("th", ".a>td", ".b.c td", "tr td.c", "div td"):
+        assert not fits(cell, selector), selector
+    (rule,) = rules_of("tr.c>td::before{content:'x';color:#fff}")
+    assert (rule.selector, rule.pseudo, rule.sets["color"]) == ("tr.c>td", "before", "#fff")

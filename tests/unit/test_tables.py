@@ -1,0 +1,179 @@
+"""The files that `tables` writes of boards and of the messages beside them."""
+
+import csv
+from collections.abc import Iterator
+from datetime import datetime, timedelta
+from pathlib import Path
+from typing import IO
+
+import pytest
+
+from ocpp_board import tables
+from ocpp_board.answered import Answered
+from ocpp_board.statuses import Status
+from ocpp_board.troubles import FIRST, KINDS, messages
+
+FLOW = "up=750000 down=0 export_up=0 export_down=0"
+TOTAL = f"total events=4 voided=0 transactions=1 complete=1 missing=0 {FLOW}"
+BOARD = f"""board north period=900
+{TOTAL}
+period 2026-03-01T08:00:00Z {FLOW}
+station CS-01
+{TOTAL}
+period 2026-03-01T08:00:00Z {FLOW}
+tx t1 evse=1 events=4 first=0 last=3 complete=yes missing=0 {FLOW}
+end
+"""
+REASON = "=HYPERLINK(<b>)"
+
+
+@pytest.fixture(autouse=True)
+def told(monkeypatch: pytest.MonkeyPatch) -> list[str]:
+    """The messages of a script, with what the program was and how it begins."""
+    seen = list[str]()
+
+    def answered(program: str, script: IO[bytes]) -> Iterator[Answered]:
+        seen.extend([program, script.readline().decode()])
+        session = KINDS["clock-back"]("T1", FIRST)
+        session[-1].payload["transactionInfo"]["stoppedReason"] = REASON
+        lines = [line for line in messages("CS-01", session) if line.startswith("msg ")]
+        for number, (sent, line) in enumerate(zip(session, lines)):
+            text = line.split(" ", 2)[2]
+            yield Answered(number, "north", "CS-01", sent.received, text, '[3,"1",{}]')
+
+    monkeypatch.setattr(tables, "answered", answered)
+    return seen
+
+
+def run(folder: Path, *words: str, text: str = BOARD) -> dict[str, str]:
+    """The files by how they end."""
+    (folder / "text").write_text(text)
+    (folder / "script").write_text("a script\n")
+    argv = [*words, "--out", str(folder / "x"), str(folder / "text")]
+    assert tables.main(argv, "tables") == Status.DONE
+    return {path.name[2:]: path.read_text() for path in folder.glob("x.*")}
+
+
+def test_without_a_script_there_are_no_times_and_no_findings(tmp_path: Path) -> None:
+    files = run(tmp_path)
+    assert "findings.csv" not in files
+    assert files["transactions.csv"].splitlines()[0].endswith(",state")
+    assert "Start and end" not in files["html"] and "Periods up to" in files["html"]
+
+
+def test_with_a_script_sessions_have_times_and_findings(tmp_path: Path, told: list[str]) -> None:
+    files = run(tmp_path, "--script", str(tmp_path / "script"), "--program", "p")
+    assert told == ["p", "a script\n"]
+    (row,) = csv.DictReader(files["transactions.csv"].splitlines())
+    assert row["start (UTC)"] == "2026-03-01T08:00:00Z"
+    assert row["end (UTC)"] == "2026-03-01T08:30:00Z"
+    assert (row["duration (s)"], row["findings"]) == ("1800", "clock goes back")
+    assert row["net (kWh)"] == "0.75"
+    assert (row["first register (kWh)"], row["last register (kWh)"]) == ("1", "1.75")
+    assert (row["first export register (kWh)"], row["last export register (kWh)"]) == ("", "")
+    (found,) = csv.DictReader(files["findings.csv"].splitlines())
+    assert (found["finding"], found["times"]) == ("clock goes back", "1")
+    assert found["first (UTC)"] == "2026-03-01T07:50:00Z"
+    assert "Data up to" in files["html"]
+
+
+def test_texts_of_messages_are_escaped(tmp_path: Path) -> None:
+    files = run(tmp_path, "--script", str(tmp_path / "script"))
+    (row,) = csv.DictReader(files["transactions.csv"].splitlines())
+    assert row["stopped reason"] == f"'{REASON}"
+    assert "=HYPERLINK(&lt;b&gt;)" in files["html"] and "<b>)" not in files["html"]
+    files = run(tmp_path, "--script", str(tmp_path / "script"), "--raw")
+    (row,) = csv.DictReader(files["transactions.csv"].splitlines())
+    assert row["stopped reason"] == REASON
+
+
+def test_what_was_fed_back_is_a_negative_net_energy(tmp_path: Path) -> None:
+    fed = FLOW.replace("export_up=0", "export_up=1000001")
+    board = BOARD.replace(f"missing=0 {FLOW}\nend", f"missing=0 {fed}\nend")
+    words = ("--script", str(tmp_path / "script"))
+    (row,) = csv.DictReader(run(tmp_path, *words, text=board)["transactions.csv"].splitlines())
+    assert row["net (kWh)"] == "-0.250001"
+
+
+def test_a_zone_stands_beside_utc(tmp_path: Path) -> None:
+    words = ("--script", str(tmp_path / "script"), "--tz", "Europe/Berlin")
+    (row,) = csv.DictReader(run(tmp_path, *words)["transactions.csv"].splitlines())
+    assert row["end (Europe/Berlin)"] == "2026-03-01T09:30:00+01:00"
+
+
+@pytest.mark.parametrize(
+    ("words", "text", "is_told"),
+    [
+        (["--oldest", "60", "--until", "2026-03-01T08:00:00Z"], "older than it should be", True),
+        (["--oldest", "86400", "--until", "2026-03-01T08:00:00Z"], "older than it should", False),
+        (["--refresh", "10"], '<meta http-equiv="refresh" content="10">', True),
+        ([], 'class="refused"', False),
+        ([], "http-equiv", False),
+    ],
+)
+def test_what_each_page_tells(words: list[str], text: str, is_told: bool, tmp_path: Path) -> None:
+    files = run(tmp_path, "--written", "2026-03-01T09:00:00Z", *words)
+    for name in ("html", "2026-03-01.html"):
+        assert (text in files[name]) == is_told, name
+        assert '<time datetime="2026-03-01T09:00:00+00:00">' in files[name]
+
+
+def test_the_program_may_tell_the_time_of_the_data(tmp_path: Path) -> None:
+    words = ("--script", str(tmp_path / "script"), "--until", "2026-03-01T12:34:00Z")
+    assert "Data up to" in run(tmp_path, *words)["html"]
+    assert ">2026-03-01 12:34</time>" in run(tmp_path, *words)["html"]
+
+
+def test_messages_go_to_all_takers() -> None:
+    one, other = list[Answered](), list[Answered]()
+    message = Answered(1, "north", "CS-01", None, "text", "fault UnknownStation")
+    tables.hand_on([message, message], [one.append, other.append])
+    assert one == other == [message, message]
+    assert not message.is_accepted
+
+
+@pytest.mark.parametrize(
+    "words",
+    [
+        ["--written", "2026-03-01T10:00:00"],
+        ["--until", "today"],
+        ["--follow", "http://127.0.0.1:1/", "10", "--script", "s"],
+    ],
+)
+def test_wrong_words(words: list[str]) -> None:
+    with pytest.raises(SystemExit):
+        tables.arguments(words, "tables")
+
+
+def followed(folder: Path, monkeypatch: pytest.MonkeyPatch, writings: int) -> str:
+    """The page after so many writings, ten seconds apart, of which the first alone finds the server."""
+    board, pauses = folder / "board", list[float]()
+    board.write_text(BOARD)
+
+    class Clock(datetime):
+        """A clock that goes on by the pauses."""
+
+        @classmethod
+        def now(cls, tz: object = None) -> "Clock":
+            return cls.fromisoformat("2026-03-01T09:00:00+00:00") + timedelta(seconds=sum(pauses))
+
+    def pause(seconds: float) -> None:
+        pauses.append(seconds)
+        board.unlink(missing_ok=True)
+        if len(pauses) == writings:
+            raise KeyboardInterrupt
+
+    monkeypatch.setattr("ocpp_board.tables.datetime", Clock)
+    monkeypatch.setattr("time.sleep", pause)
+    words = ["--follow", board.as_uri(), "10", "--out", str(folder / "x")]
+    assert tables.main(words, "tables") == Status.INTERRUPTED
+    return (folder / "x.html").read_text()
+
+
+def test_a_server_that_is_gone_leaves_a_board_that_is_told_to_be_old(
+    tmp_path: Path, monkeypatch: pytest.MonkeyPatch
+) -> None:
+    text = followed(tmp_path, monkeypatch, 4)
+    assert "older than it should be" not in text and "every 10 seconds" in text
+    text = followed(tmp_path, monkeypatch, 5)
+    assert 'nothing came since <time datetime="2026-03-01T09:00:00+00:00">' in text
