@@ -228,6 +228,7 @@ fn allow_left_out_option<'a>(alloc: Global) -> Result<Arg<'a>, AllocError> {
         .long("allow-left-out")
         .action(ArgAction::SetTrue)
         .help("With --restore, serve although a line of the script is lost")
+        .conflicts_with("stations")?
         .requires_arg("restore")
 }
 
