@@ -395,7 +395,8 @@ class Demo(Trial):
             f"sessions of the gateway and of workers: {before}, and {after} after 25 s",
         )
         await self.set("synchronous_standby_names", "")
-        await self.answered("once it is no longer waited for", 15)
+        # The worker that came meanwhile takes its shards once its own commits go through, at its next sweep at latest.
+        await self.answered("once it is no longer waited for", 40)
 
     async def set(self, name: str, value: str) -> None:
         """Changes a setting of the server, whose commits do not wait for that."""
@@ -470,7 +471,16 @@ class Demo(Trial):
         async def is_shown() -> bool:
             return "voided=1" in (await self.owner.fetchval(board) or "")
 
+        noted = (
+            "select (s.xid, s.id) = (l.xid, l.id) from own_shard s, lateral (select xid, id from own_log"
+            " where shard = 900 order by xid desc, id desc limit 1) l where s.shard = 900"
+        )
+
+        async def is_noted() -> bool:
+            return bool(await self.owner.fetchval(noted))
+
         self.check(await self.until(20, is_shown), "a board of a log with repeats")
+        self.check(await self.until(5, is_noted), "and the worker noted how far it told answers")
         before = await self.owner.fetchval(board)
         size = sum(len(text) + 1 for text in texts)
         words = ("--db", self.fleet.dsn("owner", self.fleet.databases[0].port), "--program")
