@@ -400,7 +400,9 @@ class Session:
                     self.spawn(self.compact(shard.number))
 
     async def compact(self, number: int) -> None:
-        """Compacts a shard in a process of its own; its plan then changes, and its replay begins anew."""
+        """Compacts a shard in a process of its own, once it is noted how far answers were told, up to where that looks.
+        Its plan then changes, and its replay begins anew."""
+        await asyncio.sleep(2 * NOTING)
         words = ["--db", self.words.db, "--program", self.words.program, "--shard", str(number)]
         made = await asyncio.to_thread(run_tool, "compact", words, b"")
         told = made.stderr.decode("utf-8", "replace").strip().splitlines()[-1:]
