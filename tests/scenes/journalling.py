@@ -641,10 +641,11 @@ def kill_and_restore(program: str) -> None:
     answered_of = dict.fromkeys(names, 0)
 
     def send(server: Journalled, name: str) -> None:
-        """Sends events until the server is gone."""
+        """Sends events until the server is gone, and no more than leave room for the turns that come."""
+        most = answered_of[name] + MOST_EVENTS // rounds
         try:
             station = Station(server, name)
-            while answered_of[name] < MOST_EVENTS:
+            while answered_of[name] < most:
                 number = answered_of[name]
                 sends(station, rising(number), f'[3,"{number + 1}",{{}}]'.encode())
                 answered_of[name] += 1
