@@ -5,12 +5,13 @@ use Rattle.std.specs.Prelude.{sum_by}
 use Rattle.std.specs.List.{filter, flat_map}
 use Rattle.std.proofs.lemmas.List.Sums.{sum_by-cons}
 use Rattle.energy_flow.specs.Flow.{Energy}
+use Rattle.ledger_model.specs.declared.order.Order.{Order}
 use Rattle.ledger_model.specs.declared.reading.Direction.{Direction}
 use Rattle.ledger_model.specs.declared.reading.Direction.TheVariants.{Import, Export}
 use Rattle.ledger_model.specs.Content.{Entry, live, transactions_of}
-use Rattle.ledger_model.specs.Energy.{Flows, Pair, difference, flows_in, no_flows, plus_flows, pairs, pairs_of, energy, energy_of, energy_in, quarter_of, quarters}
-use Rattle.ledger_model.specs.Evse.{evse_of, evses, energy_at, transactions_at}
-use Rattle.ledger_model.specs.Board.{Flowed, board, flows_under}
+use Rattle.ledger_model.specs.Energy.{Flows, Pair, all_pairs_by, difference, flows_in_by, no_flows, plus_flows, pairs_by, energy_by, energy_of_by, energy_in_by, quarter_of, quarters_by}
+use Rattle.ledger_model.specs.Evse.{evse_of, evses, energy_at_by, transactions_at}
+use Rattle.ledger_model.specs.Board.{Flowed, board_by, flows_under}
 use Rattle.ledger_model.specs.BoardLaws.{AreRising, IsIn, sum_of_energies}
 use Rattle.ledger_model.proofs.SumLemmas.{among_back, among_front, sum_by_among, sum_by_rising, sum_by-flat_map, sum_by-same, sum_by-map, sum_by-times, times, times-among_sum, rising-AreRising, rising-IsIn}
 
@@ -22,35 +23,35 @@ sum_of-down : {X : Type 0} (e : X → Energy) (xs : List X) → (sum_of_energies
 sum_of-down e [] = refl
 sum_of-down e (x ∷ xs) = ap (λ n. (e x).down + n) (sum_of-down e xs) ∙ sym (sum_by-cons (λ x. (e x).down) x xs)
 
-same_energy : (a b : Energy) → a.up ≡ b.up → a.down ≡ b.down → a ≡ b
+pub same_energy : (a b : Energy) → a.up ≡ b.up → a.down ≡ b.down → a ≡ b
 same_energy a b up down = λ i. record { up = up i; down = down i }
 
 -- the quarters of one direction's pairs are among those of both
-shown_pairs : (d : Direction) (period : ℕ) (es : List Entry) (n : ℕ) → IsIn n (map (quarter_of period) (pairs d es)) → IsIn n (map (quarter_of period) (pairs Import es ++ pairs Export es))
-shown_pairs Import period es n there = among_front (quarter_of period) (pairs Import es) (pairs Export es) n there
-shown_pairs Export period es n there = among_back (quarter_of period) (pairs Import es) (pairs Export es) n there
+shown_pairs : (order : Order) (d : Direction) (period : ℕ) (es : List Entry) (n : ℕ) → IsIn n (map (quarter_of period) (all_pairs_by order d es)) → IsIn n (map (quarter_of period) (all_pairs_by order Import es ++ all_pairs_by order Export es))
+shown_pairs order Import period es n there = among_front (quarter_of period) (all_pairs_by order Import es) (all_pairs_by order Export es) n there
+shown_pairs order Export period es n there = among_back (quarter_of period) (all_pairs_by order Import es) (all_pairs_by order Export es) n there
 
-pub by_quarter : (d : Direction) (period : ℕ) (es : List Entry) → energy d es ≡ sum_of_energies (map (λ quarter. energy_in d period quarter es) (quarters period es))
-by_quarter d period es = same_energy _ _
-    (sym (sum_of-up (λ quarter. energy_in d period quarter es) (quarters period es) ∙ sum_by_among (λ p. (difference p).up) (quarter_of period) (pairs d es) (pairs Import es ++ pairs Export es) (shown_pairs d period es)))
-    (sym (sum_of-down (λ quarter. energy_in d period quarter es) (quarters period es) ∙ sum_by_among (λ p. (difference p).down) (quarter_of period) (pairs d es) (pairs Import es ++ pairs Export es) (shown_pairs d period es)))
+pub by_quarter : (order : Order) (d : Direction) (period : ℕ) (es : List Entry) → energy_by order d es ≡ sum_of_energies (map (λ quarter. energy_in_by order d period quarter es) (quarters_by order period es))
+by_quarter order d period es = same_energy _ _
+    (sym (sum_of-up (λ quarter. energy_in_by order d period quarter es) (quarters_by order period es) ∙ sum_by_among (λ p. (difference p).up) (quarter_of period) (all_pairs_by order d es) (all_pairs_by order Import es ++ all_pairs_by order Export es) (shown_pairs order d period es)))
+    (sym (sum_of-down (λ quarter. energy_in_by order d period quarter es) (quarters_by order period es) ∙ sum_by_among (λ p. (difference p).down) (quarter_of period) (all_pairs_by order d es) (all_pairs_by order Import es ++ all_pairs_by order Export es) (shown_pairs order d period es)))
 
 -- a sum over the pairs of each EVSE's transactions
-evse_sum : (d : Direction) (f : Pair → ℕ) (es : List Entry) → sum_by (λ evse. sum_by f (flat_map (λ tx. pairs_of d tx es) (transactions_at evse es))) (evses es) ≡ sum_by f (pairs d es)
-evse_sum d f es =
-    sum_by-same _ _ (λ evse. sum_by-flat_map f (λ tx. pairs_of d tx es) (transactions_at evse es)) (evses es)
-    ∙ sum_by_rising (λ tx. sum_by f (pairs_of d tx es)) (λ tx. evse_of tx es) (transactions_of (live es))
-    ∙ sym (sum_by-flat_map f (λ tx. pairs_of d tx es) (transactions_of (live es)))
+evse_sum : (order : Order) (d : Direction) (f : Pair → ℕ) (es : List Entry) → sum_by (λ evse. sum_by f (flat_map (λ tx. pairs_by order d tx es) (transactions_at evse es))) (evses es) ≡ sum_by f (all_pairs_by order d es)
+evse_sum order d f es =
+    sum_by-same _ _ (λ evse. sum_by-flat_map f (λ tx. pairs_by order d tx es) (transactions_at evse es)) (evses es)
+    ∙ sum_by_rising (λ tx. sum_by f (pairs_by order d tx es)) (λ tx. evse_of tx es) (transactions_of (live es))
+    ∙ sym (sum_by-flat_map f (λ tx. pairs_by order d tx es) (transactions_of (live es)))
 
-pub by_evse : (d : Direction) (es : List Entry) → energy d es ≡ sum_of_energies (map (λ evse. energy_at d evse es) (evses es))
-by_evse d es = same_energy _ _
-    (sym (sum_of-up (λ evse. energy_at d evse es) (evses es) ∙ evse_sum d (λ p. (difference p).up) es))
-    (sym (sum_of-down (λ evse. energy_at d evse es) (evses es) ∙ evse_sum d (λ p. (difference p).down) es))
+pub by_evse : (order : Order) (d : Direction) (es : List Entry) → energy_by order d es ≡ sum_of_energies (map (λ evse. energy_at_by order d evse es) (evses es))
+by_evse order d es = same_energy _ _
+    (sym (sum_of-up (λ evse. energy_at_by order d evse es) (evses es) ∙ evse_sum order d (λ p. (difference p).up) es))
+    (sym (sum_of-down (λ evse. energy_at_by order d evse es) (evses es) ∙ evse_sum order d (λ p. (difference p).down) es))
 
-pub by_transaction : (d : Direction) (es : List Entry) → energy d es ≡ sum_of_energies (map (λ tx. energy_of d tx es) (transactions_of (live es)))
-by_transaction d es = same_energy _ _
-    (sum_by-flat_map (λ p. (difference p).up) (λ tx. pairs_of d tx es) (transactions_of (live es)) ∙ sym (sum_of-up (λ tx. energy_of d tx es) (transactions_of (live es))))
-    (sum_by-flat_map (λ p. (difference p).down) (λ tx. pairs_of d tx es) (transactions_of (live es)) ∙ sym (sum_of-down (λ tx. energy_of d tx es) (transactions_of (live es))))
+pub by_transaction : (order : Order) (d : Direction) (es : List Entry) → energy_by order d es ≡ sum_of_energies (map (λ tx. energy_of_by order d tx es) (transactions_of (live es)))
+by_transaction order d es = same_energy _ _
+    (sum_by-flat_map (λ p. (difference p).up) (λ tx. pairs_by order d tx es) (transactions_of (live es)) ∙ sym (sum_of-up (λ tx. energy_of_by order d tx es) (transactions_of (live es))))
+    (sum_by-flat_map (λ p. (difference p).down) (λ tx. pairs_by order d tx es) (transactions_of (live es)) ∙ sym (sum_of-down (λ tx. energy_of_by order d tx es) (transactions_of (live es))))
 
 -- a term that is taken where two numbers agree may be taken at either
 taken_at : (g : ℕ → ℕ) (q k : ℕ) → cond (eqb k q) (g k) 0 ≡ cond (eqb q k) (g q) 0
@@ -76,43 +77,43 @@ module _ (measure : Flows → ℕ) (none : measure no_flows ≡ 0) (both : (a b 
       step false e rest = omega arith
 
   -- a quarter that is not shown has no energy, and one that is shown has its own
-  station_part : (d : Direction) (f : Pair → ℕ) (period : ℕ) (es : List Entry) → ((q : ℕ) → measure (flows_in period q es) ≡ sum_by f (filter (λ p. eqb (quarter_of period p) q) (pairs d es)))
-      → (q : ℕ) → sum_by (λ line. cond (eqb line.0 q) (measure line.1) 0) (board period es).quarters ≡ measure (flows_in period q es)
-  station_part d f period es part q =
-      sum_by-map (λ (line : Flowed). cond (eqb line.0 q) (measure line.1) 0) (λ k. (k, flows_in period k es)) (quarters period es)
-      ∙ lines_sum (λ k. measure (flows_in period k es)) q (quarters period es)
-      ∙ ap (λ n. times q (quarters period es) * n) (part q)
-      ∙ times-among_sum f (quarter_of period) q (pairs d es) (pairs Import es ++ pairs Export es) (shown_pairs d period es)
+  station_part : (order : Order) (d : Direction) (f : Pair → ℕ) (period : ℕ) (es : List Entry) → ((q : ℕ) → measure (flows_in_by order period q es) ≡ sum_by f (filter (λ p. eqb (quarter_of period p) q) (all_pairs_by order d es)))
+      → (q : ℕ) → sum_by (λ line. cond (eqb line.0 q) (measure line.1) 0) (board_by order period es).quarters ≡ measure (flows_in_by order period q es)
+  station_part order d f period es part q =
+      sum_by-map (λ (line : Flowed). cond (eqb line.0 q) (measure line.1) 0) (λ k. (k, flows_in_by order period k es)) (quarters_by order period es)
+      ∙ lines_sum (λ k. measure (flows_in_by order period k es)) q (quarters_by order period es)
+      ∙ ap (λ n. times q (quarters_by order period es) * n) (part q)
+      ∙ times-among_sum f (quarter_of period) q (all_pairs_by order d es) (all_pairs_by order Import es ++ all_pairs_by order Export es) (shown_pairs order d period es)
       ∙ sym (part q)
 
   -- over the lines of stations it is the sum over the stations
-  site_part : (d : Direction) (f : Pair → ℕ) (period quarter : ℕ) (stations : List (List Entry)) → ((es : List Entry) (q : ℕ) → measure (flows_in period q es) ≡ sum_by f (filter (λ p. eqb (quarter_of period p) q) (pairs d es)))
-      → measure (flows_under quarter (flat_map (λ es. (board period es).quarters) stations)) ≡ sum_by (λ es. measure (flows_in period quarter es)) stations
-  site_part d f period quarter stations part =
-      under-part quarter (flat_map (λ es. (board period es).quarters) stations)
-      ∙ sum_by-flat_map (λ (line : Flowed). cond (eqb line.0 quarter) (measure line.1) 0) (λ es. (board period es).quarters) stations
-      ∙ sum_by-same _ _ (λ es. station_part d f period es (part es) quarter) stations
+  site_part : (order : Order) (d : Direction) (f : Pair → ℕ) (period quarter : ℕ) (stations : List (List Entry)) → ((es : List Entry) (q : ℕ) → measure (flows_in_by order period q es) ≡ sum_by f (filter (λ p. eqb (quarter_of period p) q) (all_pairs_by order d es)))
+      → measure (flows_under quarter (flat_map (λ es. (board_by order period es).quarters) stations)) ≡ sum_by (λ es. measure (flows_in_by order period quarter es)) stations
+  site_part order d f period quarter stations part =
+      under-part quarter (flat_map (λ es. (board_by order period es).quarters) stations)
+      ∙ sum_by-flat_map (λ (line : Flowed). cond (eqb line.0 quarter) (measure line.1) 0) (λ es. (board_by order period es).quarters) stations
+      ∙ sum_by-same _ _ (λ es. station_part order d f period es (part es) quarter) stations
 
-pub site_quarter : (period quarter : ℕ) (stations : List (List Entry))
-    → flows_under quarter (flat_map (λ es. (board period es).quarters) stations) ≡ record { flow = sum_of_energies (map (energy_in Import period quarter) stations); export = sum_of_energies (map (energy_in Export period quarter) stations) }
-site_quarter period quarter stations =
-    let all = flows_under quarter (flat_map (λ es. (board period es).quarters) stations) in
-    let imported : all.flow ≡ sum_of_energies (map (energy_in Import period quarter) stations) = same_energy _ _
-    (site_part (λ f. f.flow.up) refl (λ a b. refl) Import (λ p. (difference p).up) period quarter stations (λ es q. refl) ∙ sym (sum_of-up (energy_in Import period quarter) stations))
-    (site_part (λ f. f.flow.down) refl (λ a b. refl) Import (λ p. (difference p).down) period quarter stations (λ es q. refl) ∙ sym (sum_of-down (energy_in Import period quarter) stations)) in
-    let exported : all.export ≡ sum_of_energies (map (energy_in Export period quarter) stations) = same_energy _ _
-    (site_part (λ f. f.export.up) refl (λ a b. refl) Export (λ p. (difference p).up) period quarter stations (λ es q. refl) ∙ sym (sum_of-up (energy_in Export period quarter) stations))
-    (site_part (λ f. f.export.down) refl (λ a b. refl) Export (λ p. (difference p).down) period quarter stations (λ es q. refl) ∙ sym (sum_of-down (energy_in Export period quarter) stations)) in
+pub site_quarter : (order : Order) (period quarter : ℕ) (stations : List (List Entry))
+    → flows_under quarter (flat_map (λ es. (board_by order period es).quarters) stations) ≡ record { flow = sum_of_energies (map (energy_in_by order Import period quarter) stations); export = sum_of_energies (map (energy_in_by order Export period quarter) stations) }
+site_quarter order period quarter stations =
+    let all = flows_under quarter (flat_map (λ es. (board_by order period es).quarters) stations) in
+    let imported : all.flow ≡ sum_of_energies (map (energy_in_by order Import period quarter) stations) = same_energy _ _
+    (site_part (λ f. f.flow.up) refl (λ a b. refl) order Import (λ p. (difference p).up) period quarter stations (λ es q. refl) ∙ sym (sum_of-up (energy_in_by order Import period quarter) stations))
+    (site_part (λ f. f.flow.down) refl (λ a b. refl) order Import (λ p. (difference p).down) period quarter stations (λ es q. refl) ∙ sym (sum_of-down (energy_in_by order Import period quarter) stations)) in
+    let exported : all.export ≡ sum_of_energies (map (energy_in_by order Export period quarter) stations) = same_energy _ _
+    (site_part (λ f. f.export.up) refl (λ a b. refl) order Export (λ p. (difference p).up) period quarter stations (λ es q. refl) ∙ sym (sum_of-up (energy_in_by order Export period quarter) stations))
+    (site_part (λ f. f.export.down) refl (λ a b. refl) order Export (λ p. (difference p).down) period quarter stations (λ es q. refl) ∙ sym (sum_of-down (energy_in_by order Export period quarter) stations)) in
     λ i. record { flow = imported i; export = exported i }
 
-pub quarters_shown : (period : ℕ) (es : List Entry) (quarter : ℕ) → IsIn quarter (quarters period es) ↔ IsIn quarter (map (quarter_of period) (pairs Import es ++ pairs Export es))
-quarters_shown period es quarter = rising-IsIn quarter (map (quarter_of period) (pairs Import es ++ pairs Export es))
+pub quarters_shown : (order : Order) (period : ℕ) (es : List Entry) (quarter : ℕ) → IsIn quarter (quarters_by order period es) ↔ IsIn quarter (map (quarter_of period) (all_pairs_by order Import es ++ all_pairs_by order Export es))
+quarters_shown order period es quarter = rising-IsIn quarter (map (quarter_of period) (all_pairs_by order Import es ++ all_pairs_by order Export es))
 
 pub evses_shown : (es : List Entry) (evse : ℕ) → IsIn evse (evses es) ↔ IsIn evse (map (λ tx. evse_of tx es) (transactions_of (live es)))
 evses_shown es evse = rising-IsIn evse (map (λ tx. evse_of tx es) (transactions_of (live es)))
 
-pub quarters_rise : (period : ℕ) (es : List Entry) → AreRising (quarters period es)
-quarters_rise period es = rising-AreRising (map (quarter_of period) (pairs Import es ++ pairs Export es))
+pub quarters_rise : (order : Order) (period : ℕ) (es : List Entry) → AreRising (quarters_by order period es)
+quarters_rise order period es = rising-AreRising (map (quarter_of period) (all_pairs_by order Import es ++ all_pairs_by order Export es))
 
 pub evses_rise : (es : List Entry) → AreRising (evses es)
 evses_rise es = rising-AreRising (map (λ tx. evse_of tx es) (transactions_of (live es)))

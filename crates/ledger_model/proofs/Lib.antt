@@ -24,6 +24,10 @@ pub mod TransactionLemmas
 pub mod Runs
 pub mod LiveEvents
 pub mod Callers
+pub mod InTimeLemmas
+pub mod RunLemmas
+pub mod OrderLemmas
+pub mod RepeatLemmas
 pub mod Splices
 pub mod SumsByTransaction
 pub mod OneMore

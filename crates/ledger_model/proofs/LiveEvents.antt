@@ -1,19 +1,25 @@
--- Boards depend on live events, but for how many are voided.
+-- Boards depend on live events and the order of readings, but for how many are voided.
 use Rattle.std.proofs.Common.{◌≡◌, ℕ, Bool, List, ◌++◌, map, filter, length, sum_by, ap, bytes_eq}
 use Rattle.std.specs.Prelude.{◌&&◌, ◌==◌, count_by}
 use Rattle.std.specs.List.{filter_map, flat_map}
+use Rattle.std.proofs.Math.Path.{fun_ext}
 use Rattle.energy_flow.specs.Flow.{Energy}
 use Rattle.ledger_model.specs.declared.reading.Direction.{Direction}
 use Rattle.ledger_model.specs.declared.reading.Direction.TheVariants.{Import, Export}
-use Rattle.ledger_model.specs.Event.{toward}
-use Rattle.ledger_model.specs.Board.{Board, Shown, board, figures, last_or_none}
+use Rattle.ledger_model.specs.declared.order.Order.{Order}
+use Rattle.ledger_model.specs.declared.order.Order.TheVariants.{Sequence, Moment}
+use Rattle.ledger_model.specs.Event.{MeterReading, toward}
+use Rattle.ledger_model.specs.Board.{Board, Shown, board_by, figures_by, last_or_none}
 use Rattle.ledger_model.specs.Complete.{starts_and_ends}
 use Rattle.ledger_model.specs.Content.{Entry, live, transactions_of}
-use Rattle.ledger_model.specs.Energy.{Pair, energy_over, followed, quarter_of, rising}
+use Rattle.ledger_model.specs.Energy.{Pair, energy_over, followed, quarter_of, readings_by, readings_of, rising}
 use Rattle.ledger_model.specs.Evse.{first_or_none}
 use Rattle.ledger_model.specs.Gaps.{gaps, missing}
+use Rattle.ledger_model.specs.InTime.{in_order, AreInTime}
+use Rattle.ledger_model.specs.ReadingOrder.{taken_when}
+use Rattle.ledger_model.proofs.InTimeLemmas.{in_time-same}
 
--- Of live events alone: those of a transaction, their numbers, its completeness, its EVSE, its pairs, and all pairs.
+-- Of live events alone: those of a transaction, their numbers, its completeness, its EVSE.
 abbrev of_one : List ℕ → List Entry → List Entry
 of_one tx l = filter (λ e. bytes_eq tx e.0.tx) l
 
@@ -26,20 +32,22 @@ complete tx l = starts_and_ends (map (λ e. e.1.event.kind) (of_one tx l)) && (m
 abbrev evse : List ℕ → List Entry → ℕ
 evse tx l = first_or_none (filter_map (λ e. e.1.event.evse) (of_one tx l))
 
-abbrev pairs_of_one : Direction → List ℕ → List Entry → List Pair
-pairs_of_one d tx l = followed (flat_map (λ e. toward d e.1.event.readings) (of_one tx l))
+-- The readings of each transaction in a direction, in some order.
+abbrev Readings : Type 0
+Readings = Direction → List ℕ → List MeterReading
 
-abbrev all_pairs : Direction → List Entry → List Pair
-all_pairs d l = flat_map (λ tx. pairs_of_one d tx l) (transactions_of l)
+-- The pairs of some transactions.
+abbrev pairs_over : Readings → Direction → List (List ℕ) → List Pair
+pairs_over rs d txs = flat_map (λ tx. followed (rs d tx)) txs
 
-abbrev at_evse : Direction → ℕ → List Entry → Energy
-at_evse d at l = energy_over (flat_map (λ tx. pairs_of_one d tx l) (filter (λ tx. evse tx l == at) (transactions_of l)))
+abbrev at_evse : Readings → Direction → ℕ → List Entry → Energy
+at_evse rs d at l = energy_over (pairs_over rs d (filter (λ tx. evse tx l == at) (transactions_of l)))
 
-abbrev in_quarter : Direction → ℕ → ℕ → List Entry → Energy
-in_quarter d period quarter l = energy_over (filter (λ p. quarter_of period p == quarter) (all_pairs d l))
+abbrev in_quarter : Readings → Direction → ℕ → ℕ → List Entry → Energy
+in_quarter rs d period quarter l = energy_over (filter (λ p. quarter_of period p == quarter) (pairs_over rs d (transactions_of l)))
 
-abbrev shown_of : List Entry → List ℕ → Shown
-shown_of l tx = record {
+abbrev shown_of : Readings → List Entry → List ℕ → Shown
+shown_of rs l tx = record {
   tx = tx;
   evse = evse tx l;
   events = length (of_one tx l);
@@ -47,14 +55,14 @@ shown_of l tx = record {
   last = last_or_none (numbers tx l);
   complete = complete tx l;
   missing = missing (numbers tx l);
-  flow = energy_over (pairs_of_one Import tx l);
-  export = energy_over (pairs_of_one Export tx l);
+  flow = energy_over (followed (rs Import tx));
+  export = energy_over (followed (rs Export tx));
   gaps = gaps (numbers tx l);
 }
 
--- The board of live events, and so many voided ones.
-abbrev of_live : ℕ → ℕ → List Entry → Board
-of_live period voided l = record {
+-- The board of live events with their readings, and so many voided ones.
+abbrev of_live : Readings → ℕ → ℕ → List Entry → Board
+of_live rs period voided l = record {
   period = period;
   figures = record {
     events = length l;
@@ -62,15 +70,25 @@ of_live period voided l = record {
     transactions = length (transactions_of l);
     complete = count_by (λ tx. complete tx l) (transactions_of l);
     missing = sum_by (λ tx. missing (numbers tx l)) (transactions_of l);
-    up = (energy_over (all_pairs Import l)).up;
-    down = (energy_over (all_pairs Import l)).down;
-    export_up = (energy_over (all_pairs Export l)).up;
-    export_down = (energy_over (all_pairs Export l)).down;
+    up = (energy_over (pairs_over rs Import (transactions_of l))).up;
+    down = (energy_over (pairs_over rs Import (transactions_of l))).down;
+    export_up = (energy_over (pairs_over rs Export (transactions_of l))).up;
+    export_down = (energy_over (pairs_over rs Export (transactions_of l))).down;
   };
-  evses = map (λ at. (at, record { flow = at_evse Import at l; export = at_evse Export at l })) (rising (map (λ tx. evse tx l) (transactions_of l)));
-  quarters = map (λ quarter. (quarter, record { flow = in_quarter Import period quarter l; export = in_quarter Export period quarter l })) (rising (map (quarter_of period) (all_pairs Import l ++ all_pairs Export l)));
-  transactions = map (shown_of l) (transactions_of l);
+  evses = map (λ at. (at, record { flow = at_evse rs Import at l; export = at_evse rs Export at l })) (rising (map (λ tx. evse tx l) (transactions_of l)));
+  quarters = map (λ quarter. (quarter, record { flow = in_quarter rs Import period quarter l; export = in_quarter rs Export period quarter l })) (rising (map (quarter_of period) (pairs_over rs Import (transactions_of l) ++ pairs_over rs Export (transactions_of l))));
+  transactions = map (shown_of rs l) (transactions_of l);
 }
 
-pub live_alone : (period : ℕ) (es fs : List Entry) → live es ≡ live fs → board period es ≡ record (board period fs) { figures = record (figures fs) { voided = (figures es).voided } }
-live_alone period es fs e = ap (of_live period (count_by (λ x. x.1.voided) es)) e
+-- The readings of live events in an order.
+abbrev readings_in : Order → List Entry → Readings
+readings_in order l d tx = in_order order (λ r. r.moment) (flat_map (λ e. toward d e.1.event.readings) (of_one tx l))
+
+pub live_alone : (order : Order) (period : ℕ) (es fs : List Entry) → live es ≡ live fs → board_by order period es ≡ record (board_by order period fs) { figures = record (figures_by order fs) { voided = (figures_by order es).voided } }
+live_alone order period es fs e = ap (λ l. of_live (readings_in order l) period (count_by (λ x. x.1.voided) es) l) e
+
+-- Where the two orders give the same readings, they give the same board.
+pub agreeing_boards : (period : ℕ) (es : List Entry) → ((d : Direction) (tx : List ℕ) → AreInTime taken_when (readings_of d tx es)) → board_by Moment period es ≡ board_by Sequence period es
+agreeing_boards period es in_time =
+    let same : (λ d tx. readings_by Moment d tx es) ≡ (λ d tx. readings_of d tx es) = fun_ext (λ d. fun_ext (λ tx. in_time-same taken_when (readings_of d tx es) (in_time d tx))) in
+    ap (λ (rs : Readings). of_live rs period (count_by (λ x. x.1.voided) es) (live es)) same

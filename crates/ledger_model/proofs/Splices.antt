@@ -48,7 +48,7 @@ last_behind x [] = refl
 last_behind x (y ∷ ys) = last_behind y ys
 
 -- The last reading is that after none.
-last_is : (xs : List MeterReading) → last_after None xs ≡ last_reading xs
+pub last_is : (xs : List MeterReading) → last_after None xs ≡ last_reading xs
 last_is [] = refl
 last_is (x ∷ xs) = last_behind x xs ∙ ap (slice_get (x ∷ xs)) (let e : length xs ≡ length (x ∷ xs) - 1 = omega arith in e)
 

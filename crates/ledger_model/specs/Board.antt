@@ -5,24 +5,30 @@ use Rattle.ledger_model.specs.declared.reading.Direction.TheVariants.{Import, Ex
 use Rattle.ledger_model.specs.declared.figures.Figures.{Figures}
 use Rattle.ledger_model.specs.Figures.{no_figures}
 use Rattle.ledger_model.specs.Content.{Entry, live, live_of, transactions_of}
-use Rattle.ledger_model.specs.Energy.{Flows, energy, energy_of, flows_in, no_flows, plus_flows, quarters, rising}
-use Rattle.ledger_model.specs.Evse.{evse_of, evses, flows_at, first_or_none}
+use Rattle.ledger_model.specs.declared.order.Order.{Order}
+use Rattle.ledger_model.specs.declared.order.Order.TheVariants.{Sequence}
+use Rattle.ledger_model.specs.Energy.{Flows, energy_by, energy_of_by, flows_in_by, no_flows, plus_flows, quarters_by, rising}
+use Rattle.ledger_model.specs.Evse.{evse_of, evses, flows_at_by, first_or_none}
 use Rattle.ledger_model.specs.Gaps.{Gap, numbers_of, gaps, missing}
 use Rattle.ledger_model.specs.Complete.{is_complete}
 
--- The figures of a station: live and voided events; transactions with a live event, how many of these are complete, what they miss, and their energies: imported, and exported.
-abbrev pub figures : List Entry → Figures
-figures es = record {
+-- The figures of a station, the readings of each transaction in an order: live and voided events; transactions with a live event, how many of these are complete, what they miss, and their energies: imported, and exported.
+abbrev pub figures_by : Order → List Entry → Figures
+figures_by order es = record {
   events = length (live es);
   voided = count_by (λ e. e.1.voided) es;
   transactions = length (transactions_of (live es));
   complete = count_by (λ tx. is_complete tx es) (transactions_of (live es));
   missing = sum_by (λ tx. missing (numbers_of tx es)) (transactions_of (live es));
-  up = (energy Import es).up;
-  down = (energy Import es).down;
-  export_up = (energy Export es).up;
-  export_down = (energy Export es).down;
+  up = (energy_by order Import es).up;
+  down = (energy_by order Import es).down;
+  export_up = (energy_by order Export es).up;
+  export_down = (energy_by order Export es).down;
 }
+
+-- The same by sequence.
+abbrev pub figures : List Entry → Figures
+figures es = figures_by Sequence es
 
 -- Both figures added up, number by number.
 abbrev pub plus_figures : Figures → Figures → Figures
@@ -66,9 +72,9 @@ last_or_none [] = 0
 last_or_none (n ∷ []) = n
 last_or_none (n ∷ m ∷ ns) = last_or_none (m ∷ ns)
 
--- A transaction as a board shows it.
-abbrev pub shown : List Entry → List ℕ → Shown
-shown es tx = record {
+-- A transaction as a board shows it, its readings in an order.
+abbrev pub shown_by : Order → List Entry → List ℕ → Shown
+shown_by order es tx = record {
   tx = tx;
   evse = evse_of tx es;
   events = length (live_of tx es);
@@ -76,10 +82,14 @@ shown es tx = record {
   last = last_or_none (numbers_of tx es);
   complete = is_complete tx es;
   missing = missing (numbers_of tx es);
-  flow = energy_of Import tx es;
-  export = energy_of Export tx es;
+  flow = energy_of_by order Import tx es;
+  export = energy_of_by order Export tx es;
   gaps = gaps (numbers_of tx es);
 }
+
+-- The same by sequence.
+abbrev pub shown : List Entry → List ℕ → Shown
+shown es tx = shown_by Sequence es tx
 
 -- The board of a station: its settlement period in seconds, its figures, its EVSEs and its quarters with their energies, and its transactions with a live event.
 pub record Board : Type 0 where
@@ -89,15 +99,19 @@ pub record Board : Type 0 where
   pub quarters : List Flowed
   pub transactions : List Shown
 
--- The board of a station, by settlement periods of so many seconds.
-abbrev pub board : ℕ → List Entry → Board
-board period es = record {
+-- The board of a station, the readings of each transaction in an order, by settlement periods of so many seconds.
+abbrev pub board_by : Order → ℕ → List Entry → Board
+board_by order period es = record {
   period = period;
-  figures = figures es;
-  evses = map (λ evse. (evse, flows_at evse es)) (evses es);
-  quarters = map (λ quarter. (quarter, flows_in period quarter es)) (quarters period es);
-  transactions = map (shown es) (transactions_of (live es));
+  figures = figures_by order es;
+  evses = map (λ evse. (evse, flows_at_by order evse es)) (evses es);
+  quarters = map (λ quarter. (quarter, flows_in_by order period quarter es)) (quarters_by order period es);
+  transactions = map (shown_by order es) (transactions_of (live es));
 }
+
+-- The same by sequence.
+abbrev pub board : ℕ → List Entry → Board
+board period es = board_by Sequence period es
 
 -- The energies of a quarter over lines of several stations.
 abbrev pub flows_under : ℕ → List Flowed → Flows

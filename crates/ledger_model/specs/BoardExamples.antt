@@ -117,3 +117,19 @@ exported =
 -- One event with four readings, import and export in turn.
 abbrev pub in_turn : List Entry
 in_turn = told Updated 0 10 None (reading 1 10 ∷ fed_back 2 500 ∷ reading 3 30 ∷ fed_back 4 490 ∷ []) ∷ []
+
+-- What was read at 10:14 is in the end, too, where its own event is voided.
+abbrev pub read_again : List Entry
+read_again =
+    metered Started 0 0 1_000 ∷ voided (metered Updated 1 14 1_200) ∷ metered Updated 2 31 1_600
+    ∷ told Ended 3 45 None (reading 0 1_000 ∷ reading 14 1_200 ∷ reading 31 1_600 ∷ reading 45 1_700 ∷ []) ∷ []
+
+-- The end that tells all readings again is voided.
+abbrev pub end_voided : List Entry
+end_voided =
+    metered Started 0 0 1_000 ∷ metered Updated 1 14 1_200 ∷ metered Updated 2 31 1_600
+    ∷ voided (told Ended 3 45 None (reading 0 1_000 ∷ reading 14 1_200 ∷ reading 31 1_600 ∷ reading 45 1_700 ∷ [])) ∷ []
+
+-- Two readings of one moment, and a clock that goes back at the end.
+abbrev pub ties_and_clocks : List Entry
+ties_and_clocks = metered Started 0 0 1_000 ∷ metered Updated 1 10 1_200 ∷ metered Updated 2 10 1_300 ∷ metered Ended 3 5 1_100 ∷ []

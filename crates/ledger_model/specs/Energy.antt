@@ -3,13 +3,20 @@ use Rattle.std.specs.List.{flat_map, zip}
 use Rattle.energy_flow.specs.Flow.{Energy, difference_of, minus, no_energy, plus}
 use Rattle.ledger_model.specs.declared.reading.Direction.{Direction}
 use Rattle.ledger_model.specs.declared.reading.Direction.TheVariants.{Import, Export}
+use Rattle.ledger_model.specs.declared.order.Order.{Order}
+use Rattle.ledger_model.specs.declared.order.Order.TheVariants.{Sequence}
 use Rattle.ledger_model.specs.Event.{MeterReading, toward}
+use Rattle.ledger_model.specs.InTime.{in_order}
 use Rattle.ledger_model.specs.Quarter.{quarter_at}
 use Rattle.ledger_model.specs.Content.{Entry, live, live_of, transactions_of}
 
--- The readings of a transaction in one direction, in order: of each live event in the order of its number, its readings of that direction in their order.
+-- The readings of a transaction in one direction, by sequence: of each live event in the order of its number, its readings of that direction in their order.
 abbrev pub readings_of : Direction → List ℕ → List Entry → List MeterReading
 readings_of d tx es = flat_map (λ e. toward d e.1.event.readings) (live_of tx es)
+
+-- The same in the order of a site.
+abbrev pub readings_by : Order → Direction → List ℕ → List Entry → List MeterReading
+readings_by order d tx es = in_order order (λ r. r.moment) (readings_of d tx es)
 
 -- A reading, and the one that follows it.
 abbrev pub Pair : Type 0
@@ -27,29 +34,49 @@ difference p = difference_of p.0.mwh p.1.mwh
 abbrev pub energy_over : List Pair → Energy
 energy_over ps = record { up = sum_by (λ p. (difference p).up) ps; down = sum_by (λ p. (difference p).down) ps }
 
--- The pairs of a transaction in one direction.
+-- The pairs of a transaction in one direction, its readings in an order.
+abbrev pub pairs_by : Order → Direction → List ℕ → List Entry → List Pair
+pairs_by order d tx es = followed (readings_by order d tx es)
+
+-- The same by sequence.
 abbrev pub pairs_of : Direction → List ℕ → List Entry → List Pair
-pairs_of d tx es = followed (readings_of d tx es)
+pairs_of d tx es = pairs_by Sequence d tx es
 
--- The pairs of a station in one direction: those of each of its transactions.
+-- The pairs of a station in one direction: those of each of its transactions, the readings of each in an order.
+abbrev pub all_pairs_by : Order → Direction → List Entry → List Pair
+all_pairs_by order d es = flat_map (λ tx. pairs_by order d tx es) (transactions_of (live es))
+
+-- The same by sequence.
 abbrev pub pairs : Direction → List Entry → List Pair
-pairs d es = flat_map (λ tx. pairs_of d tx es) (transactions_of (live es))
+pairs d es = all_pairs_by Sequence d es
 
--- The energy of a transaction in one direction.
+-- The energy of a transaction in one direction, its readings in an order.
+abbrev pub energy_of_by : Order → Direction → List ℕ → List Entry → Energy
+energy_of_by order d tx es = energy_over (pairs_by order d tx es)
+
+-- The same by sequence.
 abbrev pub energy_of : Direction → List ℕ → List Entry → Energy
-energy_of d tx es = energy_over (pairs_of d tx es)
+energy_of d tx es = energy_of_by Sequence d tx es
 
--- The energy of a station in one direction, over all its transactions.
+-- The energy of a station in one direction, over all its transactions, the readings of each in an order.
+abbrev pub energy_by : Order → Direction → List Entry → Energy
+energy_by order d es = energy_over (all_pairs_by order d es)
+
+-- The same by sequence.
 abbrev pub energy : Direction → List Entry → Energy
-energy d es = energy_over (pairs d es)
+energy d es = energy_by Sequence d es
 
 -- The quarter of a pair, by settlement periods of so many seconds: that of its later reading.
 abbrev pub quarter_of : ℕ → Pair → ℕ
 quarter_of period p = quarter_at period p.1.moment
 
--- The energy of a quarter of a station in one direction.
+-- The energy of a quarter of a station in one direction, the readings of each transaction in an order.
+abbrev pub energy_in_by : Order → Direction → ℕ → ℕ → List Entry → Energy
+energy_in_by order d period quarter es = energy_over (filter (λ p. quarter_of period p == quarter) (all_pairs_by order d es))
+
+-- The same by sequence.
 abbrev pub energy_in : Direction → ℕ → ℕ → List Entry → Energy
-energy_in d period quarter es = energy_over (filter (λ p. quarter_of period p == quarter) (pairs d es))
+energy_in d period quarter es = energy_in_by Sequence d period quarter es
 
 -- The energies of both directions.
 pub record Flows : Type 0 where
@@ -73,9 +100,13 @@ plus_flows a b = record { flow = plus a.flow b.flow; export = plus a.export b.ex
 abbrev pub minus_flows : Flows → Flows → Flows
 minus_flows a b = record { flow = minus a.flow b.flow; export = minus a.export b.export }
 
--- The energies of a quarter of a station.
+-- The energies of a quarter of a station, in an order.
+abbrev pub flows_in_by : Order → ℕ → ℕ → List Entry → Flows
+flows_in_by order period quarter es = record { flow = energy_in_by order Import period quarter es; export = energy_in_by order Export period quarter es }
+
+-- The same by sequence.
 abbrev pub flows_in : ℕ → ℕ → List Entry → Flows
-flows_in period quarter es = record { flow = energy_in Import period quarter es; export = energy_in Export period quarter es }
+flows_in period quarter es = flows_in_by Sequence period quarter es
 
 -- A number put into a rising list, where it does not stand in it already.
 abbrev pub put_in : ℕ → List ℕ → List ℕ
@@ -88,5 +119,9 @@ rising [] = []
 rising (n ∷ ns) = put_in n (rising ns)
 
 -- The quarters of a station that are shown: each that has a pair of either direction, even one of difference zero.
+abbrev pub quarters_by : Order → ℕ → List Entry → List ℕ
+quarters_by order period es = rising (map (quarter_of period) (all_pairs_by order Import es ++ all_pairs_by order Export es))
+
+-- The same by sequence.
 abbrev pub quarters : ℕ → List Entry → List ℕ
-quarters period es = rising (map (quarter_of period) (pairs Import es ++ pairs Export es))
+quarters period es = quarters_by Sequence period es

@@ -9,6 +9,7 @@ pub mod Limits
 pub mod Figures
 pub mod Refusal
 pub mod Content
+pub mod InTime
 pub mod Entries
 pub mod Admissible
 pub mod Step
@@ -25,3 +26,4 @@ pub mod BoardLaws
 pub mod WorldLaws
 pub mod BoardExamples
 pub mod Deltas
+pub mod ReadingOrder

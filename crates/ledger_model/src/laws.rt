@@ -5,6 +5,7 @@
 mod board;
 mod deltas;
 mod ledger;
+mod order;
 mod world;
 
 pub use board::{
@@ -17,4 +18,8 @@ pub use deltas::{
     pairs_of_readings_put_in, pairs_with_one_event_more,
 };
 pub use ledger::{examples, inverses, orders, reached, readings_in_order, unchanged};
+pub use order::{
+    order_examples, orders_agree, readings_by_moment, readings_with_one_event_more,
+    repeats_change_no_sum,
+};
 pub use world::{each_station_by_its_own_commands, live_events_alone, orders_of_runs};

@@ -29,6 +29,7 @@ mod limits;
 mod listed;
 mod moment;
 mod name;
+mod order;
 mod period;
 mod reading;
 mod tx_id;
@@ -47,6 +48,7 @@ pub use limits::{
 pub use listed::Listed;
 pub use moment::{FIRST_MOMENT, FIRST_QUARTER, LAST_QUARTER, MOMENTS_END, Moment, Quarter};
 pub use name::{MAX_NAME, Name};
+pub use order::Order;
 pub use period::Period;
 pub use reading::{Direction, GREATEST_READING, Reading};
 pub use tx_id::{MAX_TX_ID, TxId};

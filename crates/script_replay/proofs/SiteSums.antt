@@ -9,6 +9,7 @@ use Rattle.ledger_model.specs.declared.reading.Direction.TheVariants.{Import, Ex
 use Rattle.ledger_model.specs.Content.{entries}
 use Rattle.ledger_model.specs.Energy.{energy_in, rising}
 use Rattle.ledger_model.specs.World.{Station, World}
+use Rattle.ledger_model.specs.declared.order.Order.TheVariants.{Sequence}
 use Rattle.ledger_model.proofs.EnergyLemmas.{site_quarter}
 use Rattle.ledger_model.proofs.FigureLemmas.{site-AreSums}
 use Rattle.script_replay.specs.Laws.{SitesAreSums, sums_in}
@@ -34,7 +35,7 @@ each_quarter : (period : ℕ) (w : World) (quarter : ℕ) → flows_under quarte
 each_quarter period w quarter =
     let imported = ap sum_of_energies (shown_energies Import period quarter w) in
     let exported = ap sum_of_energies (shown_energies Export period quarter w) in
-    ap (flows_under quarter) (shown_quarters period w) ∙ site_quarter period quarter (map (λ (s : Station). entries s.content) w) ∙ (λ i. record { flow = imported i; export = exported i })
+    ap (flows_under quarter) (shown_quarters period w) ∙ site_quarter Sequence period quarter (map (λ (s : Station). entries s.content) w) ∙ (λ i. record { flow = imported i; export = exported i })
 
 -- what holds of each element's image holds of all
 all_mapped : {X : Type 0} (P : X → Type 0) (f : ℕ → X) → ((n : ℕ) → P (f n)) → (ns : List ℕ) → All P (map f ns)

@@ -6,15 +6,16 @@ ghost use Rattle.std.specs.Ordering.{nat_cmp};
 ghost use Rattle.std.specs.Cmp.Lexicographic.{slice_cmp};
 ghost use Rattle.ledger_model.specs.BoardExamples.{first_run, first_run_board, first_run_site, late_event, late_event_board, void_and_restore, void_and_restore_board, quarter_boundary, readings_again_at_end, evse_moves, evse_voided, start_voided, widest_gap, exported, in_turn, rise, took, ten};
 ghost use Rattle.ledger_model.specs.BoardLaws.{AreRising, AreGaps, AreComplete, AreSums, IsIn, sum_of_energies};
-ghost use Rattle.ledger_model.specs.Board.{Board, board, figures, flows_under, last_or_none, plus_figures, site_board, sum_of_figures};
+ghost use Rattle.ledger_model.specs.Board.{Board, board, board_by, figures, flows_under, last_or_none, plus_figures, site_board, sum_of_figures};
 ghost use Rattle.ledger_model.specs.Complete.{is_complete, kinds_of};
 ghost use Rattle.ledger_model.specs.Content.{Content, Entry, entries, has_transaction, live, transactions_of};
-ghost use Rattle.ledger_model.specs.Energy.{energy, energy_in, energy_of, flows_toward, pairs, quarter_of, quarters};
-ghost use Rattle.ledger_model.specs.Evse.{energy_at, evse_of, evses, first_or_none};
+ghost use Rattle.ledger_model.specs.Energy.{all_pairs_by, energy_by, energy_in_by, energy_of_by, flows_toward, quarter_of, quarters_by};
+ghost use Rattle.ledger_model.specs.Evse.{energy_at_by, evse_of, evses, first_or_none};
 ghost use Rattle.ledger_model.specs.Gaps.{Gap, gaps, missing, numbers_of};
 ghost use Rattle.ledger_model.specs.Quarter.{default_period};
 ghost use Rattle.ledger_model.specs.Posts.{Post, row_after, totals_after};
 ghost use Rattle.ledger_model.specs.declared.figures.Figures.{Figures};
+ghost use Rattle.ledger_model.specs.declared.order.Order.{Order};
 ghost use Rattle.ledger_model.specs.declared.reading.Direction.{Direction};
 ghost use Rattle.ledger_model.specs.declared.reading.Direction.TheVariants.{Import, Export};
 
@@ -36,25 +37,25 @@ pub fn complete_is_four_conditions()
 
 /// The energy of a station in a direction is the sum over its quarters, whatever the settlement period.
 pub fn energy_by_quarter()
-    ensures { (d : Direction) (period : ℕ) (es : List Entry) → energy d es ≡ sum_of_energies (map (λ quarter. energy_in d period quarter es) (quarters period es)) }
+    ensures { (order : Order) (d : Direction) (period : ℕ) (es : List Entry) → energy_by order d es ≡ sum_of_energies (map (λ quarter. energy_in_by order d period quarter es) (quarters_by order period es)) }
 {}
 
 /// The energy of a station in a direction is the sum over its EVSEs, of which 0 stands for none named.
 pub fn energy_by_evse()
-    ensures { (d : Direction) (es : List Entry) → energy d es ≡ sum_of_energies (map (λ evse. energy_at d evse es) (evses es)) }
+    ensures { (order : Order) (d : Direction) (es : List Entry) → energy_by order d es ≡ sum_of_energies (map (λ evse. energy_at_by order d evse es) (evses es)) }
 {}
 
 /// The energy of a station in a direction is the sum over its transactions with a live event.
 pub fn energy_by_transaction()
-    ensures { (d : Direction) (es : List Entry) → energy d es ≡ sum_of_energies (map (λ tx. energy_of d tx es) (transactions_of (live es))) }
+    ensures { (order : Order) (d : Direction) (es : List Entry) → energy_by order d es ≡ sum_of_energies (map (λ tx. energy_of_by order d tx es) (transactions_of (live es))) }
 {}
 
 /// A station shows each quarter that has a pair of readings of either direction, each EVSE that has a transaction with a
 /// live event, and each such transaction: once, the numbers rising and the transactions in the order
 /// of their ids' bytes.
 pub fn shown_once_and_rising()
-    ensures quarters { (period : ℕ) (es : List Entry) (quarter : ℕ) → IsIn quarter (quarters period es) ↔ IsIn quarter (map (quarter_of period) (pairs Import es ++ pairs Export es)) }
-    ensures quarters_rise { (period : ℕ) (es : List Entry) → AreRising (quarters period es) }
+    ensures quarters { (order : Order) (period : ℕ) (es : List Entry) (quarter : ℕ) → IsIn quarter (quarters_by order period es) ↔ IsIn quarter (map (quarter_of period) (all_pairs_by order Import es ++ all_pairs_by order Export es)) }
+    ensures quarters_rise { (order : Order) (period : ℕ) (es : List Entry) → AreRising (quarters_by order period es) }
     ensures evses { (es : List Entry) (evse : ℕ) → IsIn evse (evses es) ↔ IsIn evse (map (λ tx. evse_of tx es) (transactions_of (live es))) }
     ensures evses_rise { (es : List Entry) → AreRising (evses es) }
     ensures transactions { (tx : List ℕ) (es : List Entry) → list_any (bytes_eq tx) (transactions_of (live es)) ≡ has_transaction tx (live es) }
@@ -63,7 +64,7 @@ pub fn shown_once_and_rising()
 
 /// The energy of a site's quarter is, in each direction, the sum over its stations, shown there or not.
 pub fn site_quarters_are_sums()
-    ensures { (period quarter : ℕ) (stations : List (List Entry)) → flows_under quarter (flat_map (λ es. (board period es).quarters) stations) ≡ record { flow = sum_of_energies (map (energy_in Import period quarter) stations); export = sum_of_energies (map (energy_in Export period quarter) stations) } }
+    ensures { (order : Order) (period quarter : ℕ) (stations : List (List Entry)) → flows_under quarter (flat_map (λ es. (board_by order period es).quarters) stations) ≡ record { flow = sum_of_energies (map (energy_in_by order Import period quarter) stations); export = sum_of_energies (map (energy_in_by order Export period quarter) stations) } }
 {}
 
 /// Each figure of a site is the sum of that figure over its stations.

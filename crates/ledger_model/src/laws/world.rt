@@ -1,7 +1,8 @@
 //! Laws of worlds: what runs leave, station by station, and what a board depends on.
 
 ghost use Rattle.std.specs.Prelude.{◌≡◌, ℕ, List, map};
-ghost use Rattle.ledger_model.specs.Board.{board, figures};
+ghost use Rattle.ledger_model.specs.declared.order.Order.{Order};
+ghost use Rattle.ledger_model.specs.Board.{board_by, figures_by};
 ghost use Rattle.ledger_model.specs.Content.{Entry, live};
 ghost use Rattle.ledger_model.specs.World.{World, Happens, run};
 ghost use Rattle.ledger_model.specs.WorldLaws.{AreReordered, station_left};
@@ -19,5 +20,5 @@ pub fn orders_of_runs()
 
 /// Contents with the same live events have boards that differ in the number of voided events alone.
 pub fn live_events_alone()
-    ensures { (period : ℕ) (es fs : List Entry) → live es ≡ live fs → board period es ≡ record (board period fs) { figures = record (figures fs) { voided = (figures es).voided } } }
+    ensures { (order : Order) (period : ℕ) (es fs : List Entry) → live es ≡ live fs → board_by order period es ≡ record (board_by order period fs) { figures = record (figures_by order fs) { voided = (figures_by order es).voided } } }
 {}

@@ -1,0 +1,298 @@
+-- Readings that repeat others, by moment.
+use Rattle.std.proofs.Common.{◌≡◌, ℕ, ◌+◌, ◌-◌, ◌<◌, ◌≤◌, ◌⊎◌, inl, inr, Bool, true, false, cond, List, [], ◌∷◌, ◌++◌, Option, Some, None, length, refl, sym, ap, subst, ◌∙◌, ⊎_elim, slice_get, bytes_eq, eqb, map, arith, append_assoc}
+use Rattle.std.specs.List.{filter, filter_map, cons_option, flat_map, sum_by, All, AllByRecursion}
+use Rattle.std.proofs.lemmas.Bool.{cases_Bool, cases_eq, eq-eqb, ne_eqb}
+use Rattle.std.proofs.lemmas.Grind.{flat_map-append}
+use Rattle.std.proofs.lemmas.List.Elements.{filter-append, recursion_from_All}
+use Rattle.std.proofs.lemmas.List.Sums.{sum_by-append, sum_by-cons}
+use Rattle.energy_flow.specs.Flow.{Energy, difference_of}
+use Rattle.ledger_model.specs.declared.order.Order.TheVariants.{Moment}
+use Rattle.ledger_model.specs.declared.reading.Direction.{Direction}
+use Rattle.ledger_model.specs.declared.reading.Direction.TheVariants.{Import, Export}
+use Rattle.ledger_model.specs.Content.{Entry, distinct, live, transactions_of}
+use Rattle.ledger_model.specs.Deltas.{across, first_reading, last_reading, pairs_between}
+use Rattle.ledger_model.specs.Energy.{Pair, all_pairs_by, difference, energy_by, energy_in_by, energy_of_by, energy_over, followed, pairs_by, quarter_of, readings_by, readings_of}
+use Rattle.ledger_model.specs.Event.{MeterReading, same_direction, toward}
+use Rattle.ledger_model.specs.Evse.{energy_at_by, evse_of, first_or_none, transactions_at}
+use Rattle.ledger_model.specs.InTime.{AreInTime, in_time}
+use Rattle.ledger_model.specs.Key.{KeyName}
+use Rattle.ledger_model.specs.Quarter.{quarter_at}
+use Rattle.ledger_model.specs.ReadingOrder.{taken_when, IsOneReadingMore, IsRepeat}
+use Rattle.ledger_model.proofs.EnergyLemmas.{same_energy}
+use Rattle.ledger_model.proofs.InTimeLemmas.{AreFrom, AreUpTo, IsPutIn, in_time-rises, of_moment, one_put_in, rest_from, tail_rises}
+use Rattle.ledger_model.proofs.OneMore.{passed_sum, taken}
+use Rattle.ledger_model.proofs.Splices.{followed_sums, last_is}
+use Rattle.ledger_model.proofs.SumLemmas.{sum_by-flat_map, sum_by-same}
+use Rattle.ledger_model.proofs.SumsByTransaction.{one_text}
+
+none_or_some : {X : Type 0} (xs : List X) → (xs ≡ []) ⊎ (xs ≡ [] → ⊥)
+none_or_some [] = inl refl
+none_or_some (x ∷ xs) = inr (λ e. cc)
+
+-- The last of readings in time, of which some have the last moment, has it; and what is so of all is so of it.
+record IsLast (P : MeterReading → Type 0) (m : ℕ) (rs : List MeterReading) : Type 0 where
+  s : MeterReading
+  is : last_reading rs ≡ Some s
+  moment : s.moment ≡ m
+  so : P s
+
+record IsFirst (P : MeterReading → Type 0) (m : ℕ) (rs : List MeterReading) : Type 0 where
+  s : MeterReading
+  is : first_reading rs ≡ Some s
+  moment : s.moment ≡ m
+  so : P s
+
+here : (m : ℕ) (r : MeterReading) (rs : List MeterReading) → r.moment ≡ m → of_moment taken_when m (r ∷ rs) ≡ [] → ⊥
+here m r rs e none = let cons : of_moment taken_when m (r ∷ rs) ≡ r ∷ of_moment taken_when m rs = ap (λ b. cond b (r ∷ of_moment taken_when m rs) (of_moment taken_when m rs)) (eq-eqb r.moment m e) in differ (sym none ∙ cons)
+  where
+    differ : [] ≡ r ∷ of_moment taken_when m rs → ⊥
+    differ e = cc
+
+elsewhere : (m : ℕ) (r : MeterReading) (rs : List MeterReading) → (r.moment ≡ m → ⊥) → of_moment taken_when m (r ∷ rs) ≡ of_moment taken_when m rs
+elsewhere m r rs apart = ap (λ b. cond b (r ∷ of_moment taken_when m rs) (of_moment taken_when m rs)) (ne_eqb r.moment m apart)
+
+module _ (P : MeterReading → Type 0) (m : ℕ) where
+  last_of : (r : MeterReading) (rs : List MeterReading) → AreInTime taken_when (r ∷ rs) → AreUpTo taken_when m (r ∷ rs) → (of_moment taken_when m (r ∷ rs) ≡ [] → ⊥) → AllByRecursion P (r ∷ rs) → IsLast P m (r ∷ rs)
+  last_of r [] up upto some all = ⊎_elim
+      (λ (e : r.moment ≡ m). record { s = r; is = refl; moment = e; so = all.0 })
+      (λ (apart : r.moment ≡ m → ⊥). absurd (some (elsewhere m r [] apart)))
+      (cases_eq r.moment m)
+  last_of r (t ∷ ts) up upto some all =
+      let rest : IsLast P m (t ∷ ts) = last_of t ts up.1 upto.1
+      (⊎_elim
+      (λ (e : r.moment ≡ m). here m t ts (let a : r.moment ≤ t.moment = up.0 in let b : t.moment ≤ m = upto.1.0 in omega (arith, a, b, e)))
+      (λ (apart : r.moment ≡ m → ⊥). λ none. some (elsewhere m r (t ∷ ts) apart ∙ none))
+      (cases_eq r.moment m)) all.1 in
+      record { s = rest.s; is = last_behind r t ts ∙ rest.is; moment = rest.moment; so = rest.so }
+    where
+      last_behind : (r t : MeterReading) (ts : List MeterReading) → last_reading (r ∷ t ∷ ts) ≡ last_reading (t ∷ ts)
+      last_behind r t ts = sym (last_is (r ∷ t ∷ ts)) ∙ last_is (t ∷ ts)
+
+  later_none : (n : ℕ) (rs : List MeterReading) → m < n → AreFrom taken_when n rs → of_moment taken_when m rs ≡ []
+  later_none n [] lt from = refl
+  later_none n (r ∷ rs) lt from = elsewhere m r rs (λ e. absurd (let a : n ≤ r.moment = from.0 in omega (arith, a, lt, e))) ∙ later_none n rs lt from.1
+
+  first_of : (rs : List MeterReading) → AreInTime taken_when rs → AreFrom taken_when m rs → (of_moment taken_when m rs ≡ [] → ⊥) → AllByRecursion P rs → IsFirst P m rs
+  first_of [] up from some all = absurd (some refl)
+  first_of (r ∷ rs) up from some all = ⊎_elim
+      (λ (e : r.moment ≡ m). record { s = r; is = refl; moment = e; so = all.0 })
+      (λ (apart : r.moment ≡ m → ⊥). absurd (some (elsewhere m r rs apart ∙ later_none r.moment rs (let a : m ≤ r.moment = from.0 in lt_from m r.moment a apart) (rest_from taken_when r rs up))))
+      (cases_eq r.moment m)
+    where
+      lt_from : (m n : ℕ) → m ≤ n → (n ≡ m → ⊥) → m < n
+      lt_from m n le apart = ⊎_elim (λ (e : n ≡ m). absurd (apart e)) (λ (o : n ≡ m → ⊥). omega (arith, le, o)) (cases_eq n m)
+
+front_rises : (xs ys : List MeterReading) → AreInTime taken_when (xs ++ ys) → AreInTime taken_when xs
+front_rises [] ys up = tt
+front_rises (x ∷ []) ys up = tt
+front_rises (x ∷ y ∷ xs) ys up = (up.0, front_rises (y ∷ xs) ys up.1)
+
+back_rises : (xs ys : List MeterReading) → AreInTime taken_when (xs ++ ys) → AreInTime taken_when ys
+back_rises [] ys up = up
+back_rises (x ∷ xs) ys up = back_rises xs ys (tail_rises taken_when x (xs ++ ys) up)
+
+front_all : (P : MeterReading → Type 0) (xs ys : List MeterReading) → AllByRecursion P (xs ++ ys) → AllByRecursion P xs × AllByRecursion P ys
+front_all P [] ys all = (tt, all)
+front_all P (x ∷ xs) ys all = ((all.0, (front_all P xs ys all.1).0), (front_all P xs ys all.1).1)
+
+-- A measure of a pair that depends on its levels and its later moment, and is nothing where the levels are one.
+module _ (g : ℕ → ℕ → ℕ → ℕ) (none : (v m : ℕ) → g v v m ≡ 0) where
+  abbrev measure : Pair → ℕ
+  measure p = g p.0.mwh p.1.mwh p.1.moment
+
+  one_pair : (p : Pair) → sum_by measure (p ∷ []) ≡ measure p + 0
+  one_pair p = sum_by-cons measure p []
+
+  -- the reading behind one of the same level adds nothing, and the pair behind it is that behind the other
+  behind_equal : (s r : MeterReading) (b : Option MeterReading) → s.mwh ≡ r.mwh → sum_by measure (pairs_between (Some s) (r ∷ []) b) ≡ sum_by measure (across (Some s) b)
+  behind_equal s r None level = one_pair (s, r) ∙ ap (λ v. g v r.mwh r.moment + 0) level ∙ ap (λ n. n + 0) (none r.mwh r.moment)
+  behind_equal s r (Some t) level =
+      let whole = sum_by-cons measure (s, r) ((r, t) ∷ []) in
+      let zero : g s.mwh r.mwh r.moment ≡ 0 = ap (λ v. g v r.mwh r.moment) level ∙ none r.mwh r.moment in
+      let same : g r.mwh t.mwh t.moment ≡ g s.mwh t.mwh t.moment = ap (λ v. g v t.mwh t.moment) (sym level) in
+      omega (arith, whole, zero, same, one_pair (r, t), one_pair (s, t))
+
+  front_equal : (l : Option MeterReading) (r t : MeterReading) → t.mwh ≡ r.mwh → t.moment ≡ r.moment → sum_by measure (pairs_between l (r ∷ []) (Some t)) ≡ sum_by measure (across l (Some t))
+  front_equal None r t level moment = one_pair (r, t) ∙ ap (λ v. g r.mwh v t.moment + 0) level ∙ ap (λ n. n + 0) (none r.mwh t.moment)
+  front_equal (Some s) r t level moment =
+      let whole = sum_by-cons measure (s, r) ((r, t) ∷ []) in
+      let zero : g r.mwh t.mwh t.moment ≡ 0 = ap (λ v. g r.mwh v t.moment) level ∙ none r.mwh t.moment in
+      let back : g s.mwh t.mwh t.moment ≡ g s.mwh r.mwh r.moment = (λ i. g s.mwh (level i) (moment i)) in let same = sym back in
+      omega (arith, whole, zero, same, one_pair (r, t), one_pair (s, t))
+
+  put_in_sums : (r : MeterReading) (front back : List MeterReading) → sum_by measure (pairs_between (last_reading front) (r ∷ []) (first_reading back)) ≡ sum_by measure (across (last_reading front) (first_reading back)) → sum_by measure (followed (front ++ r ∷ back)) ≡ sum_by measure (followed (front ++ back))
+  put_in_sums r front back same = let all = followed_sums measure front (r ∷ []) back in omega (arith, all, same)
+
+  repeat_sums : (r : MeterReading) (less more : List MeterReading) → AreInTime taken_when less → IsPutIn taken_when r less more → IsRepeat r less → sum_by measure (followed more) ≡ sum_by measure (followed less)
+  repeat_sums r less more up put repeat =
+      let P : MeterReading → Type 0 = λ s. s.moment ≡ r.moment → s.mwh ≡ r.mwh in
+      let rises : AreInTime taken_when (put.front ++ put.back) = subst (AreInTime taken_when) put.less_is up in
+      let all = front_all P put.front put.back (subst (AllByRecursion P) put.less_is (recursion_from_All P less repeat.level)) in
+      let there : of_moment taken_when r.moment (put.front ++ put.back) ≡ [] → ⊥ = λ none. repeat.there (ap (of_moment taken_when r.moment) put.less_is ∙ none) in
+      ap (λ rs. sum_by measure (followed rs)) put.more_is
+      ∙ put_in_sums r put.front put.back (⊎_elim
+      (λ (empty : of_moment taken_when r.moment put.front ≡ []).
+      let first : IsFirst P r.moment put.back = first_of P r.moment put.back (back_rises put.front put.back rises) put.late
+      (λ none. there (filter-append (λ s. eqb s.moment r.moment) put.front put.back ∙ (λ i. empty i ++ none i))) all.1 in
+      (λ i. sum_by measure (pairs_between (last_reading put.front) (r ∷ []) (first.is i)))
+      ∙ front_equal (last_reading put.front) r first.s (first.so first.moment) first.moment
+      ∙ sym (ap (λ o. sum_by measure (across (last_reading put.front) o)) first.is))
+      (λ (some : of_moment taken_when r.moment put.front ≡ [] → ⊥).
+      let last : IsLast P r.moment put.front = last_in P r.moment put.front (front_rises put.front put.back rises) put.early some all.0 in
+      (λ i. sum_by measure (pairs_between (last.is i) (r ∷ []) (first_reading put.back)))
+      ∙ behind_equal last.s r (first_reading put.back) (last.so last.moment)
+      ∙ sym (ap (λ o. sum_by measure (across o (first_reading put.back))) last.is))
+      (none_or_some (of_moment taken_when r.moment put.front)))
+      ∙ ap (λ rs. sum_by measure (followed rs)) (sym put.less_is)
+    where
+      last_in : (P : MeterReading → Type 0) (m : ℕ) (rs : List MeterReading) → AreInTime taken_when rs → AreUpTo taken_when m rs → (of_moment taken_when m rs ≡ [] → ⊥) → AllByRecursion P rs → IsLast P m rs
+      last_in P m [] up upto some all = absurd (some refl)
+      last_in P m (r ∷ rs) up upto some all = last_of P m r rs up upto some all
+
+same_or_apart : (d e : Direction) → (d ≡ e) ⊎ (same_direction d e ≡ false)
+same_or_apart Import Import = inl refl
+same_or_apart Import Export = inr refl
+same_or_apart Export Import = inr refl
+same_or_apart Export Export = inl refl
+
+same_itself : (d : Direction) → same_direction d d ≡ true
+same_itself Import = refl
+same_itself Export = refl
+
+-- A reading more among an event's, in its direction and in the other.
+toward_more : (d : Direction) (xs ys : List MeterReading) (r : MeterReading) → toward d (xs ++ r ∷ ys) ≡ toward d xs ++ cond (same_direction d r.direction) (r ∷ toward d ys) (toward d ys)
+toward_more d xs ys r = filter-append (λ (s : MeterReading). same_direction d s.direction) xs (r ∷ ys)
+
+module _ (es more : List Entry) (key : KeyName) (r : MeterReading) (one : IsOneReadingMore es more key r) where
+  abbrev was : Entry
+  was = (key, record { event = one.event; voided = false })
+
+  abbrev is_now : Entry
+  is_now = (key, record { event = record one.event { readings = one.first ++ r ∷ one.last }; voided = false })
+
+  ids_stay : (front : List Entry) → map (λ (e : Entry). e.0.tx) (front ++ is_now ∷ one.back) ≡ map (λ (e : Entry). e.0.tx) (front ++ was ∷ one.back)
+  ids_stay [] = refl
+  ids_stay (e ∷ front) = ap (λ ts. e.0.tx ∷ ts) (ids_stay front)
+
+  pub transactions_stay : transactions_of (live more) ≡ transactions_of (live es)
+  transactions_stay = ap transactions_of one.more_live ∙ ap distinct (ids_stay one.front) ∙ ap transactions_of (sym one.less_live)
+
+  abbrev evses_in : List ℕ → List Entry → List ℕ
+  evses_in tx es = filter_map (λ (e : Entry). e.1.event.evse) (filter (λ (e : Entry). bytes_eq tx e.0.tx) es)
+
+  evse_stays : (tx : List ℕ) (front : List Entry) → evses_in tx (front ++ is_now ∷ one.back) ≡ evses_in tx (front ++ was ∷ one.back)
+  evse_stays tx [] = (elim (bytes_eq tx key.tx) as (λ b. filter_map (λ (e : Entry). e.1.event.evse) (cond b (is_now ∷ filter (λ (e : Entry). bytes_eq tx e.0.tx) one.back) (filter (λ (e : Entry). bytes_eq tx e.0.tx) one.back)) ≡ filter_map (λ (e : Entry). e.1.event.evse) (cond b (was ∷ filter (λ (e : Entry). bytes_eq tx e.0.tx) one.back) (filter (λ (e : Entry). bytes_eq tx e.0.tx) one.back))) [ true ↦ refl | false ↦ refl ])
+  evse_stays tx (x ∷ front) = (elim (bytes_eq tx x.0.tx) as (λ b. filter_map (λ (e : Entry). e.1.event.evse) (cond b (x ∷ filter (λ (e : Entry). bytes_eq tx e.0.tx) (front ++ is_now ∷ one.back)) (filter (λ (e : Entry). bytes_eq tx e.0.tx) (front ++ is_now ∷ one.back))) ≡ filter_map (λ (e : Entry). e.1.event.evse) (cond b (x ∷ filter (λ (e : Entry). bytes_eq tx e.0.tx) (front ++ was ∷ one.back)) (filter (λ (e : Entry). bytes_eq tx e.0.tx) (front ++ was ∷ one.back)))) [
+    | true ↦ ap (cons_option x.1.event.evse) (evse_stays tx front)
+    | false ↦ evse_stays tx front
+  ])
+
+  pub evses_stay : (tx : List ℕ) → evse_of tx more ≡ evse_of tx es
+  evses_stay tx = ap (λ l. first_or_none (evses_in tx l)) one.more_live ∙ ap first_or_none (evse_stays tx one.front) ∙ ap (λ l. first_or_none (evses_in tx l)) (sym one.less_live)
+
+  -- A transaction's readings by sequence: they stay, or the reading stands among them.
+  record HasOneMore (d : Direction) (tx : List ℕ) : Type 0 where
+    before : List MeterReading
+    behind : List MeterReading
+    less_is : readings_of d tx es ≡ before ++ behind
+    more_is : readings_of d tx more ≡ before ++ r ∷ behind
+
+  abbrev own : List ℕ → List Entry → List Entry
+  own tx es = filter (λ (e : Entry). bytes_eq tx e.0.tx) es
+
+  abbrev told : Direction → List Entry → List MeterReading
+  told d es = flat_map (λ (e : Entry). toward d e.1.event.readings) es
+
+  cut_at : (d : Direction) (tx : List ℕ) (x : Entry) → told d (own tx (one.front ++ x ∷ one.back)) ≡ told d (own tx one.front) ++ cond (bytes_eq tx x.0.tx) (toward d x.1.event.readings ++ told d (own tx one.back)) (told d (own tx one.back))
+  cut_at d tx x =
+      ap (told d) (filter-append (λ (e : Entry). bytes_eq tx e.0.tx) one.front (x ∷ one.back))
+      ∙ flat_map-append (λ (e : Entry). toward d e.1.event.readings) (own tx one.front) (own tx (x ∷ one.back))
+      ∙ ap (λ rs. told d (own tx one.front) ++ rs) (pushed (bytes_eq tx x.0.tx))
+    where
+      pushed : (b : Bool) → told d (cond b (x ∷ own tx one.back) (own tx one.back)) ≡ cond b (toward d x.1.event.readings ++ told d (own tx one.back)) (told d (own tx one.back))
+      pushed true = refl
+      pushed false = refl
+
+  less_cut : (d : Direction) (tx : List ℕ) (b : Bool) → bytes_eq tx key.tx ≡ b → readings_of d tx es ≡ told d (own tx one.front) ++ cond b (toward d (one.first ++ one.last) ++ told d (own tx one.back)) (told d (own tx one.back))
+  less_cut d tx b is =
+      ap (λ l. told d (own tx l)) one.less_live ∙ cut_at d tx was
+      ∙ (λ i. told d (own tx one.front) ++ cond (is i) (toward d (one.readings i) ++ told d (own tx one.back)) (told d (own tx one.back)))
+
+  more_cut : (d : Direction) (tx : List ℕ) (b : Bool) → bytes_eq tx key.tx ≡ b → readings_of d tx more ≡ told d (own tx one.front) ++ cond b (toward d (one.first ++ r ∷ one.last) ++ told d (own tx one.back)) (told d (own tx one.back))
+  more_cut d tx b is =
+      ap (λ l. told d (own tx l)) one.more_live ∙ cut_at d tx is_now
+      ∙ (λ i. told d (own tx one.front) ++ cond (is i) (toward d (one.first ++ r ∷ one.last) ++ told d (own tx one.back)) (told d (own tx one.back)))
+
+  else_stays : (d : Direction) (tx : List ℕ) → bytes_eq tx key.tx ≡ false → readings_of d tx more ≡ readings_of d tx es
+  else_stays d tx apart = more_cut d tx false apart ∙ sym (less_cut d tx false apart)
+
+  other_way : (d : Direction) (tx : List ℕ) → bytes_eq tx key.tx ≡ true → same_direction d r.direction ≡ false → readings_of d tx more ≡ readings_of d tx es
+  other_way d tx is apart =
+      more_cut d tx true is
+      ∙ ap (λ rs. told d (own tx one.front) ++ (rs ++ told d (own tx one.back))) (toward_more d one.first one.last r ∙ ap (λ b. toward d one.first ++ cond b (r ∷ toward d one.last) (toward d one.last)) apart ∙ sym (filter-append (λ (s : MeterReading). same_direction d s.direction) one.first one.last))
+      ∙ sym (less_cut d tx true is)
+
+  stands_there : (d : Direction) (tx : List ℕ) → bytes_eq tx key.tx ≡ true → same_direction d r.direction ≡ true → HasOneMore d tx
+  stands_there d tx is same =
+      let a = told d (own tx one.front) in let b = told d (own tx one.back) in let p = toward d one.first in let q = toward d one.last in
+      record {
+        before = a ++ p;
+        behind = q ++ b;
+        less_is = less_cut d tx true is ∙ ap (λ rs. a ++ (rs ++ b)) (filter-append (λ (s : MeterReading). same_direction d s.direction) one.first one.last) ∙ ap (λ rs. a ++ rs) (append_assoc p q b) ∙ sym (append_assoc a p (q ++ b));
+        more_is = more_cut d tx true is ∙ ap (λ rs. a ++ (rs ++ b)) (toward_more d one.first one.last r ∙ ap (λ b. p ++ cond b (r ∷ q) q) same) ∙ ap (λ rs. a ++ rs) (append_assoc p (r ∷ q) b) ∙ sym (append_assoc a p (r ∷ (q ++ b)));
+      }
+
+  module _ (repeat : IsRepeat r (readings_by Moment r.direction key.tx es)) where
+    -- Each sum over a transaction's pairs stays.
+    pub sums_stay : (g : ℕ → ℕ → ℕ → ℕ) (none : (v m : ℕ) → g v v m ≡ 0) (d : Direction) (tx : List ℕ) → sum_by (measure g none) (pairs_by Moment d tx more) ≡ sum_by (measure g none) (pairs_by Moment d tx es)
+    sums_stay g none d tx = ⊎_elim
+        (λ (is : bytes_eq tx key.tx ≡ true). ⊎_elim
+        (λ (way : d ≡ r.direction).
+        let m : HasOneMore d tx = stands_there d tx is (ap (λ e. same_direction e r.direction) way ∙ same_itself r.direction) in
+        let told_again : IsRepeat r (readings_by Moment d tx es) = subst (λ t. IsRepeat r (readings_by Moment d t es)) (sym (one_text tx key.tx is)) (subst (λ e. IsRepeat r (readings_by Moment e key.tx es)) (sym way) repeat) in
+        let put : IsPutIn taken_when r (in_time taken_when (readings_of d tx es)) (in_time taken_when (readings_of d tx more)) =
+        subst (λ rs. IsPutIn taken_when r (in_time taken_when rs) (in_time taken_when (readings_of d tx more))) (sym m.less_is) (subst (λ rs. IsPutIn taken_when r (in_time taken_when (m.before ++ m.behind)) (in_time taken_when rs)) (sym m.more_is) (one_put_in taken_when r m.before m.behind)) in
+        repeat_sums g none r (in_time taken_when (readings_of d tx es)) (in_time taken_when (readings_of d tx more)) (in_time-rises taken_when (readings_of d tx es)) put told_again)
+        (λ (apart : same_direction d r.direction ≡ false). ap (λ rs. sum_by (measure g none) (followed (in_time taken_when rs))) (other_way d tx is apart))
+        (same_or_apart d r.direction))
+        (λ (apart : bytes_eq tx key.tx ≡ false). ap (λ rs. sum_by (measure g none) (followed (in_time taken_when rs))) (else_stays d tx apart))
+        (cases_Bool (bytes_eq tx key.tx))
+
+    -- And each over those of several transactions.
+    all_stay : (g : ℕ → ℕ → ℕ → ℕ) (none : (v m : ℕ) → g v v m ≡ 0) (d : Direction) (txs : List (List ℕ)) → sum_by (measure g none) (flat_map (λ tx. pairs_by Moment d tx more) txs) ≡ sum_by (measure g none) (flat_map (λ tx. pairs_by Moment d tx es) txs)
+    all_stay g none d txs =
+        sum_by-flat_map (measure g none) (λ tx. pairs_by Moment d tx more) txs
+        ∙ sum_by-same _ _ (sums_stay g none d) txs
+        ∙ sym (sum_by-flat_map (measure g none) (λ tx. pairs_by Moment d tx es) txs)
+
+    nothing : (v m : ℕ) → v - v ≡ 0
+    nothing v m = omega arith
+
+    pub transaction_stays : (d : Direction) (tx : List ℕ) → energy_of_by Moment d tx more ≡ energy_of_by Moment d tx es
+    transaction_stays d tx = same_energy _ _ (sums_stay (λ a b m. b - a) nothing d tx) (sums_stay (λ a b m. a - b) nothing d tx)
+
+    pub evse_energy_stays : (d : Direction) (evse : ℕ) → energy_at_by Moment d evse more ≡ energy_at_by Moment d evse es
+    evse_energy_stays d evse =
+        (λ i. energy_over (flat_map (λ tx. pairs_by Moment d tx more) (filter (λ tx. eqb (evses_stay tx i) evse) (transactions_stay i))))
+        ∙ same_energy _ _ (all_stay (λ a b m. b - a) nothing d (transactions_at evse es)) (all_stay (λ a b m. a - b) nothing d (transactions_at evse es))
+
+    pub station_stays : (d : Direction) → energy_by Moment d more ≡ energy_by Moment d es
+    station_stays d =
+        (λ i. energy_over (flat_map (λ tx. pairs_by Moment d tx more) (transactions_stay i)))
+        ∙ same_energy _ _ (all_stay (λ a b m. b - a) nothing d (transactions_of (live es))) (all_stay (λ a b m. a - b) nothing d (transactions_of (live es)))
+
+    in_quarter : (period q : ℕ) (f : ℕ → ℕ → ℕ) → ((v : ℕ) → f v v ≡ 0) → (d : Direction) (txs : List (List ℕ))
+        → sum_by (λ (p : Pair). f p.0.mwh p.1.mwh) (filter (λ p. eqb (quarter_of period p) q) (flat_map (λ tx. pairs_by Moment d tx more) txs)) ≡ sum_by (λ (p : Pair). f p.0.mwh p.1.mwh) (filter (λ p. eqb (quarter_of period p) q) (flat_map (λ tx. pairs_by Moment d tx es) txs))
+    in_quarter period q f same d txs =
+        passed_sum (λ (p : Pair). f p.0.mwh p.1.mwh) (λ p. eqb (quarter_of period p) q) (flat_map (λ tx. pairs_by Moment d tx more) txs)
+        ∙ all_stay (λ a b m. taken (eqb (quarter_at period m) q) (f a b)) (λ v m. ap (taken (eqb (quarter_at period m) q)) (same v) ∙ none_taken (eqb (quarter_at period m) q)) d txs
+        ∙ sym (passed_sum (λ (p : Pair). f p.0.mwh p.1.mwh) (λ p. eqb (quarter_of period p) q) (flat_map (λ tx. pairs_by Moment d tx es) txs))
+      where
+        none_taken : (b : Bool) → taken b 0 ≡ 0
+        none_taken true = refl
+        none_taken false = refl
+
+    pub quarter_stays : (d : Direction) (period q : ℕ) → energy_in_by Moment d period q more ≡ energy_in_by Moment d period q es
+    quarter_stays d period q =
+        (λ i. energy_over (filter (λ p. eqb (quarter_of period p) q) (flat_map (λ tx. pairs_by Moment d tx more) (transactions_stay i))))
+        ∙ same_energy _ _ (in_quarter period q (λ a b. b - a) (λ v. nothing v v) d (transactions_of (live es))) (in_quarter period q (λ a b. a - b) (λ v. nothing v v) d (transactions_of (live es)))
