@@ -20,11 +20,11 @@ abbrev pub index : List EventPlace → ℕ → Index
 index entries capacity = record { entries = entries; capacity = capacity }
 
 -- The rank of an entry and its slot.
-abbrev pub place_in : Entry → EventPlace
-place_in e = (e.0, e.1.slot)
+abbrev pub place_in : Entry ℕ → EventPlace
+place_in e = (e.0, e.1.value)
 
 -- The places of a lane: of all entries, or of those that have a mark.
-abbrev pub lane : Option Mark → List Entry → List EventPlace
+abbrev pub lane : Option Mark → List (Entry ℕ) → List EventPlace
 lane None es = map place_in es
 lane (Some m) es = map place_in (marked m es)
 
@@ -47,11 +47,11 @@ pub record Placed : Type 0 where
   pub naming : Index
 
 -- A lane as an index of its own.
-abbrev pub lane_of : Option Mark → keyed.Index → Index
+abbrev pub lane_of : Option Mark → keyed.Index ℕ → Index
 lane_of o i = index (lane o i.entries) i.capacity
 
 -- The lanes of one index.
-abbrev pub placed : keyed.Index → Placed
+abbrev pub placed : keyed.Index ℕ → Placed
 placed i = record { stored = lane_of None i; live = lane_of (Some Live) i; imports = lane_of (Some Imports) i; exports = lane_of (Some Exports) i; naming = lane_of (Some Names) i }
 
 -- The places of the live events that have a reading of this direction.

@@ -3,14 +3,14 @@ ghost use Rattle.std.specs.Prelude.{◌≡◌, ◌≤◌, length, option_map};
 ghost use Rattle.event_chain.specs.Ranked.{below, from, slot_at, first_of, last_of, AreRising};
 ghost use Rattle.event_chain.specs.Placed.{place_in, lane_of};
 
-use key_index::{Filed, IndexKey, KeyIndex, KeyPlace, Mark};
+use key_index::{Entry, IndexKey, KeyIndex, KeyPlace, Mark};
 use std::marker::Model;
 
 // The entries of an index that have a mark, or all of them. Contracts see an index of their places. The
 // place is a hint for look-ups, and changes no answer.
 #[derive(Drop)]
 pub(crate) struct Lane<'a> {
-    index: &'a KeyIndex,
+    index: &'a KeyIndex<IndexKey, u32>,
     mark: Option<Mark>,
     place: KeyPlace,
 }
@@ -24,18 +24,22 @@ impl<'a> Model for Lane<'a> {
 }
 
 // The key of an entry and its slot.
-pub(crate) fn slot_under(entry: Option<(IndexKey, Filed)>) -> Option<(IndexKey, u32)>
+pub(crate) fn slot_under(entry: Option<Entry<IndexKey, u32>>) -> Option<(IndexKey, u32)>
     ensures { result ≡ option_map place_in entry }
 {
     match entry {
-        Some(entry) => Some((entry.0, entry.1.slot)),
+        Some(entry) => Some((entry.key(), entry.filed().value)),
         None => None,
     }
 }
 
 impl<'a> Lane<'a> {
     // The lane of a mark, or of all entries.
-    pub(crate) fn over(index: &'a KeyIndex, mark: Option<Mark>, place: KeyPlace) -> Self
+    pub(crate) fn over(
+        index: &'a KeyIndex<IndexKey, u32>,
+        mark: Option<Mark>,
+        place: KeyPlace,
+    ) -> Self
         ensures { result ≡ lane_of mark index.now }
     {
         Lane { index, mark, place }

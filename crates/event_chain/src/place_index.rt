@@ -15,7 +15,7 @@ use crate::carries::Carries;
 use crate::lane::{Lane, slot_under};
 use crate::links::SlotLinks;
 use crate::spots::{place_before, place_behind};
-use key_index::{Filed, IndexKey, KeyIndex, KeyPlace, Mark, Marks};
+use key_index::{Filed, IndexKey, KeyIndex, KeyPlace, Mark, Marks, Ranked};
 use ledger_model::Direction;
 use std::alloc::{AllocError, Global};
 use std::marker::Model;
@@ -25,7 +25,7 @@ use std::marker::Model;
 // from one to the next. Contracts see an index of all places, and one of those with each mark.
 #[derive(Drop)]
 pub(crate) struct PlaceIndex {
-    index: KeyIndex,
+    index: KeyIndex<IndexKey, u32>,
     links: SlotLinks,
     // The key that was sought last, where it stands or belongs, and where its transaction begins and
     // ends: they save searches, and change no answer.
@@ -89,7 +89,13 @@ fn slot_behind(
 }
 
 // Links the event of a slot in between those on either side of its key.
-fn link_live(index: &KeyIndex, links: &mut SlotLinks, place: KeyPlace, key: IndexKey, slot: u32)
+fn link_live(
+    index: &KeyIndex<IndexKey, u32>,
+    links: &mut SlotLinks,
+    place: KeyPlace,
+    key: IndexKey,
+    slot: u32,
+)
     requires listed { AreListed (lane_of (Some Live) index.now) links.old }
     requires absent { place_of key (lane_of (Some Live) index.now).entries ≡ None }
     requires slot { slot < (lane_of (Some Live) index.now).capacity }
@@ -263,7 +269,7 @@ impl PlaceIndex {
             exports: carries.exports,
             names,
         };
-        self.index.insert(place, key, Filed { slot, marks });
+        self.index.insert(place, key, Filed { value: slot, marks });
         self.near = place;
         self.sought = key;
         self.start = ends.0;

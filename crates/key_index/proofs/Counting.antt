@@ -8,59 +8,60 @@ use Rattle.key_index.specs.declared.filed.Marks.{Marks}
 use Rattle.key_index.specs.Entries.{Entry}
 use Rattle.key_index.specs.Marks.{has_mark, weigh, marked, with_marks, mark_at}
 
--- The marked ones of two lists.
-pub marked_both : (m : Mark) (xs ys : List Entry) → marked m (xs ++ ys) ≡ marked m xs ++ marked m ys
-marked_both m xs ys = filter-append (λ e. has_mark m e.1.marks) xs ys
+module _ {V : Type 0} where
+  -- The marked ones of two lists.
+  pub marked_both : (m : Mark) (xs ys : List (Entry V)) → marked m (xs ++ ys) ≡ marked m xs ++ marked m ys
+  marked_both m xs ys = filter-append (λ e. has_mark m e.1.marks) xs ys
 
--- One more in front.
-pub count_on : (m : Mark) (e : Entry) (es : List Entry) → length (marked m (e ∷ es)) ≡ weigh (has_mark m e.1.marks) + length (marked m es)
-count_on m e es = elim (has_mark m e.1.marks) as (λ b. length (cond b (e ∷ marked m es) (marked m es)) ≡ weigh b + length (marked m es)) [ true ↦ omega arith | false ↦ omega arith ]
+  -- One more in front.
+  pub count_on : (m : Mark) (e : Entry V) (es : List (Entry V)) → length (marked m (e ∷ es)) ≡ weigh (has_mark m e.1.marks) + length (marked m es)
+  count_on m e es = elim (has_mark m e.1.marks) as (λ b. length (cond b (e ∷ marked m es) (marked m es)) ≡ weigh b + length (marked m es)) [ true ↦ omega arith | false ↦ omega arith ]
 
--- The counts of two lists add up.
-pub count_both : (m : Mark) (xs ys : List Entry) → length (marked m (xs ++ ys)) ≡ length (marked m xs) + length (marked m ys)
-count_both m xs ys = ap length (marked_both m xs ys) ∙ length-append (marked m xs) (marked m ys)
+  -- The counts of two lists add up.
+  pub count_both : (m : Mark) (xs ys : List (Entry V)) → length (marked m (xs ++ ys)) ≡ length (marked m xs) + length (marked m ys)
+  count_both m xs ys = ap length (marked_both m xs ys) ∙ length-append (marked m xs) (marked m ys)
 
--- Those of a cut list do.
-pub count_cut : (m : Mark) (i : ℕ) (es : List Entry) → length (marked m (take i es)) + length (marked m (drop i es)) ≡ length (marked m es)
-count_cut m i es = sym (count_both m (take i es) (drop i es)) ∙ ap (λ l. length (marked m l)) (take-append-drop i es)
+  -- Those of a cut list do.
+  pub count_cut : (m : Mark) (i : ℕ) (es : List (Entry V)) → length (marked m (take i es)) + length (marked m (drop i es)) ≡ length (marked m es)
+  count_cut m i es = sym (count_both m (take i es) (drop i es)) ∙ ap (λ l. length (marked m l)) (take-append-drop i es)
 
--- No more are marked than there are.
-pub count_within : (m : Mark) (es : List Entry) → length (marked m es) ≤ length es
-count_within m [] = omega arith
-count_within m (e ∷ es) = elim (has_mark m e.1.marks) as (λ b. length (cond b (e ∷ marked m es) (marked m es)) ≤ suc (length es)) [ true ↦ omega (arith, count_within m es) | false ↦ omega (arith, count_within m es) ]
+  -- No more are marked than there are.
+  pub count_within : (m : Mark) (es : List (Entry V)) → length (marked m es) ≤ length es
+  count_within m [] = omega arith
+  count_within m (e ∷ es) = elim (has_mark m e.1.marks) as (λ b. length (cond b (e ∷ marked m es) (marked m es)) ≤ suc (length es)) [ true ↦ omega (arith, count_within m es) | false ↦ omega (arith, count_within m es) ]
 
--- An entry put in.
-pub count_put : (m : Mark) (es : List Entry) (i : ℕ) (e : Entry) → length (marked m (insert es i e)) ≡ length (marked m es) + weigh (has_mark m e.1.marks)
-count_put m es i e = omega (arith, count_both m (take i es) (e ∷ drop i es), count_on m e (drop i es), count_cut m i es)
+  -- An entry put in.
+  pub count_put : (m : Mark) (es : List (Entry V)) (i : ℕ) (e : Entry V) → length (marked m (insert es i e)) ≡ length (marked m es) + weigh (has_mark m e.1.marks)
+  count_put m es i e = omega (arith, count_both m (take i es) (e ∷ drop i es), count_on m e (drop i es), count_cut m i es)
 
--- One taken out.
-pub count_out : (m : Mark) (es : List Entry) (i : ℕ) (e : Entry) → i < length es → e ≡ get_or es i e → length (marked m (remove es i)) + weigh (has_mark m e.1.marks) ≡ length (marked m es)
-count_out m [] i e lt is = absurd (omega arith)
-count_out m (x ∷ es) zero e lt is = omega (arith, count_on m x es, ap (λ (y : Entry). weigh (has_mark m y.1.marks)) is)
-count_out m (x ∷ es) (suc i) e lt is = omega (arith, count_on m x (remove es i), count_on m x es, count_out m es i e (omega arith) is)
+  -- One taken out.
+  pub count_out : (m : Mark) (es : List (Entry V)) (i : ℕ) (e : Entry V) → i < length es → e ≡ get_or es i e → length (marked m (remove es i)) + weigh (has_mark m e.1.marks) ≡ length (marked m es)
+  count_out m [] i e lt is = absurd (omega arith)
+  count_out m (x ∷ es) zero e lt is = omega (arith, count_on m x es, ap (λ (y : Entry V). weigh (has_mark m y.1.marks)) is)
+  count_out m (x ∷ es) (suc i) e lt is = omega (arith, count_on m x (remove es i), count_on m x es, count_out m es i e (omega arith) is)
 
--- One marked anew.
-pub count_set : (m : Mark) (marks : Marks) (es : List Entry) (i : ℕ) (e : Entry) → i < length es → e ≡ get_or es i e → length (marked m (mark_at marks i es)) + weigh (has_mark m e.1.marks) ≡ length (marked m es) + weigh (has_mark m marks)
-count_set m marks [] i e lt is = absurd (omega arith)
-count_set m marks (x ∷ es) zero e lt is = omega (arith, count_on m x es, count_on m (with_marks marks x) es, ap (λ (y : Entry). weigh (has_mark m y.1.marks)) is)
-count_set m marks (x ∷ es) (suc i) e lt is = omega (arith, count_on m x (mark_at marks i es), count_on m x es, count_set m marks es i e (omega arith) is)
+  -- One marked anew.
+  pub count_set : (m : Mark) (marks : Marks) (es : List (Entry V)) (i : ℕ) (e : Entry V) → i < length es → e ≡ get_or es i e → length (marked m (mark_at marks i es)) + weigh (has_mark m e.1.marks) ≡ length (marked m es) + weigh (has_mark m marks)
+  count_set m marks [] i e lt is = absurd (omega arith)
+  count_set m marks (x ∷ es) zero e lt is = omega (arith, count_on m x es, count_on m (with_marks marks x) es, ap (λ (y : Entry V). weigh (has_mark m y.1.marks)) is)
+  count_set m marks (x ∷ es) (suc i) e lt is = omega (arith, count_on m x (mark_at marks i es), count_on m x es, count_set m marks es i e (omega arith) is)
 
--- A marked one counts.
-pub count_has : (m : Mark) (es : List Entry) (i : ℕ) (e : Entry) → i < length es → e ≡ get_or es i e → weigh (has_mark m e.1.marks) ≤ length (marked m es)
-count_has m es i e lt is = omega (arith, count_out m es i e lt is)
+  -- A marked one counts.
+  pub count_has : (m : Mark) (es : List (Entry V)) (i : ℕ) (e : Entry V) → i < length es → e ≡ get_or es i e → weigh (has_mark m e.1.marks) ≤ length (marked m es)
+  count_has m es i e lt is = omega (arith, count_out m es i e lt is)
 
--- An entry written over by itself with other marks.
-pub set_mark : (marks : Marks) (es : List Entry) (i : ℕ) (e : Entry) → i < length es → e ≡ get_or es i e → set es i (with_marks marks e) ≡ mark_at marks i es
-set_mark marks [] i e lt is = absurd (omega arith)
-set_mark marks (x ∷ es) zero e lt is = ap (λ (y : Entry). with_marks marks y ∷ es) is
-set_mark marks (x ∷ es) (suc i) e lt is = ap (λ l. x ∷ l) (set_mark marks es i e (omega arith) is)
+  -- An entry written over by itself with other marks.
+  pub set_mark : (marks : Marks) (es : List (Entry V)) (i : ℕ) (e : Entry V) → i < length es → e ≡ get_or es i e → set es i (with_marks marks e) ≡ mark_at marks i es
+  set_mark marks [] i e lt is = absurd (omega arith)
+  set_mark marks (x ∷ es) zero e lt is = ap (λ (y : Entry V). with_marks marks y ∷ es) is
+  set_mark marks (x ∷ es) (suc i) e lt is = ap (λ l. x ∷ l) (set_mark marks es i e (omega arith) is)
 
--- As many entries as before.
-pub length-mark_at : (marks : Marks) (es : List Entry) (i : ℕ) → length (mark_at marks i es) ≡ length es
-length-mark_at marks [] i = refl
-length-mark_at marks (x ∷ es) zero = refl
-length-mark_at marks (x ∷ es) (suc i) = ap suc (length-mark_at marks es i)
+  -- As many entries as before.
+  pub length-mark_at : (marks : Marks) (es : List (Entry V)) (i : ℕ) → length (mark_at marks i es) ≡ length es
+  length-mark_at marks [] i = refl
+  length-mark_at marks (x ∷ es) zero = refl
+  length-mark_at marks (x ∷ es) (suc i) = ap suc (length-mark_at marks es i)
 
--- What a slice from a place on counts.
-pub count_rest : (m : Mark) (i : ℕ) (es ds : List Entry) → ds ≡ es → length (marked m (take (length ds - i) (drop i ds))) ≡ length (marked m (drop i es))
-count_rest m i es ds is = ap (λ l. length (marked m l)) (take_all (length ds - i) (drop i ds) (omega (arith, length-drop i ds))) ∙ ap (λ l. length (marked m (drop i l))) is
+  -- What a slice from a place on counts.
+  pub count_rest : (m : Mark) (i : ℕ) (es ds : List (Entry V)) → ds ≡ es → length (marked m (take (length ds - i) (drop i ds))) ≡ length (marked m (drop i es))
+  count_rest m i es ds is = ap (λ l. length (marked m l)) (take_all (length ds - i) (drop i ds) (omega (arith, length-drop i ds))) ∙ ap (λ l. length (marked m (drop i l))) is

@@ -10,114 +10,115 @@ use Rattle.key_index.proofs.Orders.{below_on, below_end, from_on, from_end, take
 use Rattle.key_index.proofs.Belonging.{all_at, rising_parts, leaf_above, cut_front, cut_back}
 use Rattle.key_index.proofs.Edits.{all_set}
 
--- A leaf of rising entries rises.
-pub rising_leaf : (leaves : List (List Entry)) (at : ℕ) → at < length leaves → AreRising (all_of leaves) → AreRising (get_or leaves at [])
-rising_leaf leaves at lt rising = let leaf = get_or leaves at [] in let back = all_of (drop (suc at) leaves) in
-    (rising_parts leaf back (rising_parts (all_of (take at leaves)) (leaf ++ back) (subst AreRising (all_at leaves at lt) rising)).1).0
-
--- What is in front of a key, by leaves.
-pub below_at : (key : ℕ) (leaves : List (List Entry)) (at : ℕ) → Belongs key leaves at → below key (all_of leaves) ≡ all_of (take at leaves) ++ below key (get_or leaves at [])
-below_at key leaves at b = let front = all_of (take at leaves) in let leaf = get_or leaves at [] in let back = all_of (drop (suc at) leaves) in
-    ap (below key) (all_at leaves at b.within) ∙ (cut_front key front (leaf ++ back) b.front).0 ∙ ap (λ l. front ++ l) (cut_back key leaf back b.back).0
-
--- What is left from a key on, by leaves.
-pub from_at : (key : ℕ) (leaves : List (List Entry)) (at : ℕ) → Belongs key leaves at → from key (all_of leaves) ≡ from key (get_or leaves at []) ++ all_of (drop (suc at) leaves)
-from_at key leaves at b = let front = all_of (take at leaves) in let leaf = get_or leaves at [] in let back = all_of (drop (suc at) leaves) in
-    ap (from key) (all_at leaves at b.within) ∙ (cut_front key front (leaf ++ back) b.front).1 ∙ (cut_back key leaf back b.back).1
-
--- An entry put into the leaf of its key stands between what is in front of the key and what is left.
-pub put_all : (key : ℕ) (filed : Filed) (leaves : List (List Entry)) (at : ℕ) → Belongs key leaves at
-    → all_of (set leaves at (insert (get_or leaves at []) (length (below key (get_or leaves at []))) (key, filed))) ≡ below key (all_of leaves) ++ (key, filed) ∷ from key (all_of leaves)
-put_all key filed leaves at b =
-    let front = all_of (take at leaves) in let leaf = get_or leaves at [] in let back = all_of (drop (suc at) leaves) in let e : Entry = (key, filed) in
-    let cut : insert leaf (length (below key leaf)) e ≡ below key leaf ++ e ∷ from key leaf = (λ i. take_below key leaf i ++ e ∷ drop_below key leaf i) in
-    all_set leaves at (insert leaf (length (below key leaf)) e) b.within ∙ ap (λ l. front ++ (l ++ back)) cut
-    ∙ ap (λ l. front ++ l) (append_assoc (below key leaf) (e ∷ from key leaf) back) ∙ sym (append_assoc front (below key leaf) (e ∷ from key leaf ++ back))
-    ∙ (λ i. sym (below_at key leaves at b) i ++ e ∷ sym (from_at key leaves at b) i)
-
 -- One more left out is one left out of the rest.
 drop_one : {X : Type 0} (n : ℕ) (xs : List X) → drop (suc n) xs ≡ drop 1 (drop n xs)
 drop_one zero xs = refl
 drop_one (suc n) [] = refl
 drop_one (suc n) (x ∷ xs) = drop_one n xs
 
--- The first of two lists loses its first.
-drop_first : (xs ys : List Entry) → 0 < length xs → drop 1 (xs ++ ys) ≡ drop 1 xs ++ ys
-drop_first [] ys some = absurd (omega arith)
-drop_first (x ∷ xs) ys some = refl
+module _ {V : Type 0} where
+  -- A leaf of rising entries rises.
+  pub rising_leaf : (leaves : List (List (Entry V))) (at : ℕ) → at < length leaves → AreRising (all_of leaves) → AreRising (get_or leaves at [])
+  rising_leaf leaves at lt rising = let leaf = get_or leaves at [] in let back = all_of (drop (suc at) leaves) in
+      (rising_parts leaf back (rising_parts (all_of (take at leaves)) (leaf ++ back) (subst AreRising (all_at leaves at lt) rising)).1).0
 
--- An entry taken out of the leaf of its key leaves the others.
-pub out_all : (key : ℕ) (leaves : List (List Entry)) (at : ℕ) → Belongs key leaves at → 0 < length (from key (get_or leaves at []))
-    → all_of (set leaves at (remove (get_or leaves at []) (length (below key (get_or leaves at []))))) ≡ below key (all_of leaves) ++ drop 1 (from key (all_of leaves))
-out_all key leaves at b some =
-    let front = all_of (take at leaves) in let leaf = get_or leaves at [] in let back = all_of (drop (suc at) leaves) in let place = length (below key leaf) in let rest = drop 1 (from key leaf) in
-    let cut : remove leaf place ≡ below key leaf ++ rest = (λ i. take_below key leaf i ++ (drop_one place leaf ∙ ap (drop 1) (drop_below key leaf)) i) in
-    all_set leaves at (remove leaf place) b.within ∙ ap (λ l. front ++ (l ++ back)) cut
-    ∙ ap (λ l. front ++ l) (append_assoc (below key leaf) rest back) ∙ sym (append_assoc front (below key leaf) (rest ++ back))
-    ∙ ap (λ l. (front ++ below key leaf) ++ l) (sym (drop_first (from key leaf) back some))
-    ∙ (λ i. sym (below_at key leaves at b) i ++ drop 1 (sym (from_at key leaves at b) i))
+  -- What is in front of a key, by leaves.
+  pub below_at : (key : ℕ) (leaves : List (List (Entry V))) (at : ℕ) → Belongs key leaves at → below key (all_of leaves) ≡ all_of (take at leaves) ++ below key (get_or leaves at [])
+  below_at key leaves at b = let front = all_of (take at leaves) in let leaf = get_or leaves at [] in let back = all_of (drop (suc at) leaves) in
+      ap (below key) (all_at leaves at b.within) ∙ (cut_front key front (leaf ++ back) b.front).0 ∙ ap (λ l. front ++ l) (cut_back key leaf back b.back).0
 
--- A key above which all later entries lie is in the first part, if anywhere.
-pub present_in : (key : ℕ) (xs back : List Entry) → AreAbove key back → is_some (filed_at key (xs ++ back)) ≡ true → 0 < length xs
-present_in key [] [] above present = cc
-present_in key [] (y ∷ back) above present = let no : filed_at key (y ∷ back) ≡ None = grind (arith, nat_tests, above.0) in absurd (cc)
-present_in key (x ∷ xs) back above present = omega arith
+  -- What is left from a key on, by leaves.
+  pub from_at : (key : ℕ) (leaves : List (List (Entry V))) (at : ℕ) → Belongs key leaves at → from key (all_of leaves) ≡ from key (get_or leaves at []) ++ all_of (drop (suc at) leaves)
+  from_at key leaves at b = let front = all_of (take at leaves) in let leaf = get_or leaves at [] in let back = all_of (drop (suc at) leaves) in
+      ap (from key) (all_at leaves at b.within) ∙ (cut_front key front (leaf ++ back) b.front).1 ∙ (cut_back key leaf back b.back).1
 
--- A key that is there lies in front of the end of its leaf.
-pub place_within : (key : ℕ) (leaf : List Entry) → 0 < length (from key leaf) → length (below key leaf) < length leaf
-place_within key leaf some = omega (arith, length-append (below key leaf) (from key leaf), ap length (cut_whole key leaf))
+  -- An entry put into the leaf of its key stands between what is in front of the key and what is left.
+  pub put_all : (key : ℕ) (filed : Filed V) (leaves : List (List (Entry V))) (at : ℕ) → Belongs key leaves at
+      → all_of (set leaves at (insert (get_or leaves at []) (length (below key (get_or leaves at []))) (key, filed))) ≡ below key (all_of leaves) ++ (key, filed) ∷ from key (all_of leaves)
+  put_all key filed leaves at b =
+      let front = all_of (take at leaves) in let leaf = get_or leaves at [] in let back = all_of (drop (suc at) leaves) in let e : Entry V = (key, filed) in
+      let cut : insert leaf (length (below key leaf)) e ≡ below key leaf ++ e ∷ from key leaf = (λ i. take_below key leaf i ++ e ∷ drop_below key leaf i) in
+      all_set leaves at (insert leaf (length (below key leaf)) e) b.within ∙ ap (λ l. front ++ (l ++ back)) cut
+      ∙ ap (λ l. front ++ l) (append_assoc (below key leaf) (e ∷ from key leaf) back) ∙ sym (append_assoc front (below key leaf) (e ∷ from key leaf ++ back))
+      ∙ (λ i. sym (below_at key leaves at b) i ++ e ∷ sym (from_at key leaves at b) i)
 
--- A leaf written over leaves the others as they are.
-pub set_round : (leaves : List (List Entry)) (at : ℕ) (leaf : List Entry) → (take at (set leaves at leaf) ≡ take at leaves) × (drop (suc at) (set leaves at leaf) ≡ drop (suc at) leaves)
-set_round [] at leaf = (refl, refl)
-set_round (l ∷ leaves) zero leaf = (refl, refl)
-set_round (l ∷ leaves) (suc at) leaf = let rest = set_round leaves at leaf in (ap (λ ls. l ∷ ls) rest.0, rest.1)
+  -- The first of two lists loses its first.
+  drop_first : (xs ys : List (Entry V)) → 0 < length xs → drop 1 (xs ++ ys) ≡ drop 1 xs ++ ys
+  drop_first [] ys some = absurd (omega arith)
+  drop_first (x ∷ xs) ys some = refl
 
--- Entries above a number stay so with a key above it put in.
-above_put : (n key : ℕ) (filed : Filed) (es : List Entry) → n < key → AreAbove n es → AreAbove n (below key es ++ (key, filed) ∷ from key es)
-above_put n key filed [] lt above = (lt, tt)
-above_put n key filed (e ∷ es) lt above = elim (cases_lt e.0 key) [
-  | inl on ↦ rw (below_on key e es on, from_on key e es on) (above.0, above_put n key filed es lt above.1)
-  | inr le ↦ rw (below_end key e es le, from_end key e es le) (lt, above)
-]
+  -- An entry taken out of the leaf of its key leaves the others.
+  pub out_all : (key : ℕ) (leaves : List (List (Entry V))) (at : ℕ) → Belongs key leaves at → 0 < length (from key (get_or leaves at []))
+      → all_of (set leaves at (remove (get_or leaves at []) (length (below key (get_or leaves at []))))) ≡ below key (all_of leaves) ++ drop 1 (from key (all_of leaves))
+  out_all key leaves at b some =
+      let front = all_of (take at leaves) in let leaf = get_or leaves at [] in let back = all_of (drop (suc at) leaves) in let place = length (below key leaf) in let rest = drop 1 (from key leaf) in
+      let cut : remove leaf place ≡ below key leaf ++ rest = (λ i. take_below key leaf i ++ (drop_one place leaf ∙ ap (drop 1) (drop_below key leaf)) i) in
+      all_set leaves at (remove leaf place) b.within ∙ ap (λ l. front ++ (l ++ back)) cut
+      ∙ ap (λ l. front ++ l) (append_assoc (below key leaf) rest back) ∙ sym (append_assoc front (below key leaf) (rest ++ back))
+      ∙ ap (λ l. (front ++ below key leaf) ++ l) (sym (drop_first (from key leaf) back some))
+      ∙ (λ i. sym (below_at key leaves at b) i ++ drop 1 (sym (from_at key leaves at b) i))
 
--- A first key that is not before the one sought, and is another, is after it.
-strictly : (key : ℕ) (e : Entry) (es : List Entry) → key ≤ e.0 → filed_at key (e ∷ es) ≡ None → key < e.0
-strictly key e es le absent = elim (cases_lt key e.0) [
-  | inl lt ↦ lt
-  | inr same ↦ let is : filed_at key (e ∷ es) ≡ Some e.1 = grind (arith, nat_tests, le, same) in absurd (cc)
-]
+  -- A key above which all later entries lie is in the first part, if anywhere.
+  pub present_in : (key : ℕ) (xs back : List (Entry V)) → AreAbove key back → is_some (filed_at key (xs ++ back)) ≡ true → 0 < length xs
+  present_in key [] [] above present = cc
+  present_in key [] (y ∷ back) above present = let no : filed_at key (y ∷ back) ≡ None = grind (arith, nat_tests, above.0) in absurd (cc)
+  present_in key (x ∷ xs) back above present = omega arith
 
--- Rising entries rise with an absent key put in.
-pub rising_put : (key : ℕ) (filed : Filed) (es : List Entry) → AreRising es → filed_at key (from key es) ≡ None → AreRising (below key es ++ (key, filed) ∷ from key es)
-rising_put key filed [] rising absent = (tt, tt)
-rising_put key filed (e ∷ es) rising absent = elim (cases_lt e.0 key) [
-  | inl on ↦ let rest : filed_at key (from key es) ≡ None = ap (filed_at key) (sym (from_on key e es on)) ∙ absent in
-      rw (below_on key e es on, from_on key e es on) (above_put e.0 key filed es on rising.0, rising_put key filed es rising.1 rest)
-  | inr le ↦ let here : filed_at key (e ∷ es) ≡ None = ap (filed_at key) (sym (from_end key e es le)) ∙ absent in
-      rw (below_end key e es le, from_end key e es le) (leaf_above key (e ∷ es) rising (strictly key e es le here), rising)
-]
+  -- A key that is there lies in front of the end of its leaf.
+  pub place_within : (key : ℕ) (leaf : List (Entry V)) → 0 < length (from key leaf) → length (below key leaf) < length leaf
+  place_within key leaf some = omega (arith, length-append (below key leaf) (from key leaf), ap length (cut_whole key leaf))
 
--- Entries above a number stay so with one taken out.
-above_out : (n key : ℕ) (es : List Entry) → AreAbove n es → AreAbove n (below key es ++ drop 1 (from key es))
-above_out n key [] above = tt
-above_out n key (e ∷ es) above = elim (cases_lt e.0 key) [
-  | inl on ↦ rw (below_on key e es on, from_on key e es on) (above.0, above_out n key es above.1)
-  | inr le ↦ rw (below_end key e es le, from_end key e es le) above.1
-]
+  -- A leaf written over leaves the others as they are.
+  pub set_round : (leaves : List (List (Entry V))) (at : ℕ) (leaf : List (Entry V)) → (take at (set leaves at leaf) ≡ take at leaves) × (drop (suc at) (set leaves at leaf) ≡ drop (suc at) leaves)
+  set_round [] at leaf = (refl, refl)
+  set_round (l ∷ leaves) zero leaf = (refl, refl)
+  set_round (l ∷ leaves) (suc at) leaf = let rest = set_round leaves at leaf in (ap (λ ls. l ∷ ls) rest.0, rest.1)
 
--- Rising entries rise with one taken out.
-pub rising_out : (key : ℕ) (es : List Entry) → AreRising es → AreRising (below key es ++ drop 1 (from key es))
-rising_out key [] rising = tt
-rising_out key (e ∷ es) rising = elim (cases_lt e.0 key) [
-  | inl on ↦ rw (below_on key e es on, from_on key e es on) (above_out e.0 key es rising.0, rising_out key es rising.1)
-  | inr le ↦ rw (below_end key e es le, from_end key e es le) rising.1
-]
+  -- Entries above a number stay so with a key above it put in.
+  above_put : (n key : ℕ) (filed : Filed V) (es : List (Entry V)) → n < key → AreAbove n es → AreAbove n (below key es ++ (key, filed) ∷ from key es)
+  above_put n key filed [] lt above = (lt, tt)
+  above_put n key filed (e ∷ es) lt above = elim (cases_lt e.0 key) [
+    | inl on ↦ rw (below_on key e es on, from_on key e es on) (above.0, above_put n key filed es lt above.1)
+    | inr le ↦ rw (below_end key e es le, from_end key e es le) (lt, above)
+  ]
 
--- A cut list with one entry more is one longer.
-pub length_put : (key : ℕ) (filed : Filed) (es : List Entry) → length (below key es ++ (key, filed) ∷ from key es) ≡ length es + 1
-length_put key filed es = omega (arith, length-append (below key es) ((key, filed) ∷ from key es), length-append (below key es) (from key es), ap length (cut_whole key es))
+  -- A first key that is not before the one sought, and is another, is after it.
+  strictly : (key : ℕ) (e : Entry V) (es : List (Entry V)) → key ≤ e.0 → filed_at key (e ∷ es) ≡ None → key < e.0
+  strictly key e es le absent = elim (cases_lt key e.0) [
+    | inl lt ↦ lt
+    | inr same ↦ let is : filed_at key (e ∷ es) ≡ Some e.1 = grind (arith, nat_tests, le, same) in absurd (cc)
+  ]
 
--- Without its first entry from the key on it is one shorter.
-pub length_out : (key : ℕ) (es : List Entry) → 0 < length (from key es) → length (below key es ++ drop 1 (from key es)) + 1 ≡ length es
-length_out key es some = omega (arith, length-append (below key es) (drop 1 (from key es)), length-drop 1 (from key es), length-append (below key es) (from key es), ap length (cut_whole key es))
+  -- Rising entries rise with an absent key put in.
+  pub rising_put : (key : ℕ) (filed : Filed V) (es : List (Entry V)) → AreRising es → filed_at key (from key es) ≡ None → AreRising (below key es ++ (key, filed) ∷ from key es)
+  rising_put key filed [] rising absent = (tt, tt)
+  rising_put key filed (e ∷ es) rising absent = elim (cases_lt e.0 key) [
+    | inl on ↦ let rest : filed_at key (from key es) ≡ None = ap (filed_at key) (sym (from_on key e es on)) ∙ absent in
+        rw (below_on key e es on, from_on key e es on) (above_put e.0 key filed es on rising.0, rising_put key filed es rising.1 rest)
+    | inr le ↦ let here : filed_at key (e ∷ es) ≡ None = ap (filed_at key) (sym (from_end key e es le)) ∙ absent in
+        rw (below_end key e es le, from_end key e es le) (leaf_above key (e ∷ es) rising (strictly key e es le here), rising)
+  ]
+
+  -- Entries above a number stay so with one taken out.
+  above_out : (n key : ℕ) (es : List (Entry V)) → AreAbove n es → AreAbove n (below key es ++ drop 1 (from key es))
+  above_out n key [] above = tt
+  above_out n key (e ∷ es) above = elim (cases_lt e.0 key) [
+    | inl on ↦ rw (below_on key e es on, from_on key e es on) (above.0, above_out n key es above.1)
+    | inr le ↦ rw (below_end key e es le, from_end key e es le) above.1
+  ]
+
+  -- Rising entries rise with one taken out.
+  pub rising_out : (key : ℕ) (es : List (Entry V)) → AreRising es → AreRising (below key es ++ drop 1 (from key es))
+  rising_out key [] rising = tt
+  rising_out key (e ∷ es) rising = elim (cases_lt e.0 key) [
+    | inl on ↦ rw (below_on key e es on, from_on key e es on) (above_out e.0 key es rising.0, rising_out key es rising.1)
+    | inr le ↦ rw (below_end key e es le, from_end key e es le) rising.1
+  ]
+
+  -- A cut list with one entry more is one longer.
+  pub length_put : (key : ℕ) (filed : Filed V) (es : List (Entry V)) → length (below key es ++ (key, filed) ∷ from key es) ≡ length es + 1
+  length_put key filed es = omega (arith, length-append (below key es) ((key, filed) ∷ from key es), length-append (below key es) (from key es), ap length (cut_whole key es))
+
+  -- Without its first entry from the key on it is one shorter.
+  pub length_out : (key : ℕ) (es : List (Entry V)) → 0 < length (from key es) → length (below key es ++ drop 1 (from key es)) + 1 ≡ length es
+  length_out key es some = omega (arith, length-append (below key es) (drop 1 (from key es)), length-drop 1 (from key es), length-append (below key es) (from key es), ap length (cut_whole key es))

@@ -25,20 +25,21 @@ count_of Imports c = c.imports
 count_of Exports c = c.exports
 count_of Names c = c.names
 
--- The entries that have the mark, in order.
-abbrev pub marked : Mark → List Entry → List Entry
-marked mark es = filter (λ e. has_mark mark e.1.marks) es
+module _ {V : Type 0} where
+  -- The entries that have the mark, in order.
+  abbrev pub marked : Mark → List (Entry V) → List (Entry V)
+  marked mark es = filter (λ e. has_mark mark e.1.marks) es
 
--- So many entries have each mark.
-abbrev pub AreCounts : Counts → List Entry → Type 0
-AreCounts counts es = (m : Mark) → count_of m counts ≡ length (marked m es)
+  -- So many entries have each mark.
+  abbrev pub AreCounts : Counts → List (Entry V) → Type 0
+  AreCounts counts es = (m : Mark) → count_of m counts ≡ length (marked m es)
 
--- The entry, with these marks.
-abbrev pub with_marks : Marks → Entry → Entry
-with_marks marks e = (e.0, record { slot = e.1.slot; marks = marks })
+  -- The entry, with these marks.
+  abbrev pub with_marks : Marks → Entry V → Entry V
+  with_marks marks e = (e.0, record { value = e.1.value; marks = marks })
 
--- The entries, with these marks at a place.
-abbrev pub mark_at : Marks → ℕ → List Entry → List Entry
-mark_at marks i [] = []
-mark_at marks zero (e ∷ es) = with_marks marks e ∷ es
-mark_at marks (suc i) (e ∷ es) = e ∷ mark_at marks i es
+  -- The entries, with these marks at a place.
+  abbrev pub mark_at : Marks → ℕ → List (Entry V) → List (Entry V)
+  mark_at marks i [] = []
+  mark_at marks zero (e ∷ es) = with_marks marks e ∷ es
+  mark_at marks (suc i) (e ∷ es) = e ∷ mark_at marks i es

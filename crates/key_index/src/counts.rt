@@ -3,8 +3,9 @@ ghost use Rattle.std.specs.Prelude.{◌≡◌, ◌+◌, ◌<◌, ◌≤◌, take
 ghost use Rattle.key_index.specs.declared.filed.Mark.{Mark};
 ghost use Rattle.key_index.specs.Marks.{has_mark, weigh, count_of, AreCounts};
 
-use crate::filed::{Filed, Mark, Marks};
-use crate::key::IndexKey;
+use crate::entry::Entry;
+use crate::filed::{Mark, Marks};
+use crate::key::Ranked;
 
 /// How many of at most 128 entries have each mark.
 #[derive(Clone, Copy)]
@@ -101,13 +102,13 @@ impl Counts {
 }
 
 // The counts of at most 128 entries.
-pub(crate) fn counts_over(entries: &[(IndexKey, Filed)]) -> Counts
+pub(crate) fn counts_over<K: Ranked, V: Copy>(entries: &[Entry<K, V>]) -> Counts
     requires { length entries.now ≤ 128 }
     ensures { AreCounts result entries.now }
 {
     let mut counts = Counts::none();
     for entry in entries {
-        counts = counts.more(entry.1.marks);
+        counts = counts.more(entry.filed().marks);
     }
     counts
 }

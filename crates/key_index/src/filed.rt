@@ -1,4 +1,4 @@
-//! What an index keeps under a key: a slot number, and marks.
+//! What an index keeps under a key: a value, and marks.
 ghost use Rattle.std.specs.Prelude.{◌≡◌};
 ghost use Rattle.key_index.specs.Marks.{has_mark};
 
@@ -30,9 +30,9 @@ pub enum Mark {
 
 /// What stands under a key.
 #[derive(Clone, Copy, Debug, PartialEq, Eq)]
-pub struct Filed {
-    /// The slot number.
-    pub slot: u32,
+pub struct Filed<V> {
+    /// The value.
+    pub value: V,
     /// The marks.
     pub marks: Marks,
 }

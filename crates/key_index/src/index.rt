@@ -3,8 +3,9 @@ ghost use Rattle.key_index.specs.Entries.{below, from, filed_at, first_of, last_
 ghost use Rattle.key_index.specs.Index.{index};
 ghost use Rattle.key_index.specs.Marks.{marked, mark_at};
 
+use crate::entry::Entry;
 use crate::filed::{Filed, Mark, Marks};
-use crate::key::IndexKey;
+use crate::key::Ranked;
 use crate::leaf::{LEAF_SIZE, Leaf};
 use crate::leaves::{
     first_from, first_marked, last_before, last_marked, leaf_of, make_room, mark, put, put_at,
@@ -14,20 +15,20 @@ use crate::place::KeyPlace;
 use std::alloc::{AllocError, Global};
 use std::marker::Model;
 
-/// An ordered index from keys to slot numbers. Contracts see its entries by rising key, and how many
-/// it may hold.
+/// An ordered index from keys to values. Contracts see its entries by rising rank of their keys, and how
+/// many it may hold.
 #[derive(Drop)]
-pub struct KeyIndex {
-    leaves: Vec<Leaf>,
-    spare: Vec<Leaf>,
+pub struct KeyIndex<K: Ranked, V: Copy> {
+    leaves: Vec<Leaf<K, V>>,
+    spare: Vec<Leaf<K, V>>,
     len: u32,
     capacity: u32,
 }
 
-impl Model for KeyIndex {
+impl<K: Ranked, V: Copy> Model for KeyIndex<K, V> {
     ghost use Rattle.key_index.specs.Index.{Index, index};
 
-    ghost Value = { Index };
+    ghost Value = { Index V };
 
     ghost use Rattle.key_index.specs.Leaves.{all_of, IsIndex};
 
@@ -36,7 +37,7 @@ impl Model for KeyIndex {
     ghost invariant = { λ i. IsIndex i.leaves i.spare i.len i.capacity };
 }
 
-impl KeyIndex {
+impl<K: Ranked, V: Copy> KeyIndex<K, V> {
     /// An index of no entries, with room for so many.
     pub fn open(alloc: Global, capacity: u32) -> Result<Self, AllocError>
         ensures { IfOk result (λ i. i ≡ index [] capacity) }
@@ -81,7 +82,7 @@ impl KeyIndex {
     }
 
     /// The place where a key stands or belongs, to be handed to the calls that take one.
-    pub fn place(&self, key: IndexKey) -> KeyPlace {
+    pub fn place(&self, key: K) -> KeyPlace {
         if self.leaves.is_empty() {
             return KeyPlace { leaf: 0, entry: 0 };
         }
@@ -89,7 +90,7 @@ impl KeyIndex {
     }
 
     /// The same, where it may be the place given.
-    pub fn place_near(&self, near: KeyPlace, key: IndexKey) -> KeyPlace {
+    pub fn place_near(&self, near: KeyPlace, key: K) -> KeyPlace {
         if self.leaves.is_empty() {
             return KeyPlace { leaf: 0, entry: 0 };
         }
@@ -97,25 +98,25 @@ impl KeyIndex {
     }
 
     /// What stands under a key; none where the key is absent.
-    pub fn get(&self, place: KeyPlace, key: IndexKey) -> Option<Filed>
-        ensures { result ≡ filed_at key (from key self.now.entries) }
+    pub fn get(&self, place: KeyPlace, key: K) -> Option<Filed<V>>
+        ensures { result ≡ filed_at (K.rank key) (from (K.rank key) self.now.entries) }
     {
         match self.at_or_after(place, key) {
-            Some((found, filed)) if found == key => Some(filed),
+            Some(entry) if !entry.is_after(key) => Some(entry.filed()),
             _ => None,
         }
     }
 
     /// The first entry whose key is the one given or greater.
-    pub fn at_or_after(&self, place: KeyPlace, key: IndexKey) -> Option<(IndexKey, Filed)>
-        ensures { result ≡ first_of (from key self.now.entries) }
+    pub fn at_or_after(&self, place: KeyPlace, key: K) -> Option<Entry<K, V>>
+        ensures { result ≡ first_of (from (K.rank key) self.now.entries) }
     {
         self.find(place, key).0
     }
 
     /// The same, and the place where the key stands or belongs.
-    pub fn find(&self, near: KeyPlace, key: IndexKey) -> (Option<(IndexKey, Filed)>, KeyPlace)
-        ensures { result.0 ≡ first_of (from key self.now.entries) }
+    pub fn find(&self, near: KeyPlace, key: K) -> (Option<Entry<K, V>>, KeyPlace)
+        ensures { result.0 ≡ first_of (from (K.rank key) self.now.entries) }
     {
         if self.leaves.is_empty() {
             return (None, KeyPlace { leaf: 0, entry: 0 });
@@ -125,8 +126,8 @@ impl KeyIndex {
     }
 
     /// The last entry whose key is smaller than the one given.
-    pub fn before(&self, place: KeyPlace, key: IndexKey) -> Option<(IndexKey, Filed)>
-        ensures { result ≡ last_of (below key self.now.entries) }
+    pub fn before(&self, place: KeyPlace, key: K) -> Option<Entry<K, V>>
+        ensures { result ≡ last_of (below (K.rank key) self.now.entries) }
     {
         if self.leaves.is_empty() {
             return None;
@@ -136,13 +137,8 @@ impl KeyIndex {
     }
 
     /// The last entry with a mark whose key is smaller than the one given.
-    pub fn before_marked(
-        &self,
-        place: KeyPlace,
-        key: IndexKey,
-        mark: Mark,
-    ) -> Option<(IndexKey, Filed)>
-        ensures { result ≡ last_of (marked mark (below key self.now.entries)) }
+    pub fn before_marked(&self, place: KeyPlace, key: K, mark: Mark) -> Option<Entry<K, V>>
+        ensures { result ≡ last_of (marked mark (below (K.rank key) self.now.entries)) }
     {
         if self.leaves.is_empty() {
             return None;
@@ -152,13 +148,8 @@ impl KeyIndex {
     }
 
     /// The first entry with a mark whose key is the one given or greater.
-    pub fn at_or_after_marked(
-        &self,
-        place: KeyPlace,
-        key: IndexKey,
-        mark: Mark,
-    ) -> Option<(IndexKey, Filed)>
-        ensures { result ≡ first_of (marked mark (from key self.now.entries)) }
+    pub fn at_or_after_marked(&self, place: KeyPlace, key: K, mark: Mark) -> Option<Entry<K, V>>
+        ensures { result ≡ first_of (marked mark (from (K.rank key) self.now.entries)) }
     {
         if self.leaves.is_empty() {
             return None;
@@ -172,11 +163,11 @@ impl KeyIndex {
     pub fn around_marked(
         &self,
         place: KeyPlace,
-        key: IndexKey,
+        key: K,
         mark: Mark,
-    ) -> (Option<(IndexKey, Filed)>, Option<(IndexKey, Filed)>)
-        ensures before { result.0 ≡ last_of (marked mark (below key self.now.entries)) }
-        ensures from { result.1 ≡ first_of (marked mark (from key self.now.entries)) }
+    ) -> (Option<Entry<K, V>>, Option<Entry<K, V>>)
+        ensures before { result.0 ≡ last_of (marked mark (below (K.rank key) self.now.entries)) }
+        ensures from { result.1 ≡ first_of (marked mark (from (K.rank key) self.now.entries)) }
     {
         if self.leaves.is_empty() {
             return (None, None);
@@ -188,9 +179,9 @@ impl KeyIndex {
     }
 
     /// Sets the marks of the entry of a key, which is there.
-    pub fn set_marks(&mut self, key: IndexKey, marks: Marks)
-        requires { IsSome (filed_at key (from key self.old.entries)) }
-        ensures entries { self.new.entries ≡ below key self.old.entries ++ mark_at marks 0 (from key self.old.entries) }
+    pub fn set_marks(&mut self, key: K, marks: Marks)
+        requires { IsSome (filed_at (K.rank key) (from (K.rank key) self.old.entries)) }
+        ensures entries { self.new.entries ≡ below (K.rank key) self.old.entries ++ mark_at marks 0 (from (K.rank key) self.old.entries) }
         ensures capacity { self.new.capacity ≡ self.old.capacity }
     {
         let at = leaf_of(&self.leaves, key);
@@ -198,16 +189,16 @@ impl KeyIndex {
     }
 
     /// Puts in an entry at its place. The key is absent, and there is room.
-    pub fn insert(&mut self, place: KeyPlace, key: IndexKey, filed: Filed)
-        requires absent { filed_at key (from key self.old.entries) ≡ None }
+    pub fn insert(&mut self, place: KeyPlace, key: K, filed: Filed<V>)
+        requires absent { filed_at (K.rank key) (from (K.rank key) self.old.entries) ≡ None }
         requires room { length self.old.entries < self.old.capacity }
-        ensures entries { self.new.entries ≡ below key self.old.entries ++ (key, filed) ∷ from key self.old.entries }
+        ensures entries { self.new.entries ≡ below (K.rank key) self.old.entries ++ (K.rank key, filed) ∷ from (K.rank key) self.old.entries }
         ensures capacity { self.new.capacity ≡ self.old.capacity }
     {
         if !self.leaves.is_empty() {
             let at = settled(&self.leaves, place, key);
             if self.leaves[at.leaf].len() < LEAF_SIZE {
-                put_at(&mut self.leaves, at, key, filed);
+                put_at(&mut self.leaves, at, Entry::new(key, filed));
                 self.len += 1;
                 return;
             }
@@ -216,22 +207,22 @@ impl KeyIndex {
     }
 
     // Puts in an entry where its leaf may be full, or there is none.
-    fn insert_making_room(&mut self, key: IndexKey, filed: Filed)
-        requires absent { filed_at key (from key self.old.entries) ≡ None }
+    fn insert_making_room(&mut self, key: K, filed: Filed<V>)
+        requires absent { filed_at (K.rank key) (from (K.rank key) self.old.entries) ≡ None }
         requires room { length self.old.entries < self.old.capacity }
-        ensures entries { self.new.entries ≡ below key self.old.entries ++ (key, filed) ∷ from key self.old.entries }
+        ensures entries { self.new.entries ≡ below (K.rank key) self.old.entries ++ (K.rank key, filed) ∷ from (K.rank key) self.old.entries }
         ensures capacity { self.new.capacity ≡ self.old.capacity }
     {
         reclaim(&mut self.leaves, &mut self.spare);
         let at = make_room(&mut self.leaves, &mut self.spare, key);
-        put(&mut self.leaves, at, key, filed);
+        put(&mut self.leaves, at, Entry::new(key, filed));
         self.len += 1;
     }
 
     /// Takes out the entry of a key, which is there.
-    pub fn remove(&mut self, key: IndexKey)
-        requires { IsSome (filed_at key (from key self.old.entries)) }
-        ensures entries { self.new.entries ≡ below key self.old.entries ++ drop 1 (from key self.old.entries) }
+    pub fn remove(&mut self, key: K)
+        requires { IsSome (filed_at (K.rank key) (from (K.rank key) self.old.entries)) }
+        ensures entries { self.new.entries ≡ below (K.rank key) self.old.entries ++ drop 1 (from (K.rank key) self.old.entries) }
         ensures capacity { self.new.capacity ≡ self.old.capacity }
     {
         let at = leaf_of(&self.leaves, key);

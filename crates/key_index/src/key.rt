@@ -1,7 +1,21 @@
-ghost use Rattle.std.specs.Prelude.{◌≡◌, ◌<◌, ◌+◌, ◌*◌, ◌/◌, ◌%◌, ◌^◌, nat_lt};
+ghost use Rattle.std.specs.Prelude.{◌≡◌, ℕ, refl, ◌<◌, ◌+◌, ◌*◌, ◌/◌, ◌%◌, ◌^◌, nat_lt};
 ghost use Rattle.key_index.specs.Key.{rank};
 
 use std::marker::Model;
+
+/// Keys in an order. An index goes by their ranks.
+pub trait Ranked: Copy {
+    // Where a key stands among all keys, and the key that stands there.
+    ghost rank: { Self → ℕ };
+
+    ghost key_of: { ℕ → Self };
+
+    ghost back: { (key : Self) → key_of (rank key) ≡ key };
+
+    /// Tells whether this key stands before the other.
+    fn is_before(self, other: Self) -> bool
+        ensures { result ≡ nat_lt (rank self) (rank other) };
+}
 
 /// A transaction's slot and a sequence number below 2^31. Contracts see a key as its rank, the slot
 /// times 2^31 and the number, so keys go by transaction first.
@@ -59,11 +73,16 @@ impl IndexKey {
     {
         (u64::from(self.transaction) << 32) | u64::from(self.number)
     }
+}
 
-    /// Tells whether this key stands before the other.
-    pub fn is_before(self, other: IndexKey) -> bool
-        ensures { result ≡ nat_lt self other }
-    {
+impl Ranked for IndexKey {
+    ghost rank = { λ key. key };
+
+    ghost key_of = { λ n. n };
+
+    ghost back = { λ key. refl };
+
+    fn is_before(self, other: Self) -> bool {
         self.joined() < other.joined()
     }
 }

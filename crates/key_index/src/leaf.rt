@@ -6,8 +6,9 @@ ghost use Rattle.key_index.specs.Entries.{below, first_of, last_of, AreRising};
 ghost use Rattle.key_index.specs.Marks.{marked, mark_at};
 
 use crate::counts::{Counts, counts_over};
+use crate::entry::Entry;
 use crate::filed::{Filed, Mark, Marks};
-use crate::key::IndexKey;
+use crate::key::Ranked;
 use std::alloc::{AllocError, Global};
 use std::marker::Model;
 
@@ -17,19 +18,19 @@ pub const LEAF_SIZE: usize = 128;
 /// A run of entries, with how many of them have each mark. Contracts see the list of their keys and
 /// what stands under them.
 #[derive(Drop)]
-pub struct Leaf {
-    entries: Vec<(IndexKey, Filed)>,
+pub struct Leaf<K: Ranked, V: Copy> {
+    entries: Vec<Entry<K, V>>,
     counts: Counts,
 }
 
-impl Model for Leaf {
+impl<K: Ranked, V: Copy> Model for Leaf<K, V> {
     ghost use Rattle.std.specs.Prelude.{List, length, ◌≤◌};
     ghost use Rattle.std.specs.Vec.{vec_capacity};
     ghost use Rattle.key_index.specs.declared.leaf.TheConstants.{LEAF_SIZE};
     ghost use Rattle.key_index.specs.Entries.{Entry};
     ghost use Rattle.key_index.specs.Marks.{AreCounts};
 
-    ghost Value = { List Entry };
+    ghost Value = { List (Entry V) };
 
     ghost view = { λ l. l.entries.items };
 
@@ -37,7 +38,11 @@ impl Model for Leaf {
 }
 
 // Moves the entries from a place on into an empty vector, copied as a whole run.
-fn move_from(entries: &mut Vec<(IndexKey, Filed)>, place: usize, empty: &mut Vec<(IndexKey, Filed)>)
+fn move_from<K: Ranked, V: Copy>(
+    entries: &mut Vec<Entry<K, V>>,
+    place: usize,
+    empty: &mut Vec<Entry<K, V>>,
+)
     requires place { place ≤ length entries.old.items }
     requires empty { empty.old.items ≡ [] }
     requires room { length entries.old.items ≤ vec_capacity empty.old }
@@ -53,7 +58,7 @@ fn move_from(entries: &mut Vec<(IndexKey, Filed)>, place: usize, empty: &mut Vec
 }
 
 // Copies entries behind those of a vector that has room for them.
-fn push_all(entries: &mut Vec<(IndexKey, Filed)>, more: &[(IndexKey, Filed)])
+fn push_all<K: Ranked, V: Copy>(entries: &mut Vec<Entry<K, V>>, more: &[Entry<K, V>])
     requires { length entries.old.items + length more.now ≤ vec_capacity entries.old }
     ensures items { entries.new.items ≡ entries.old.items ++ more.now }
     ensures capacity { vec_capacity entries.old ≤ vec_capacity entries.new }
@@ -64,9 +69,9 @@ fn push_all(entries: &mut Vec<(IndexKey, Filed)>, more: &[(IndexKey, Filed)])
     }
 }
 
-impl Leaf {
+impl<K: Ranked, V: Copy> Leaf<K, V> {
     /// A leaf of no entries, with room for all that it may hold.
-    pub(crate) fn open(alloc: Global) -> Result<Leaf, AllocError>
+    pub(crate) fn open(alloc: Global) -> Result<Leaf<K, V>, AllocError>
         ensures { IfOk result (λ l. l ≡ []) }
     {
         let entries = Vec::with_capacity(alloc, LEAF_SIZE)?;
@@ -92,7 +97,7 @@ impl Leaf {
     }
 
     /// The entry at a place.
-    pub(crate) fn entry(&self, place: usize) -> (IndexKey, Filed)
+    pub(crate) fn entry(&self, place: usize) -> Entry<K, V>
         requires { place < length self.now }
         ensures { slice_get self.now place ≡ Some result }
     {
@@ -100,16 +105,16 @@ impl Leaf {
     }
 
     /// The place where a key stands or belongs.
-    pub(crate) fn place_of(&self, key: IndexKey) -> usize
+    pub(crate) fn place_of(&self, key: K) -> usize
         requires { AreRising self.now }
-        ensures place { result ≡ length (below key self.now) }
+        ensures place { result ≡ length (below (K.rank key) self.now) }
         ensures within { result ≤ length self.now }
     {
         let mut low = 0;
         let mut high = self.entries.len();
         while low < high {
             let middle = low + (high - low) / 2;
-            if self.entries[middle].0.is_before(key) {
+            if self.entries[middle].is_before(key) {
                 low = middle + 1;
             } else {
                 high = middle;
@@ -119,7 +124,7 @@ impl Leaf {
     }
 
     /// The last entry with a mark in front of a place.
-    pub(crate) fn last_marked(&self, place: usize, mark: Mark) -> Option<(IndexKey, Filed)>
+    pub(crate) fn last_marked(&self, place: usize, mark: Mark) -> Option<Entry<K, V>>
         requires { place ≤ length self.now }
         ensures { result ≡ last_of (marked mark (take place self.now)) }
     {
@@ -130,7 +135,7 @@ impl Leaf {
         while at > 0 {
             at -= 1;
             let entry = self.entries[at];
-            if entry.1.marks.has(mark) {
+            if entry.filed().marks.has(mark) {
                 return Some(entry);
             }
         }
@@ -138,7 +143,7 @@ impl Leaf {
     }
 
     /// The first entry with a mark from a place on.
-    pub(crate) fn first_marked(&self, place: usize, mark: Mark) -> Option<(IndexKey, Filed)>
+    pub(crate) fn first_marked(&self, place: usize, mark: Mark) -> Option<Entry<K, V>>
         ensures { result ≡ first_of (marked mark (drop place self.now)) }
     {
         if self.counts.of(mark) == 0 {
@@ -147,7 +152,7 @@ impl Leaf {
         let mut at = place;
         while at < self.entries.len() {
             let entry = self.entries[at];
-            if entry.1.marks.has(mark) {
+            if entry.filed().marks.has(mark) {
                 return Some(entry);
             }
             at += 1;
@@ -161,24 +166,21 @@ impl Leaf {
         ensures { self.new ≡ mark_at marks place self.old }
     {
         let entry = self.entries[place];
-        let filed = Filed {
-            slot: entry.1.slot,
-            marks,
-        };
-        self.counts = self.counts.less(entry.1.marks).more(marks);
-        self.entries[place] = (entry.0, filed);
+        let filed = entry.filed();
+        self.counts = self.counts.less(filed.marks).more(marks);
+        self.entries[place] = entry.marked_as(marks);
     }
 
     /// Puts an entry at a place; those from there on move up.
-    pub(crate) fn insert(&mut self, place: usize, key: IndexKey, filed: Filed)
+    pub(crate) fn insert(&mut self, place: usize, entry: Entry<K, V>)
         requires { (place ≤ length self.old) × (length self.old < LEAF_SIZE) }
-        ensures { self.new ≡ insert self.old place (key, filed) }
+        ensures { self.new ≡ insert self.old place entry }
     {
         let len = self.entries.len();
-        self.counts = self.counts.more(filed.marks);
-        self.entries.push_reserved((key, filed));
+        self.counts = self.counts.more(entry.filed().marks);
+        self.entries.push_reserved(entry);
         self.entries.copy_within(place..len, place + 1);
-        self.entries[place] = (key, filed);
+        self.entries[place] = entry;
     }
 
     /// Takes out the entry at a place; those after it move down.
@@ -187,11 +189,11 @@ impl Leaf {
         ensures { self.new ≡ remove self.old place }
     {
         let entry = self.entries.remove(place);
-        self.counts = self.counts.less(entry.1.marks);
+        self.counts = self.counts.less(entry.filed().marks);
     }
 
     /// Moves the entries from a place on into an empty leaf.
-    pub(crate) fn split_at(&mut self, place: usize, empty: &mut Leaf)
+    pub(crate) fn split_at(&mut self, place: usize, empty: &mut Leaf<K, V>)
         requires { (place ≤ length self.old) × (empty.old ≡ []) }
         ensures { (self.new ≡ take place self.old) × (empty.new ≡ drop place self.old) }
     {
@@ -202,7 +204,7 @@ impl Leaf {
     }
 
     /// Moves the entries of another leaf behind this one's.
-    pub(crate) fn append(&mut self, other: &mut Leaf)
+    pub(crate) fn append(&mut self, other: &mut Leaf<K, V>)
         requires { length self.old + length other.old ≤ LEAF_SIZE }
         ensures { (self.new ≡ self.old ++ other.old) × (other.new ≡ []) }
     {

@@ -7,22 +7,23 @@ ghost use Rattle.key_index.specs.Marks.{marked, mark_at};
 ghost use Rattle.key_index.specs.Places.{in_front, on_from, IsCutAt, IsPlace};
 ghost use Rattle.key_index.specs.Leaves.{all_of, AreFilled, AreEmpty, Belongs, NoneFit, IsKept, IsReady, HaveRoom};
 
-use crate::filed::{Filed, Mark, Marks};
-use crate::key::IndexKey;
+use crate::entry::Entry;
+use crate::filed::{Mark, Marks};
+use crate::key::Ranked;
 use crate::leaf::{LEAF_SIZE, Leaf};
 use crate::place::KeyPlace;
 
 /// The leaf in which a key stands or belongs: the last one that begins at the key or before it, or
 /// the first leaf.
-pub(crate) fn leaf_of(leaves: &Vec<Leaf>, key: IndexKey) -> usize
+pub(crate) fn leaf_of<K: Ranked, V: Copy>(leaves: &Vec<Leaf<K, V>>, key: K) -> usize
     requires { (0 < length leaves.now.items) × AreFilled leaves.now.items × AreRising (all_of leaves.now.items) }
-    ensures { Belongs key leaves.now.items result }
+    ensures { Belongs (K.rank key) leaves.now.items result }
 {
     let mut low = 0;
     let mut high = leaves.len();
     while low < high {
         let middle = low + (high - low) / 2;
-        if key.is_before(leaves[middle].entry(0).0) {
+        if leaves[middle].entry(0).is_after(key) {
             high = middle;
         } else {
             low = middle + 1;
@@ -32,7 +33,11 @@ pub(crate) fn leaf_of(leaves: &Vec<Leaf>, key: IndexKey) -> usize
 }
 
 /// The first entry from a place of a leaf on.
-pub(crate) fn first_from(leaves: &Vec<Leaf>, at: usize, place: usize) -> Option<(IndexKey, Filed)>
+pub(crate) fn first_from<K: Ranked, V: Copy>(
+    leaves: &Vec<Leaf<K, V>>,
+    at: usize,
+    place: usize,
+) -> Option<Entry<K, V>>
     requires { (at < length leaves.now.items) × AreFilled leaves.now.items }
     ensures { result ≡ first_of (drop place (get_or leaves.now.items at []) ++ all_of (drop (suc at) leaves.now.items)) }
 {
@@ -46,7 +51,11 @@ pub(crate) fn first_from(leaves: &Vec<Leaf>, at: usize, place: usize) -> Option<
 }
 
 /// The last entry before a place of a leaf.
-pub(crate) fn last_before(leaves: &Vec<Leaf>, at: usize, place: usize) -> Option<(IndexKey, Filed)>
+pub(crate) fn last_before<K: Ranked, V: Copy>(
+    leaves: &Vec<Leaf<K, V>>,
+    at: usize,
+    place: usize,
+) -> Option<Entry<K, V>>
     requires { (at < length leaves.now.items) × AreFilled leaves.now.items × (place ≤ length (get_or leaves.now.items at [])) }
     ensures { result ≡ last_of (all_of (take at leaves.now.items) ++ take place (get_or leaves.now.items at [])) }
 {
@@ -61,9 +70,9 @@ pub(crate) fn last_before(leaves: &Vec<Leaf>, at: usize, place: usize) -> Option
 }
 
 /// The place of a key.
-pub(crate) fn seek(leaves: &Vec<Leaf>, key: IndexKey) -> KeyPlace
+pub(crate) fn seek<K: Ranked, V: Copy>(leaves: &Vec<Leaf<K, V>>, key: K) -> KeyPlace
     requires { (0 < length leaves.now.items) × AreFilled leaves.now.items × AreRising (all_of leaves.now.items) }
-    ensures { IsPlace key leaves.now.items result }
+    ensures { IsPlace (K.rank key) leaves.now.items result }
 {
     let at = leaf_of(leaves, key);
     let entry = leaves[at].place_of(key);
@@ -71,25 +80,29 @@ pub(crate) fn seek(leaves: &Vec<Leaf>, key: IndexKey) -> KeyPlace
 }
 
 /// Tells whether a place is that of a key.
-fn fits(leaves: &Vec<Leaf>, place: KeyPlace, key: IndexKey) -> bool
+fn fits<K: Ranked, V: Copy>(leaves: &Vec<Leaf<K, V>>, place: KeyPlace, key: K) -> bool
     requires { (place.leaf < length leaves.now.items) × AreFilled leaves.now.items × (place.entry ≤ length (get_or leaves.now.items place.leaf [])) }
-    ensures { result ≡ true → IsCutAt key (in_front place.leaf place.entry leaves.now.items) (on_from place.leaf place.entry leaves.now.items) }
+    ensures { result ≡ true → IsCutAt (K.rank key) (in_front place.leaf place.entry leaves.now.items) (on_from place.leaf place.entry leaves.now.items) }
 {
     if let Some(entry) = last_before(leaves, place.leaf, place.entry) {
-        if !entry.0.is_before(key) {
+        if !entry.is_before(key) {
             return false;
         }
     }
     match first_from(leaves, place.leaf, place.entry) {
-        Some(entry) => !entry.0.is_before(key),
+        Some(entry) => !entry.is_before(key),
         None => true,
     }
 }
 
 /// The place of a key, where there is a hint of it.
-pub(crate) fn settled(leaves: &Vec<Leaf>, place: KeyPlace, key: IndexKey) -> KeyPlace
+pub(crate) fn settled<K: Ranked, V: Copy>(
+    leaves: &Vec<Leaf<K, V>>,
+    place: KeyPlace,
+    key: K,
+) -> KeyPlace
     requires { (0 < length leaves.now.items) × AreFilled leaves.now.items × AreRising (all_of leaves.now.items) }
-    ensures { IsPlace key leaves.now.items result }
+    ensures { IsPlace (K.rank key) leaves.now.items result }
 {
     if place.leaf < leaves.len() {
         if place.entry <= leaves[place.leaf].len() {
@@ -102,7 +115,11 @@ pub(crate) fn settled(leaves: &Vec<Leaf>, place: KeyPlace, key: IndexKey) -> Key
 }
 
 /// The last entry with a mark in the leaves in front of one.
-fn last_in_front(leaves: &Vec<Leaf>, at: usize, mark: Mark) -> Option<(IndexKey, Filed)>
+fn last_in_front<K: Ranked, V: Copy>(
+    leaves: &Vec<Leaf<K, V>>,
+    at: usize,
+    mark: Mark,
+) -> Option<Entry<K, V>>
     requires { at ≤ length leaves.now.items }
     ensures { result ≡ last_of (marked mark (all_of (take at leaves.now.items))) }
 {
@@ -118,7 +135,11 @@ fn last_in_front(leaves: &Vec<Leaf>, at: usize, mark: Mark) -> Option<(IndexKey,
 }
 
 /// The first entry with a mark in the leaves from one on.
-fn first_behind(leaves: &Vec<Leaf>, at: usize, mark: Mark) -> Option<(IndexKey, Filed)>
+fn first_behind<K: Ranked, V: Copy>(
+    leaves: &Vec<Leaf<K, V>>,
+    at: usize,
+    mark: Mark,
+) -> Option<Entry<K, V>>
     ensures { result ≡ first_of (marked mark (all_of (drop at leaves.now.items))) }
 {
     let mut back = at;
@@ -133,11 +154,11 @@ fn first_behind(leaves: &Vec<Leaf>, at: usize, mark: Mark) -> Option<(IndexKey, 
 }
 
 /// The last entry with a mark in front of a place.
-pub(crate) fn last_marked(
-    leaves: &Vec<Leaf>,
+pub(crate) fn last_marked<K: Ranked, V: Copy>(
+    leaves: &Vec<Leaf<K, V>>,
     place: KeyPlace,
     mark: Mark,
-) -> Option<(IndexKey, Filed)>
+) -> Option<Entry<K, V>>
     requires { (place.leaf < length leaves.now.items) × (place.entry ≤ length (get_or leaves.now.items place.leaf [])) }
     ensures { result ≡ last_of (marked mark (in_front place.leaf place.entry leaves.now.items)) }
 {
@@ -148,11 +169,11 @@ pub(crate) fn last_marked(
 }
 
 /// The first entry with a mark from a place on.
-pub(crate) fn first_marked(
-    leaves: &Vec<Leaf>,
+pub(crate) fn first_marked<K: Ranked, V: Copy>(
+    leaves: &Vec<Leaf<K, V>>,
     place: KeyPlace,
     mark: Mark,
-) -> Option<(IndexKey, Filed)>
+) -> Option<Entry<K, V>>
     requires { place.leaf < length leaves.now.items }
     ensures { result ≡ first_of (marked mark (on_from place.leaf place.entry leaves.now.items)) }
 {
@@ -163,9 +184,14 @@ pub(crate) fn first_marked(
 }
 
 /// Sets the marks of the entry at a place of a leaf.
-pub(crate) fn mark(leaves: &mut Vec<Leaf>, at: usize, key: IndexKey, marks: Marks)
-    requires { (at < length leaves.old.items) × AreRising (get_or leaves.old.items at []) × (length (below key (get_or leaves.old.items at [])) < length (get_or leaves.old.items at [])) }
-    ensures items { let leaf = get_or leaves.old.items at [] in leaves.new.items ≡ slice_set leaves.old.items at (mark_at marks (length (below key leaf)) leaf) }
+pub(crate) fn mark<K: Ranked, V: Copy>(
+    leaves: &mut Vec<Leaf<K, V>>,
+    at: usize,
+    key: K,
+    marks: Marks,
+)
+    requires { (at < length leaves.old.items) × AreRising (get_or leaves.old.items at []) × (length (below (K.rank key) (get_or leaves.old.items at [])) < length (get_or leaves.old.items at [])) }
+    ensures items { let leaf = get_or leaves.old.items at [] in leaves.new.items ≡ slice_set leaves.old.items at (mark_at marks (length (below (K.rank key) leaf)) leaf) }
     ensures capacity { vec_capacity leaves.new ≡ vec_capacity leaves.old }
 {
     let leaf = &mut leaves[at];
@@ -174,28 +200,36 @@ pub(crate) fn mark(leaves: &mut Vec<Leaf>, at: usize, key: IndexKey, marks: Mark
 }
 
 /// Puts an entry at a place of a leaf that is not full.
-pub(crate) fn put_at(leaves: &mut Vec<Leaf>, place: KeyPlace, key: IndexKey, filed: Filed)
+pub(crate) fn put_at<K: Ranked, V: Copy>(
+    leaves: &mut Vec<Leaf<K, V>>,
+    place: KeyPlace,
+    entry: Entry<K, V>,
+)
     requires { (place.leaf < length leaves.old.items) × (length (get_or leaves.old.items place.leaf []) < 128) × (place.entry ≤ length (get_or leaves.old.items place.leaf [])) }
-    ensures items { let leaf = get_or leaves.old.items place.leaf [] in leaves.new.items ≡ slice_set leaves.old.items place.leaf (insert leaf place.entry (key, filed)) }
+    ensures items { let leaf = get_or leaves.old.items place.leaf [] in leaves.new.items ≡ slice_set leaves.old.items place.leaf (insert leaf place.entry entry) }
     ensures capacity { vec_capacity leaves.new ≡ vec_capacity leaves.old }
 {
     let leaf = &mut leaves[place.leaf];
-    leaf.insert(place.entry, key, filed);
+    leaf.insert(place.entry, entry);
 }
 
 /// Puts an entry into a leaf that is not full, where its key belongs.
-pub(crate) fn put(leaves: &mut Vec<Leaf>, at: usize, key: IndexKey, filed: Filed)
+pub(crate) fn put<K: Ranked, V: Copy>(leaves: &mut Vec<Leaf<K, V>>, at: usize, entry: Entry<K, V>)
     requires { (at < length leaves.old.items) × (length (get_or leaves.old.items at []) < 128) × AreRising (get_or leaves.old.items at []) }
-    ensures items { let leaf = get_or leaves.old.items at [] in leaves.new.items ≡ slice_set leaves.old.items at (insert leaf (length (below key leaf)) (key, filed)) }
+    ensures items { let leaf = get_or leaves.old.items at [] in leaves.new.items ≡ slice_set leaves.old.items at (insert leaf (length (below entry.0 leaf)) entry) }
     ensures capacity { vec_capacity leaves.new ≡ vec_capacity leaves.old }
 {
     let leaf = &mut leaves[at];
-    let place = leaf.place_of(key);
-    leaf.insert(place, key, filed);
+    let place = leaf.place_of(entry.key());
+    leaf.insert(place, entry);
 }
 
 /// Moves the upper half of a full leaf into an empty one behind it.
-pub(crate) fn split(leaves: &mut Vec<Leaf>, at: usize, mut empty: Leaf)
+pub(crate) fn split<K: Ranked, V: Copy>(
+    leaves: &mut Vec<Leaf<K, V>>,
+    at: usize,
+    mut empty: Leaf<K, V>,
+)
     requires { (at < length leaves.old.items) × (length (get_or leaves.old.items at []) ≡ 128) × (empty ≡ []) × (vec_len leaves.old < vec_capacity leaves.old) }
     ensures items { let leaf = get_or leaves.old.items at [] in leaves.new.items ≡ insert (slice_set leaves.old.items at (take 64 leaf)) (at + 1) (drop 64 leaf) }
     ensures capacity { vec_capacity leaves.new ≡ vec_capacity leaves.old }
@@ -208,7 +242,7 @@ pub(crate) fn split(leaves: &mut Vec<Leaf>, at: usize, mut empty: Leaf)
 }
 
 /// Moves the entries of a leaf behind those of the one in front of it, and answers it, empty.
-pub(crate) fn join(leaves: &mut Vec<Leaf>, at: usize) -> Leaf
+pub(crate) fn join<K: Ranked, V: Copy>(leaves: &mut Vec<Leaf<K, V>>, at: usize) -> Leaf<K, V>
     requires { (at + 1 < length leaves.old.items) × (length (get_or leaves.old.items at []) + length (get_or leaves.old.items (at + 1) []) ≤ 128) }
     ensures empty { result ≡ [] }
     ensures items { leaves.new.items ≡ slice_set (remove leaves.old.items (at + 1)) at (get_or leaves.old.items at [] ++ get_or leaves.old.items (at + 1) []) }
@@ -220,7 +254,7 @@ pub(crate) fn join(leaves: &mut Vec<Leaf>, at: usize) -> Leaf
 }
 
 /// The first of two leaves side by side that fit one.
-pub(crate) fn pair_that_fits(leaves: &Vec<Leaf>) -> Option<usize>
+pub(crate) fn pair_that_fits<K: Ranked, V: Copy>(leaves: &Vec<Leaf<K, V>>) -> Option<usize>
     ensures fits { IfSome result (λ at. (at + 1 < length leaves.now.items) × (length (get_or leaves.now.items at []) + length (get_or leaves.now.items (at + 1) []) ≤ 128)) }
     ensures none { IfNone result (NoneFit leaves.now.items) }
 {
@@ -235,7 +269,7 @@ pub(crate) fn pair_that_fits(leaves: &Vec<Leaf>) -> Option<usize>
 }
 
 /// Takes an empty leaf from those to spare.
-fn taken(spare: &mut Vec<Leaf>) -> Leaf
+fn taken<K: Ranked, V: Copy>(spare: &mut Vec<Leaf<K, V>>) -> Leaf<K, V>
     requires { AreEmpty spare.old.items × (0 < length spare.old.items) }
     ensures empty { result ≡ [] }
     ensures others { AreEmpty spare.new.items × (length spare.new.items + 1 ≡ length spare.old.items) }
@@ -248,7 +282,7 @@ fn taken(spare: &mut Vec<Leaf>) -> Leaf
 }
 
 /// Sees that there is a leaf to spare, by joining two that fit one where there is none.
-pub(crate) fn reclaim(leaves: &mut Vec<Leaf>, spare: &mut Vec<Leaf>)
+pub(crate) fn reclaim<K: Ranked, V: Copy>(leaves: &mut Vec<Leaf<K, V>>, spare: &mut Vec<Leaf<K, V>>)
     requires kept { IsKept leaves.old.items spare.old.items }
     requires room { HaveRoom leaves.old spare.old }
     requires enough { 2 * length (all_of leaves.old.items) + 128 < 128 * (length leaves.old.items + length spare.old.items) }
@@ -271,11 +305,15 @@ pub(crate) fn reclaim(leaves: &mut Vec<Leaf>, spare: &mut Vec<Leaf>)
 }
 
 /// Sees that the leaf where a key belongs has room, and answers it.
-pub(crate) fn make_room(leaves: &mut Vec<Leaf>, spare: &mut Vec<Leaf>, key: IndexKey) -> usize
+pub(crate) fn make_room<K: Ranked, V: Copy>(
+    leaves: &mut Vec<Leaf<K, V>>,
+    spare: &mut Vec<Leaf<K, V>>,
+    key: K,
+) -> usize
     requires kept { IsKept leaves.old.items spare.old.items }
     requires room { HaveRoom leaves.old spare.old }
     requires some { 0 < length spare.old.items }
-    ensures ready { IsReady leaves.old.items leaves.new.items key result }
+    ensures ready { IsReady leaves.old.items leaves.new.items (K.rank key) result }
     ensures empty { AreEmpty spare.new.items }
     ensures total { length leaves.new.items + length spare.new.items ≡ length leaves.old.items + length spare.old.items }
     ensures capacity { (vec_capacity leaves.new ≡ vec_capacity leaves.old) × (vec_capacity spare.new ≡ vec_capacity spare.old) }
@@ -289,16 +327,16 @@ pub(crate) fn make_room(leaves: &mut Vec<Leaf>, spare: &mut Vec<Leaf>, key: Inde
         return at;
     }
     split(leaves, at, taken(spare));
-    if key.is_before(leaves[at + 1].entry(0).0) {
+    if leaves[at + 1].entry(0).is_after(key) {
         return at;
     }
     at + 1
 }
 
 /// Takes the entry of a key out of its leaf.
-pub(crate) fn take_out(leaves: &mut Vec<Leaf>, at: usize, key: IndexKey)
-    requires { (at < length leaves.old.items) × AreRising (get_or leaves.old.items at []) × (length (below key (get_or leaves.old.items at [])) < length (get_or leaves.old.items at [])) }
-    ensures items { let leaf = get_or leaves.old.items at [] in leaves.new.items ≡ slice_set leaves.old.items at (remove leaf (length (below key leaf))) }
+pub(crate) fn take_out<K: Ranked, V: Copy>(leaves: &mut Vec<Leaf<K, V>>, at: usize, key: K)
+    requires { (at < length leaves.old.items) × AreRising (get_or leaves.old.items at []) × (length (below (K.rank key) (get_or leaves.old.items at [])) < length (get_or leaves.old.items at [])) }
+    ensures items { let leaf = get_or leaves.old.items at [] in leaves.new.items ≡ slice_set leaves.old.items at (remove leaf (length (below (K.rank key) leaf))) }
     ensures capacity { vec_capacity leaves.new ≡ vec_capacity leaves.old }
 {
     let leaf = &mut leaves[at];
@@ -307,7 +345,11 @@ pub(crate) fn take_out(leaves: &mut Vec<Leaf>, at: usize, key: IndexKey)
 }
 
 /// Puts a leaf that is empty to those to spare.
-pub(crate) fn release_empty(leaves: &mut Vec<Leaf>, spare: &mut Vec<Leaf>, at: usize)
+pub(crate) fn release_empty<K: Ranked, V: Copy>(
+    leaves: &mut Vec<Leaf<K, V>>,
+    spare: &mut Vec<Leaf<K, V>>,
+    at: usize,
+)
     requires within { at < length leaves.old.items }
     requires filled { AreFilled (take at leaves.old.items) × AreFilled (drop (suc at) leaves.old.items) }
     requires empty { AreEmpty spare.old.items }

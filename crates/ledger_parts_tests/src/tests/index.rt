@@ -1,5 +1,8 @@
-use key_index::{Filed, IndexKey, KeyIndex, KeyPlace, Mark, Marks};
+use key_index::{Entry, Filed, IndexKey, KeyIndex, KeyPlace, Mark, Marks};
 use std::test::Fail;
+
+// An index of events: their slots by their keys.
+type Index = KeyIndex<IndexKey, u32>;
 
 // The key of a transaction and a sequence number below 2^31.
 fn key(transaction: u32, number: u32) -> IndexKey {
@@ -7,9 +10,9 @@ fn key(transaction: u32, number: u32) -> IndexKey {
 }
 
 // What stands under a key: the number, and marks that follow from it.
-fn filed(slot: u32) -> Filed {
+fn filed(slot: u32) -> Filed<u32> {
     Filed {
-        slot,
+        value: slot,
         marks: Marks {
             live: slot % 2 == 1,
             imports: slot % 5 == 0,
@@ -20,15 +23,15 @@ fn filed(slot: u32) -> Filed {
 }
 
 // The slot number of a key.
-fn slot_of(index: &KeyIndex, key: IndexKey) -> Option<u32> {
+fn slot_of(index: &Index, key: IndexKey) -> Option<u32> {
     match index.get(index.place(key), key) {
-        Some(filed) => Some(filed.slot),
+        Some(filed) => Some(filed.value),
         None => None,
     }
 }
 
 // Puts a key in where it is absent and there is room, and tells whether it did.
-fn put(index: &mut KeyIndex, key: IndexKey, slot: u32) -> bool {
+fn put(index: &mut Index, key: IndexKey, slot: u32) -> bool {
     let place = index.place(key);
     if index.get(place, key).is_some() || index.len() >= index.capacity() {
         return false;
@@ -38,7 +41,7 @@ fn put(index: &mut KeyIndex, key: IndexKey, slot: u32) -> bool {
 }
 
 // Takes a key out where it is there, and tells whether it did.
-fn cut(index: &mut KeyIndex, key: IndexKey) -> bool {
+fn cut(index: &mut Index, key: IndexKey) -> bool {
     if index.get(KeyPlace::UNKNOWN, key).is_none() {
         return false;
     }
@@ -46,40 +49,59 @@ fn cut(index: &mut KeyIndex, key: IndexKey) -> bool {
     true
 }
 
+// The slot number of an entry, 0 where there is none.
+fn slot_in(entry: Option<Entry<IndexKey, u32>>) -> u32 {
+    match entry {
+        Some(entry) => entry.filed().value,
+        None => 0,
+    }
+}
+
+// Whether this is the entry of a key, as it was put in.
+fn is_of(entry: Option<Entry<IndexKey, u32>>, wanted: IndexKey, slot: u32) -> bool {
+    match entry {
+        Some(entry) => {
+            let filed_there = entry.filed();
+            entry.key() == wanted && filed_there == filed(slot)
+        }
+        None => false,
+    }
+}
+
 // The slot numbers of the nearest entries with a mark in front of a key and from it on.
-fn sides(index: &KeyIndex, place: KeyPlace, key: IndexKey, mark: Mark) -> (u32, u32) {
+fn sides(index: &Index, place: KeyPlace, key: IndexKey, mark: Mark) -> (u32, u32) {
     let before = index.before_marked(place, key, mark);
     let behind = index.at_or_after_marked(place, key, mark);
-    (
-        before.map_or(0, |e| e.1.slot),
-        behind.map_or(0, |e| e.1.slot),
-    )
+    (slot_in(before), slot_in(behind))
 }
 
 // Three entries of two transactions, put in out of order.
-fn three_entries(index: &mut KeyIndex) -> bool {
+fn three_entries(index: &mut Index) -> bool {
     put(index, key(2, 5), 25) && put(index, key(1, 9), 19) && put(index, key(2, 1), 21)
 }
 
 // Whether the three are found by their keys, and nothing by another.
-fn finds_three(index: &KeyIndex) -> bool {
+fn finds_three(index: &Index) -> bool {
     index.len() == 3 && slot_of(index, key(1, 9)) == Some(19) && slot_of(index, key(2, 9)).is_none()
 }
 
 // Whether each of the three has its neighbours.
-fn neighbours_of_three(index: &KeyIndex) -> bool {
+fn neighbours_of_three(index: &Index) -> bool {
     let any = KeyPlace::UNKNOWN;
-    index.before(any, key(2, 5)) == Some((key(2, 1), filed(21)))
+    is_of(index.before(any, key(2, 5)), key(2, 1), 21)
         && index.before(any, key(1, 9)).is_none()
-        && index.at_or_after(any, key(1, 10)) == Some((key(2, 1), filed(21)))
-        && index.at_or_after(any, key(2, 5)) == Some((key(2, 5), filed(25)))
+        && is_of(index.at_or_after(any, key(1, 10)), key(2, 1), 21)
+        && is_of(index.at_or_after(any, key(2, 5)), key(2, 5), 25)
         && index.at_or_after(any, key(2, 6)).is_none()
 }
 
 // Whether the first entry has these parts of a key.
-fn begins_with(index: &KeyIndex, transaction: u32, number: u32) -> bool {
+fn begins_with(index: &Index, transaction: u32, number: u32) -> bool {
     match index.at_or_after(KeyPlace::UNKNOWN, key(1, 0)) {
-        Some((found, _)) => found.transaction() == transaction && found.number() == number,
+        Some(entry) => {
+            let found = entry.key();
+            found.transaction() == transaction && found.number() == number
+        }
         None => false,
     }
 }
@@ -91,7 +113,7 @@ fn keys_go_by_transaction_then_number(rt: HostRuntime) -> Result<(), Fail> {
     assert!(rt; three_entries(&mut index));
     assert!(rt; finds_three(&index) && neighbours_of_three(&index));
     assert!(rt; cut(&mut index, key(2, 1)));
-    assert!(rt; index.before(KeyPlace::UNKNOWN, key(2, 5)) == Some((key(1, 9), filed(19))));
+    assert!(rt; is_of(index.before(KeyPlace::UNKNOWN, key(2, 5)), key(1, 9), 19));
     assert!(rt; begins_with(&index, 1, 9));
     Ok(())
 }
@@ -103,7 +125,7 @@ fn jumping(n: u32) -> IndexKey {
 }
 
 // Fills the index by that walk; tells whether each entry went in.
-fn fill(index: &mut KeyIndex) -> bool {
+fn fill(index: &mut Index) -> bool {
     for n in 0..65_536 {
         if !put(index, jumping(n), n) {
             return false;
@@ -113,7 +135,7 @@ fn fill(index: &mut KeyIndex) -> bool {
 }
 
 // Takes out all but each eighth entry; tells whether each was there.
-fn thin(index: &mut KeyIndex) -> bool {
+fn thin(index: &mut Index) -> bool {
     for n in 0..65_536u32 {
         let is_there = slot_of(index, jumping(n)) == Some(n);
         if !is_there || (n % 8 != 0 && !cut(index, jumping(n))) {
@@ -124,7 +146,7 @@ fn thin(index: &mut KeyIndex) -> bool {
 }
 
 // Fills the index again, in another order.
-fn fill_again(index: &mut KeyIndex) -> bool {
+fn fill_again(index: &mut Index) -> bool {
     for n in 0..57_344u32 {
         if !put(index, key(1_000 + n % 7, n), n) {
             return false;
@@ -133,12 +155,17 @@ fn fill_again(index: &mut KeyIndex) -> bool {
     true
 }
 
+// The key behind another.
+fn behind(found: IndexKey) -> IndexKey {
+    key(found.transaction(), found.number().wrapping_add(1))
+}
+
 // How many entries stand one after the other, up to one more than there is room for.
-fn count_rising(index: &KeyIndex) -> u32 {
+fn count_rising(index: &Index) -> u32 {
     let mut at = key(0, 0);
     for count in 0..65_537 {
         match index.at_or_after(KeyPlace::UNKNOWN, at) {
-            Some((found, _)) => at = key(found.transaction(), found.number().wrapping_add(1)),
+            Some(entry) => at = behind(entry.key()),
             None => return count,
         }
     }
@@ -146,7 +173,7 @@ fn count_rising(index: &KeyIndex) -> u32 {
 }
 
 // Ten entries of one transaction, those of odd numbers live.
-fn ten_entries(index: &mut KeyIndex) -> bool {
+fn ten_entries(index: &mut Index) -> bool {
     for n in 1..11u32 {
         if !put(index, key(7, n), n) {
             return false;
@@ -156,7 +183,7 @@ fn ten_entries(index: &mut KeyIndex) -> bool {
 }
 
 // Sets the marks of a key where it is there.
-fn set_live(index: &mut KeyIndex, key: IndexKey, live: bool) -> bool {
+fn set_live(index: &mut Index, key: IndexKey, live: bool) -> bool {
     if index.get(KeyPlace::UNKNOWN, key).is_none() {
         return false;
     }
@@ -190,19 +217,19 @@ fn a_place_of_another_key_is_not_taken(rt: HostRuntime) -> Result<(), Fail> {
     assert!(rt; sides(&index, stale, key(7, 8), Mark::Live) == (7, 9));
     assert!(rt; index.get(stale, key(9, 0)).is_none());
     index_at(&mut index, stale, key(7, 20));
-    assert!(rt; index.before(stale, key(8, 0)) == Some((key(7, 20), filed(41))));
+    assert!(rt; is_of(index.before(stale, key(8, 0)), key(7, 20), 41));
     Ok(())
 }
 
 // Puts in an entry at a place that may be another key's.
-fn index_at(index: &mut KeyIndex, place: KeyPlace, key: IndexKey) {
+fn index_at(index: &mut Index, place: KeyPlace, key: IndexKey) {
     if index.get(place, key).is_none() && index.len() < index.capacity() {
         index.insert(place, key, filed(41));
     }
 }
 
 // Clears the marks of all entries but each thousandth; tells whether each was there.
-fn unmark(index: &mut KeyIndex) -> bool {
+fn unmark(index: &mut Index) -> bool {
     for n in 0..65_536u32 {
         if !set_live(index, jumping(n), n % 1_000 == 0) {
             return false;
@@ -212,11 +239,11 @@ fn unmark(index: &mut KeyIndex) -> bool {
 }
 
 // How many live entries stand one after the other, up to one more than there is room for.
-fn count_live(index: &KeyIndex) -> u32 {
+fn count_live(index: &Index) -> u32 {
     let mut at = key(0, 0);
     for count in 0..65_537 {
         match index.at_or_after_marked(KeyPlace::UNKNOWN, at, Mark::Live) {
-            Some((found, _)) => at = key(found.transaction(), found.number().wrapping_add(1)),
+            Some(entry) => at = behind(entry.key()),
             None => return count,
         }
     }

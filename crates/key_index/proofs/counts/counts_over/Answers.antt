@@ -3,6 +3,6 @@ use Rattle.key_index.proofs.Counting.{count_within}
 use Rattle.key_index.proofs.counts.counts_over.Goals as goal
 
 pub more-counts-requires : goal.more-counts-requires
-more-counts-requires c m =
+more-counts-requires g c m =
     let es = c.args.entries.now in let i = c.loop-entry.entry-index in
     omega (arith, c.loop-entry.invariant m, count_within m (take i es), length-take i es, c.requires)

@@ -5,13 +5,13 @@ use Rattle.key_index.proofs.Belonging.{filled_at, first_behind, read_leaf}
 use Rattle.key_index.proofs.leaves.first_from.Goals as goal
 
 pub entry-requires-then-at-len : goal.entry-requires-then-at-len
-entry-requires-then-at-len c =
+entry-requires-then-at-len g c =
     let ls = c.args.leaves.now.items in let i = c.args.at + 1 in
     let inside : i < length ls = omega (arith, c.if-at-len.true, c.len-2.ensures) in
     subst (λ leaf. 0 < length leaf) (sym (read_leaf ls i c.index-then-at-len.result.now inside c.index-then-at-len.ensures)) (filled_at ls i c.requires.1 inside)
 
 pub returns-then-at-len : goal.returns-then-at-len
-returns-then-at-len c =
+returns-then-at-len g c =
     let ls = c.args.leaves.now.items in let at = c.args.at in let place = c.args.place in let leaf = get_or ls at [] in
     let inside : at + 1 < length ls = omega (arith, c.if-at-len.true, c.len-2.ensures) in
     let up : at + 1 ≡ suc at = omega arith in

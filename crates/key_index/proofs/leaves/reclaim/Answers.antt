@@ -8,18 +8,18 @@ use Rattle.key_index.proofs.Edits.{joined_same_at, joined_filled_at, empty_more}
 use Rattle.key_index.proofs.leaves.reclaim.Goals as goal
 
 pub unreachable-requires : goal.unreachable-requires
-unreachable-requires c =
+unreachable-requires g c =
     let none : vec_len c.args.spare.now ≡ 0 = grind (arith, nat_tests, c.is_empty.ensures, c.if-not-is_empty.false) in
     let few = few_leaves c.args.leaves.now.items c.in-None.ensures.none in
     omega (arith, few, c.requires.enough, none, c.args.spare.now.ok.0)
 
 pub returns-clause-same : goal.returns-clause-same
-returns-clause-same c =
+returns-clause-same g c =
     let ls = c.args.leaves.now.items in let at = c.in-Some.at in
     ap all_of c.join-empty.ensures.items ∙ joined_same_at ls at (at + 1) (omega arith) c.in-Some.ensures.fits.0
 
 pub returns-clause-kept : goal.returns-clause-kept
-returns-clause-kept c =
+returns-clause-kept g c =
     let ls = c.args.leaves.now.items in let at = c.in-Some.at in let fits = c.in-Some.ensures.fits.0 in
     record {
       filled = subst AreFilled (sym c.join-empty.ensures.items) (joined_filled_at ls at (at + 1) (omega arith) fits c.requires.kept.filled);

@@ -5,17 +5,17 @@ use Rattle.key_index.proofs.Edits.{filled_whole, left_out_filled, left_out_same,
 use Rattle.key_index.proofs.leaves.release_empty.Goals as goal
 
 pub returns-then-len-gt0-clause-filled : goal.returns-then-len-gt0-clause-filled
-returns-then-len-gt0-clause-filled c =
+returns-then-len-gt0-clause-filled g c =
     let ls = c.args.leaves.now.items in let at = c.args.at in
     let here = read_leaf ls at c.index.result.now c.requires.within c.index.ensures in
     let some : 0 < length (get_or ls at []) = subst (λ l. 0 < length l) here (omega (arith, c.len.ensures.len, c.if-len-gt0.true)) in
     filled_whole ls at c.requires.within c.requires.filled.0 c.requires.filled.1 some
 
 pub returns-clause-filled : goal.returns-clause-filled
-returns-clause-filled c = subst AreFilled (sym c.remove-leaf.ensures.items) (left_out_filled c.args.leaves.now.items c.args.at c.requires.filled.0 c.requires.filled.1)
+returns-clause-filled g c = subst AreFilled (sym c.remove-leaf.ensures.items) (left_out_filled c.args.leaves.now.items c.args.at c.requires.filled.0 c.requires.filled.1)
 
 pub returns-clause-empty : goal.returns-clause-empty
-returns-clause-empty c =
+returns-clause-empty g c =
     let ls = c.args.leaves.now.items in let at = c.args.at in
     let here = read_leaf ls at c.index.result.now c.requires.within c.index.ensures in
     let none : length (get_or ls at []) ≤ 0 = subst (λ l. length l ≤ 0) here (omega (arith, c.len.ensures.len, c.if-len-gt0.false)) in
@@ -23,7 +23,7 @@ returns-clause-empty c =
     subst AreEmpty (sym c.push_reserved.ensures.items) (empty_more c.args.spare.now.items c.remove-leaf.result c.requires.empty (leaf ∙ none_is (get_or ls at []) none))
 
 pub returns-clause-same : goal.returns-clause-same
-returns-clause-same c =
+returns-clause-same g c =
     let ls = c.args.leaves.now.items in let at = c.args.at in
     let here = read_leaf ls at c.index.result.now c.requires.within c.index.ensures in
     let none : length (get_or ls at []) ≤ 0 = subst (λ l. length l ≤ 0) here (omega (arith, c.len.ensures.len, c.if-len-gt0.false)) in

@@ -6,12 +6,12 @@ use Rattle.key_index.proofs.Placing.{place_found}
 use Rattle.key_index.proofs.leaves.seek.Goals as goal
 
 pub place_of-entry-requires : goal.place_of-entry-requires
-place_of-entry-requires c =
+place_of-entry-requires g c =
     let ls = c.args.leaves.now.items in let at = c.leaf_of-at.result in let within = c.leaf_of-at.ensures.within in
     subst AreRising (sym (read_leaf ls at c.index.result.now within c.index.ensures)) (rising_leaf ls at within c.requires.2)
 
 pub returns : goal.returns
-returns c =
-    let ls = c.args.leaves.now.items in let at = c.leaf_of-at.result in let b = c.leaf_of-at.ensures in let key = c.args.key in let n = c.place_of-entry.result in
+returns g c =
+    let ls = c.args.leaves.now.items in let at = c.leaf_of-at.result in let b = c.leaf_of-at.ensures in let key = g.K.Ranked.rank c.args.key in let n = c.place_of-entry.result in
     let here = read_leaf ls at c.index.result.now b.within c.index.ensures in
     place_found key ls (record { leaf = at; entry = n }) b (c.place_of-entry.ensures.place ∙ ap (λ l. length (below key l)) here) (subst (λ l. n ≤ length l) here c.place_of-entry.ensures.within)

@@ -1,4 +1,4 @@
-use Rattle.std.proofs.Common.{◌≡◌, Some, refl, ap, ◌∙◌}
+use Rattle.std.proofs.Common.{ℕ, ◌≡◌, Some, refl, ap, ◌∙◌}
 use Rattle.key_index.specs.Index as keyed
 use Rattle.key_index.specs.declared.filed.Mark.{Mark}
 use Rattle.ledger_model.specs.declared.reading.Direction.{Direction}
@@ -7,7 +7,7 @@ use Rattle.event_chain.specs.Placed.{Placed, carriers_of, lane_of, mark_of, plac
 use Rattle.event_chain.proofs.place_index.PlaceIndex.carriers.Goals as goal
 
 -- The lane of a direction's mark.
-lane_toward : (i : keyed.Index) (d : Direction) → lane_of (Some (mark_of d)) i ≡ carriers_of (placed i) d
+lane_toward : (i : keyed.Index ℕ) (d : Direction) → lane_of (Some (mark_of d)) i ≡ carriers_of (placed i) d
 lane_toward i Import = refl
 lane_toward i Export = refl
 

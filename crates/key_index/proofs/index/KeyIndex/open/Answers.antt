@@ -4,7 +4,7 @@ use Rattle.key_index.proofs.Edits.{empty_more}
 use Rattle.key_index.proofs.index.KeyIndex.open.Goals as goal
 
 pub loop-preserved : goal.loop-preserved
-loop-preserved c =
+loop-preserved g c =
     let leaf = c.in_ok-open.field-0 in let was = c.loop.invariant in
     record {
       empty = subst AreEmpty (sym c.push_reserved.ensures.items) (empty_more c.loop.spare.items leaf was.empty c.in_ok-open.ensures);

@@ -4,7 +4,7 @@ use Rattle.key_index.specs.Leaves.{AreEmpty}
 use Rattle.key_index.proofs.index.KeyIndex.open.Given as goal
 
 abbrev pub invariant-loop : goal.invariant-loop
-invariant-loop l = record {
+invariant-loop g l = record {
   empty : AreEmpty l.spare.items;
   count : length l.spare.items ≡ l.counter;
   room : l.count ≤ vec_capacity l.spare;

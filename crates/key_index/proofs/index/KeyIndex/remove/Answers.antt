@@ -7,30 +7,30 @@ use Rattle.key_index.proofs.Cuts.{rising_leaf, from_at, out_all, present_in, pla
 use Rattle.key_index.proofs.index.KeyIndex.remove.Goals as goal
 
 pub take_out-requires : goal.take_out-requires
-take_out-requires c =
-    let ls = c.self.inside.leaves.items in let at = c.leaf_of-at.result in let b = c.leaf_of-at.ensures in let key = c.args.key in let leaf = get_or ls at [] in
+take_out-requires g c =
+    let ls = c.self.inside.leaves.items in let at = c.leaf_of-at.result in let b = c.leaf_of-at.ensures in let key = g.K.Ranked.rank c.args.key in let leaf = get_or ls at [] in
     let there : is_some (filed_at key (from key leaf ++ all_of (drop (suc at) ls))) ≡ true =
     ap (λ l. is_some (filed_at key l)) (sym (from_at key ls at b)) ∙ ap (λ i. is_some (filed_at key (from key i.entries))) c.self.view_is ∙ c.requires in
     let some = present_in key (from key leaf) (all_of (drop (suc at) ls)) b.back there in
     (b.within, rising_leaf ls at b.within c.self.invariant.kept.rising, place_within key leaf some)
 
 pub release_empty-requires-clause-filled : goal.release_empty-requires-clause-filled
-release_empty-requires-clause-filled c =
-    let ls = c.self.inside.leaves.items in let at = c.leaf_of-at.result in let b = c.leaf_of-at.ensures in let leaf = get_or ls at [] in let less = remove leaf (length (below c.args.key leaf)) in
+release_empty-requires-clause-filled g c =
+    let ls = c.self.inside.leaves.items in let at = c.leaf_of-at.result in let b = c.leaf_of-at.ensures in let leaf = get_or ls at [] in let less = remove leaf (length (below (g.K.Ranked.rank c.args.key) leaf)) in
     let round = filled_round ls at b.within c.self.invariant.kept.filled in let kept = set_round ls at less in
     (subst AreFilled (sym (ap (take at) c.take_out.ensures.items ∙ kept.0)) round.0, subst AreFilled (sym (ap (drop (suc at)) c.take_out.ensures.items ∙ kept.1)) round.1)
 
 pub returns-clause-entries : goal.returns-clause-entries
-returns-clause-entries c =
-    let ls = c.self.inside.leaves.items in let at = c.leaf_of-at.result in let b = c.leaf_of-at.ensures in let key = c.args.key in let leaf = get_or ls at [] in
+returns-clause-entries g c =
+    let ls = c.self.inside.leaves.items in let at = c.leaf_of-at.result in let b = c.leaf_of-at.ensures in let key = g.K.Ranked.rank c.args.key in let leaf = get_or ls at [] in
     let there : is_some (filed_at key (from key leaf ++ all_of (drop (suc at) ls))) ≡ true =
     ap (λ l. is_some (filed_at key l)) (sym (from_at key ls at b)) ∙ ap (λ i. is_some (filed_at key (from key i.entries))) c.self.view_is ∙ c.requires in
     let some = present_in key (from key leaf) (all_of (drop (suc at) ls)) b.back there in
     c.release_empty.ensures.same ∙ ap all_of c.take_out.ensures.items ∙ out_all key ls at b some ∙ ap (λ i. below key i.entries ++ drop 1 (from key i.entries)) c.self.view_is
 
 pub invariant_of-self : goal.invariant_of-self
-invariant_of-self c =
-    let was = c.self.invariant in let ls = c.self.inside.leaves.items in let at = c.leaf_of-at.result in let b = c.leaf_of-at.ensures in let key = c.args.key in let leaf = get_or ls at [] in
+invariant_of-self g c =
+    let was = c.self.invariant in let ls = c.self.inside.leaves.items in let at = c.leaf_of-at.result in let b = c.leaf_of-at.ensures in let key = g.K.Ranked.rank c.args.key in let leaf = get_or ls at [] in
     let less = remove leaf (length (below key leaf)) in let es = all_of ls in
     let there : is_some (filed_at key (from key leaf ++ all_of (drop (suc at) ls))) ≡ true =
     ap (λ l. is_some (filed_at key l)) (sym (from_at key ls at b)) ∙ ap (λ i. is_some (filed_at key (from key i.entries))) c.self.view_is ∙ c.requires in

@@ -10,24 +10,24 @@ use Rattle.key_index.proofs.Placing.{mark_all, rising_mark}
 use Rattle.key_index.proofs.index.KeyIndex.set_marks.Goals as goal
 
 pub mark-requires : goal.mark-requires
-mark-requires c =
-    let ls = c.self.inside.leaves.items in let at = c.leaf_of-at.result in let b = c.leaf_of-at.ensures in let key = c.args.key in let leaf = get_or ls at [] in
+mark-requires g c =
+    let ls = c.self.inside.leaves.items in let at = c.leaf_of-at.result in let b = c.leaf_of-at.ensures in let key = g.K.Ranked.rank c.args.key in let leaf = get_or ls at [] in
     let there : is_some (filed_at key (from key leaf ++ all_of (drop (suc at) ls))) ≡ true =
     ap (λ l. is_some (filed_at key l)) (sym (from_at key ls at b)) ∙ ap (λ i. is_some (filed_at key (from key i.entries))) c.self.view_is ∙ c.requires in
     let some = present_in key (from key leaf) (all_of (drop (suc at) ls)) b.back there in
     (b.within, rising_leaf ls at b.within c.self.invariant.kept.rising, place_within key leaf some)
 
 pub returns-clause-entries : goal.returns-clause-entries
-returns-clause-entries c =
-    let ls = c.self.inside.leaves.items in let at = c.leaf_of-at.result in let b = c.leaf_of-at.ensures in let key = c.args.key in let leaf = get_or ls at [] in let marks = c.args.marks in
+returns-clause-entries g c =
+    let ls = c.self.inside.leaves.items in let at = c.leaf_of-at.result in let b = c.leaf_of-at.ensures in let key = g.K.Ranked.rank c.args.key in let leaf = get_or ls at [] in let marks = c.args.marks in
     let there : is_some (filed_at key (from key leaf ++ all_of (drop (suc at) ls))) ≡ true =
     ap (λ l. is_some (filed_at key l)) (sym (from_at key ls at b)) ∙ ap (λ i. is_some (filed_at key (from key i.entries))) c.self.view_is ∙ c.requires in
     let some = present_in key (from key leaf) (all_of (drop (suc at) ls)) b.back there in
     ap all_of c.mark.ensures.items ∙ mark_all marks key ls at b some ∙ ap (λ i. below key i.entries ++ mark_at marks 0 (from key i.entries)) c.self.view_is
 
 pub invariant_of-self : goal.invariant_of-self
-invariant_of-self c =
-    let was = c.self.invariant in let ls = c.self.inside.leaves.items in let at = c.leaf_of-at.result in let b = c.leaf_of-at.ensures in let key = c.args.key in let leaf = get_or ls at [] in let marks = c.args.marks in
+invariant_of-self g c =
+    let was = c.self.invariant in let ls = c.self.inside.leaves.items in let at = c.leaf_of-at.result in let b = c.leaf_of-at.ensures in let key = g.K.Ranked.rank c.args.key in let leaf = get_or ls at [] in let marks = c.args.marks in
     let es = all_of ls in let new = mark_at marks (length (below key leaf)) leaf in
     let there : is_some (filed_at key (from key leaf ++ all_of (drop (suc at) ls))) ≡ true =
     ap (λ l. is_some (filed_at key l)) (sym (from_at key ls at b)) ∙ ap (λ i. is_some (filed_at key (from key i.entries))) c.self.view_is ∙ c.requires in

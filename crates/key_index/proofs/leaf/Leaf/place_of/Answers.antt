@@ -5,13 +5,13 @@ use Rattle.key_index.proofs.Orders.{place_more, place_less, below_within}
 use Rattle.key_index.proofs.leaf.Leaf.place_of.Goals as goal
 
 pub loop-low-init : goal.loop-low-init
-loop-low-init c =
-    let es = c.self.inside.entries.items in let all = below_within c.args.key es in
+loop-low-init g c =
+    let es = c.self.inside.entries.items in let all = below_within (g.K.Ranked.rank c.args.key) es in
     record { lower = omega arith; upper = omega (arith, all, c.len-high.ensures); within = omega (arith, c.len-high.ensures) }
 
 pub loop-low-preserved-then-is_before : goal.loop-low-preserved-then-is_before
-loop-low-preserved-then-is_before c =
-    let es = c.self.inside.entries.items in let key = c.args.key in let e = c.index.result.now in let was = c.loop-low.invariant in
+loop-low-preserved-then-is_before g c =
+    let es = c.self.inside.entries.items in let key = g.K.Ranked.rank c.args.key in let e = c.index.result.now in let was = c.loop-low.invariant in
     let m = c.loop-low.low + (c.loop-low.high - c.loop-low.low) / 2 in
     let inside : m < length es = omega (arith, was.within, c.loop-low-test.true) in
     let small : e.0 < key = grind (arith, nat_tests, c.is_before.ensures, c.if-is_before.true) in
@@ -20,8 +20,8 @@ loop-low-preserved-then-is_before c =
     record { lower = omega (arith, more); upper = was.upper; within = was.within }
 
 pub loop-low-preserved : goal.loop-low-preserved
-loop-low-preserved c =
-    let es = c.self.inside.entries.items in let key = c.args.key in let e = c.index.result.now in let was = c.loop-low.invariant in
+loop-low-preserved g c =
+    let es = c.self.inside.entries.items in let key = g.K.Ranked.rank c.args.key in let e = c.index.result.now in let was = c.loop-low.invariant in
     let m = c.loop-low.low + (c.loop-low.high - c.loop-low.low) / 2 in
     let inside : m < length es = omega (arith, was.within, c.loop-low-test.true) in
     let great : key ≤ e.0 = grind (arith, nat_tests, c.is_before.ensures, c.if-is_before.false) in
