@@ -90,7 +90,9 @@ impl<K: Ranked, V: Copy> KeyIndex<K, V> {
     }
 
     /// The same, where it may be the place given.
-    pub fn place_near(&self, near: KeyPlace, key: K) -> KeyPlace {
+    pub fn place_near(&self, near: KeyPlace, key: K) -> KeyPlace
+        ensures rising { AreRising self.now.entries }
+    {
         if self.leaves.is_empty() {
             return KeyPlace { leaf: 0, entry: 0 };
         }

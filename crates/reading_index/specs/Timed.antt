@@ -1,0 +1,64 @@
+-- Readings by their ranks.
+use Rattle.std.specs.Prelude.{ℕ, ◌<◌, ◌==◌, not, nat_lt, List, [], ◌∷◌, Option, None, Some, filter, length, map, slice_get, ◌-◌, if◌then◌else◌}
+use Rattle.key_index.specs.Entries.{Entry}
+use Rattle.key_index.specs.Index as keyed
+use Rattle.ledger_model.specs.Event.{MeterReading}
+use Rattle.reading_index.specs.Ranks.{owner_of}
+
+-- A reading with its rank.
+abbrev pub Timed : Type 0
+Timed = ℕ × MeterReading
+
+-- The readings by rising rank, and how many there may be.
+pub record TimedReadings : Type 0 where
+  pub entries : List Timed
+  pub capacity : ℕ
+
+-- The readings of an owner.
+abbrev pub owned : ℕ → List Timed → List Timed
+owned owner es = filter (λ e. owner_of e.0 == owner) es
+
+-- Those in front of a rank.
+abbrev pub in_front : ℕ → List Timed → List Timed
+in_front r es = filter (λ e. nat_lt e.0 r) es
+
+-- Those from a rank on.
+abbrev pub from_on : ℕ → List Timed → List Timed
+from_on r es = filter (λ e. not (nat_lt e.0 r)) es
+
+-- Those of another rank.
+abbrev pub without : ℕ → List Timed → List Timed
+without r es = filter (λ e. not (e.0 == r)) es
+
+-- The first of them, and the last.
+abbrev pub first_of : List Timed → Option Timed
+first_of es = slice_get es 0
+
+abbrev pub last_of : List Timed → Option Timed
+last_of es = slice_get es (length es - 1)
+
+-- Those of a rank.
+abbrev pub rank_in : ℕ → List Timed → List Timed
+rank_in r es = filter (λ e. e.0 == r) es
+
+-- The reading, where its owner is this one.
+abbrev pub only_owned : ℕ → Option Timed → Option Timed
+only_owned owner None = None
+only_owned owner (Some e) = if owner_of e.0 == owner then Some e else None
+
+-- The ranks rise.
+abbrev pub AreBehind : ℕ → List Timed → Type 0
+AreBehind r [] = Unit {0}
+AreBehind r (e ∷ es) = (r < e.0) × AreBehind r es
+
+abbrev pub IsRanked : List Timed → Type 0
+IsRanked [] = Unit {0}
+IsRanked (e ∷ es) = AreBehind e.0 es × IsRanked es
+
+-- The rank and the reading of an entry.
+abbrev pub with_rank : Entry MeterReading → Timed
+with_rank e = (e.0, e.1.value)
+
+-- The readings of an index of entries.
+abbrev pub timed_in : keyed.Index MeterReading → TimedReadings
+timed_in i = record { entries = map with_rank i.entries; capacity = i.capacity }

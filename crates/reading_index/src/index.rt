@@ -1,0 +1,108 @@
+ghost use Rattle.std.specs.Prelude.{◌≡◌, ◌<◌, ◌≤◌, [], length, option_map, IfOk};
+ghost use Rattle.ledger_model.specs.InTime.{put_in_time};
+ghost use Rattle.reading_index.specs.Ranks.{owner_of};
+ghost use Rattle.reading_index.specs.Timed.{first_of, from_on, in_front, last_of, only_owned, owned, rank_in, with_rank, without, IsRanked};
+
+use crate::MomentKey;
+use key_index::{Entry, Filed, KeyIndex, KeyPlace, Marks};
+use ledger_model::Reading;
+use std::alloc::{AllocError, Global};
+use std::marker::Model;
+
+/// Readings by owner and moment. Contracts see them by rising rank, and how many there may be.
+#[derive(Drop)]
+pub struct ReadingIndex {
+    index: KeyIndex<MomentKey, Reading>,
+    // Where the reading that was put in last stands: it saves searches, and changes no answer.
+    near: KeyPlace,
+}
+
+impl Model for ReadingIndex {
+    ghost use Rattle.reading_index.specs.Timed.{timed_in, TimedReadings};
+
+    ghost Value = { TimedReadings };
+
+    ghost view = { λ i. timed_in i.index };
+}
+
+// The key and the reading of an entry of this owner; none for an entry of another.
+fn owned_by(owner: u128, entry: Option<Entry<MomentKey, Reading>>) -> Option<(MomentKey, Reading)>
+    ensures { result ≡ only_owned owner (option_map with_rank entry) }
+{
+    match entry {
+        Some(entry) => {
+            let key = entry.key();
+            if key.owner() == owner {
+                Some((key, entry.filed().value))
+            } else {
+                None
+            }
+        }
+        None => None,
+    }
+}
+
+impl ReadingIndex {
+    /// An index of no readings, with room for so many.
+    pub fn open(alloc: Global, capacity: u32) -> Result<Self, AllocError>
+        ensures entries { IfOk result (λ i. i.entries ≡ []) }
+        ensures capacity { IfOk result (λ i. i.capacity ≡ capacity) }
+    {
+        Ok(ReadingIndex {
+            index: KeyIndex::open(alloc, capacity)?,
+            near: KeyPlace::UNKNOWN,
+        })
+    }
+
+    /// How many readings it holds.
+    pub fn len(&self) -> u32
+        ensures len { result ≡ length self.now.entries }
+        ensures within { length self.now.entries ≤ self.now.capacity }
+        ensures rising { IsRanked self.now.entries }
+    {
+        self.index.len()
+    }
+
+    /// The readings of the key's owner on either side of the key: the last one in front of it, and the
+    /// first one from it on.
+    pub fn around(
+        &self,
+        key: MomentKey,
+    ) -> (Option<(MomentKey, Reading)>, Option<(MomentKey, Reading)>)
+        ensures before { result.0 ≡ last_of (in_front key (owned (owner_of key) self.now.entries)) }
+        ensures behind { result.1 ≡ first_of (from_on key (owned (owner_of key) self.now.entries)) }
+    {
+        let place = self.index.place_near(self.near.next(), key);
+        let owner = key.owner();
+        let before = owned_by(owner, self.index.before(place, key));
+        let behind = owned_by(owner, self.index.at_or_after(place, key));
+        (before, behind)
+    }
+
+    /// Puts a reading in at the place of its key, of which there is none. There is room.
+    pub fn put(&mut self, key: MomentKey, reading: Reading)
+        requires absent { rank_in key self.old.entries ≡ [] }
+        requires room { length self.old.entries < self.old.capacity }
+        ensures entries { self.new.entries ≡ put_in_time (λ e. e.0) (key, reading) self.old.entries }
+        ensures capacity { self.new.capacity ≡ self.old.capacity }
+    {
+        let place = self.index.place_near(self.near.next(), key);
+        self.near = place;
+        let filed = Filed {
+            value: reading,
+            marks: Marks::NONE,
+        };
+        self.index.insert(place, key, filed);
+    }
+
+    /// Takes out the reading of a key; nothing where there is none.
+    pub fn take(&mut self, key: MomentKey)
+        ensures entries { self.new.entries ≡ without key self.old.entries }
+        ensures capacity { self.new.capacity ≡ self.old.capacity }
+    {
+        let place = self.index.place_near(self.near, key);
+        if self.index.get(place, key).is_some() {
+            self.index.remove(key);
+        }
+    }
+}

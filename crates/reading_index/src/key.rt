@@ -1,0 +1,79 @@
+ghost use Rattle.std.specs.Prelude.{◌≡◌, ◌<◌, ◌/◌, ◌%◌, ◌^◌, nat_lt, refl};
+ghost use Rattle.reading_index.specs.Ranks.{number_of, owner, owner_of, rank};
+
+use key_index::Ranked;
+use ledger_model::{Direction, Moment};
+use std::marker::Model;
+
+/// Where a reading stands: by the slot of its transaction and its direction, then by its moment, then by
+/// the sequence number of its event, then by its place among the event's readings of that direction.
+/// Contracts see a key as its rank.
+#[derive(Clone, Copy, Debug, PartialEq, Eq)]
+pub struct MomentKey {
+    joined: u128,
+}
+
+impl Model for MomentKey {
+    ghost use Rattle.std.specs.Prelude.{ℕ};
+
+    ghost Value = { ℕ };
+
+    ghost view = { λ k. k.joined };
+
+    ghost inverse = { λ n. record { joined = n } };
+}
+
+// The readings of a transaction's slot and a direction have one owner.
+fn owner_at(slot: u32, direction: Direction) -> u64
+    ensures value { result ≡ owner slot direction }
+    ensures small { result < 2 ^ 33 }
+{
+    match direction {
+        Direction::Import => u64::from(slot) * 2,
+        Direction::Export => u64::from(slot) * 2 + 1,
+    }
+}
+
+impl MomentKey {
+    /// The key of a reading: the slot of its transaction, below 2^24, and its direction; its moment; the
+    /// sequence number of its event, below 2^31; and its place there, below 1,024.
+    pub fn new(slot: u32, direction: Direction, moment: Moment, number: u32, place: u16) -> Self
+        requires slot { slot < 2 ^ 24 }
+        requires number { number < 2 ^ 31 }
+        requires place { place < 2 ^ 10 }
+        ensures { result ≡ rank (owner slot direction) moment number place }
+    {
+        let owner = u128::from(owner_at(slot, direction));
+        let timed = owner * (1 << 62) + u128::from(moment.nanos());
+        let numbered = timed * (1 << 31) + u128::from(number);
+        MomentKey {
+            joined: numbered * (1 << 10) + u128::from(place),
+        }
+    }
+
+    // The readings of one transaction and direction have one owner.
+    pub(crate) fn owner(self) -> u128
+        ensures { result ≡ owner_of self }
+    {
+        self.joined / (1 << 10) / (1 << 31) / (1 << 62)
+    }
+
+    /// The sequence number of the reading's event.
+    pub fn number(self) -> u32
+        ensures { result ≡ number_of self }
+    {
+        (self.joined / (1 << 10) % (1 << 31)) as u32
+    }
+}
+
+impl Ranked for MomentKey {
+    ghost rank = { λ key. key };
+
+    ghost key_of = { λ n. n };
+
+    ghost back = { λ key. refl };
+
+    fn is_before(self, other: Self) -> bool {
+        self.joined < other.joined
+    }
+}

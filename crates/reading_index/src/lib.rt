@@ -1,0 +1,24 @@
+//! Readings in the order of their moments.
+//!
+//! The readings of a transaction in one direction have one owner; a reading's [`MomentKey`] goes by
+//! owner, then by moment, then by the sequence number of its event and its place there. So readings of
+//! one moment stand by sequence, and the readings of an owner stand in a row. All memory is taken by
+//! [`ReadingIndex::open`].
+//!
+//! The crate's one contract: an index is a list of readings by rising rank. [`ReadingIndex::around`] finds
+//! the readings of a key's owner on either side of the key, [`ReadingIndex::put`] puts a reading in at
+//! its place, and [`ReadingIndex::take`] takes one out; all else stays.
+//!
+//! ```text
+//! let mut index = ReadingIndex::open(rt.alloc(), 100)?;
+//! let key = MomentKey::new(3, Direction::Import, reading.moment(), 7, 0);
+//! index.put(key, reading);
+//! // index.around(later) is (Some(..) with that reading, None) for a later key of the same owner
+//! ```
+#![tactic(auto)]
+
+mod index;
+mod key;
+
+pub use index::ReadingIndex;
+pub use key::MomentKey;
