@@ -1,11 +1,13 @@
 -- The rows that pairs make.
 use Rattle.std.specs.Prelude.{ℕ, ◌==◌, List, [], ◌∷◌, ◌++◌, map, filter, length, sum_by}
+use Rattle.ledger_model.specs.declared.order.Order.{Order}
+use Rattle.ledger_model.specs.declared.order.Order.TheVariants.{Sequence}
 use Rattle.ledger_model.specs.declared.reading.Direction.{Direction}
 use Rattle.ledger_model.specs.declared.reading.Direction.TheVariants.{Import, Export}
 use Rattle.ledger_model.specs.Board.{Flowed}
 use Rattle.ledger_model.specs.Content.{Entry}
 use Rattle.ledger_model.specs.Deltas.{came_by, gone_by}
-use Rattle.ledger_model.specs.Energy.{Flows, Pair, difference, flows_toward, pairs, quarter_of, rising}
+use Rattle.ledger_model.specs.Energy.{Flows, Pair, all_pairs_by, difference, flows_toward, quarter_of, rising}
 use Rattle.quarter_table.specs.declared.row.QuarterRow.{QuarterRow}
 use Rattle.quarter_table.specs.Rows.{row_at, set_row, with_pair, without_pair}
 
@@ -30,9 +32,13 @@ rows_of flows = map (λ quarter. row_of quarter flows) (rising (map (λ f. f.0) 
 abbrev pub flows_of : ℕ → Direction → List Pair → List Flowed
 flows_of period d pairs = map (λ p. (quarter_of period p, flows_toward d (difference p))) pairs
 
--- The pairs of a station, of both directions.
+-- The pairs of a station, of both directions, the readings of each transaction in an order.
+abbrev pub station_flows_by : Order → ℕ → List Entry → List Flowed
+station_flows_by order period es = flows_of period Import (all_pairs_by order Import es) ++ flows_of period Export (all_pairs_by order Export es)
+
+-- The same by sequence.
 abbrev pub station_flows : ℕ → List Entry → List Flowed
-station_flows period es = flows_of period Import (pairs Import es) ++ flows_of period Export (pairs Export es)
+station_flows period es = station_flows_by Sequence period es
 
 -- The pairs that go with one live event more.
 abbrev pub gone_flows : ℕ → List Entry → Entry → List Entry → List Flowed

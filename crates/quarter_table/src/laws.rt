@@ -2,11 +2,12 @@
 //! and its difference in each direction.
 ghost use Rattle.std.specs.Prelude.{◌≡◌, ◌≢◌, ◌<◌, ◌≤◌, ℕ, List, [], ◌∷◌, ◌++◌, length, map, sum_by};
 ghost use Rattle.energy_flow.specs.Flow.{CanMinus};
-ghost use Rattle.ledger_model.specs.Board.{Flowed, board};
+ghost use Rattle.ledger_model.specs.declared.order.Order.{Order};
+ghost use Rattle.ledger_model.specs.Board.{Flowed, board_by};
 ghost use Rattle.ledger_model.specs.Content.{Entry};
 ghost use Rattle.ledger_model.specs.Deltas.{IsOneMore};
 ghost use Rattle.ledger_model.specs.Energy.{Flows};
-ghost use Rattle.quarter_table.specs.Pairs.{total, row_of, rows_of, rows_with, rows_without, station_flows, gone_flows, came_flows, line_of};
+ghost use Rattle.quarter_table.specs.Pairs.{total, row_of, rows_of, rows_with, rows_without, station_flows, station_flows_by, gone_flows, came_flows, line_of};
 ghost use Rattle.quarter_table.specs.Rows.{no_row, row_at, set_row, with_pair, without_pair};
 
 /// The rows of pairs, after a pair was added or taken out wherever it stood among them, are those of
@@ -59,7 +60,7 @@ pub fn rows_follow_events()
     ensures less { (period : ℕ) (es more front : List Entry) (e : Entry) (back : List Entry) → IsOneMore es more front e back → rows_with (gone_flows period front e back) (rows_without (came_flows period front e back) (rows_of (station_flows period more))) ≡ rows_of (station_flows period es) }
 {}
 
-/// The rows of a station's pairs are the quarters of its board.
+/// The rows of a station's pairs are the quarters of its board, in either order.
 pub fn rows_are_quarters_of_board()
-    ensures { (period : ℕ) (es : List Entry) → map line_of (rows_of (station_flows period es)) ≡ (board period es).quarters }
+    ensures { (order : Order) (period : ℕ) (es : List Entry) → map line_of (rows_of (station_flows_by order period es)) ≡ (board_by order period es).quarters }
 {}

@@ -2,6 +2,7 @@ use Rattle.std.proofs.Common.{map, sym, ap, subst, ◌∙◌}
 use Rattle.event_chain.specs.Chains.{stored}
 use Rattle.ledger_model.specs.Board.{board}
 use Rattle.quarter_table.specs.Pairs.{line_of}
+use Rattle.ledger_model.specs.declared.order.Order.TheVariants.{Sequence}
 use Rattle.quarter_table.proofs.Boards.{lines_of_station}
 use Rattle.station_ledger.specs.Lines.{AreStationLines}
 use Rattle.station_ledger.specs.Sums.{AreEvseSums}
@@ -14,7 +15,7 @@ invariant_of-result c =
     let es = stored c.args.chains.now in
     let sums = subst (AreEvseSums es) (sym c.deref.ensures.value) c.requires.summed.at_evses in
     let evses = c.of.ensures ∙ c.in_ok-evses.ensures es c.requires.numbered sums in
-    let quarters = c.of-2.ensures ∙ c.in_ok-quarters.ensures ∙ ap (map line_of) c.requires.summed.by_quarter.rows ∙ lines_of_station c.args.sums.now.period es in
+    let quarters = c.of-2.ensures ∙ c.in_ok-quarters.ensures ∙ ap (map line_of) c.requires.summed.by_quarter.rows ∙ lines_of_station Sequence c.args.sums.now.period es in
     subst (λ ls. AreStationLines c.args.sums.now.period ls c.of-2.result) (sym evses) (subst (AreStationLines c.args.sums.now.period (board c.args.sums.now.period es).evses) (sym quarters) (lines_within c.args.chains.now.limits es c.requires.within c.args.sums.now.period c.keep_range.ensures))
 
 -- each list is the board's
@@ -23,6 +24,6 @@ returns c =
     let es = stored c.args.chains.now in
     let sums = subst (AreEvseSums es) (sym c.deref.ensures.value) c.requires.summed.at_evses in
     let evses = c.of.ensures ∙ c.in_ok-evses.ensures es c.requires.numbered sums in
-    let quarters = c.of-2.ensures ∙ c.in_ok-quarters.ensures ∙ ap (map line_of) c.requires.summed.by_quarter.rows ∙ lines_of_station c.args.sums.now.period es in
+    let quarters = c.of-2.ensures ∙ c.in_ok-quarters.ensures ∙ ap (map line_of) c.requires.summed.by_quarter.rows ∙ lines_of_station Sequence c.args.sums.now.period es in
     let transactions = c.of-3.ensures ∙ c.in_ok-transactions.ensures in
     λ i. record { period = c.args.sums.now.period; figures = c.requires.figures i; evses = evses i; quarters = quarters i; transactions = transactions i }
