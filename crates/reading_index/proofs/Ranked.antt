@@ -1,9 +1,9 @@
 -- Entries by rising rank, as readings by rising rank.
-use Rattle.std.proofs.Common.{◌≡◌, ℕ, ◌+◌, ◌-◌, ◌*◌, ◌/◌, ◌^◌, ◌<◌, ◌≤◌, ◌⊎◌, inl, inr, Bool, true, false, cond, not, is_some, List, [], ◌∷◌, ◌++◌, Option, Some, None, length, map, drop, slice_get, refl, sym, ap, subst, ◌∙◌, ⊎_elim, eqb, nat_lt, option_map, arith, length-append}
+use Rattle.std.proofs.Common.{◌≡◌, ℕ, ◌+◌, ◌-◌, ◌*◌, ◌/◌, ◌^◌, ◌<◌, ◌≤◌, ◌⊎◌, inl, inr, Bool, true, false, cond, not, ◌||◌, is_some, List, [], ◌∷◌, ◌++◌, Option, Some, None, length, map, drop, slice_get, refl, sym, ap, subst, ◌∙◌, ⊎_elim, eqb, nat_lt, option_map, arith, length-append}
 use Rattle.std.specs.List.{filter}
 use Rattle.std.proofs.Math.Nat.{div-le_of_le-mul, div-mul-le_self}
 use Rattle.std.proofs.lemmas.Nat.{le-div}
-use Rattle.std.proofs.lemmas.Bool.{cases_lt, cases_eq, eq-eqb, ne_eqb, lt-ltb, le-ltb}
+use Rattle.std.proofs.lemmas.Bool.{cases_lt, cases_eq, eq-eqb, ne_eqb, lt-ltb, le-ltb, or_from, or_parts}
 use Rattle.std.proofs.lemmas.List.{map-append}
 use Rattle.key_index.specs.declared.filed.Filed.{Filed}
 use Rattle.key_index.specs.Entries as entries
@@ -11,7 +11,7 @@ use Rattle.key_index.specs.Entries.{Entry, below, from, filed_at, AreAbove, AreR
 use Rattle.ledger_model.specs.Event.{MeterReading}
 use Rattle.ledger_model.specs.InTime.{put_in_time}
 use Rattle.reading_index.specs.Ranks.{owner_of}
-use Rattle.reading_index.specs.Timed.{Timed, first_of, from_on, in_front, last_of, only_owned, owned, rank_in, with_rank, without, AreBehind, IsRanked}
+use Rattle.reading_index.specs.Timed.{Timed, first_of, from_on, in_front, last_of, only_owned, owned, has_rank, with_rank, without, AreBehind, IsRanked}
 
 abbrev E : Type 0
 E = Entry MeterReading
@@ -38,17 +38,33 @@ cons_nil : {X : Type 0} (x : X) (xs : List X) → x ∷ xs ≡ [] → ⊥
 cons_nil x xs e = cc
 
 -- Nothing is filed under a rank that no reading has.
-pub none_filed : (r : ℕ) (es : List E) → rank_in r (map with_rank es) ≡ [] → filed_at r (from r es) ≡ None
+pub none_filed : (r : ℕ) (es : List E) → has_rank r (map with_rank es) ≡ false → filed_at r (from r es) ≡ None
 none_filed r [] none = refl
-none_filed r (e ∷ es) none = ⊎_elim
-    (λ (same : e.0 ≡ r). absurd (cons_nil _ _ (sym (ap (λ b. cond b (with_rank e ∷ rank_in r (map with_rank es)) (rank_in r (map with_rank es))) (eq-eqb e.0 r same)) ∙ none)))
-    (λ (apart : e.0 ≡ r → ⊥).
-    let rest : rank_in r (map with_rank es) ≡ [] = sym (ap (λ b. cond b (with_rank e ∷ rank_in r (map with_rank es)) (rank_in r (map with_rank es))) (ne_eqb e.0 r apart)) ∙ none in
+none_filed r (e ∷ es) none =
+    let parts = or_parts (eqb e.0 r) (has_rank r (map with_rank es)) none in
     ⊎_elim
-    (λ (lt : e.0 < r). ap (λ b. filed_at r (cond b (from r es) (e ∷ es))) (lt-ltb e.0 r lt) ∙ none_filed r es rest)
-    (λ (le : r ≤ e.0). ap (λ b. filed_at r (cond b (from r es) (e ∷ es))) (le-ltb e.0 r le) ∙ ap (λ b. cond b (Some e.1) None) (ne_eqb e.0 r apart))
-    (cases_lt e.0 r))
-    (cases_eq e.0 r)
+    (λ (lt : e.0 < r). ap (λ b. filed_at r (cond b (from r es) (e ∷ es))) (lt-ltb e.0 r lt) ∙ none_filed r es parts.1)
+    (λ (le : r ≤ e.0). ap (λ b. filed_at r (cond b (from r es) (e ∷ es))) (le-ltb e.0 r le) ∙ ap (λ b. cond b (Some e.1) None) parts.0)
+    (cases_lt e.0 r)
+
+-- No reading behind a rank has it.
+none_behind : (r n : ℕ) (es : List E) → r ≤ n → AreAbove n es → has_rank r (map with_rank es) ≡ false
+none_behind r n [] le above = refl
+none_behind r n (e ∷ es) le above = or_from (eqb e.0 r) (has_rank r (map with_rank es)) (ne_eqb e.0 r (λ same. absurd (let up = above.0 in omega (arith, le, same, up)))) (none_behind r n es le above.1)
+
+-- Something is filed under a rank exactly where a reading has it.
+pub filed_rank : (r : ℕ) (es : List E) → AreRising es → is_some (filed_at r (from r es)) ≡ has_rank r (map with_rank es)
+filed_rank r [] rising = refl
+filed_rank r (e ∷ es) rising = ⊎_elim
+    (λ (lt : e.0 < r).
+    ap (λ b. is_some (filed_at r (cond b (from r es) (e ∷ es)))) (lt-ltb e.0 r lt) ∙ filed_rank r es rising.1
+    ∙ sym (ap (λ b. b || has_rank r (map with_rank es)) (ne_eqb e.0 r (λ same. absurd (omega (arith, lt, same))))))
+    (λ (le : r ≤ e.0). ap (λ b. is_some (filed_at r (cond b (from r es) (e ∷ es)))) (le-ltb e.0 r le) ∙ some_here (eqb e.0 r) ∙ ap (λ b. eqb e.0 r || b) (sym (none_behind r e.0 es le rising.0)))
+    (cases_lt e.0 r)
+  where
+    some_here : (b : Bool) → is_some (cond b (Some e.1) None) ≡ (b || false)
+    some_here true = refl
+    some_here false = refl
 
 -- Readings that are behind a rank are not of it.
 without_behind : (r n : ℕ) (es : List E) → r ≤ n → AreAbove n es → without r (map with_rank es) ≡ map with_rank es

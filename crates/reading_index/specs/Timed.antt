@@ -1,5 +1,6 @@
 -- Readings by their ranks.
-use Rattle.std.specs.Prelude.{ℕ, ◌<◌, ◌==◌, not, nat_lt, List, [], ◌∷◌, Option, None, Some, filter, length, map, slice_get, ◌-◌, if◌then◌else◌}
+use Rattle.std.specs.Prelude.{ℕ, Bool, ◌<◌, ◌==◌, not, nat_lt, List, [], ◌∷◌, Option, None, Some, filter, length, map, slice_get, ◌-◌, if◌then◌else◌}
+use Rattle.std.specs.List.{list_any}
 use Rattle.key_index.specs.Entries.{Entry}
 use Rattle.key_index.specs.Index as keyed
 use Rattle.ledger_model.specs.Event.{MeterReading}
@@ -37,9 +38,9 @@ first_of es = slice_get es 0
 abbrev pub last_of : List Timed → Option Timed
 last_of es = slice_get es (length es - 1)
 
--- Those of a rank.
-abbrev pub rank_in : ℕ → List Timed → List Timed
-rank_in r es = filter (λ e. e.0 == r) es
+-- Tells whether a reading has this rank.
+abbrev pub has_rank : ℕ → List Timed → Bool
+has_rank r es = list_any (λ e. e.0 == r) es
 
 -- The reading, where its owner is this one.
 abbrev pub only_owned : ℕ → Option Timed → Option Timed

@@ -1,7 +1,7 @@
-ghost use Rattle.std.specs.Prelude.{◌≡◌, ◌<◌, ◌≤◌, [], length, option_map, IfOk};
+ghost use Rattle.std.specs.Prelude.{◌≡◌, ◌<◌, ◌≤◌, [], false, length, option_map, IfOk};
 ghost use Rattle.ledger_model.specs.InTime.{put_in_time};
 ghost use Rattle.reading_index.specs.Ranks.{owner_of};
-ghost use Rattle.reading_index.specs.Timed.{first_of, from_on, in_front, last_of, only_owned, owned, rank_in, with_rank, without, IsRanked};
+ghost use Rattle.reading_index.specs.Timed.{first_of, from_on, has_rank, in_front, last_of, only_owned, owned, with_rank, without, IsRanked};
 
 use crate::MomentKey;
 use key_index::{Entry, Filed, KeyIndex, KeyPlace, Marks};
@@ -63,6 +63,14 @@ impl ReadingIndex {
         self.index.len()
     }
 
+    /// Whether it holds a reading of this key.
+    pub fn holds(&self, key: MomentKey) -> bool
+        ensures { result ≡ has_rank key self.now.entries }
+    {
+        let place = self.index.place_near(self.near, key);
+        self.index.get(place, key).is_some()
+    }
+
     /// The readings of the key's owner on either side of the key: the last one in front of it, and the
     /// first one from it on.
     pub fn around(
@@ -81,7 +89,7 @@ impl ReadingIndex {
 
     /// Puts a reading in at the place of its key, of which there is none. There is room.
     pub fn put(&mut self, key: MomentKey, reading: Reading)
-        requires absent { rank_in key self.old.entries ≡ [] }
+        requires absent { has_rank key self.old.entries ≡ false }
         requires room { length self.old.entries < self.old.capacity }
         ensures entries { self.new.entries ≡ put_in_time (λ e. e.0) (key, reading) self.old.entries }
         ensures capacity { self.new.capacity ≡ self.old.capacity }
