@@ -3,3 +3,4 @@ mod chains;
 mod gaps;
 mod index;
 mod quarters;
+mod readings;

@@ -63,6 +63,13 @@ impl ReadingIndex {
         self.index.len()
     }
 
+    /// How many readings it may hold.
+    pub fn capacity(&self) -> u32
+        ensures { result ≡ self.now.capacity }
+    {
+        self.index.capacity()
+    }
+
     /// Whether it holds a reading of this key.
     pub fn holds(&self, key: MomentKey) -> bool
         ensures { result ≡ has_rank key self.now.entries }
