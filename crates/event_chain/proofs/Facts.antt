@@ -1,6 +1,7 @@
 -- What chains know before an operation.
 use Rattle.std.proofs.Common.{◌≡◌, ℕ, zero, suc, ◌+◌, ◌<◌, ◌≤◌, ◌^◌, nat_lt, nat_le, Bool, true, false, not, cond, ◌&&◌, List, [], ◌∷◌, Option, Some, None, is_some, length, sum_by, replicate, refl, sym, ap, ◌∙◌, subst, arith, inl, inr, le-leb, leb-true}
 use Rattle.std.specs.Str.{bytes_eq}
+use Rattle.std.proofs.lemmas.List.Sums.{count_by-le-length}
 use Rattle.std.specs.FinMap as finite
 use Rattle.std.specs.FinMap.{FinMap}
 use Rattle.std.proofs.lemmas.Bool.{cases_lt}
@@ -24,10 +25,9 @@ use Rattle.event_chain.specs.declared.answers.Found.TheVariants.{Live, Voided}
 use Rattle.event_chain.specs.Room.{room_of, found_of}
 use Rattle.event_chain.specs.Flat.{EventPlace, place_of, event_at, flat, look_in, look}
 use Rattle.event_chain.specs.Edits.{place_in, place_at}
-use Rattle.event_chain.specs.Kept.{IsSub, chosen, live_one, end_one, is_end, IsChains, IsNamed, IsEntered, events_of}
+use Rattle.event_chain.specs.Kept.{live_one, end_one, is_end, IsChains, IsNamed, IsEntered, events_of}
 use Rattle.event_chain.proofs.Decided.{not_so}
 use Rattle.event_chain.proofs.Flats.{find_flat, flat_rising}
-use Rattle.event_chain.proofs.Subs.{fewer, among_chosen}
 use Rattle.event_chain.proofs.Moves.{before_named}
 use Rattle.event_chain.proofs.Named.{row_here, row_other}
 use Rattle.event_chain.proofs.Figures.{known_figures}
@@ -89,7 +89,7 @@ pub found_voided : (o : Option Stored) → found_of o ≡ Some Voided → (s : S
 found_voided None h = cc
 found_voided (Some s) h = elim s.voided as (λ v. s.voided ≡ v → Some (cond v Voided Live) ≡ Some Voided → (t : Stored) × ((Some s ≡ Some t) × (t.voided ≡ true))) [ false ↦ λ _ f. cc | true ↦ λ e _. (s, (refl, e)) ] refl h
 
-module _ (limits : Bounds) (table : Table) (store : Slots) (stored live : Index) (carriers : Direction → Index) (naming : Index) (chains : IsChains limits table store stored live carriers naming) where
+module _ {limits : Bounds} {table : Table} {store : Slots} {stored live : Index} {carriers : Direction → Index} {naming : Index} (chains : IsChains limits table store stored live carriers naming) where
   -- All events.
   abbrev all : List Entry
   all = flat table.rows stored.entries store.slots
@@ -115,14 +115,6 @@ module _ (limits : Bounds) (table : Table) (store : Slots) (stored live : Index)
     placed : (o : Option TableRow) → look_in stored.entries store.slots q.seq o ≡ event_at store.slots (place_in stored.entries q.seq o)
     placed None = refl
     placed (Some row) = refl
-
-  -- No more than all places are in a sub-index.
-  pub sub_few : (test : Stored → Bool) (sub : List EventPlace) → IsSub test stored.entries store.slots sub → length sub ≤ length stored.entries
-  sub_few test sub is = fewer sub stored.entries is.rising chains.keyed.ranks (λ r s at. among_chosen test store.slots (place_of r stored.entries) s (sym (is.each r) ∙ at))
-
-  -- Where there is no place, a sub-index has none.
-  pub sub_none : (test : Stored → Bool) (sub : List EventPlace) (r0 : ℕ) → IsSub test stored.entries store.slots sub → place_of r0 stored.entries ≡ None → place_of r0 sub ≡ None
-  sub_none test sub r0 is none = is.each r0 ∙ ap (chosen test store.slots) none
 
   -- As many transactions as the table has rows.
   pub ids_count : length (transactions_of all) ≡ length table.rows
@@ -164,6 +156,10 @@ module _ (limits : Bounds) (table : Table) (store : Slots) (stored live : Index)
         omega (arith, was.live, chains.counted.all_are, sum_few (live_one tx) all (λ e. one_at_most (bytes_eq tx e.0.tx && not e.1.voided))),
         omega (arith, was.ends, chains.counted.all_are, sum_few (end_one tx) all (λ e. one_at_most (bytes_eq tx e.0.tx && not e.1.voided && is_end e.1.event.kind))),
       )
+
+  -- There are no more places than events may be.
+  pub places_few : length stored.entries ≤ limits.events
+  places_few = omega (arith, chains.counted.held_are, chains.counted.slots_are, count_by-le-length (is_some {T = Held}) store.slots)
 
   -- The room is told by three tests.
   pub room_answer : (tx : List ℕ) (n : ℕ) (a b c : Bool) → (not (is_some (row_of tx table.rows)) && nat_le limits.transactions (length table.rows)) ≡ a → nat_le limits.events (length stored.entries) ≡ b → nat_lt limits.readings (readings_stored all + n) ≡ c

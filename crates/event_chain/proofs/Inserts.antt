@@ -1,66 +1,30 @@
 -- What an insertion may rely on, and what it leaves.
-use Rattle.std.proofs.Common.{◌≡◌, ℕ, ◌+◌, ◌<◌, ◌≤◌, ◌^◌, false, Bool, cond, List, Some, None, length, set, refl, ◌∙◌, arith}
+use Rattle.std.proofs.Common.{◌≡◌, ℕ, ◌+◌, ◌<◌, ◌^◌, false, Bool, cond, List, Some, None, length, set, refl, ◌∙◌}
 use Rattle.std.specs.Ordering.{nat_cmp}
 use Rattle.std.specs.FinMap as finite
 use Rattle.std.specs.FinMap.{put}
 use Rattle.ledger_model.specs.declared.reading.Direction.{Direction}
 use Rattle.slot_arena.specs.Arena.{value_at}
 use Rattle.key_index.specs.Key.{rank}
-use Rattle.event_chain.specs.Placed.{Index}
+use Rattle.event_chain.specs.Placed.{Index, index}
 use Rattle.ledger_model.specs.Event.{EventContent}
 use Rattle.ledger_model.specs.Key.{KeyName, key_cmp}
 use Rattle.ledger_model.specs.Limits.{Bounds}
 use Rattle.event_store.specs.Slots.{Slots}
 use Rattle.event_chain.specs.declared.row.TableRow.{TableRow}
 use Rattle.event_chain.specs.Table.{Table, TxRow, AreRising, AreApart, with_row}
-use Rattle.event_chain.specs.declared.answers.Room.TheVariants.{Fits}
-use Rattle.event_chain.specs.Room.{room_of}
 use Rattle.event_chain.specs.Flat.{place_of, flat}
 use Rattle.event_chain.specs.Edits.{put_if}
-use Rattle.event_chain.specs.Kept.{is_live, is_carrier, is_naming, is_end, IsChains, IsNamed, IsEntered, events_of}
-use Rattle.event_chain.proofs.Facts.{seal, event_room, none_at, sub_few, sub_none, counts_few, all_rising}
+use Rattle.event_chain.specs.Kept.{is_carrier, is_naming, is_end, IsChains, IsNamed, IsEntered, events_of}
+use Rattle.event_chain.proofs.Facts.{seal, none_at, all_rising}
 use Rattle.event_chain.proofs.Named.{named_after}
 use Rattle.event_chain.proofs.Ops.{put_chains, put_all}
 use Rattle.event_chain.proofs.Effects.{map_put}
 
--- The indexes can take the new place, and the counts one more.
-pub record IsOpen (stored live : Index) (carriers : Direction → Index) (naming : Index) (r0 : ℕ) (row : TableRow) : Type 0 where
-  pub stored_absent : place_of r0 stored.entries ≡ None
-  pub stored_room : length stored.entries < stored.capacity
-  pub live_absent : place_of r0 live.entries ≡ None
-  pub live_room : length live.entries < live.capacity
-  pub carriers_absent : (d : Direction) → place_of r0 (carriers d).entries ≡ None
-  pub carriers_room : (d : Direction) → length (carriers d).entries < (carriers d).capacity
-  pub naming_absent : place_of r0 naming.entries ≡ None
-  pub naming_room : length naming.entries < naming.capacity
-  pub live_few : row.live < 65536
-  pub ends_few : row.ends < 65536
-
-module _ (limits : Bounds) (table : Table) (store : Slots) (stored live : Index) (carriers : Direction → Index) (naming : Index) (chains : IsChains limits table store stored live carriers naming)
+module _ {limits : Bounds} {table : Table} {store : Slots} {stored live : Index} {carriers : Direction → Index} {naming : Index} (chains : IsChains limits table store stored live carriers naming)
     (key : KeyName) (mid : List TxRow) (row : TableRow) (r0 : ℕ) (entered : IsEntered table.rows mid key.tx row) (number : key.seq < 2 ^ 31) (rank_is : r0 ≡ rank row.slot key.seq) (absent : finite.get (events_of table store stored) key ≡ None) where
   none : place_of r0 stored.entries ≡ None
-  none = none_at limits table store stored live carriers naming chains mid key row r0 absent entered number rank_is
-
-  -- That is so.
-  pub opened : (tx : List ℕ) (readings : ℕ) → room_of limits (finite.entries (events_of table store stored)) tx readings ≡ Fits → IsOpen stored live carriers naming r0 row
-  opened tx readings fits =
-      let few = event_room limits table store stored live carriers naming chains tx readings fits in let i = chains.indexed in let r = chains.roomy in
-      let l = sub_few limits table store stored live carriers naming chains is_live live.entries i.lives in
-      let c : (d : Direction) → length (carriers d).entries ≤ length stored.entries = λ d. sub_few limits table store stored live carriers naming chains (is_carrier d) (carriers d).entries (i.carry d) in
-      let n = sub_few limits table store stored live carriers naming chains is_naming naming.entries i.names in
-      let counts = counts_few limits table store stored live carriers naming chains mid key.tx row entered in let most = chains.counted.events_few in
-      record {
-        stored_absent = none;
-        stored_room = omega (arith, few, r.for_stored);
-        live_absent = sub_none limits table store stored live carriers naming chains is_live live.entries r0 i.lives none;
-        live_room = omega (arith, few, l, r.for_live);
-        carriers_absent = λ d. sub_none limits table store stored live carriers naming chains (is_carrier d) (carriers d).entries r0 (i.carry d) none;
-        carriers_room = λ d. omega (arith, few, c d, r.for_carriers d);
-        naming_absent = sub_none limits table store stored live carriers naming chains is_naming naming.entries r0 i.names none;
-        naming_room = omega (arith, few, n, r.for_naming);
-        live_few = omega (arith, counts.0, few, most);
-        ends_few = omega (arith, counts.1, few, most);
-      }
+  none = none_at chains mid key row r0 absent entered number rank_is
 
   -- What the insertion did to each part.
   pub record Inserted (t : Table) (s : Slots) (st l : Index) (c : Direction → Index) (n : Index) (after : TableRow) (s0 : ℕ) (event : EventContent) (carries : Direction → Bool) (names : Bool) : Type 0 where
@@ -73,14 +37,10 @@ module _ (limits : Bounds) (table : Table) (store : Slots) (stored live : Index)
     pub slots : s.slots ≡ set store.slots s0 (Some (r0, record { event = event; voided = false }))
     pub readings : s.readings ≡ store.readings + length event.readings
     pub room : s.capacity ≡ store.capacity
-    pub stored_is : st.entries ≡ put nat_cmp r0 s0 stored.entries
-    pub live_is : l.entries ≡ put nat_cmp r0 s0 live.entries
-    pub carriers_is : (d : Direction) → (c d).entries ≡ put_if (carries d) r0 s0 (carriers d).entries
-    pub naming_is : n.entries ≡ put_if names r0 s0 naming.entries
-    pub stored_cap : st.capacity ≡ stored.capacity
-    pub live_cap : l.capacity ≡ live.capacity
-    pub carriers_cap : (d : Direction) → (c d).capacity ≡ (carriers d).capacity
-    pub naming_cap : n.capacity ≡ naming.capacity
+    pub stored_is : st ≡ index (put nat_cmp r0 s0 stored.entries) stored.capacity
+    pub live_is : l ≡ index (put nat_cmp r0 s0 live.entries) live.capacity
+    pub carriers_is : (d : Direction) → c d ≡ index (put_if (carries d) r0 s0 (carriers d).entries) (carriers d).capacity
+    pub naming_is : n ≡ index (put_if names r0 s0 naming.entries) naming.capacity
     pub carries_is : (d : Direction) → carries d ≡ is_carrier d (record { event = event; voided = false })
     pub names_is : names ≡ is_naming (record { event = event; voided = false })
     pub same : after.slot ≡ row.slot
@@ -96,13 +56,13 @@ module _ (limits : Bounds) (table : Table) (store : Slots) (stored live : Index)
     inserted = let r = chains.roomy in
         seal limits t s st l c n t.rows table.capacity (set store.slots s0 (Some (r0, record { event = event; voided = false }))) (store.readings + length event.readings) store.capacity
         (put nat_cmp r0 s0 stored.entries) (put nat_cmp r0 s0 live.entries) (λ d. put_if (carries d) r0 s0 (carriers d).entries) (put_if names r0 s0 naming.entries) limits.events
-        refl did.transactions did.slots did.readings did.room did.stored_is did.live_is did.carriers_is did.naming_is (did.stored_cap ∙ r.for_stored) (did.live_cap ∙ r.for_live) (λ d. did.carriers_cap d ∙ r.for_carriers d) (did.naming_cap ∙ r.for_naming)
+        refl did.transactions did.slots did.readings did.room (λ i. (did.stored_is i).entries) (λ i. (did.live_is i).entries) (λ d i. (did.carriers_is d i).entries) (λ i. (did.naming_is i).entries) ((λ i. (did.stored_is i).capacity) ∙ r.for_stored) ((λ i. (did.live_is i).capacity) ∙ r.for_live) (λ d. (λ i. (did.carriers_is d i).capacity) ∙ r.for_carriers d) ((λ i. (did.naming_is i).capacity) ∙ r.for_naming)
         (put_chains limits table.rows t.rows stored.entries live.entries (λ d. (carriers d).entries) naming.entries store.slots key row after r0 s0 table.capacity store.readings store.capacity chains.keyed chains.indexed chains.figured chains.counted named number rank_is did.rising did.apart
         event did.free did.within none carries names did.carries_is did.names_is did.one_more did.ends (record { for_stored = refl; for_live = refl; for_carriers = λ d. refl; for_naming = refl }))
 
     -- The event was put in.
     pub inserted_events : events_of t s st ≡ finite.insert (events_of table store stored) key (record { event = event; voided = false })
     inserted_events =
-        (λ i. finite.from_sorted {R = key_cmp} (flat t.rows (did.stored_is i) (did.slots i)))
-        ∙ map_put (flat table.rows stored.entries store.slots) (flat t.rows (put nat_cmp r0 s0 stored.entries) (set store.slots s0 (Some (r0, record { event = event; voided = false })))) key (record { event = event; voided = false }) (all_rising limits table store stored live carriers naming chains)
+        (λ i. finite.from_sorted {R = key_cmp} (flat t.rows ((did.stored_is i).entries) (did.slots i)))
+        ∙ map_put (flat table.rows stored.entries store.slots) (flat t.rows (put nat_cmp r0 s0 stored.entries) (set store.slots s0 (Some (r0, record { event = event; voided = false })))) key (record { event = event; voided = false }) (all_rising chains)
         (put_all limits table.rows t.rows stored.entries live.entries (λ d. (carriers d).entries) naming.entries store.slots key row after r0 s0 table.capacity store.readings store.capacity chains.keyed chains.indexed chains.figured chains.counted named number rank_is did.rising did.apart event did.free did.within none)

@@ -1,20 +1,27 @@
 -- The lanes of an index: how its edits change each of them.
-use Rattle.std.proofs.Common.{◌≡◌, ℕ, ◌≤◌, nat_lt, ◌==◌, true, false, not, cond, List, [], ◌∷◌, ◌++◌, suc, ◌-◌, Option, Some, None, is_some, map, option_map, length, drop, slice_get, refl, sym, ap, ◌∙◌, subst, arith}
+use Rattle.std.proofs.Common.{◌≡◌, ℕ, ◌≤◌, nat_lt, ◌==◌, Bool, true, false, not, cond, List, [], ◌∷◌, ◌++◌, suc, ◌-◌, Option, Some, None, is_some, map, option_map, length, drop, slice_get, refl, sym, ap, ◌∙◌, subst, arith}
 use Rattle.std.proofs.lemmas.Bool.Decides.{Decides-ltb, Decides-eqb}
 use Rattle.std.proofs.lemmas.List.{length-map, map-append}
 use Rattle.std.proofs.lemmas.List.Elements.{filter-append}
 use Rattle.std.proofs.lemmas.List.Sums.{length-filter, count_by-le-length}
 use Rattle.std.specs.Ordering.{is_eq, nat_cmp}
+use Rattle.ledger_model.specs.ByDirection.{in_direction}
+use Rattle.ledger_model.specs.declared.by_direction.ByDirection.{ByDirection}
+use Rattle.ledger_model.specs.declared.reading.Direction.{Direction}
+use Rattle.ledger_model.specs.declared.reading.Direction.TheVariants.{Import, Export}
+use Rattle.std.specs.FinMap.{put}
+use Rattle.key_index.specs.Index as keyed
 use Rattle.key_index.specs.declared.filed.Mark.{Mark}
+use Rattle.key_index.specs.declared.filed.Mark.TheVariants.{Live, Imports, Exports, Names}
 use Rattle.key_index.specs.declared.filed.Marks.{Marks}
 use Rattle.key_index.specs.declared.filed.Filed.{Filed}
 use Rattle.key_index.specs.Entries as entries
 use Rattle.key_index.specs.Entries.{Entry, filed_at}
 use Rattle.key_index.specs.Marks.{has_mark, marked, mark_at}
 use Rattle.event_chain.specs.Flat.{EventPlace, place_of}
-use Rattle.event_chain.specs.Edits.{put_if, out}
+use Rattle.event_chain.specs.Edits.{put_if, out, IsLiveLess, IsLiveMore, IsLiveSame, IsNotLive}
 use Rattle.event_chain.specs.Ranked.{below, from, slot_at, first_of, last_of, AreAbove, AreRising}
-use Rattle.event_chain.specs.Placed.{place_in, lane, passes}
+use Rattle.event_chain.specs.Placed.{carriers_of, index, lane, lane_of, passes, place_in, placed}
 use Rattle.event_chain.proofs.Decided.{not_so}
 use Rattle.event_chain.proofs.Places.{found_at, put_is, out_is, not_less, last_cons}
 
@@ -254,3 +261,74 @@ module _ (o : Option Mark) (r : ℕ) (f : Filed ℕ) (es : List (Entry ℕ)) (h 
             | true ↦ λ e. let found : Some f.value ≡ None = sym (ap (λ b. cond b (Some f.value) None) ((Decides-eqb r r).1 refl)) ∙ sym (ap (slot_at r) e) ∙ absent in cc
             | false ↦ λ e. e
           ] left_is
+
+-- Of two, one for each direction.
+each_way : (P : Direction → Type 0) → P Import → P Export → (d : Direction) → P d
+each_way P a b Import = a
+each_way P a b Export = b
+
+-- The marks of a live event.
+abbrev pub live_marks : ByDirection Bool → Bool → Marks
+live_marks carries names = record { live = true; imports = carries.import; exports = carries.export; names = names }
+
+-- What a change of one index does to all its lanes.
+module _ (old new : keyed.Index ℕ) (key : ℕ) (up : entries.AreRising old.entries) (room : new.capacity ≡ old.capacity) where
+  lane_is : (o : Option Mark) (xs : List EventPlace) → lane o new.entries ≡ xs → lane_of o new ≡ index xs old.capacity
+  lane_is o xs is = λ i. index (is i) (room i)
+
+  more : (slot : ℕ) (carries : ByDirection Bool) (names : Bool) → ((m : Mark) → lane_of (Some m) new ≡ index (put_if (has_mark m (live_marks carries names)) key slot (lane (Some m) old.entries)) old.capacity) → IsLiveMore key slot carries names (placed old) (placed new)
+  more slot carries names each = record {
+    live = each Live;
+    carriers = each_way (λ d. carriers_of (placed new) d ≡ index (put_if (in_direction d carries) key slot (carriers_of (placed old) d).entries) (carriers_of (placed old) d).capacity) (each Imports) (each Exports);
+    naming = each Names;
+  }
+
+  -- A live event is put in.
+  module _ (slot : ℕ) (carries : ByDirection Bool) (names : Bool) (none : place_of key (lane None old.entries) ≡ None) (is : new.entries ≡ entries.below key old.entries ++ (key, record { value = slot; marks = live_marks carries names }) ∷ entries.from key old.entries) where
+    put_in : (o : Option Mark) → lane_of o new ≡ index (put_if (passes o (live_marks carries names)) key slot (lane o old.entries)) old.capacity
+    put_in o = lane_is o _ (ap (lane o) is ∙ lane_put o key (record { value = slot; marks = live_marks carries names }) old.entries up none)
+
+    pub stored_more : lane_of None new ≡ index (put nat_cmp key slot (lane None old.entries)) old.capacity
+    stored_more = put_in None
+
+    pub lives_more : IsLiveMore key slot carries names (placed old) (placed new)
+    lives_more = more slot carries names (λ m. put_in (Some m))
+
+  -- The marks of an event change.
+  module _ (slot : ℕ) (at : place_of key (lane None old.entries) ≡ Some slot) (marks : Marks) (is : new.entries ≡ entries.below key old.entries ++ mark_at marks 0 (entries.from key old.entries)) where
+    abbrev f : (f : Filed ℕ) × ((filed_at key (entries.from key old.entries) ≡ Some f) × (f.value ≡ slot))
+    f = filed_there key slot old.entries up at
+
+    pub stored_stays : lane_of None new ≡ lane_of None old
+    stored_stays = lane_is None _ (ap (lane None) is ∙ lane_stays None key f.0 old.entries up f.1.0 marks refl refl)
+
+    pub lives_less : marks ≡ record { live = false; imports = false; exports = false; names = false } → IsLiveLess key (placed old) (placed new)
+    lives_less none =
+        let each : (m : Mark) → lane_of (Some m) new ≡ index (out key (lane (Some m) old.entries)) old.capacity =
+        λ m. lane_is (Some m) _ (ap (lane (Some m)) is ∙ lane_void (Some m) key f.0 old.entries up f.1.0 marks (ap (has_mark m) none ∙ unmarked m)) in
+        record { live = each Live; carriers = each_way (λ d. carriers_of (placed new) d ≡ index (out key (carriers_of (placed old) d).entries) (carriers_of (placed old) d).capacity) (each Imports) (each Exports); naming = each Names } where
+          unmarked : (m : Mark) → has_mark m (record { live = false; imports = false; exports = false; names = false }) ≡ false
+          unmarked Live = refl
+          unmarked Imports = refl
+          unmarked Exports = refl
+          unmarked Names = refl
+
+    pub lives_again : (carries : ByDirection Bool) (names : Bool) → marks ≡ live_marks carries names → IsNotLive key (placed old) → IsLiveMore key slot carries names (placed old) (placed new)
+    lives_again carries names marks_are none = more slot carries names (λ m. lane_is (Some m) _ (ap (lane (Some m)) is ∙ lane_enter (Some m) key f.0 old.entries up f.1.0 marks (absent m)
+        ∙ ap (λ s. put_if (has_mark m marks) key s (lane (Some m) old.entries)) f.1.1 ∙ ap (λ b. put_if (has_mark m b) key slot (lane (Some m) old.entries)) marks_are)) where
+          absent : (m : Mark) → place_of key (lane (Some m) old.entries) ≡ None
+          absent Live = none.live
+          absent Imports = none.carriers Import
+          absent Exports = none.carriers Export
+          absent Names = none.naming
+
+  -- An event that is not live is taken out.
+  module _ (f : Filed ℕ) (there : filed_at key (entries.from key old.entries) ≡ Some f) (is : new.entries ≡ entries.below key old.entries ++ drop 1 (entries.from key old.entries)) where
+    pub stored_less : lane_of None new ≡ index (out key (lane None old.entries)) old.capacity
+    stored_less = lane_is None _ (ap (lane None) is ∙ lane_out None key f old.entries up there)
+
+    pub lives_stay : IsNotLive key (placed old) → IsLiveSame (placed old) (placed new)
+    lives_stay none =
+        let each : (m : Mark) → place_of key (lane (Some m) old.entries) ≡ None → lane_of (Some m) new ≡ lane_of (Some m) old =
+        λ m absent. lane_is (Some m) _ (ap (lane (Some m)) is ∙ lane_out (Some m) key f old.entries up there ∙ out_absent key (lane (Some m) old.entries) absent) in
+        record { live = each Live none.live; carriers = each_way (λ d. carriers_of (placed new) d ≡ carriers_of (placed old) d) (each Imports (none.carriers Import)) (each Exports (none.carriers Export)); naming = each Names none.naming }

@@ -1,5 +1,5 @@
 -- Places put into an index and taken out of it, and what is found by them.
-use Rattle.std.specs.Prelude.{ℕ, ◌/◌, ◌^◌, ◌==◌, nat_lt, Bool, not, cond, List, Option, Some, None, slice_get, unwrap_or}
+use Rattle.std.specs.Prelude.{◌≡◌, ℕ, ◌/◌, ◌^◌, ◌==◌, ◌<◌, nat_lt, Bool, not, cond, List, Option, Some, None, length, slice_get, unwrap_or}
 use Rattle.std.specs.List.{filter}
 use Rattle.std.specs.Ordering.{eq_by_cmp, nat_cmp}
 use Rattle.std.specs.FinMap.{put}
@@ -7,24 +7,23 @@ use Rattle.slot_arena.specs.Arena.{IsHeld}
 use Rattle.event_chain.specs.Ranked.{last_of}
 use Rattle.ledger_model.specs.declared.kind.Kind.{Kind}
 use Rattle.ledger_model.specs.Key.{KeyName}
+use Rattle.ledger_model.specs.ByDirection.{in_direction}
+use Rattle.ledger_model.specs.declared.by_direction.ByDirection.{ByDirection}
 use Rattle.ledger_model.specs.declared.reading.Direction.{Direction}
-use Rattle.ledger_model.specs.declared.reading.Direction.TheVariants.{Import, Export}
-use Rattle.event_chain.specs.declared.carries.Carries.{Carries}
 use Rattle.ledger_model.specs.Event.{MeterReading, toward}
 use Rattle.ledger_model.specs.Deltas.{first_reading, last_reading}
+use Rattle.key_index.specs.Key.{rank}
+use Rattle.ledger_model.specs.Ranges.{sequence_end}
 use Rattle.event_chain.specs.declared.row.TableRow.{TableRow}
+use Rattle.event_chain.specs.declared.spots.Spot.{Spot}
 use Rattle.event_chain.specs.Table.{TxRow, row_of}
-use Rattle.event_chain.specs.Flat.{EventPlace, number_at, stored_at, segment}
+use Rattle.event_chain.specs.Flat.{EventPlace, number_at, place_of, stored_at, segment}
+use Rattle.event_chain.specs.Placed.{Placed, carriers_of, index}
 use Rattle.event_store.specs.Slots.{Held}
 
 -- Places with one put in where a test says so.
 abbrev pub put_if : Bool → ℕ → ℕ → List EventPlace → List EventPlace
 put_if b r0 s0 es = cond b (put nat_cmp r0 s0 es) es
-
--- Tells whether there is a reading of this direction.
-abbrev pub carried : Direction → Carries → Bool
-carried Import c = c.imports
-carried Export c = c.exports
 
 -- Places without that of a rank.
 abbrev pub out : ℕ → List EventPlace → List EventPlace
@@ -94,3 +93,51 @@ kind_in slots e = (stored_at slots e.1).event.kind
 abbrev pub evse_at : List (Option Held) → Option EventPlace → ℕ
 evse_at slots None = 0
 evse_at slots (Some e) = unwrap_or (stored_at slots e.1).event.evse 0
+
+-- Where the event of a key is: the row of its transaction, its rank, and its slot.
+pub record IsSpot (rows : List TxRow) (es : List EventPlace) (key : KeyName) (spot : Spot) : Type 0 where
+  pub row : row_of key.tx rows ≡ Some spot.row
+  pub key_is : spot.key ≡ rank spot.row.slot key.seq
+  pub slot : place_of spot.key es ≡ Some spot.slot
+  pub number : key.seq < sequence_end
+
+-- No live event has the key.
+pub record IsNotLive (key : ℕ) (p : Placed) : Type 0 where
+  pub live : place_of key p.live.entries ≡ None
+  pub carriers : (d : Direction) → place_of key (carriers_of p d).entries ≡ None
+  pub naming : place_of key p.naming.entries ≡ None
+
+-- A slot for a live event: it is one, and no other's.
+pub record IsSlotFor (slot : ℕ) (p : Placed) : Type 0 where
+  pub within : slot < p.live.capacity
+  pub unused : (rank : ℕ) → place_of rank p.live.entries ≡ Some slot → ⊥
+
+-- An event may be put in under the key.
+pub record CanPutIn (key slot : ℕ) (p : Placed) : Type 0 where
+  pub absent : place_of key p.stored.entries ≡ None
+  pub room : length p.stored.entries < p.stored.capacity
+  pub slot_for : IsSlotFor slot p
+
+-- The voided event of the key may live again.
+pub record CanRestore (key slot : ℕ) (p : Placed) : Type 0 where
+  pub stored : place_of key p.stored.entries ≡ Some slot
+  pub not_live : IsNotLive key p
+  pub slot_for : IsSlotFor slot p
+
+-- A live event came, which carries readings of these directions and may name an EVSE.
+pub record IsLiveMore (key slot : ℕ) (carries : ByDirection Bool) (names : Bool) (old new : Placed) : Type 0 where
+  pub live : new.live ≡ index (put nat_cmp key slot old.live.entries) old.live.capacity
+  pub carriers : (d : Direction) → carriers_of new d ≡ index (put_if (in_direction d carries) key slot (carriers_of old d).entries) (carriers_of old d).capacity
+  pub naming : new.naming ≡ index (put_if names key slot old.naming.entries) old.naming.capacity
+
+-- A live event went.
+pub record IsLiveLess (key : ℕ) (old new : Placed) : Type 0 where
+  pub live : new.live ≡ index (out key old.live.entries) old.live.capacity
+  pub carriers : (d : Direction) → carriers_of new d ≡ index (out key (carriers_of old d).entries) (carriers_of old d).capacity
+  pub naming : new.naming ≡ index (out key old.naming.entries) old.naming.capacity
+
+-- The live events stay.
+pub record IsLiveSame (old new : Placed) : Type 0 where
+  pub live : new.live ≡ old.live
+  pub carriers : (d : Direction) → carriers_of new d ≡ carriers_of old d
+  pub naming : new.naming ≡ old.naming

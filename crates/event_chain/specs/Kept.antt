@@ -1,5 +1,5 @@
 -- What chains keep.
-use Rattle.std.specs.Prelude.{◌≡◌, ℕ, ◌/◌, ◌^◌, ◌≤◌, Bool, true, false, not, cond, ◌&&◌, List, Option, Some, None, is_some, T, length, sum_by, ◌⊎◌}
+use Rattle.std.specs.Prelude.{◌≡◌, ℕ, ◌-◌, ◌/◌, ◌^◌, ◌≤◌, Bool, true, false, not, cond, ◌&&◌, List, Option, Some, None, is_some, T, length, slice_get, count_by, sum_by, ◌⊎◌}
 use Rattle.std.specs.Str.{bytes_eq}
 use Rattle.std.specs.Ordering.{nat_cmp}
 use Rattle.std.specs.FinMap as finite
@@ -12,10 +12,14 @@ use Rattle.ledger_model.specs.Event.{toward}
 use Rattle.ledger_model.specs.Deltas.{first_reading}
 use Rattle.ledger_model.specs.Key.{key_cmp}
 use Rattle.ledger_model.specs.Limits.{Bounds}
-use Rattle.ledger_model.specs.Content.{Entry, Stored}
+use Rattle.ledger_model.specs.Complete.{kinds_of}
+use Rattle.ledger_model.specs.Content.{Entry, Stored, live_of}
+use Rattle.ledger_model.specs.Evse.{evse_of}
+use Rattle.ledger_model.specs.Gaps.{numbers_of}
 use Rattle.ledger_model.specs.Step.{readings_stored}
 use Rattle.event_store.specs.Slots.{Held, Slots}
 use Rattle.event_chain.specs.Placed.{Index}
+use Rattle.event_chain.specs.declared.answers.TxStanding.{TxStanding}
 use Rattle.event_chain.specs.declared.row.TableRow.{TableRow}
 use Rattle.event_chain.specs.Table.{Table, TxRow, AreRising, AreApart, IsFresh, row_of, with_row}
 use Rattle.event_chain.specs.Flat.{EventPlace, place_of, stored_at, flat}
@@ -159,3 +163,13 @@ pub record IsLeft (rows new : List TxRow) (left : List EventPlace) (tx : List �
 -- A transaction that was there, or was put in with a slot of its own and no live event.
 abbrev pub IsEntered : List TxRow → List TxRow → List ℕ → TableRow → Type 0
 IsEntered rows new tx row = ((row_of tx rows ≡ Some row) × (new ≡ rows)) ⊎ (IsNew rows tx row × (new ≡ with_row tx row rows))
+
+-- What the live events of a transaction come to, among these events.
+pub record IsTxStanding (tx : List ℕ) (es : List Entry) (s : TxStanding) : Type 0 where
+  pub first : s.first ≡ slice_get (numbers_of tx es) 0
+  pub last : s.last ≡ slice_get (numbers_of tx es) (length (numbers_of tx es) - 1)
+  pub first_kind : s.first_kind ≡ slice_get (kinds_of tx es) 0
+  pub last_kind : s.last_kind ≡ slice_get (kinds_of tx es) (length (kinds_of tx es) - 1)
+  pub live : s.live ≡ length (live_of tx es)
+  pub ends : s.ends ≡ count_by is_end (kinds_of tx es)
+  pub evse : s.evse ≡ evse_of tx es

@@ -1,13 +1,12 @@
 //! The live readings on either side of an event's place.
-ghost use Rattle.std.specs.Prelude.{◌≡◌, None, option_map};
-ghost use Rattle.ledger_model.specs.Deltas.{before_key, behind_key, first_reading, last_reading, own_readings};
+ghost use Rattle.std.specs.Prelude.{◌≡◌, None, true, option_map};
+ghost use Rattle.ledger_model.specs.ByDirection.{in_direction};
 ghost use Rattle.ledger_model.specs.declared.reading.Direction.{Direction};
 ghost use Rattle.event_chain.specs.Table.{row_of};
-ghost use Rattle.event_chain.specs.Edits.{carried};
 ghost use Rattle.event_chain.specs.Flat.{flat};
 ghost use Rattle.event_chain.specs.Kept.{IsKeyed, IsSub, is_carrier};
 ghost use Rattle.event_chain.specs.Placed.{carriers_of};
-ghost use Rattle.event_chain.specs.Sides.{by_direction, side_if};
+ghost use Rattle.event_chain.specs.Sides.{AreSides};
 
 use crate::carries::Carries;
 use crate::place_index::PlaceIndex;
@@ -16,7 +15,7 @@ use crate::spots::{carriers_around, first_at, last_at};
 use crate::table::TransactionTable;
 use event_store::EventStore;
 use key_index::{IndexKey, KeyPlace};
-use ledger_model::{Direction, Key, Reading};
+use ledger_model::{ByDirection, Direction, Key, Reading};
 
 /// The live readings of a direction just before and just behind an event's place in its transaction;
 /// none where the event has no reading of the direction.
@@ -29,27 +28,19 @@ pub struct Sides {
 }
 
 /// The same in each direction.
-#[derive(Clone, Copy)]
-pub struct Around {
-    /// Those of the import register.
-    pub import: Sides,
-    /// Those of the export register.
-    pub export: Sides,
-}
+pub type Around = ByDirection<Sides>;
+
+// No readings in either direction.
+pub(crate) const NONE_AROUND: Around = ByDirection {
+    import: Sides::NONE,
+    export: Sides::NONE,
+};
 
 impl Sides {
     // No readings.
     pub(crate) const NONE: Sides = Sides {
         before: None,
         behind: None,
-    };
-}
-
-impl Around {
-    // No readings.
-    pub(crate) const NONE: Around = Around {
-        import: Sides::NONE,
-        export: Sides::NONE,
     };
 }
 
@@ -70,8 +61,7 @@ pub(crate) fn sides_of(
     requires keyed { IsKeyed table.now.rows places.now.stored.entries store.now.slots }
     requires carry { IsSub (is_carrier direction) places.now.stored.entries store.now.slots (carriers_of places.now direction).entries }
     requires row { row ≡ row_of key.now.tx table.now.rows }
-    ensures before { sides.new.before ≡ last_reading (own_readings direction key.now.tx (before_key key.now (flat table.now.rows places.now.stored.entries store.now.slots))) }
-    ensures behind { sides.new.behind ≡ first_reading (own_readings direction key.now.tx (behind_key key.now (flat table.now.rows places.now.stored.entries store.now.slots))) }
+    ensures { AreSides direction true key.now (flat table.now.rows places.now.stored.entries store.now.slots) sides.new }
 {
     // The table is there for the clauses alone.
     let _ = table;
@@ -105,8 +95,7 @@ fn sides_where(
     requires keyed { IsKeyed table.now.rows places.now.stored.entries store.now.slots }
     requires carry { IsSub (is_carrier direction) places.now.stored.entries store.now.slots (carriers_of places.now direction).entries }
     requires row { row ≡ row_of key.now.tx table.now.rows }
-    ensures before { sides.new.before ≡ side_if has (last_reading (own_readings direction key.now.tx (before_key key.now (flat table.now.rows places.now.stored.entries store.now.slots)))) }
-    ensures behind { sides.new.behind ≡ side_if has (first_reading (own_readings direction key.now.tx (behind_key key.now (flat table.now.rows places.now.stored.entries store.now.slots)))) }
+    ensures { AreSides direction has key.now (flat table.now.rows places.now.stored.entries store.now.slots) sides.new }
 {
     if !has {
         sides.before = None;
@@ -140,12 +129,11 @@ pub(crate) fn around_of(
     requires keyed { IsKeyed table.now.rows places.now.stored.entries store.now.slots }
     requires carry { (d : Direction) → IsSub (is_carrier d) places.now.stored.entries store.now.slots (carriers_of places.now d).entries }
     requires row { option_map (λ f. f.1) known ≡ row_of key.now.tx table.now.rows }
-    ensures before { (d : Direction) → by_direction around.new.import.before around.new.export.before d ≡ side_if (carried d carries) (last_reading (own_readings d key.now.tx (before_key key.now (flat table.now.rows places.now.stored.entries store.now.slots)))) }
-    ensures behind { (d : Direction) → by_direction around.new.import.behind around.new.export.behind d ≡ side_if (carried d carries) (first_reading (own_readings d key.now.tx (behind_key key.now (flat table.now.rows places.now.stored.entries store.now.slots)))) }
+    ensures { (d : Direction) → AreSides d (in_direction d carries) key.now (flat table.now.rows places.now.stored.entries store.now.slots) (in_direction d around.new) }
 {
     let row = row_in(known);
     sides_where(
-        carries.imports,
+        carries.import,
         table,
         store,
         places,
@@ -156,7 +144,7 @@ pub(crate) fn around_of(
         &mut around.import,
     );
     sides_where(
-        carries.exports,
+        carries.export,
         table,
         store,
         places,

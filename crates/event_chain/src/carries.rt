@@ -1,19 +1,14 @@
+//! In which directions an event has readings.
 ghost use Rattle.std.specs.Prelude.{◌≡◌, is_some};
-ghost use Rattle.event_chain.specs.Edits.{carried};
+ghost use Rattle.ledger_model.specs.ByDirection.{in_direction};
 ghost use Rattle.ledger_model.specs.Deltas.{first_reading};
 ghost use Rattle.ledger_model.specs.Event.{toward};
 ghost use Rattle.ledger_model.specs.declared.reading.Direction.{Direction};
 
-use ledger_model::{Direction, Reading};
+use ledger_model::{ByDirection, Direction, Reading};
 
 /// In which directions there is a reading.
-#[derive(Clone, Copy, Debug, PartialEq, Eq)]
-pub struct Carries {
-    /// There is one of the import register.
-    pub imports: bool,
-    /// There is one of the export register.
-    pub exports: bool,
-}
+pub type Carries = ByDirection<bool>;
 
 // Tells whether there is a reading of a direction.
 fn has_reading(readings: &[Reading], direction: Direction) -> bool
@@ -27,14 +22,12 @@ fn has_reading(readings: &[Reading], direction: Direction) -> bool
     false
 }
 
-impl Carries {
-    /// What these readings carry.
-    pub fn of(readings: &[Reading]) -> Self
-        ensures { (d : Direction) → carried d result ≡ is_some (first_reading (toward d readings.now)) }
-    {
-        Carries {
-            imports: has_reading(readings, Direction::Import),
-            exports: has_reading(readings, Direction::Export),
-        }
+// What these readings carry.
+pub(crate) fn carried_by(readings: &[Reading]) -> Carries
+    ensures { (d : Direction) → in_direction d result ≡ is_some (first_reading (toward d readings.now)) }
+{
+    ByDirection {
+        import: has_reading(readings, Direction::Import),
+        export: has_reading(readings, Direction::Export),
     }
 }

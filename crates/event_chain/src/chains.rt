@@ -1,4 +1,4 @@
-ghost use Rattle.std.specs.Prelude.{◌≡◌, ◌-◌, ◌≤◌, ◌&&◌, true, false, not, is_some, nat_le, length, slice_get, option_map, Some, None, IfOk};
+ghost use Rattle.std.specs.Prelude.{◌≡◌, ◌+◌, ◌-◌, ◌≤◌, ◌&&◌, true, false, not, is_some, nat_le, length, slice_get, option_map, Some, None, IfOk};
 ghost use Rattle.std.specs.FinMap as finite;
 ghost use Rattle.std.specs.List.{count_by};
 ghost use Rattle.ledger_model.specs.Content.{live_of, transactions_of};
@@ -7,20 +7,22 @@ ghost use Rattle.ledger_model.specs.Evse.{evse_of};
 ghost use Rattle.ledger_model.specs.Complete.{kinds_of};
 ghost use Rattle.ledger_model.specs.Deltas.{own_readings, before_key, behind_key, first_reading, last_reading};
 ghost use Rattle.ledger_model.specs.Gaps.{numbers_of};
+ghost use Rattle.ledger_model.specs.Ranges.{most_events};
 ghost use Rattle.event_chain.specs.declared.answers.Room.TheVariants.{Fits};
 ghost use Rattle.event_chain.specs.declared.answers.Found.TheVariants.{Live, Voided};
 ghost use Rattle.event_chain.specs.Table.{row_of};
 ghost use Rattle.event_chain.specs.Chains.{stored};
 ghost use Rattle.event_chain.specs.Room.{room_of, found_of, readings_under};
-ghost use Rattle.event_chain.specs.Kept.{end_count, is_end};
+ghost use Rattle.event_chain.specs.Kept.{end_count, is_end, IsTxStanding};
 ghost use Rattle.ledger_model.specs.declared.reading.Direction.{Direction};
 ghost use Rattle.ledger_model.specs.Event.{toward};
-ghost use Rattle.event_chain.specs.Edits.{carried as carried_by, counts_under};
-ghost use Rattle.event_chain.specs.Sides.{by_direction, side_if};
+ghost use Rattle.ledger_model.specs.ByDirection.{in_direction};
+ghost use Rattle.event_chain.specs.Edits.{counts_under};
+ghost use Rattle.event_chain.specs.Sides.{AreSides};
 
 use crate::answers::{Found, Room, TxStanding};
-use crate::around::{Around, Sides, around_of, sides_of};
-use crate::carries::Carries;
+use crate::around::{Around, NONE_AROUND, Sides, around_of, sides_of};
+use crate::carries::{Carries, carried_by};
 use crate::place_index::PlaceIndex;
 use crate::row::TableRow;
 use crate::spots::{
@@ -32,7 +34,7 @@ use crate::tx_ids::TxIds;
 use crate::tx_walk::TxWalk;
 use event_store::{EventRef, EventStore, Readings};
 use key_index::{IndexKey, KeyPlace};
-use ledger_model::{Direction, Event, EvseId, Key, Kind, Limits, Reading, TxId};
+use ledger_model::{ByDirection, Direction, Event, EvseId, Key, Kind, Limits, Reading, TxId};
 use std::alloc::{AllocError, Global};
 use std::marker::Model;
 
@@ -71,13 +73,37 @@ fn ends_of(kind: Kind) -> u32
     }
 }
 
+// The row of a transaction with one live event more, of this kind.
+fn row_with(row: TableRow, kind: Kind) -> TableRow
+    requires { (row.live ≤ most_events) × (row.ends ≤ most_events) }
+    ensures { result ≡ record row { live = row.live + 1; ends = row.ends + end_count kind } }
+{
+    TableRow {
+        slot: row.slot,
+        live: row.live + 1,
+        ends: row.ends + ends_of(kind),
+    }
+}
+
+// The row of a transaction with one live event less, of this kind.
+fn row_without(row: TableRow, kind: Kind) -> TableRow
+    requires { (1 ≤ row.live) × (end_count kind ≤ row.ends) }
+    ensures { result ≡ record row { live = row.live - 1; ends = row.ends - end_count kind } }
+{
+    TableRow {
+        slot: row.slot,
+        live: row.live - 1,
+        ends: row.ends - ends_of(kind),
+    }
+}
+
 // In which directions an event has a reading.
 fn carried(event: &EventRef<'_>) -> Carries
-    ensures { (d : Direction) → carried_by d result ≡ is_some (first_reading (toward d event.now.1.event.readings)) }
+    ensures { (d : Direction) → in_direction d result ≡ is_some (first_reading (toward d event.now.1.event.readings)) }
 {
-    Carries {
-        imports: event.first_reading(Direction::Import).is_some(),
-        exports: event.first_reading(Direction::Export).is_some(),
+    ByDirection {
+        import: event.first_reading(Direction::Import).is_some(),
+        export: event.first_reading(Direction::Export).is_some(),
     }
 }
 
@@ -202,12 +228,12 @@ impl Chains {
         requires room { room_of self.old.limits (stored self.old) key.now.tx (length event.now.readings) ≡ Fits }
         ensures limits { self.new.limits ≡ self.old.limits }
         ensures events { self.new.events ≡ finite.insert self.old.events key.now (record { event = event.now; voided = false }) }
-        ensures before { (d : Direction) → by_direction result.import.before result.export.before d ≡ side_if (is_some (first_reading (toward d event.now.readings))) (last_reading (own_readings d key.now.tx (before_key key.now (stored self.old)))) }
-        ensures behind { (d : Direction) → by_direction result.import.behind result.export.behind d ≡ side_if (is_some (first_reading (toward d event.now.readings))) (first_reading (own_readings d key.now.tx (behind_key key.now (stored self.old)))) }
+        ensures sides { (d : Direction) → AreSides d (is_some (first_reading (toward d event.now.readings))) key.now (stored self.old) (in_direction d result) }
     {
-        let carries = Carries::of(event.readings());
-        let found = self.table.seek(key.tx());
-        let mut around = Around::NONE;
+        let tx = key.tx();
+        let carries = carried_by(event.readings());
+        let found = self.table.seek(tx);
+        let mut around = NONE_AROUND;
         around_of(
             &self.table,
             &self.store,
@@ -218,17 +244,13 @@ impl Chains {
             carries,
             &mut around,
         );
-        let (row, known) = enter(&mut self.table, found, key.tx());
+        let (row, known) = enter(&mut self.table, found, tx);
         let at = IndexKey::new(row.slot, key.seq());
         let slot = self.store.put(at, event);
         let names = event.evse().is_some();
         self.places.insert(place, at, slot, carries, names);
-        let after = TableRow {
-            slot: row.slot,
-            live: row.live + 1,
-            ends: row.ends + ends_of(event.kind()),
-        };
-        renew(&mut self.table, known, key.tx(), after);
+        let after = row_with(row, event.kind());
+        renew(&mut self.table, known, tx, after);
         self.table.rows_rise();
         around
     }
@@ -241,14 +263,10 @@ impl Chains {
     {
         let at = locate(&self.table, &self.places, key);
         let event = self.store.get(at.slot);
-        let ends = ends_of(event.kind());
+        let kind = event.kind();
         self.store.set_voided(at.slot, true);
         self.places.void(at.key, at.slot);
-        let after = TableRow {
-            slot: at.row.slot,
-            live: at.row.live - 1,
-            ends: at.row.ends - ends,
-        };
+        let after = row_without(at.row, kind);
         self.table.set(key.tx(), after);
         self.table.rows_rise();
     }
@@ -263,14 +281,10 @@ impl Chains {
         let event = self.store.get(at.slot);
         let carries = carried(&event);
         let names = event.evse().is_some();
-        let ends = ends_of(event.kind());
+        let kind = event.kind();
         self.store.set_voided(at.slot, false);
         self.places.restore(at.key, at.slot, carries, names);
-        let after = TableRow {
-            slot: at.row.slot,
-            live: at.row.live + 1,
-            ends: at.row.ends + ends,
-        };
+        let after = row_with(at.row, kind);
         self.table.set(key.tx(), after);
         self.table.rows_rise();
     }
@@ -301,11 +315,11 @@ impl Chains {
 
     /// In which directions the event of a key has a reading; in neither where the key is absent.
     pub fn carries(&self, key: &Key) -> Carries
-        ensures { (d : Direction) → carried_by d result ≡ is_some (first_reading (readings_under d (finite.get self.now.events key.now))) }
+        ensures { (d : Direction) → in_direction d result ≡ is_some (first_reading (readings_under d (finite.get self.now.events key.now))) }
     {
         match self.event_sought(key) {
             Some(event) => carried(&event),
-            None => Carries::of(&[]),
+            None => carried_by(&[]),
         }
     }
 
@@ -395,13 +409,7 @@ impl Chains {
     /// What the live events of a transaction come to, with one look-up of the transaction: the two ends
     /// and their kinds, the two counts, and the EVSE.
     pub fn standing(&self, tx: &TxId) -> TxStanding
-        ensures first { result.first ≡ slice_get (numbers_of tx.now (stored self.now)) 0 }
-        ensures last { let numbers = numbers_of tx.now (stored self.now) in result.last ≡ slice_get numbers (length numbers - 1) }
-        ensures first_kind { result.first_kind ≡ slice_get (kinds_of tx.now (stored self.now)) 0 }
-        ensures last_kind { let kinds = kinds_of tx.now (stored self.now) in result.last_kind ≡ slice_get kinds (length kinds - 1) }
-        ensures live { result.live ≡ length (live_of tx.now (stored self.now)) }
-        ensures ends { result.ends ≡ count_by is_end (kinds_of tx.now (stored self.now)) }
-        ensures evse { result.evse ≡ evse_of tx.now (stored self.now) }
+        ensures { IsTxStanding tx.now (stored self.now) result }
     {
         self.table.rows_rise();
         let row = self.table.get(tx);

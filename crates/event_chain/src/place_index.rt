@@ -8,7 +8,7 @@ ghost use Rattle.key_index.specs.declared.filed.Mark.TheVariants.{Live};
 ghost use Rattle.ledger_model.specs.declared.reading.Direction.{Direction};
 ghost use Rattle.event_chain.specs.Placed.{carriers_of, index, lane_of, mark_of as placed_mark};
 ghost use Rattle.event_chain.specs.Flat.{place_of};
-ghost use Rattle.event_chain.specs.Edits.{carried, put_if, out, places_before, places_behind};
+ghost use Rattle.event_chain.specs.Edits.{out, places_before, places_behind, CanPutIn, CanRestore, IsLiveLess, IsLiveMore, IsLiveSame, IsNotLive};
 ghost use Rattle.event_chain.specs.Lists.{slot_in, HasRank, AreOwn, AreListed, slot_before, slot_after};
 
 use crate::carries::Carries;
@@ -249,14 +249,9 @@ impl PlaceIndex {
         carries: Carries,
         names: bool,
     )
-        requires absent { place_of key self.old.stored.entries ≡ None }
-        requires room { length self.old.stored.entries < self.old.stored.capacity }
-        requires slot { slot < self.old.live.capacity }
-        requires unused { (rank : ℕ) → place_of rank self.old.live.entries ≡ Some slot → ⊥ }
+        requires { CanPutIn key slot self.old }
         ensures stored { self.new.stored ≡ index (put nat_cmp key slot self.old.stored.entries) self.old.stored.capacity }
-        ensures live { self.new.live ≡ index (put nat_cmp key slot self.old.live.entries) self.old.live.capacity }
-        ensures carriers { (d : Direction) → carriers_of self.new d ≡ index (put_if (carried d carries) key slot (carriers_of self.old d).entries) (carriers_of self.old d).capacity }
-        ensures naming { self.new.naming ≡ index (put_if names key slot self.old.naming.entries) self.old.naming.capacity }
+        ensures lives { IsLiveMore key slot carries names self.old self.new }
     {
         self.index.keys_rise();
         let ends = self.ends_at(key, place);
@@ -265,8 +260,8 @@ impl PlaceIndex {
         link_live(&self.index, &mut self.links, place, key, slot);
         let marks = Marks {
             live: true,
-            imports: carries.imports,
-            exports: carries.exports,
+            imports: carries.import,
+            exports: carries.export,
             names,
         };
         self.index.insert(place, key, Filed { value: slot, marks });
@@ -281,9 +276,7 @@ impl PlaceIndex {
         requires stored { place_of key self.old.stored.entries ≡ Some slot }
         requires live { place_of key self.old.live.entries ≡ Some slot }
         ensures stored { self.new.stored ≡ self.old.stored }
-        ensures live { self.new.live ≡ index (out key self.old.live.entries) self.old.live.capacity }
-        ensures carriers { (d : Direction) → carriers_of self.new d ≡ index (out key (carriers_of self.old d).entries) (carriers_of self.old d).capacity }
-        ensures naming { self.new.naming ≡ index (out key self.old.naming.entries) self.old.naming.capacity }
+        ensures lives { IsLiveLess key self.old self.new }
     {
         self.index.keys_rise();
         let before = self.links.prev(slot);
@@ -294,24 +287,17 @@ impl PlaceIndex {
 
     // Makes a voided event live again.
     pub(crate) fn restore(&mut self, key: IndexKey, slot: u32, carries: Carries, names: bool)
-        requires stored { place_of key self.old.stored.entries ≡ Some slot }
-        requires live { place_of key self.old.live.entries ≡ None }
-        requires carriers { (d : Direction) → place_of key (carriers_of self.old d).entries ≡ None }
-        requires naming { place_of key self.old.naming.entries ≡ None }
-        requires slot { slot < self.old.live.capacity }
-        requires unused { (rank : ℕ) → place_of rank self.old.live.entries ≡ Some slot → ⊥ }
+        requires { CanRestore key slot self.old }
         ensures stored { self.new.stored ≡ self.old.stored }
-        ensures live { self.new.live ≡ index (put nat_cmp key slot self.old.live.entries) self.old.live.capacity }
-        ensures carriers { (d : Direction) → carriers_of self.new d ≡ index (put_if (carried d carries) key slot (carriers_of self.old d).entries) (carriers_of self.old d).capacity }
-        ensures naming { self.new.naming ≡ index (put_if names key slot self.old.naming.entries) self.old.naming.capacity }
+        ensures lives { IsLiveMore key slot carries names self.old self.new }
     {
         self.index.keys_rise();
         let place = self.near;
         link_live(&self.index, &mut self.links, place, key, slot);
         let marks = Marks {
             live: true,
-            imports: carries.imports,
-            exports: carries.exports,
+            imports: carries.import,
+            exports: carries.export,
             names,
         };
         self.index.set_marks(key, marks);
@@ -320,13 +306,9 @@ impl PlaceIndex {
     // Takes out an event that is not live.
     pub(crate) fn remove(&mut self, key: IndexKey)
         requires stored { IsSome (place_of key self.old.stored.entries) }
-        requires live { place_of key self.old.live.entries ≡ None }
-        requires carriers { (d : Direction) → place_of key (carriers_of self.old d).entries ≡ None }
-        requires naming { place_of key self.old.naming.entries ≡ None }
+        requires not_live { IsNotLive key self.old }
         ensures stored { self.new.stored ≡ index (out key self.old.stored.entries) self.old.stored.capacity }
-        ensures live { self.new.live ≡ self.old.live }
-        ensures carriers { (d : Direction) → carriers_of self.new d ≡ carriers_of self.old d }
-        ensures naming { self.new.naming ≡ self.old.naming }
+        ensures lives { IsLiveSame self.old self.new }
     {
         self.index.keys_rise();
         self.index.remove(key);

@@ -8,7 +8,7 @@ ghost use Rattle.ledger_model.specs.Ranges.{sequence_end};
 ghost use Rattle.event_chain.specs.Table.{row_of, with_row, IsRowAt};
 ghost use Rattle.event_chain.specs.Flat.{place_of, segment};
 ghost use Rattle.event_chain.specs.Kept.{HasPlace, IsBare, IsEntered, IsLeft};
-ghost use Rattle.event_chain.specs.Edits.{place_at, first_under, last_under, at_home, places_before, places_behind, first_at, last_at, kind_in, evse_at, IsStored};
+ghost use Rattle.event_chain.specs.Edits.{place_at, first_under, last_under, at_home, places_before, places_behind, first_at, last_at, kind_in, evse_at, IsSpot, IsStored};
 ghost use Rattle.event_chain.specs.Walk.{number_in};
 
 use crate::lane::Lane;
@@ -67,10 +67,7 @@ pub(crate) fn slot_sought(table: &TransactionTable, places: &PlaceIndex, key: &K
 // Finds a key that is there.
 pub(crate) fn locate(table: &TransactionTable, places: &PlaceIndex, key: &Key) -> Spot
     requires { IsSome (place_at table.now.rows places.now.stored.entries key.now) }
-    ensures row { row_of key.now.tx table.now.rows ≡ Some result.row }
-    ensures key { result.key ≡ rank result.row.slot key.now.seq }
-    ensures slot { place_of result.key places.now.stored.entries ≡ Some result.slot }
-    ensures number { key.now.seq < sequence_end }
+    ensures { IsSpot table.now.rows places.now.stored.entries key.now result }
 {
     let stored = places.stored(places.near());
     stored.keys_rise();

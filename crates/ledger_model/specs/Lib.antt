@@ -5,6 +5,7 @@ pub mod TxId
 pub mod Name
 pub mod Key
 pub mod Event
+pub mod ByDirection
 pub mod Limits
 pub mod Figures
 pub mod Refusal

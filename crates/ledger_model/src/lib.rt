@@ -2,9 +2,9 @@
 //!
 //! A station sends transaction events ([`Event`]), each named by a [`Key`]: the id of its transaction
 //! and a sequence number (TransactionEventRequest, OCPP 2.0.1 Part 2, block E). An event carries
-//! counted [`Reading`]s of the active energy registers, each of a [`Direction`] (MeterValueType, block J). A [`Command`] on a
-//! station's ledger gets one [`Answer`]; what the ledger may keep is bounded by its [`Limits`], and
-//! [`Figures`] sum it up.
+//! counted [`Reading`]s of the active energy registers, each of a [`Direction`] (MeterValueType, block J); what
+//! there is of each direction is a [`ByDirection`]. A [`Command`] on a station's ledger gets one [`Answer`];
+//! what the ledger may keep is bounded by its [`Limits`], and [`Figures`] sum it up.
 //!
 //! The crate's one contract: a constructor answers `None` or `Err` exactly outside the limits, and
 //! what is read of a value is what was handed in, transaction ids folded to lower case. The
@@ -18,6 +18,7 @@
 #![tactic(auto)]
 
 mod answer;
+mod by_direction;
 mod command;
 mod event;
 mod evse;
@@ -35,6 +36,7 @@ mod reading;
 mod tx_id;
 
 pub use answer::{Answer, Refusal};
+pub use by_direction::ByDirection;
 pub use command::Command;
 pub use event::{Event, MAX_EVENT_READINGS};
 pub use evse::{EvseId, GREATEST_EVSE};

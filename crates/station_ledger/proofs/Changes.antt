@@ -1,9 +1,11 @@
 -- What an event that comes or goes changes: the pairs of each direction that go and come, and what its transaction counts for.
-use Rattle.std.proofs.Common.{◌≡◌, ℕ, ◌+◌, ◌≤◌, zero, suc, List, [], ◌∷◌, Option, length, refl, sym, ap, subst, ◌∙◌, arith}
+use Rattle.std.proofs.Common.{◌≡◌, ℕ, ◌+◌, ◌≤◌, Bool, zero, suc, List, [], ◌∷◌, Option, length, refl, sym, ap, subst, ◌∙◌, arith}
 use Rattle.ledger_model.specs.declared.reading.Direction.{Direction}
 use Rattle.ledger_model.specs.declared.reading.Direction.TheVariants.{Import, Export}
-use Rattle.ledger_model.specs.Content.{Entry}
-use Rattle.ledger_model.specs.Deltas.{across, pairs_between, before_key, behind_key, came_by, gone_by, kept_by, if_read, most_for, reading_before, reading_behind}
+use Rattle.ledger_model.specs.Content.{Entry, Stored}
+use Rattle.ledger_model.specs.ByDirection.{in_direction}
+use Rattle.ledger_model.specs.declared.by_direction.ByDirection.{ByDirection}
+use Rattle.ledger_model.specs.Deltas.{across, pairs_between, before_key, behind_key, came_by, gone_by, kept_by, if_read, most_for}
 use Rattle.ledger_model.specs.Energy.{Pair}
 use Rattle.ledger_model.specs.Event.{MeterReading, toward}
 use Rattle.ledger_model.specs.Key.{KeyName}
@@ -13,7 +15,9 @@ use Rattle.ledger_model.proofs.Callers.{few_moved, few_toward}
 use Rattle.event_chain.specs.Chains.{Chained, stored}
 use Rattle.station_ledger.specs.Moved.{IsMoved}
 use Rattle.station_ledger.specs.Quarters.{both_length, readings_at}
-use Rattle.event_chain.specs.Sides.{side_if}
+use Rattle.event_chain.specs.Sides.{AreSides, side_if}
+use Rattle.event_chain.specs.declared.around.Sides.{Sides}
+use Rattle.station_ledger.specs.Spent.{most_at}
 use Rattle.station_ledger.specs.Sides.{has_some, sides_across, sides_between}
 use Rattle.station_ledger.specs.Sums.{AreAllowed, IsToCome, IsToGo}
 use Rattle.station_ledger.proofs.Moved.{moved_more, moved_back}
@@ -43,58 +47,59 @@ most_le : (n : ℕ) → most_for n ≤ n + 2
 most_le zero = omega arith
 most_le (suc n) = omega arith
 
-module _ (limits : Bounds) (tx : List ℕ) (es : List Entry) (chains : Chained) (key : KeyName) (before behind : Direction → Option MeterReading) (tx_is : tx ≡ key.tx) (allowed : AreAllowed limits es) (after : AreAllowed limits (stored chains)) where
-  abbrev front : List Entry
-  front = before_key key es
+-- the pairs of the event that go and come, by its readings, of which it is known in which directions there are any
+across_then : {key : KeyName} {es : List Entry} (place : ByDirection Sides) (event : Stored) (d : Direction) → AreSides d (has_some (toward d event.event.readings)) key es (in_direction d place)
+    → sides_across place d ≡ gone_by d (before_key key es) (key, event) (behind_key key es)
+across_then place event d is = (λ i. across (is.before i) (is.behind i)) ∙ across_if (toward d event.event.readings) _ _
 
-  abbrev back : List Entry
-  back = behind_key key es
+between_then : {key : KeyName} {es : List Entry} (chains : Chained) (place : ByDirection Sides) (event : Stored) (d : Direction) → AreSides d (has_some (toward d event.event.readings)) key es (in_direction d place) → readings_at d chains key ≡ toward d event.event.readings
+    → sides_between place chains key d ≡ came_by d (before_key key es) (key, event) (behind_key key es)
+between_then chains place event d is own = (λ i. pairs_between (is.before i) (own i) (is.behind i)) ∙ between_if (toward d event.event.readings) _ _
 
-  abbrev most : ℕ
-  most = most_for (length (readings_at Import chains key)) + most_for (length (readings_at Export chains key))
+-- at most so many
+few_each : {key : KeyName} {es : List Entry} (chains : Chained) (place : ByDirection Sides) (event : Stored) (d : Direction) → AreSides d (has_some (toward d event.event.readings)) key es (in_direction d place) → readings_at d chains key ≡ toward d event.event.readings
+    → length (sides_across place d) + length (sides_between place chains key d) ≤ most_for (length (readings_at d chains key))
+few_each {key = key} {es = es} chains place event d is own =
+    omega (arith, few_moved d (before_key key es) (key, event) (behind_key key es), ap length (across_then place event d is), ap length (between_then chains place event d is own), ap (λ rs. most_for (length rs)) own)
 
+few_of : (n : ℕ) (event : Stored) (d : Direction) → length event.event.readings ≤ most_event_readings → n ≤ most_for (length (toward d event.event.readings)) → n ≤ most_event_readings + 2
+few_of n event d few le = omega (arith, le, most_le (length (toward d event.event.readings)), few_toward d event.event.readings, few)
+
+module _ {tx : List ℕ} {es : List Entry} {chains : Chained} {key : KeyName} {place : ByDirection Sides} (tx_is : tx ≡ key.tx) (allowed : AreAllowed chains.limits es) (after : AreAllowed chains.limits (stored chains)) where
   -- the readings come
-  pub coming : IsToCome es chains key before behind → IsChange limits tx es (stored chains) (sides_across before behind) (sides_between before chains key behind) most
+  pub coming : {names : Bool} → IsToCome es chains key place names → IsChange chains.limits tx es (stored chains) (sides_across place) (sides_between place chains key) (most_at chains key)
   coming h =
-      let new = stored chains in let e : Entry = (key, h.event) in
-      let less : (d : Direction) → gone_by d front e back ≡ sides_across before behind d = λ d. sym ((λ i. across (h.before_is d i) (h.behind_is d i)) ∙ across_if (toward d h.event.event.readings) (reading_before d front e) (reading_behind d e back)) in
-      let more : (d : Direction) → came_by d front e back ≡ sides_between before chains key behind d = λ d. sym ((λ i. pairs_between (h.before_is d i) (h.readings d i) (h.behind_is d i)) ∙ between_if (toward d h.event.event.readings) (reading_before d front e) (reading_behind d e back)) in
-      let moved_few : (d : Direction) → length (sides_across before behind d) + length (sides_between before chains key behind d) ≤ most_for (length (toward d h.event.event.readings)) =
-      λ d. omega (arith, few_moved d front e back, ap length (less d), ap length (more d)) in
-      let each_few : (d : Direction) → length (sides_across before behind d) + length (sides_between before chains key behind d) ≤ most_event_readings + 2 =
-      λ d. omega (arith, moved_few d, most_le (length (toward d h.event.event.readings)), few_toward d h.event.event.readings, h.few) in
-      let as_most : (d : Direction) → most_for (length (readings_at d chains key)) ≡ most_for (length (toward d h.event.event.readings)) = λ d. ap (λ rs. most_for (length rs)) (h.readings d) in
+      let new = stored chains in let front = before_key key es in let back = behind_key key es in let e : Entry = (key, h.event) in
+      let few = λ (d : Direction). few_each chains place h.event d (h.sides d) (h.readings d) in
+      let each : (d : Direction) → length (sides_across place d) + length (sides_between place chains key d) ≤ most_event_readings + 2 = λ d. few_of _ h.event d h.few (omega (arith, few d, ap (λ rs. most_for (length rs)) (h.readings d))) in
       record {
         before = allowed;
         after = after;
         moved = subst (λ t. IsMoved t es new) (sym tx_is) (moved_more es new front e back h.one);
         kept = λ d. kept_by d es front e back;
-        traded = λ d. subst (λ t. IsTraded d t es new (sides_across before behind d) (sides_between before chains key behind d) (kept_by d es front e back)) (sym tx_is)
-            (subst (λ ps. IsTraded d key.tx es new ps (sides_between before chains key behind d) (kept_by d es front e back)) (less d) (subst (λ ps. IsTraded d key.tx es new (gone_by d front e back) ps (kept_by d es front e back)) (more d) (traded_more d es new front e back h.one)));
-        few_gone = λ d. omega (arith, each_few d);
-        few_came = λ d. omega (arith, each_few d);
-        few = omega (arith, moved_few Import, moved_few Export, as_most Import, as_most Export);
+        traded = λ d. subst (λ t. IsTraded d t es new (sides_across place d) (sides_between place chains key d) (kept_by d es front e back)) (sym tx_is)
+            (subst (λ ps. IsTraded d key.tx es new ps (sides_between place chains key d) (kept_by d es front e back)) (sym (across_then place h.event d (h.sides d)))
+            (subst (λ ps. IsTraded d key.tx es new (gone_by d front e back) ps (kept_by d es front e back)) (sym (between_then chains place h.event d (h.sides d) (h.readings d))) (traded_more d es new front e back h.one)));
+        few_gone = λ d. omega (arith, each d);
+        few_came = λ d. omega (arith, each d);
+        few = omega (arith, few Import, few Export);
       }
 
   -- the readings go
-  pub going : IsToGo es chains key before behind → IsChange limits tx es (stored chains) (sides_between before chains key behind) (sides_across before behind) most
+  pub going : IsToGo es chains key place → IsChange chains.limits tx es (stored chains) (sides_between place chains key) (sides_across place) (most_at chains key)
   going h =
-      let new = stored chains in let e : Entry = (key, h.event) in
-      let less : (d : Direction) → gone_by d front e back ≡ sides_across before behind d = λ d. sym ((λ i. across (h.before_is d i) (h.behind_is d i)) ∙ across_if (toward d h.event.event.readings) (reading_before d front e) (reading_behind d e back)) in
-      let more : (d : Direction) → came_by d front e back ≡ sides_between before chains key behind d = λ d. sym ((λ i. pairs_between (h.before_is d i) (h.readings d i) (h.behind_is d i)) ∙ between_if (toward d h.event.event.readings) (reading_before d front e) (reading_behind d e back)) in
-      let moved_few : (d : Direction) → length (sides_across before behind d) + length (sides_between before chains key behind d) ≤ most_for (length (toward d h.event.event.readings)) =
-      λ d. omega (arith, few_moved d front e back, ap length (less d), ap length (more d)) in
-      let each_few : (d : Direction) → length (sides_across before behind d) + length (sides_between before chains key behind d) ≤ most_event_readings + 2 =
-      λ d. omega (arith, moved_few d, most_le (length (toward d h.event.event.readings)), few_toward d h.event.event.readings, h.few) in
-      let as_most : (d : Direction) → most_for (length (readings_at d chains key)) ≡ most_for (length (toward d h.event.event.readings)) = λ d. ap (λ rs. most_for (length rs)) (h.readings d) in
+      let new = stored chains in let front = before_key key es in let back = behind_key key es in let e : Entry = (key, h.event) in
+      let few = λ (d : Direction). few_each chains place h.event d (h.sides d) (h.readings d) in
+      let each : (d : Direction) → length (sides_across place d) + length (sides_between place chains key d) ≤ most_event_readings + 2 = λ d. few_of _ h.event d h.few (omega (arith, few d, ap (λ rs. most_for (length rs)) (h.readings d))) in
       record {
         before = allowed;
         after = after;
         moved = subst (λ t. IsMoved t es new) (sym tx_is) (moved_back key.tx new es (moved_more new es front e back h.one));
         kept = λ d. kept_by d new front e back;
-        traded = λ d. subst (λ t. IsTraded d t es new (sides_between before chains key behind d) (sides_across before behind d) (kept_by d new front e back)) (sym tx_is)
-            (subst (λ ps. IsTraded d key.tx es new (sides_between before chains key behind d) ps (kept_by d new front e back)) (less d) (subst (λ ps. IsTraded d key.tx es new ps (gone_by d front e back) (kept_by d new front e back)) (more d) (traded_less d es new front e back h.one)));
-        few_gone = λ d. omega (arith, each_few d);
-        few_came = λ d. omega (arith, each_few d);
-        few = omega (arith, moved_few Import, moved_few Export, as_most Import, as_most Export);
+        traded = λ d. subst (λ t. IsTraded d t es new (sides_between place chains key d) (sides_across place d) (kept_by d new front e back)) (sym tx_is)
+            (subst (λ ps. IsTraded d key.tx es new (sides_between place chains key d) ps (kept_by d new front e back)) (sym (across_then place h.event d (h.sides d)))
+            (subst (λ ps. IsTraded d key.tx es new ps (gone_by d front e back) (kept_by d new front e back)) (sym (between_then chains place h.event d (h.sides d) (h.readings d))) (traded_less d es new front e back h.one)));
+        few_gone = λ d. omega (arith, each d);
+        few_came = λ d. omega (arith, each d);
+        few = omega (arith, few Import, few Export);
       }

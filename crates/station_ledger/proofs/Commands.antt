@@ -3,12 +3,12 @@ use Rattle.std.proofs.Common.{is_some, ◌≡◌, ◌==◌, ◌&&◌, ℕ, ◌+�
 use Rattle.std.specs.List.{filter, filter_map, flat_map, count_by, sum_by}
 use Rattle.std.specs.FinMap as finite
 use Rattle.std.specs.FinMap.{find}
-use Rattle.energy_flow.specs.Flow.{Energy}
 use Rattle.ledger_model.specs.declared.command.Command.TheVariants.{Deliver, Void, Restore, Erase}
-use Rattle.ledger_model.specs.declared.figures.Figures.{Figures}
 use Rattle.ledger_model.specs.Complete.{starts_and_ends}
 use Rattle.ledger_model.specs.Content.{Entry, Stored, live, transactions_of}
-use Rattle.ledger_model.specs.Deltas.{IsOneMore, before_key, behind_key, own_events, own_readings, first_reading, last_reading, most_for}
+use Rattle.ledger_model.specs.ByDirection.{in_direction}
+use Rattle.ledger_model.specs.declared.by_direction.ByDirection.{ByDirection}
+use Rattle.ledger_model.specs.Deltas.{IsOneMore, before_key, behind_key, own_events, most_for}
 use Rattle.ledger_model.specs.Energy.{energy_over, followed}
 use Rattle.ledger_model.specs.Event.{EventContent, MeterReading, toward}
 use Rattle.ledger_model.specs.declared.reading.Direction.{Direction}
@@ -24,17 +24,14 @@ use Rattle.ledger_model.proofs.LedgerLemmas.{inserted_there}
 use Rattle.event_chain.specs.declared.answers.Found.TheVariants.{Live, Voided}
 use Rattle.event_chain.specs.Chains.{Chained, stored}
 use Rattle.event_chain.specs.Room.{found_of, readings_under}
-use Rattle.quarter_table.specs.Table.{Table}
 use Rattle.quarter_table.specs.Pairs.{rows_of}
-use Rattle.transaction_map.specs.Map.{Mapped}
-use Rattle.station_ledger.specs.declared.standing.Standing.{Standing}
-use Rattle.station_ledger.specs.declared.totals.EvseSum.{EvseSum}
+use Rattle.station_ledger.specs.declared.sums.Sums.{Sums}
 use Rattle.station_ledger.specs.Kept.{voided_in}
 use Rattle.station_ledger.specs.Quarters.{both_quartered, readings_at}
-use Rattle.event_chain.specs.Sides.{side_if}
+use Rattle.event_chain.specs.Sides.{AreSides}
+use Rattle.event_chain.specs.declared.around.Sides.{Sides}
 use Rattle.station_ledger.specs.Sides.{has_some}
 use Rattle.station_ledger.specs.Spent.{most_under}
-use Rattle.station_ledger.specs.Coming.{HasCome}
 use Rattle.station_ledger.specs.Sums.{AreAllowed, AreSummed, IsToCome, IsToGo}
 use Rattle.station_ledger.proofs.Moved.{kept_same}
 
@@ -60,33 +57,20 @@ none_of (Some n) h = cc
 listed : (old : Chained) (key : KeyName) (o : Option Stored) → finite.get old.events key ≡ o → find key_cmp key (stored old) ≡ o
 listed old key o h = sym (finite.get-entries old.events key) ∙ h
 
-module _ (old new : Chained) (key : KeyName) (before behind : Direction → Option MeterReading) (has : Direction → Bool)
-    (before_is : (d : Direction) → before d ≡ side_if (has d) (last_reading (own_readings d key.tx (before_key key (stored old))))) (behind_is : (d : Direction) → behind d ≡ side_if (has d) (first_reading (own_readings d key.tx (behind_key key (stored old))))) where
+module _ (old new : Chained) (key : KeyName) (place : ByDirection Sides) (has : Direction → Bool) (sides : (d : Direction) → AreSides d (has d) key (stored old) (in_direction d place)) where
   -- the sides, where it is known which directions have a reading
-  before_then : (rs : List MeterReading) → ((d : Direction) → has d ≡ has_some (toward d rs)) → (d : Direction) → before d ≡ side_if (has_some (toward d rs)) (last_reading (own_readings d key.tx (before_key key (stored old))))
-  before_then rs is d = before_is d ∙ ap (λ b. side_if b (last_reading (own_readings d key.tx (before_key key (stored old))))) (is d)
-
-  behind_then : (rs : List MeterReading) → ((d : Direction) → has d ≡ has_some (toward d rs)) → (d : Direction) → behind d ≡ side_if (has_some (toward d rs)) (first_reading (own_readings d key.tx (behind_key key (stored old))))
-  behind_then rs is d = behind_is d ∙ ap (λ b. side_if b (first_reading (own_readings d key.tx (behind_key key (stored old))))) (is d)
+  sides_then : (rs : List MeterReading) → ((d : Direction) → has d ≡ has_some (toward d rs)) → (d : Direction) → AreSides d (has_some (toward d rs)) key (stored old) (in_direction d place)
+  sides_then rs is d = subst (λ b. AreSides d b key (stored old) (in_direction d place)) (is d) (sides d)
 
   -- a delivered event comes
-  pub delivered : (event : EventContent) → new.events ≡ events_after old.events (Deliver key event) → finite.get old.events key ≡ None → length event.readings ≤ most_event_readings → ((d : Direction) → has d ≡ has_some (toward d event.readings)) → IsToCome (stored old) new key before behind
+  pub delivered : (event : EventContent) → new.events ≡ events_after old.events (Deliver key event) → finite.get old.events key ≡ None → length event.readings ≤ most_event_readings → ((d : Direction) → has d ≡ has_some (toward d event.readings)) → IsToCome (stored old) new key place (is_some event.evse)
   delivered event is absent few has_is = record {
     event = record { event = event; voided = false };
     one = subst (λ es. IsOneMore (stored old) es (before_key key (stored old)) (key, record { event = event; voided = false }) (behind_key key (stored old))) (sym (ap finite.entries is ∙ entries_after_is old.events (Deliver key event)))
         (delivered_more (stored old) key event (finite.entries_sorted old.events) (listed old key None absent));
     readings = λ d. ap (λ m. readings_under d (finite.get m key)) is ∙ ap (readings_under d) (inserted_there old.events key (record { event = event; voided = false }));
-    before_is = before_then event.readings has_is;
-    behind_is = behind_then event.readings has_is;
+    sides = sides_then event.readings has_is;
     few = few;
-  }
-
-  -- it may name an EVSE
-  pub delivered_come : (event : EventContent) → new.events ≡ events_after old.events (Deliver key event) → finite.get old.events key ≡ None → HasCome (stored old) new key (is_some event.evse)
-  delivered_come event is absent = record {
-    event = record { event = event; voided = false };
-    one = subst (λ es. IsOneMore (stored old) es (before_key key (stored old)) (key, record { event = event; voided = false }) (behind_key key (stored old))) (sym (ap finite.entries is ∙ entries_after_is old.events (Deliver key event)))
-        (delivered_more (stored old) key event (finite.entries_sorted old.events) (listed old key None absent));
     evse = none_of event.evse;
   }
 
@@ -94,27 +78,26 @@ module _ (old new : Chained) (key : KeyName) (before behind : Direction → Opti
   marked_there : (voided : Bool) (s : Stored) → finite.get old.events key ≡ Some s → finite.get (marked old.events key voided) key ≡ Some (record { event = s.event; voided = voided })
   marked_there voided s is = ap (λ o. finite.get (marked_at old.events key voided o) key) is ∙ inserted_there old.events key (record { event = s.event; voided = voided })
 
-  -- a restored event comes
-  pub restored : new.events ≡ events_after old.events (Restore key) → (f : IsFound (finite.get old.events key) true) → length f.event.event.readings ≤ most_event_readings → ((d : Direction) → has d ≡ has_some (readings_at d old key)) → IsToCome (stored old) new key before behind
+  -- a restored event comes, whatever it names
+  pub restored : new.events ≡ events_after old.events (Restore key) → (f : IsFound (finite.get old.events key) true) → length f.event.event.readings ≤ most_event_readings → ((d : Direction) → has d ≡ has_some (readings_at d old key)) → IsToCome (stored old) new key place true
   restored is f few has_is = record {
     event = record { event = f.event.event; voided = false };
     one = subst (λ es. IsOneMore (stored old) es (before_key key (stored old)) (key, record { event = f.event.event; voided = false }) (behind_key key (stored old))) (sym (ap finite.entries is ∙ entries_after_is old.events (Restore key)))
         (restored_more (stored old) key f.event (finite.entries_sorted old.events) (listed old key (Some f.event) f.is) f.marked_is);
     readings = λ d. ap (λ m. readings_under d (finite.get m key)) is ∙ ap (readings_under d) (marked_there false f.event f.is);
-    before_is = before_then f.event.event.readings (λ d. has_is d ∙ ap (λ o. has_some (readings_under d o)) f.is);
-    behind_is = behind_then f.event.event.readings (λ d. has_is d ∙ ap (λ o. has_some (readings_under d o)) f.is);
+    sides = sides_then f.event.event.readings (λ d. has_is d ∙ ap (λ o. has_some (readings_under d o)) f.is);
     few = few;
+    evse = λ (no : true ≡ false). cc;
   }
 
   -- a voided event goes
-  pub voided_goes : new.events ≡ events_after old.events (Void key) → (f : IsFound (finite.get old.events key) false) → length f.event.event.readings ≤ most_event_readings → ((d : Direction) → has d ≡ has_some (readings_at d old key)) → IsToGo (stored old) new key before behind
+  pub voided_goes : new.events ≡ events_after old.events (Void key) → (f : IsFound (finite.get old.events key) false) → length f.event.event.readings ≤ most_event_readings → ((d : Direction) → has d ≡ has_some (readings_at d old key)) → IsToGo (stored old) new key place
   voided_goes is f few has_is = record {
     event = f.event;
     one = subst (λ es. IsOneMore es (stored old) (before_key key (stored old)) (key, f.event) (behind_key key (stored old))) (sym (ap finite.entries is ∙ entries_after_is old.events (Void key)))
         (voided_less (stored old) key f.event (finite.entries_sorted old.events) (listed old key (Some f.event) f.is) f.marked_is);
     readings = λ d. ap (λ m. readings_under d (finite.get m key)) is ∙ ap (readings_under d) (marked_there true f.event f.is);
-    before_is = before_then f.event.event.readings (λ d. has_is d ∙ ap (λ o. has_some (readings_under d o)) f.is);
-    behind_is = behind_then f.event.event.readings (λ d. has_is d ∙ ap (λ o. has_some (readings_under d o)) f.is);
+    sides = sides_then f.event.event.readings (λ d. has_is d ∙ ap (λ o. has_some (readings_under d o)) f.is);
     few = few;
   }
 
@@ -160,10 +143,9 @@ own_pairs d tx l = followed (flat_map (λ e. toward d e.1.event.readings) (own_e
 at_over : ℕ → List Entry → List (List ℕ)
 at_over n l = filter (λ tx. first_or_none (filter_map (λ e. e.1.event.evse) (own_events tx l)) == n) (transactions_of l)
 
-pub summed_same : (limits : Bounds) (es new : List Entry) (kept : Mapped Standing) (evses : List EvseSum) (period : ℕ) (quarters : Table) (total export : Energy) (f g : Figures) → live new ≡ live es
-    → g.events ≡ f.events → g.transactions ≡ f.transactions → g.complete ≡ f.complete → g.missing ≡ f.missing → AreSummed limits es kept evses period quarters total export f → AreSummed limits new kept evses period quarters total export g
+pub summed_same : {limits : Bounds} {es : List Entry} (new : List Entry) {sums : Sums} → live new ≡ live es → AreSummed limits es sums → AreSummed limits new sums
 unfolding own_pairs at_over
-summed_same limits es new kept evses period quarters total export f g same events transactions complete missing_same s = record {
+summed_same {es = es} new {sums = sums} same s = record {
   standing = record {
     each = λ tx. s.standing.each tx ∙ sym (kept_same tx es new (ap (own_events tx) same));
     rising = s.standing.rising;
@@ -175,17 +157,26 @@ summed_same limits es new kept evses period quarters total export f g same event
     each = λ n le. s.at_evses.each n le ∙ ap (λ l. record { transactions = length (at_over n l); flow = energy_over (flat_map (λ tx. own_pairs Import tx l) (at_over n l)); export = energy_over (flat_map (λ tx. own_pairs Export tx l) (at_over n l)) }) (sym same);
   };
   by_quarter = record {
-    rows = s.by_quarter.rows ∙ ap (λ l. rows_of (both_quartered period (λ d. flat_map (λ tx. own_pairs d tx l) (transactions_of l)))) (sym same);
+    rows = s.by_quarter.rows ∙ ap (λ l. rows_of (both_quartered sums.period (λ d. flat_map (λ tx. own_pairs d tx l) (transactions_of l)))) (sym same);
     room = s.by_quarter.room;
   };
-  total_is = s.total_is ∙ ap (λ l. energy_over (flat_map (λ tx. own_pairs Import tx l) (transactions_of l))) (sym same);
-  export_is = s.export_is ∙ ap (λ l. energy_over (flat_map (λ tx. own_pairs Export tx l) (transactions_of l))) (sym same);
+  energies_are = λ d. s.energies_are d ∙ ap (λ l. energy_over (flat_map (λ tx. own_pairs d tx l) (transactions_of l))) (sym same);
   counts = record {
-    events = events ∙ s.counts.events ∙ ap length (sym same);
-    transactions = transactions ∙ s.counts.transactions ∙ ap (λ l. length (transactions_of l)) (sym same);
-    complete = complete ∙ s.counts.complete ∙ ap (λ l. count_by (λ tx. starts_and_ends (map (λ e. e.1.event.kind) (own_events tx l)) && (missing (map (λ e. e.0.seq) (own_events tx l)) == 0)) (transactions_of l)) (sym same);
-    missing_are = missing_same ∙ s.counts.missing_are ∙ ap (λ l. sum_by (λ tx. missing (map (λ e. e.0.seq) (own_events tx l))) (transactions_of l)) (sym same);
+    events = s.counts.events ∙ ap length (sym same);
+    transactions = s.counts.transactions ∙ ap (λ l. length (transactions_of l)) (sym same);
+    complete = s.counts.complete ∙ ap (λ l. count_by (λ tx. starts_and_ends (map (λ e. e.1.event.kind) (own_events tx l)) && (missing (map (λ e. e.0.seq) (own_events tx l)) == 0)) (transactions_of l)) (sym same);
+    missing_are = s.counts.missing_are ∙ ap (λ l. sum_by (λ tx. missing (map (λ e. e.0.seq) (own_events tx l))) (transactions_of l)) (sym same);
   };
+}
+
+-- nor on how many are voided
+pub summed_voided : {limits : Bounds} {es : List Entry} {sums : Sums} {n : ℕ} → AreSummed limits es sums → AreSummed limits es (record sums { figures = record sums.figures { voided = n } })
+summed_voided s = record {
+  standing = s.standing;
+  at_evses = s.at_evses;
+  by_quarter = s.by_quarter;
+  energies_are = s.energies_are;
+  counts = record { events = s.counts.events; transactions = s.counts.transactions; complete = s.counts.complete; missing_are = s.counts.missing_are };
 }
 
 -- how many are voided, after each command

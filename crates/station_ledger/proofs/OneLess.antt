@@ -3,6 +3,7 @@ use Rattle.std.proofs.Common.{◌≡◌, ◌==◌, ℕ, zero, suc, ◌+◌, ◌<
 use Rattle.std.specs.List.{filter_map, cons_option}
 use Rattle.std.proofs.lemmas.List.{length-map, map-append}
 use Rattle.energy_flow.specs.Flow.{Energy}
+use Rattle.ledger_model.specs.declared.by_direction.ByDirection.{ByDirection}
 use Rattle.ledger_model.specs.Board.{last_or_none}
 use Rattle.ledger_model.specs.BoardLaws.{AreRising}
 use Rattle.ledger_model.specs.Content.{Entry, live_of}
@@ -15,7 +16,9 @@ use Rattle.ledger_model.proofs.GapLemmas.{missing-fills}
 use Rattle.event_chain.specs.Chains.{Chained, stored}
 use Rattle.station_ledger.specs.declared.standing.Standing.{Standing}
 use Rattle.station_ledger.specs.Standing.{standing_with, kept_with}
-use Rattle.station_ledger.specs.Coming.{HasCome, IsOneLess}
+use Rattle.event_chain.specs.declared.around.Sides.{Sides}
+use Rattle.station_ledger.specs.Coming.{IsOneLess}
+use Rattle.station_ledger.specs.Sums.{IsToCome}
 use Rattle.station_ledger.proofs.EndNumbers.{first_is}
 
 -- The last of two lists.
@@ -90,9 +93,9 @@ some_kept zero s was h = cc
 some_kept (suc n) s was h = omega arith
 
 -- What was kept of a transaction stands against its events once one more has come.
-pub one_less : (es : List Entry) (chains : Chained) (key : KeyName) (names : Bool) → HasCome es chains key names → AreRising (numbers_of key.tx (stored chains))
+pub one_less : (es : List Entry) (chains : Chained) (key : KeyName) (place : ByDirection Sides) (names : Bool) → IsToCome es chains key place names → AreRising (numbers_of key.tx (stored chains))
     → (flow export : Energy) (was : Standing) → Some was ≡ kept_with flow export key.tx es → IsOneLess was key.tx key.seq names (stored chains)
-one_less es chains key names come up flow export was kept =
+one_less es chains key place names come up flow export was kept =
     let new = stored chains in let tx = key.tx in let e : Entry = (key, come.event) in let front = before_key key es in let back = behind_key key es in
     let own = own_events tx front in let rest = own_events tx back in
     let is = kept_is flow export tx es was kept in
@@ -114,9 +117,9 @@ one_less es chains key names come up flow export was kept =
     }
 
 -- The same, where anything was kept.
-pub all_less : (es : List Entry) (chains : Chained) (key : KeyName) (names : Bool) → HasCome es chains key names → AreRising (numbers_of key.tx (stored chains))
+pub all_less : (es : List Entry) (chains : Chained) (key : KeyName) (place : ByDirection Sides) (names : Bool) → IsToCome es chains key place names → AreRising (numbers_of key.tx (stored chains))
     → (tx : List ℕ) (seq : ℕ) → tx ≡ key.tx → seq ≡ key.seq → (flow export : Energy) (was : Option Standing) → was ≡ kept_with flow export tx es → IfSome was (λ w. IsOneLess w tx seq names (stored chains))
-all_less es chains key names come up tx seq tx_is seq_is flow export None kept = tt
-all_less es chains key names come up tx seq tx_is seq_is flow export (Some was) kept =
+all_less es chains key place names come up tx seq tx_is seq_is flow export None kept = tt
+all_less es chains key place names come up tx seq tx_is seq_is flow export (Some was) kept =
     subst (λ t. IsOneLess was t seq names (stored chains)) (sym tx_is) (subst (λ n. IsOneLess was key.tx n names (stored chains)) (sym seq_is)
-    (one_less es chains key names come up flow export was (kept ∙ ap (λ t. kept_with flow export t es) tx_is)))
+    (one_less es chains key place names come up flow export was (kept ∙ ap (λ t. kept_with flow export t es) tx_is)))

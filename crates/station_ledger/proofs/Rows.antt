@@ -16,7 +16,7 @@ use Rattle.quarter_table.specs.Pairs.{row_of, rows_of, rows_with, rows_without, 
 use Rattle.quarter_table.proofs.Held.{few_rows, few_pairs, row_up_le, row_down_le, row_export_up_le, row_export_down_le, pair_counted, pair_held, export_held, last_pair, last_export}
 use Rattle.quarter_table.proofs.Made.{made_row}
 use Rattle.quarter_table.proofs.Several.{made_with, made_without}
-use Rattle.station_ledger.specs.Quarters.{IsDifference, AreRows, HasRoom, quartered}
+use Rattle.station_ledger.specs.Quarters.{IsDifference, AreRows, HasRoom, IsSumOf, IsWith, IsWithout, quartered}
 
 -- energies of both directions that are at most so much
 pub record AreAtMost (n : ℕ) (f : Flows) : Type 0 where
@@ -97,27 +97,32 @@ module _ (q : ℕ) (flow : Flows) (others : List Flowed) (t : Table) (is : t.row
   last_of_export = subst (λ rows. (row_at q rows).pairs ≡ 1 → (row_at q rows).export ≡ flow.export) (sym is) (last_export [] q flow others)
 
 -- the rows with several pairs more
-pub rows_more : (period : ℕ) (d : Direction) (ps : List Pair) (others : List Flowed) (more less : ℕ) (t new : Table) → AreRows others more t → length ps + less ≡ more
-    → (energy_over ps).up ≤ greatest_reading * length ps → (energy_over ps).down ≤ greatest_reading * length ps
-    → new.rows ≡ rows_with (quartered period d ps) t.rows → new.capacity ≡ t.capacity → AreRows (quartered period d ps ++ others) less new
-rows_more period d ps others more less t new was n up down rows same =
+pub rows_more : (period : ℕ) (d : Direction) {ps : List Pair} {e : Energy} {t new : Table} (others : List Flowed) (more less : ℕ) → AreRows others more t → length ps + less ≡ more
+    → IsSumOf ps e → IsWith (quartered period d ps) t new → AreRows (quartered period d ps ++ others) less new
+rows_more period d {ps = ps} {t = t} {new = new} others more less was n sum put =
     let mine = quartered period d ps in
     let ups = sum_by-append (λ (f : Flowed). f.1.flow.up) mine others in
     let downs = sum_by-append (λ (f : Flowed). f.1.flow.down) mine others in
     let export_ups = sum_by-append (λ (f : Flowed). f.1.export.up) mine others in
     let export_downs = sum_by-append (λ (f : Flowed). f.1.export.down) mine others in
+    let up : (energy_over ps).up ≤ greatest_reading * length ps = omega (arith, sum.up, ap (λ (f : Energy). f.up) sum.is) in
+    let down : (energy_over ps).down ≤ greatest_reading * length ps = omega (arith, sum.down, ap (λ (f : Energy). f.down) sum.is) in
     let few = at_most d (energy_over ps) (greatest_reading * length ps) up down in
     let own = total_quartered period d ps in
     record {
-      rows = rows ∙ ap (rows_with mine) was.rows ∙ made_with mine others;
-      room = omega (arith, was.room, length-append mine others, same, n, long period d ps);
+      rows = put.rows ∙ ap (rows_with mine) was.rows ∙ made_with mine others;
+      room = omega (arith, was.room, length-append mine others, put.capacity, n, long period d ps);
       up = omega (arith, was.up, ups, few.up, n, ap (λ (e : Flows). e.flow.up) own);
       down = omega (arith, was.down, downs, few.down, n, ap (λ (e : Flows). e.flow.down) own);
       export_up = omega (arith, was.export_up, export_ups, few.export_up, n, ap (λ (e : Flows). e.export.up) own);
       export_down = omega (arith, was.export_down, export_downs, few.export_down, n, ap (λ (e : Flows). e.export.down) own);
-      few = omega (arith, was.few, same);
+      few = omega (arith, was.few, put.capacity);
     }
 
 -- the rows with several pairs less
-pub rows_less : (ps others : List Flowed) (t new : Table) → t.rows ≡ rows_of (ps ++ others) → new.rows ≡ rows_without ps t.rows → new.rows ≡ rows_of others
-rows_less ps others t new is rows = rows ∙ ap (rows_without ps) is ∙ made_without ps others
+pub rows_less : {ps : List Flowed} {t new : Table} (others : List Flowed) → t.rows ≡ rows_of (ps ++ others) → IsWithout ps t new → new.rows ≡ rows_of others
+rows_less {ps = ps} others is taken = taken.rows ∙ ap (rows_without ps) is ∙ made_without ps others
+
+-- fewer of the pairs for which there is room
+pub room_fewer : {more less : ℕ} {t : Table} → HasRoom more t → less ≤ more → HasRoom less t
+room_fewer has le = (has.0, record { rows = has.1.rows; room = omega (arith, has.1.room, le); up = omega (arith, has.1.up, le); down = omega (arith, has.1.down, le); export_up = omega (arith, has.1.export_up, le); export_down = omega (arith, has.1.export_down, le); few = has.1.few })

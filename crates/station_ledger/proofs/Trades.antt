@@ -13,10 +13,10 @@ use Rattle.ledger_model.specs.Limits.{Bounds}
 use Rattle.ledger_model.specs.Ranges.{greatest_reading, most_readings}
 use Rattle.ledger_model.proofs.Callers.{less_kept, more_kept, transaction_moved}
 use Rattle.quarter_table.specs.Table.{Table}
-use Rattle.quarter_table.specs.Pairs.{rows_of, rows_with, rows_without, total}
+use Rattle.quarter_table.specs.Pairs.{rows_of, rows_with, total}
 use Rattle.quarter_table.proofs.Several.{made_with, one_side, both_sides}
 use Rattle.quarter_table.proofs.Made.{made_alike}
-use Rattle.station_ledger.specs.Quarters.{HasRoom, HoldsBoth, both_length, both_quartered, quartered}
+use Rattle.station_ledger.specs.Quarters.{HasRoom, HoldsBoth, IsWith, IsWithout, both_length, both_quartered, quartered}
 use Rattle.station_ledger.specs.Sums.{AreAllowed, AreQuarterRows}
 use Rattle.station_ledger.proofs.Bounded.{few_up, few_down, few_pairs, own_up_le, own_down_le}
 use Rattle.station_ledger.proofs.Rows.{long, rows_less, total_quartered}
@@ -148,9 +148,9 @@ module _ (limits : Bounds) (tx : List ℕ) (es new : List Entry) (gone came kept
     pub holds : HoldsBoth period gone t
     holds = (both_quartered period kept, old_rows)
 
-    module _ (t1 : Table) (taken : t1.rows ≡ rows_without (both_quartered period gone) t.rows) (same : t1.capacity ≡ t.capacity) where
+    module _ {t1 : Table} (taken : IsWithout (both_quartered period gone) t t1) where
       left_rows : t1.rows ≡ rows_of (both_quartered period kept)
-      left_rows = rows_less (both_quartered period gone) (both_quartered period kept) t t1 old_rows taken
+      left_rows = rows_less (both_quartered period kept) old_rows taken
 
       pub room : both_length came ≤ most_readings → HasRoom (both_length came) t1
       room few =
@@ -159,17 +159,17 @@ module _ (limits : Bounds) (tx : List ℕ) (es new : List Entry) (gone came kept
             both_quartered period kept,
             record {
               rows = left_rows;
-              room = omega (arith, n, long period Import (kept Import), long period Export (kept Export), count Import, count Export, few_pairs new, after.readings_within, same, rows.room);
+              room = omega (arith, n, long period Import (kept Import), long period Export (kept Export), count Import, count Export, few_pairs new, after.readings_within, taken.capacity, rows.room);
               up = omega (arith, ap (λ (e : Flows). e.flow.up) sum, kept_up Import, before.most_readings_within, few);
               down = omega (arith, ap (λ (e : Flows). e.flow.down) sum, kept_down Import, before.most_readings_within, few);
               export_up = omega (arith, ap (λ (e : Flows). e.export.up) sum, kept_up Export, before.most_readings_within, few);
               export_down = omega (arith, ap (λ (e : Flows). e.export.down) sum, kept_down Export, before.most_readings_within, few);
-              few = omega (arith, same, rows.room, before.most_readings_within);
+              few = omega (arith, taken.capacity, rows.room, before.most_readings_within);
             },
           )
 
-      pub filled : (t2 : Table) → t2.rows ≡ rows_with (both_quartered period came) t1.rows → t2.capacity ≡ t1.capacity → AreQuarterRows limits new period t2
-      filled t2 put kept_capacity = record {
-        rows = put ∙ ap (rows_with (both_quartered period came)) left_rows ∙ made_with (both_quartered period came) (both_quartered period kept) ∙ sym (parted period (λ d. pairs d new) came kept (λ d. (traded d).new_sum));
-        room = kept_capacity ∙ same ∙ rows.room;
+      pub filled : {t2 : Table} → IsWith (both_quartered period came) t1 t2 → AreQuarterRows limits new period t2
+      filled put = record {
+        rows = put.rows ∙ ap (rows_with (both_quartered period came)) left_rows ∙ made_with (both_quartered period came) (both_quartered period kept) ∙ sym (parted period (λ d. pairs d new) came kept (λ d. (traded d).new_sum));
+        room = put.capacity ∙ taken.capacity ∙ rows.room;
       }

@@ -1,10 +1,9 @@
 -- Pairs along readings, one reading after the other.
-use Rattle.std.proofs.Common.{◌≡◌, ℕ, ◌+◌, ◌*◌, ◌≤◌, true, false, cond, List, [], ◌∷◌, ◌++◌, length, drop, get_or, Option, Some, refl, sym, ap, ◌∙◌, arith, length-append}
+use Rattle.std.proofs.Common.{◌≡◌, ℕ, ◌+◌, ◌*◌, ◌≤◌, true, false, cond, List, [], ◌∷◌, ◌++◌, length, drop, get_or, refl, sym, ap, ◌∙◌, arith, length-append}
 use Rattle.std.proofs.lemmas.List.{map-append, append_assoc}
 use Rattle.std.proofs.lemmas.List.Sums.{sum_by-append}
 use Rattle.energy_flow.specs.Flow.{Energy, plus}
 use Rattle.ledger_model.specs.Board.{Flowed}
-use Rattle.ledger_model.specs.Deltas.{across, pairs_between}
 use Rattle.ledger_model.specs.Energy.{Pair, difference, energy_over, flows_toward, quarter_of}
 use Rattle.ledger_model.specs.declared.reading.Direction.{Direction}
 use Rattle.ledger_model.specs.declared.reading.Direction.TheVariants.{Import, Export}
@@ -14,7 +13,7 @@ use Rattle.quarter_table.specs.declared.row.QuarterRow.{QuarterRow}
 use Rattle.quarter_table.specs.Rows.{row_at, set_row, with_pair, without_pair}
 use Rattle.quarter_table.specs.Pairs.{rows_of, rows_with, rows_without}
 use Rattle.quarter_table.specs.Table.{Table}
-use Rattle.station_ledger.specs.Quarters.{HasRoom, HoldsPairs, quartered}
+use Rattle.station_ledger.specs.Quarters.{HasRoom, HoldsPairs, IsAdded, IsTaken, quartered}
 use Rattle.station_ledger.proofs.Rows.{rows_more, rows_less}
 
 -- the pairs of several more readings add up
@@ -58,46 +57,66 @@ toward_first d left rest r is same = ap (toward d) is ∙ ap (λ b. cond b (r �
 pub toward_rest : (d : Direction) (left rest : List MeterReading) (r : MeterReading) → left ≡ r ∷ rest → (r.direction ≡ d → ⊥) → toward d left ≡ toward d rest
 toward_rest d left rest r is other = ap (toward d) is ∙ ap (λ b. cond b (r ∷ toward d rest) (toward d rest)) (not_same d r.direction other)
 
--- the pair of the next reading, and those after it
-module _ (d : Direction) (last : Option MeterReading) (r : MeterReading) (left rest : List MeterReading) (behind : Option MeterReading) (steps : left ≡ r ∷ rest) where
-  abbrev one : List Pair
-  one = across last (Some r)
+-- Pairs of a direction that are added one after the other, of which some are left.
+pub record IsAdding (period : ℕ) (d : Direction) (ps left : List Pair) (old t : Table) (before work : ℕ) (sum : Energy) : Type 0 where
+  pub room : HasRoom (length left) t
+  pub flow : plus sum (energy_over left) ≡ energy_over ps
+  pub up : sum.up + greatest_reading * length left ≤ greatest_reading * length ps
+  pub down : sum.down + greatest_reading * length left ≤ greatest_reading * length ps
+  pub rows : rows_with (quartered period d left) t.rows ≡ rows_with (quartered period d ps) old.rows
+  pub capacity : t.capacity ≡ old.capacity
+  pub spent : work + length left ≤ before + length ps
+  pub grows : before ≤ work
 
-  abbrev more : List Pair
-  more = pairs_between (Some r) rest behind
+-- Pairs of a direction that are taken out one after the other, of which some are left.
+pub record IsTaking (period : ℕ) (d : Direction) (ps left : List Pair) (old t : Table) (before work : ℕ) (sum : Energy) : Type 0 where
+  pub holds : HoldsPairs period d left t
+  pub flow : plus sum (energy_over left) ≡ energy_over ps
+  pub up : sum.up + greatest_reading * length left ≤ greatest_reading * length ps
+  pub down : sum.down + greatest_reading * length left ≤ greatest_reading * length ps
+  pub rows : rows_without (quartered period d left) t.rows ≡ rows_without (quartered period d ps) old.rows
+  pub capacity : t.capacity ≡ old.capacity
+  pub spent : work + length left ≤ before + length ps
+  pub grows : before ≤ work
 
-  pub split : pairs_between last left behind ≡ one ++ more
-  split = ap (λ rs. pairs_between last rs behind) steps
+-- the first of the pairs that are left, and those after them
+length_is : {left : List Pair} (one more : List Pair) → left ≡ one ++ more → length left ≡ length one + length more
+length_is one more split = ap length split ∙ length-append one more
 
-  pub split_length : length (pairs_between last left behind) ≡ length one + length more
-  split_length = ap length split ∙ length-append one more
+energy_is : {left : List Pair} (one more : List Pair) (sum flow next : Energy) → left ≡ one ++ more → flow ≡ energy_over one → next ≡ plus sum flow → plus next (energy_over more) ≡ plus sum (energy_over left)
+energy_is {left = left} one more sum flow next split is put =
+    let all = ap energy_over split ∙ energy_over-append one more in
+    let up : (plus next (energy_over more)).up ≡ (plus sum (energy_over left)).up = omega (arith, ap (λ (e : Energy). e.up) all, ap (λ (e : Energy). e.up) is, ap (λ (e : Energy). e.up) put) in
+    let down : (plus next (energy_over more)).down ≡ (plus sum (energy_over left)).down = omega (arith, ap (λ (e : Energy). e.down) all, ap (λ (e : Energy). e.down) is, ap (λ (e : Energy). e.down) put) in
+    λ i. record { up = up i; down = down i }
 
-  pub split_energy : (total flow sum new : Energy) → plus total (energy_over (pairs_between last left behind)) ≡ sum → flow ≡ energy_over one → new ≡ plus total flow → plus new (energy_over more) ≡ sum
-  split_energy total flow sum new was is put =
-      let all = ap energy_over split ∙ energy_over-append one more in
-      let up : (plus new (energy_over more)).up ≡ (plus total (energy_over (pairs_between last left behind))).up =
-      omega (arith, ap (λ (e : Energy). e.up) all, ap (λ (e : Energy). e.up) is, ap (λ (e : Energy). e.up) put) in
-      let down : (plus new (energy_over more)).down ≡ (plus total (energy_over (pairs_between last left behind))).down =
-      omega (arith, ap (λ (e : Energy). e.down) all, ap (λ (e : Energy). e.down) is, ap (λ (e : Energy). e.down) put) in
-      (λ i. record { up = up i; down = down i }) ∙ was
+quartered_is : (period : ℕ) (d : Direction) {left : List Pair} (one more : List Pair) → left ≡ one ++ more → quartered period d left ≡ quartered period d one ++ quartered period d more
+quartered_is period d one more split = ap (quartered period d) split ∙ quartered-append period d one more
 
-  pub split_with : (period : ℕ) (rows new : List QuarterRow) → new ≡ rows_with (quartered period d one) rows → rows_with (quartered period d more) new ≡ rows_with (quartered period d (pairs_between last left behind)) rows
-  split_with period rows new is = ap (rows_with (quartered period d more)) is ∙ sym (rows_with-append (quartered period d one) (quartered period d more) rows) ∙ ap (λ fs. rows_with fs rows) (sym (ap (quartered period d) split ∙ quartered-append period d one more))
+regrouped : (period : ℕ) (d : Direction) {left : List Pair} (one more : List Pair) (others : List Flowed) → left ≡ one ++ more → rows_of (quartered period d left ++ others) ≡ rows_of (quartered period d one ++ (quartered period d more ++ others))
+regrouped period d one more others split = ap (λ fs. rows_of (fs ++ others)) (quartered_is period d one more split) ∙ ap rows_of (append_assoc (quartered period d one) (quartered period d more) others)
 
-  pub split_without : (period : ℕ) (rows new : List QuarterRow) → new ≡ rows_without (quartered period d one) rows → rows_without (quartered period d more) new ≡ rows_without (quartered period d (pairs_between last left behind)) rows
-  split_without period rows new is = ap (rows_without (quartered period d more)) is ∙ sym (rows_without-append (quartered period d one) (quartered period d more) rows) ∙ ap (λ fs. rows_without fs rows) (sym (ap (quartered period d) split ∙ quartered-append period d one more))
+module _ {period : ℕ} {d : Direction} {ps left one more : List Pair} {old t new : Table} {before work after : ℕ} {sum flow next : Energy} where
+  pub adding_one : left ≡ one ++ more → IsAdding period d ps left old t before work sum → IsAdded period d one t new work after flow → next ≡ plus sum flow → IsAdding period d ps more old new before after next
+  adding_one split a e put = record {
+    room = (quartered period d one ++ a.room.0, rows_more period d a.room.0 (length left) (length more) a.room.1 (sym (length_is one more split)) e.sum e.quarters);
+    flow = energy_is one more sum flow next split e.sum.is put ∙ a.flow;
+    up = omega (arith, a.up, e.sum.up, length_is one more split, ap (λ (f : Energy). f.up) put);
+    down = omega (arith, a.down, e.sum.down, length_is one more split, ap (λ (f : Energy). f.down) put);
+    rows = ap (rows_with (quartered period d more)) e.quarters.rows ∙ sym (rows_with-append (quartered period d one) (quartered period d more) t.rows) ∙ ap (λ fs. rows_with fs t.rows) (sym (quartered_is period d one more split)) ∙ a.rows;
+    capacity = e.quarters.capacity ∙ a.capacity;
+    spent = omega (arith, a.spent, e.work.bound, length_is one more split);
+    grows = omega (arith, a.grows, e.work.grows);
+  }
 
-  pub room_first : (t : Table) → HasRoom (length (pairs_between last left behind)) t → HasRoom (length one) t
-  room_first t has = (has.0, record { rows = has.1.rows; room = omega (arith, has.1.room, split_length); up = omega (arith, has.1.up, split_length); down = omega (arith, has.1.down, split_length); export_up = omega (arith, has.1.export_up, split_length); export_down = omega (arith, has.1.export_down, split_length); few = has.1.few })
-
-  pub room_rest : (period : ℕ) (t new : Table) → HasRoom (length (pairs_between last left behind)) t → (energy_over one).up ≤ greatest_reading * length one → (energy_over one).down ≤ greatest_reading * length one → new.rows ≡ rows_with (quartered period d one) t.rows → new.capacity ≡ t.capacity → HasRoom (length more) new
-  room_rest period t new has up down rows same = (quartered period d one ++ has.0, rows_more period d one has.0 (length (pairs_between last left behind)) (length more) t new has.1 (sym split_length) up down rows same)
-
-  regrouped : (period : ℕ) (others : List Flowed) → rows_of (quartered period d (pairs_between last left behind) ++ others) ≡ rows_of (quartered period d one ++ (quartered period d more ++ others))
-  regrouped period others = ap (λ fs. rows_of (fs ++ others)) (ap (quartered period d) split ∙ quartered-append period d one more) ∙ ap rows_of (append_assoc (quartered period d one) (quartered period d more) others)
-
-  pub holds_first : (period : ℕ) (t : Table) → HoldsPairs period d (pairs_between last left behind) t → HoldsPairs period d one t
-  holds_first period t has = (quartered period d more ++ has.0, has.1 ∙ regrouped period has.0)
-
-  pub holds_rest : (period : ℕ) (t new : Table) → HoldsPairs period d (pairs_between last left behind) t → new.rows ≡ rows_without (quartered period d one) t.rows → HoldsPairs period d more new
-  holds_rest period t new has rows = (has.0, rows_less (quartered period d one) (quartered period d more ++ has.0) t new (has.1 ∙ regrouped period has.0) rows)
+  pub taking_one : left ≡ one ++ more → IsTaking period d ps left old t before work sum → IsTaken period d one t new work after flow → next ≡ plus sum flow → IsTaking period d ps more old new before after next
+  taking_one split a e put = record {
+    holds = (a.holds.0, rows_less (quartered period d more ++ a.holds.0) (a.holds.1 ∙ regrouped period d one more a.holds.0 split) e.quarters);
+    flow = energy_is one more sum flow next split e.sum.is put ∙ a.flow;
+    up = omega (arith, a.up, e.sum.up, length_is one more split, ap (λ (f : Energy). f.up) put);
+    down = omega (arith, a.down, e.sum.down, length_is one more split, ap (λ (f : Energy). f.down) put);
+    rows = ap (rows_without (quartered period d more)) e.quarters.rows ∙ sym (rows_without-append (quartered period d one) (quartered period d more) t.rows) ∙ ap (λ fs. rows_without fs t.rows) (sym (quartered_is period d one more split)) ∙ a.rows;
+    capacity = e.quarters.capacity ∙ a.capacity;
+    spent = omega (arith, a.spent, e.work.bound, length_is one more split);
+    grows = omega (arith, a.grows, e.work.grows);
+  }

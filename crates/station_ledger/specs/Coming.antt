@@ -1,18 +1,9 @@
 -- What is kept of a transaction, and one live event that came since.
-use Rattle.std.specs.Prelude.{◌≡◌, ℕ, ◌+◌, ◌<◌, ◌≤◌, Bool, false, List, Some, None, length, slice_get}
-use Rattle.ledger_model.specs.Content.{Entry, Stored, live_of}
-use Rattle.ledger_model.specs.Deltas.{IsOneMore, before_key, behind_key}
+use Rattle.std.specs.Prelude.{◌≡◌, ℕ, ◌+◌, ◌<◌, ◌≤◌, Bool, false, List, Some, length, slice_get}
+use Rattle.ledger_model.specs.Content.{Entry, live_of}
 use Rattle.ledger_model.specs.Evse.{evse_of}
 use Rattle.ledger_model.specs.Gaps.{numbers_of, missing}
-use Rattle.ledger_model.specs.Key.{KeyName}
-use Rattle.event_chain.specs.Chains.{Chained, stored}
 use Rattle.station_ledger.specs.declared.standing.Standing.{Standing}
-
--- One live event stands in the chains more, which may name an EVSE or not.
-pub record HasCome (es : List Entry) (chains : Chained) (key : KeyName) (names : Bool) : Type 0 where
-  pub event : Stored
-  pub one : IsOneMore es (stored chains) (before_key key es) (key, event) (behind_key key es)
-  pub evse : names ≡ false → event.event.evse ≡ None
 
 -- What was kept of a transaction before the live event of a number came, against its events since: behind the first one that number tells what is missing.
 pub record IsOneLess (was : Standing) (tx : List ℕ) (seq : ℕ) (names : Bool) (es : List Entry) : Type 0 where

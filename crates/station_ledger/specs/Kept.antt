@@ -1,23 +1,18 @@
 -- What a ledger keeps.
-use Rattle.std.specs.Prelude.{◌≡◌, ℕ, ◌≤◌, List, Some, None, length, count_by}
+use Rattle.std.specs.Prelude.{◌≡◌, ℕ, ◌≤◌, Some, None, length, count_by}
 use Rattle.std.specs.FinMap as finite
-use Rattle.energy_flow.specs.Flow.{Energy}
 use Rattle.ledger_model.specs.declared.command.Command.{Command}
 use Rattle.ledger_model.specs.declared.command.Command.TheVariants.{Deliver, Void, Restore, Erase}
-use Rattle.ledger_model.specs.declared.figures.Figures.{Figures}
 use Rattle.ledger_model.specs.Content.{Content}
 use Rattle.ledger_model.specs.Limits.{Bounds}
 use Rattle.ledger_model.specs.Ranges.{most_events, most_readings, most_transactions}
-use Rattle.ledger_model.specs.Step.{Reached}
+use Rattle.ledger_model.specs.Step.{Reached, events_after}
 use Rattle.event_chain.specs.declared.answers.Found.TheVariants.{Live, Voided}
 use Rattle.event_chain.specs.declared.answers.Room.TheVariants.{Fits}
 use Rattle.event_chain.specs.Chains.{Chained, stored}
 use Rattle.event_chain.specs.Room.{found_of, room_of}
-use Rattle.quarter_table.specs.Table.{Table}
-use Rattle.transaction_map.specs.Map.{Mapped}
-use Rattle.station_ledger.specs.declared.standing.Standing.{Standing}
-use Rattle.station_ledger.specs.declared.totals.EvseSum.{EvseSum}
-use Rattle.station_ledger.specs.Sums.{AreSummed}
+use Rattle.station_ledger.specs.declared.sums.Sums.{Sums}
+use Rattle.station_ledger.specs.Sums.{AreAllowed, AreSummed}
 
 -- The content that chains show after so many changes.
 abbrev pub content_in : Chained → ℕ → Content
@@ -28,11 +23,11 @@ abbrev pub voided_in : Chained → ℕ
 voided_in chains = count_by (λ e. e.1.voided) (stored chains)
 
 -- Events that the limits allow, reached by so many changes, and their sums.
-pub record IsKept (limits : Bounds) (chains : Chained) (changes : ℕ) (kept : Mapped Standing) (evses : List EvseSum) (period : ℕ) (quarters : Table) (total export : Energy) (f : Figures) : Type 0 where
+pub record IsKept (limits : Bounds) (chains : Chained) (changes : ℕ) (sums : Sums) : Type 0 where
   pub limits_are : chains.limits ≡ limits
   pub reached : Reached limits changes (content_in chains changes)
-  pub summed : AreSummed limits (stored chains) kept evses period quarters total export f
-  pub voided_are : f.voided ≡ voided_in chains
+  pub summed : AreSummed limits (stored chains) sums
+  pub voided_are : sums.figures.voided ≡ voided_in chains
   pub few_transactions : limits.transactions ≤ most_transactions
   pub few_events : limits.events ≤ most_events
   pub few_readings : limits.readings ≤ most_readings
@@ -43,3 +38,19 @@ IsReady c (Deliver key event) = (finite.get c.events key ≡ None) × (room_of c
 IsReady c (Void key) = found_of (finite.get c.events key) ≡ Some Live
 IsReady c (Restore key) = found_of (finite.get c.events key) ≡ Some Voided
 IsReady c (Erase key) = found_of (finite.get c.events key) ≡ Some Voided
+
+-- The command may be carried out: its key is as it has to be, the limits allow the events before it and after it, and the sums are those of the events before it.
+pub record CanDo (command : Command) (chains : Chained) (sums : Sums) : Type 0 where
+  pub ready : IsReady chains command
+  pub before : AreAllowed chains.limits (stored chains)
+  pub after : AreAllowed chains.limits (finite.entries (events_after chains.events command))
+  pub summed : AreSummed chains.limits (stored chains) sums
+  pub voided : sums.figures.voided ≡ voided_in chains
+
+-- The command was carried out, and the sums are those of the events after it.
+pub record IsDone (command : Command) (chains new : Chained) (sums next : Sums) : Type 0 where
+  pub limits : new.limits ≡ chains.limits
+  pub events : new.events ≡ events_after chains.events command
+  pub summed : AreSummed new.limits (stored new) next
+  pub period : next.period ≡ sums.period
+  pub voided : next.figures.voided ≡ voided_in new

@@ -4,15 +4,17 @@ use Rattle.std.specs.FinMap as finite
 use Rattle.event_chain.specs.Chains.{Chained}
 use Rattle.event_chain.specs.Room.{readings_under}
 use Rattle.energy_flow.specs.Flow.{Energy}
+use Rattle.ledger_model.specs.ByDirection.{in_direction}
+use Rattle.ledger_model.specs.declared.by_direction.ByDirection.{ByDirection}
 use Rattle.ledger_model.specs.declared.reading.Direction.{Direction}
 use Rattle.ledger_model.specs.declared.reading.Direction.TheVariants.{Import, Export}
 use Rattle.ledger_model.specs.Board.{Flowed}
-use Rattle.ledger_model.specs.Energy.{Pair}
+use Rattle.ledger_model.specs.Energy.{Pair, energy_over}
 use Rattle.ledger_model.specs.Event.{MeterReading}
 use Rattle.ledger_model.specs.Key.{KeyName}
 use Rattle.ledger_model.specs.Ranges.{greatest_reading, most_readings}
 use Rattle.quarter_table.specs.Table.{Table}
-use Rattle.quarter_table.specs.Pairs.{rows_of, flows_of, total}
+use Rattle.quarter_table.specs.Pairs.{rows_of, rows_with, rows_without, flows_of, total}
 
 -- A difference of two readings: neither its rise nor its fall is more than a reading can show.
 pub record IsDifference (flow : Energy) : Type 0 where
@@ -52,6 +54,51 @@ HoldsPairs period d ps t = (others : List Flowed) × (t.rows ≡ rows_of (quarte
 -- A table of pairs, these of both directions among them.
 abbrev pub HoldsBoth : ℕ → (Direction → List Pair) → Table → Type 0
 HoldsBoth period ps t = (others : List Flowed) × (t.rows ≡ rows_of (both_quartered period ps ++ others))
+
+-- What pairs add up to: no more than so many differences can.
+pub record IsSumOf (ps : List Pair) (e : Energy) : Type 0 where
+  pub is : e ≡ energy_over ps
+  pub up : e.up ≤ greatest_reading * length ps
+  pub down : e.down ≤ greatest_reading * length ps
+
+-- The count of work grew, by so much at most.
+pub record IsWork (most old new : ℕ) : Type 0 where
+  pub bound : new ≤ old + most
+  pub grows : old ≤ new
+
+-- A table with pairs put in, and as much room.
+pub record IsWith (pairs : List Flowed) (old new : Table) : Type 0 where
+  pub rows : new.rows ≡ rows_with pairs old.rows
+  pub capacity : new.capacity ≡ old.capacity
+
+-- A table with pairs taken out, and as much room.
+pub record IsWithout (pairs : List Flowed) (old new : Table) : Type 0 where
+  pub rows : new.rows ≡ rows_without pairs old.rows
+  pub capacity : new.capacity ≡ old.capacity
+
+-- Pairs of one direction were added: to a table, with their work, and to an energy.
+pub record IsAdded (period : ℕ) (d : Direction) (ps : List Pair) (old new : Table) (before after : ℕ) (flow : Energy) : Type 0 where
+  pub sum : IsSumOf ps flow
+  pub quarters : IsWith (quartered period d ps) old new
+  pub work : IsWork (length ps) before after
+
+-- Pairs of one direction were taken out.
+pub record IsTaken (period : ℕ) (d : Direction) (ps : List Pair) (old new : Table) (before after : ℕ) (flow : Energy) : Type 0 where
+  pub sum : IsSumOf ps flow
+  pub quarters : IsWithout (quartered period d ps) old new
+  pub work : IsWork (length ps) before after
+
+-- Pairs of both directions were added.
+pub record AreAdded (period : ℕ) (ps : Direction → List Pair) (old new : Table) (before after : ℕ) (flows : ByDirection Energy) : Type 0 where
+  pub sums : (d : Direction) → IsSumOf (ps d) (in_direction d flows)
+  pub quarters : IsWith (both_quartered period ps) old new
+  pub work : IsWork (both_length ps) before after
+
+-- Pairs of both directions were taken out.
+pub record AreTaken (period : ℕ) (ps : Direction → List Pair) (old new : Table) (before after : ℕ) (flows : ByDirection Energy) : Type 0 where
+  pub sums : (d : Direction) → IsSumOf (ps d) (in_direction d flows)
+  pub quarters : IsWithout (both_quartered period ps) old new
+  pub work : IsWork (both_length ps) before after
 
 -- The readings of a direction of the event of a key.
 abbrev pub readings_at : Direction → Chained → KeyName → List MeterReading

@@ -1,20 +1,23 @@
--- The readings on either side of an event's place, direction by direction.
-use Rattle.std.specs.Prelude.{Bool, List, Option, is_some}
+-- The pairs at an event's place, direction by direction.
+use Rattle.std.specs.Prelude.{Bool, List, is_some}
+use Rattle.ledger_model.specs.ByDirection.{in_direction}
+use Rattle.ledger_model.specs.declared.by_direction.ByDirection.{ByDirection}
 use Rattle.ledger_model.specs.declared.reading.Direction.{Direction}
 use Rattle.ledger_model.specs.Deltas.{across, first_reading, pairs_between}
 use Rattle.ledger_model.specs.Energy.{Pair}
 use Rattle.ledger_model.specs.Event.{MeterReading}
 use Rattle.ledger_model.specs.Key.{KeyName}
 use Rattle.event_chain.specs.Chains.{Chained}
+use Rattle.event_chain.specs.declared.around.Sides.{Sides}
 use Rattle.station_ledger.specs.Quarters.{readings_at}
 
 -- The pair across the place, in each direction.
-abbrev pub sides_across : (Direction → Option MeterReading) → (Direction → Option MeterReading) → Direction → List Pair
-sides_across before behind d = across (before d) (behind d)
+abbrev pub sides_across : ByDirection Sides → Direction → List Pair
+sides_across place d = across (in_direction d place).before (in_direction d place).behind
 
 -- The pairs that the event's readings make there, in each direction.
-abbrev pub sides_between : (Direction → Option MeterReading) → Chained → KeyName → (Direction → Option MeterReading) → Direction → List Pair
-sides_between before chains key behind d = pairs_between (before d) (readings_at d chains key) (behind d)
+abbrev pub sides_between : ByDirection Sides → Chained → KeyName → Direction → List Pair
+sides_between place chains key d = pairs_between (in_direction d place).before (readings_at d chains key) (in_direction d place).behind
 
 -- Tells whether there is a reading.
 abbrev pub has_some : List MeterReading → Bool

@@ -6,8 +6,10 @@ use Rattle.ledger_model.specs.declared.command.Command.TheVariants.{Deliver, Voi
 use Rattle.ledger_model.specs.declared.reading.Direction.TheVariants.{Import, Export}
 use Rattle.ledger_model.specs.Deltas.{most_for}
 use Rattle.ledger_model.specs.Event.{MeterReading, toward}
-use Rattle.ledger_model.specs.Key.{key_cmp}
+use Rattle.ledger_model.specs.Key.{KeyName, key_cmp}
 use Rattle.ledger_model.specs.Content.{Stored}
+use Rattle.event_chain.specs.Chains.{Chained}
+use Rattle.station_ledger.specs.Quarters.{readings_at}
 use Rattle.ledger_model.specs.declared.answer.Answer.{Answer}
 use Rattle.ledger_model.specs.declared.answer.Answer.TheVariants.{Accepted, Repeat, Refused}
 
@@ -21,7 +23,11 @@ IsSpent (Refused why) before after = after ≡ before
 abbrev pub most_with : List MeterReading → ℕ
 most_with rs = most_for (length (toward Import rs)) + most_for (length (toward Export rs))
 
--- The same of the event under a key, 0 where there is none.
+-- The same of the event under a key of the chains, by its readings of each direction.
+abbrev pub most_at : Chained → KeyName → ℕ
+most_at chains key = most_for (length (readings_at Import chains key)) + most_for (length (readings_at Export chains key))
+
+-- The same of a stored event, 0 where there is none.
 abbrev pub most_under : Option Stored → ℕ
 most_under None = 0
 most_under (Some s) = most_with s.event.readings

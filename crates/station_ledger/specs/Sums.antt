@@ -1,18 +1,18 @@
 -- What is kept of a station's live events, so that no figure needs a walk.
-use Rattle.std.specs.Prelude.{◌≡◌, ℕ, ◌+◌, ◌≤◌, not, List, Option, None, Some, All, length, count_by, sum_by}
+use Rattle.std.specs.Prelude.{◌≡◌, ℕ, ◌+◌, ◌<◌, ◌≤◌, Bool, false, not, List, Option, None, Some, All, length, count_by, sum_by}
 use Rattle.std.specs.List.{filter}
 use Rattle.std.specs.Ordering.{eq_by_cmp}
 use Rattle.std.specs.FinMap.{find, put}
-use Rattle.energy_flow.specs.Flow.{Energy}
 use Rattle.ledger_model.specs.declared.figures.Figures.{Figures}
 use Rattle.ledger_model.specs.Board.{figures}
 use Rattle.ledger_model.specs.Complete.{is_complete}
 use Rattle.ledger_model.specs.Content.{Entry, Stored, live, transactions_of}
-use Rattle.ledger_model.specs.Deltas.{IsOneMore, before_key, behind_key, own_readings, first_reading, last_reading}
+use Rattle.ledger_model.specs.ByDirection.{in_direction}
+use Rattle.ledger_model.specs.declared.by_direction.ByDirection.{ByDirection}
+use Rattle.ledger_model.specs.Deltas.{IsOneMore, before_key, behind_key}
 use Rattle.ledger_model.specs.Energy.{energy, pairs}
 use Rattle.ledger_model.specs.declared.reading.Direction.{Direction}
-use Rattle.ledger_model.specs.declared.reading.Direction.TheVariants.{Import, Export}
-use Rattle.ledger_model.specs.Event.{MeterReading, toward}
+use Rattle.ledger_model.specs.Event.{toward}
 use Rattle.ledger_model.specs.Figures.{AreWithin}
 use Rattle.ledger_model.specs.Key.{KeyName, key_cmp}
 use Rattle.ledger_model.specs.Step.{readings_stored}
@@ -25,10 +25,13 @@ use Rattle.quarter_table.specs.Table.{Table}
 use Rattle.quarter_table.specs.Pairs.{rows_of, station_flows}
 use Rattle.transaction_map.specs.Map.{Mapped, AreRising, id_cmp}
 use Rattle.station_ledger.specs.declared.standing.Standing.{Standing}
+use Rattle.station_ledger.specs.declared.sums.Sums.{Sums}
+use Rattle.station_ledger.specs.declared.totals.Change.{Change}
 use Rattle.station_ledger.specs.declared.totals.EvseSum.{EvseSum}
-use Rattle.station_ledger.specs.Moved.{sum_at, evse_sum}
+use Rattle.station_ledger.specs.Moved.{sum_at, evse_sum, with_one, without_one, with_figures, without_figures, HasRoomAt, CountsAt, HaveRoom, DoCount}
 use Rattle.station_ledger.specs.Quarters.{readings_at}
-use Rattle.event_chain.specs.Sides.{side_if}
+use Rattle.event_chain.specs.Sides.{AreSides}
+use Rattle.event_chain.specs.declared.around.Sides.{Sides}
 use Rattle.station_ledger.specs.Sides.{has_some}
 use Rattle.station_ledger.specs.Standing.{kept_of}
 
@@ -57,35 +60,33 @@ pub record AreCounts (es : List Entry) (f : Figures) : Type 0 where
   pub missing_are : f.missing ≡ sum_by (λ tx. missing (numbers_of tx es)) (transactions_of (live es))
 
 -- All sums of these events within these limits, but for the count of voided ones.
-pub record AreSummed (limits : Bounds) (es : List Entry) (kept : Mapped Standing) (evses : List EvseSum) (period : ℕ) (quarters : Table) (total export : Energy) (f : Figures) : Type 0 where
-  pub standing : AreStanding limits es kept
-  pub at_evses : AreEvseSums es evses
-  pub by_quarter : AreQuarterRows limits es period quarters
-  pub total_is : total ≡ energy Import es
-  pub export_is : export ≡ energy Export es
-  pub counts : AreCounts es f
+pub record AreSummed (limits : Bounds) (es : List Entry) (sums : Sums) : Type 0 where
+  pub standing : AreStanding limits es sums.kept
+  pub at_evses : AreEvseSums es sums.evses.items
+  pub by_quarter : AreQuarterRows limits es sums.period sums.quarters
+  pub energies_are : (d : Direction) → in_direction d sums.energies ≡ energy d es
+  pub counts : AreCounts es sums.figures
 
 -- The rows with that of a transaction written, or taken out where nothing is kept of it.
 abbrev pub keep : List ℕ → Option Standing → List (List ℕ × Standing) → List (List ℕ × Standing)
 keep tx None rows = filter (λ r. not (eq_by_cmp id_cmp tx r.0)) rows
 keep tx (Some s) rows = put id_cmp tx s rows
 
--- One live event more stands in the chains than the sums know of: its key, and the readings before and behind its place in each direction of which it has one.
-pub record IsToCome (es : List Entry) (chains : Chained) (key : KeyName) (before behind : Direction → Option MeterReading) : Type 0 where
+-- One live event more stands in the chains than among these, which may name an EVSE or not: its key, and the readings on either side of its place in each direction of which it has one.
+pub record IsToCome (es : List Entry) (chains : Chained) (key : KeyName) (place : ByDirection Sides) (names : Bool) : Type 0 where
   pub event : Stored
   pub one : IsOneMore es (stored chains) (before_key key es) (key, event) (behind_key key es)
   pub readings : (d : Direction) → readings_at d chains key ≡ toward d event.event.readings
-  pub before_is : (d : Direction) → before d ≡ side_if (has_some (toward d event.event.readings)) (last_reading (own_readings d key.tx (before_key key es)))
-  pub behind_is : (d : Direction) → behind d ≡ side_if (has_some (toward d event.event.readings)) (first_reading (own_readings d key.tx (behind_key key es)))
+  pub sides : (d : Direction) → AreSides d (has_some (toward d event.event.readings)) key es (in_direction d place)
   pub few : length event.event.readings ≤ most_event_readings
+  pub evse : names ≡ false → event.event.evse ≡ None
 
--- One live event stands in the chains no more, of which the sums still know.
-pub record IsToGo (es : List Entry) (chains : Chained) (key : KeyName) (before behind : Direction → Option MeterReading) : Type 0 where
+-- One live event of these stands in the chains no more.
+pub record IsToGo (es : List Entry) (chains : Chained) (key : KeyName) (place : ByDirection Sides) : Type 0 where
   pub event : Stored
   pub one : IsOneMore (stored chains) es (before_key key es) (key, event) (behind_key key es)
   pub readings : (d : Direction) → readings_at d chains key ≡ toward d event.event.readings
-  pub before_is : (d : Direction) → before d ≡ side_if (has_some (toward d event.event.readings)) (last_reading (own_readings d key.tx (before_key key es)))
-  pub behind_is : (d : Direction) → behind d ≡ side_if (has_some (toward d event.event.readings)) (first_reading (own_readings d key.tx (behind_key key es)))
+  pub sides : (d : Direction) → AreSides d (has_some (toward d event.event.readings)) key es (in_direction d place)
   pub few : length event.event.readings ≤ most_event_readings
 
 -- Events such as the limits allow, with each reading at a moment.
@@ -97,3 +98,35 @@ pub record AreAllowed (limits : Bounds) (es : List Entry) : Type 0 where
   pub most_transactions_within : limits.transactions ≤ most_transactions
   pub most_events_within : limits.events ≤ most_events
   pub most_readings_within : limits.readings ≤ most_readings
+
+-- The sums are those of allowed events, and one live event more stands in the chains.
+pub record AreGrowing (es : List Entry) (chains : Chained) (key : KeyName) (place : ByDirection Sides) (names : Bool) (sums : Sums) : Type 0 where
+  pub allowed : AreAllowed chains.limits es
+  pub come : IsToCome es chains key place names
+  pub summed : AreSummed chains.limits es sums
+
+-- The sums are those of allowed events, and one live event of these stands in the chains no more.
+pub record AreShrinking (es : List Entry) (chains : Chained) (key : KeyName) (place : ByDirection Sides) (sums : Sums) : Type 0 where
+  pub allowed : AreAllowed chains.limits es
+  pub go : IsToGo es chains key place
+  pub summed : AreSummed chains.limits es sums
+
+-- A transaction that changes is in the sums, and what it becomes has room there.
+pub record CanReplace (tx : List ℕ) (change : Change) (sums : Sums) : Type 0 where
+  pub place : find id_cmp tx sums.kept.rows ≡ None → (change.is ≡ None → ⊥) → length sums.kept.rows < sums.kept.capacity
+  pub all : length sums.evses.items ≡ greatest_evse + 1
+  pub room_at : (n : ℕ) → n ≤ greatest_evse → HasRoomAt n change.is (sum_at sums.evses.items n)
+  pub counts_at : (n : ℕ) → n ≤ greatest_evse → CountsAt n change.was (with_one n change.is (sum_at sums.evses.items n))
+  pub room : HaveRoom change.is sums.figures
+  pub counts : DoCount change.was (with_figures change.is sums.figures)
+
+-- What is kept of it, the sum of its EVSE and the figures follow the change.
+pub record IsReplaced (tx : List ℕ) (change : Change) (old new : Sums) : Type 0 where
+  pub kept : new.kept.rows ≡ keep tx change.is old.kept.rows
+  pub room : new.kept.capacity ≡ old.kept.capacity
+  pub all : length new.evses.items ≡ greatest_evse + 1
+  pub evses : (n : ℕ) → sum_at new.evses.items n ≡ without_one n change.was (with_one n change.is (sum_at old.evses.items n))
+  pub figures : new.figures ≡ without_figures change.was (with_figures change.is old.figures)
+  pub period : new.period ≡ old.period
+  pub quarters : new.quarters ≡ old.quarters
+  pub energies : new.energies ≡ old.energies

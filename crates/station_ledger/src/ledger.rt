@@ -42,7 +42,7 @@ impl Model for StationLedger {
 
     ghost view = { λ l. record { limits = l.limits; period = l.sums.period; content = content_in l.chains l.changes } };
 
-    ghost invariant = { λ l. IsKept l.limits l.chains l.changes l.sums.kept l.sums.evses.items l.sums.period l.sums.quarters l.sums.energy l.sums.export l.sums.figures };
+    ghost invariant = { λ l. IsKept l.limits l.chains l.changes l.sums };
 }
 
 impl StationLedger {
@@ -166,7 +166,7 @@ impl StationLedger {
     pub fn energy(&self) -> Flow
         ensures { result ≡ energy Import (entries self.now.content) }
     {
-        self.sums.energy
+        self.sums.energies.import
     }
 
     /// What the export register rose and fell by over all transactions, in milliwatt-hours; no reading
@@ -174,7 +174,7 @@ impl StationLedger {
     pub fn export(&self) -> Flow
         ensures { result ≡ energy Export (entries self.now.content) }
     {
-        self.sums.export
+        self.sums.energies.export
     }
 
     /// The figures: live and voided events; transactions with a live event, how many of these are
@@ -184,10 +184,10 @@ impl StationLedger {
         ensures within { AreWithin self.now.limits result }
     {
         Figures {
-            up: self.sums.energy.up(),
-            down: self.sums.energy.down(),
-            export_up: self.sums.export.up(),
-            export_down: self.sums.export.down(),
+            up: self.sums.energies.import.up(),
+            down: self.sums.energies.import.down(),
+            export_up: self.sums.energies.export.up(),
+            export_down: self.sums.energies.export.down(),
             ..self.sums.figures
         }
     }

@@ -118,7 +118,7 @@ pub(crate) fn board_of(
 ) -> Result<StationBoard, AllocError>
     requires within { AreAllowed chains.now.limits (stored chains.now) }
     requires numbered { AreNumbered (stored chains.now) }
-    requires summed { AreSummed chains.now.limits (stored chains.now) sums.now.kept sums.now.evses.items sums.now.period sums.now.quarters sums.now.energy sums.now.export sums.now.figures }
+    requires summed { AreSummed chains.now.limits (stored chains.now) sums.now }
     requires figures { figures ≡ figures_of (stored chains.now) }
     ensures { IfOk result (λ b. b ≡ board sums.now.period (stored chains.now)) }
 {

@@ -1,29 +1,27 @@
 //! What is kept of a station's live events, so that no figure needs a walk.
-ghost use Rattle.std.specs.Prelude.{◌≡◌, ℕ, ◌+◌, ◌<◌, ◌≤◌, List, [], None, Some, length, IfOk, IfSome};
+ghost use Rattle.std.specs.Prelude.{◌≡◌, ℕ, ◌+◌, ◌<◌, List, [], None, length, IfOk, IfSome};
 ghost use Rattle.std.specs.FinMap.{find};
 ghost use Rattle.energy_flow.specs.Flow.{no_energy, plus, minus};
 ghost use Rattle.event_chain.specs.Chains.{stored};
+ghost use Rattle.ledger_model.specs.ByDirection.{in_direction};
 ghost use Rattle.ledger_model.specs.Content.{Entry};
-ghost use Rattle.ledger_model.specs.Deltas.{most_for};
 ghost use Rattle.ledger_model.specs.declared.reading.Direction.{Direction};
-ghost use Rattle.ledger_model.specs.declared.reading.Direction.TheVariants.{Import, Export};
 ghost use Rattle.ledger_model.specs.Event.{toward};
 ghost use Rattle.ledger_model.specs.Figures.{no_figures};
 ghost use Rattle.ledger_model.specs.Ranges.{greatest_evse};
 ghost use Rattle.transaction_map.specs.Map.{id_cmp};
 ghost use Rattle.transaction_map.specs.Places.{IsAt};
-ghost use Rattle.station_ledger.specs.Moved.{sum_at, with_one, without_one, with_figures, without_figures, HasRoomAt, CountsAt, HaveRoom, DoCount, CanTrade, flow_in};
-ghost use Rattle.station_ledger.specs.Quarters.{readings_at};
-ghost use Rattle.station_ledger.specs.Coming.{HasCome};
-ghost use Rattle.event_chain.specs.Sides.{by_direction};
-ghost use Rattle.station_ledger.specs.Sums.{keep, AreStanding, AreSummed, AreAllowed, IsToCome, IsToGo};
+ghost use Rattle.station_ledger.specs.Moved.{sum_at, CanTrade, flow_in};
+ghost use Rattle.station_ledger.specs.Quarters.{readings_at, IsWork};
+ghost use Rattle.station_ledger.specs.Spent.{most_at};
+ghost use Rattle.station_ledger.specs.Sums.{keep, AreSummed, AreAllowed, AreGrowing, AreShrinking, CanReplace, IsReplaced};
 
 use crate::pairs::{Energies, add_gap, add_own, take_gap, take_own};
 use crate::standing::{Standing, standing_after, standing_of};
 use crate::totals::{Change, EvseSum, move_at_evses, move_in_figures};
 use energy_flow::{Flow, Work};
 use event_chain::{Around, Chains};
-use ledger_model::{Figures, GREATEST_EVSE, Key, Limits, Period, Reading, TxId};
+use ledger_model::{ByDirection, Figures, GREATEST_EVSE, Key, Limits, Period, Reading, TxId};
 use quarter_table::QuarterTable;
 use std::alloc::{AllocError, Global};
 use transaction_map::TransactionMap;
@@ -35,8 +33,7 @@ pub(crate) struct Sums {
     pub(crate) evses: Vec<EvseSum>,
     pub(crate) period: Period,
     pub(crate) quarters: QuarterTable,
-    pub(crate) energy: Flow,
-    pub(crate) export: Flow,
+    pub(crate) energies: Energies,
     pub(crate) figures: Figures,
 }
 
@@ -61,7 +58,7 @@ impl Sums {
     // The sums of no events by this period, with room for those of these limits.
     pub(crate) fn open(alloc: Global, limits: &Limits, period: Period) -> Result<Self, AllocError>
         ensures period { IfOk result (λ s. s.period ≡ period) }
-        ensures summed { IfOk result (λ s. AreSummed limits.now [] s.kept s.evses.items s.period s.quarters s.energy s.export s.figures) }
+        ensures summed { IfOk result (λ s. AreSummed limits.now [] s) }
         ensures voided { IfOk result (λ s. s.figures.voided ≡ 0) }
     {
         Ok(Sums {
@@ -69,8 +66,10 @@ impl Sums {
             evses: no_sums(alloc)?,
             period,
             quarters: QuarterTable::reserve(alloc, limits.readings())?,
-            energy: Flow::zero(),
-            export: Flow::zero(),
+            energies: ByDirection {
+                import: Flow::zero(),
+                export: Flow::zero(),
+            },
             figures: Figures::zero(),
         })
     }
@@ -78,15 +77,14 @@ impl Sums {
 
 // The energies of what was kept of a transaction.
 fn energies_of(was: &Option<Standing>) -> Energies
-    ensures import { result.import ≡ flow_in Import was.now }
-    ensures export { result.export ≡ flow_in Export was.now }
+    ensures { (d : Direction) → in_direction d result ≡ flow_in d was.now }
 {
     match was {
-        Some(s) => Energies {
+        Some(s) => ByDirection {
             import: s.flow,
             export: s.export,
         },
-        None => Energies {
+        None => ByDirection {
             import: Flow::zero(),
             export: Flow::zero(),
         },
@@ -103,12 +101,10 @@ fn traded(flow: Flow, less: Flow, more: Flow) -> Flow
 
 // The energies with what comes and without what goes, in each direction.
 fn trade(energies: Energies, less: &Energies, more: &Energies) -> Energies
-    requires import { CanTrade energies.import less.now.import more.now.import }
-    requires export { CanTrade energies.export less.now.export more.now.export }
-    ensures import { result.import ≡ minus (plus energies.import more.now.import) less.now.import }
-    ensures export { result.export ≡ minus (plus energies.export more.now.export) less.now.export }
+    requires { (d : Direction) → CanTrade (in_direction d energies) (in_direction d less.now) (in_direction d more.now) }
+    ensures { (d : Direction) → in_direction d result ≡ minus (plus (in_direction d energies) (in_direction d more.now)) (in_direction d less.now) }
 {
-    Energies {
+    ByDirection {
         import: traded(energies.import, less.import, more.import),
         export: traded(energies.export, less.export, more.export),
     }
@@ -146,21 +142,8 @@ fn keep(kept: &mut TransactionMap<Standing>, at: Option<usize>, tx: &TxId, chang
 // may be known.
 fn replace_standing(sums: &mut Sums, at: Option<usize>, tx: &TxId, change: &Change)
     requires at { IfSome at (λ i. IsAt tx.now sums.old.kept.rows i) }
-    requires all { length sums.old.evses.items ≡ greatest_evse + 1 }
-    requires place { find id_cmp tx.now sums.old.kept.rows ≡ None → (change.now.is ≡ None → ⊥) → length sums.old.kept.rows < sums.old.kept.capacity }
-    requires room_at { (n : ℕ) → n ≤ greatest_evse → HasRoomAt n change.now.is (sum_at sums.old.evses.items n) }
-    requires counts_at { (n : ℕ) → n ≤ greatest_evse → CountsAt n change.now.was (with_one n change.now.is (sum_at sums.old.evses.items n)) }
-    requires room { HaveRoom change.now.is sums.old.figures }
-    requires counts { DoCount change.now.was (with_figures change.now.is sums.old.figures) }
-    ensures kept { sums.new.kept.rows ≡ keep tx.now change.now.is sums.old.kept.rows }
-    ensures capacity { sums.new.kept.capacity ≡ sums.old.kept.capacity }
-    ensures all { length sums.new.evses.items ≡ greatest_evse + 1 }
-    ensures evses { (n : ℕ) → sum_at sums.new.evses.items n ≡ without_one n change.now.was (with_one n change.now.is (sum_at sums.old.evses.items n)) }
-    ensures figures { sums.new.figures ≡ without_figures change.now.was (with_figures change.now.is sums.old.figures) }
-    ensures period { sums.new.period ≡ sums.old.period }
-    ensures quarters { sums.new.quarters ≡ sums.old.quarters }
-    ensures energy { sums.new.energy ≡ sums.old.energy }
-    ensures export { sums.new.export ≡ sums.old.export }
+    requires can { CanReplace tx.now change.now sums.old }
+    ensures { IsReplaced tx.now change.now sums.old sums.new }
 {
     keep(&mut sums.kept, at, tx, change);
     move_at_evses(&mut sums.evses, change);
@@ -180,29 +163,18 @@ pub(crate) fn add_event(
 )
     requires within { AreAllowed chains.now.limits (stored chains.now) }
     requires own { (d : Direction) → IfSome own (λ rs. toward d rs.now ≡ readings_at d chains.now key.now) }
-    requires named { (es : List Entry) × (HasCome es chains.now key.now names × AreStanding chains.now.limits es sums.old.kept) }
-    requires to_come { (es : List Entry) × (AreAllowed chains.now.limits es × (IsToCome es chains.now key.now (by_direction place.now.import.before place.now.export.before) (by_direction place.now.import.behind place.now.export.behind) × AreSummed chains.now.limits es sums.old.kept sums.old.evses.items sums.old.period sums.old.quarters sums.old.energy sums.old.export sums.old.figures)) }
-    ensures summed { (es : List Entry) → AreAllowed chains.now.limits es → IsToCome es chains.now key.now (by_direction place.now.import.before place.now.export.before) (by_direction place.now.import.behind place.now.export.behind) → AreSummed chains.now.limits es sums.old.kept sums.old.evses.items sums.old.period sums.old.quarters sums.old.energy sums.old.export sums.old.figures → AreSummed chains.now.limits (stored chains.now) sums.new.kept sums.new.evses.items sums.new.period sums.new.quarters sums.new.energy sums.new.export sums.new.figures }
+    requires to_come { (es : List Entry) × AreGrowing es chains.now key.now place.now names sums.old }
+    ensures summed { AreSummed chains.now.limits (stored chains.now) sums.new }
     ensures period { sums.new.period ≡ sums.old.period }
     ensures voided { sums.new.figures.voided ≡ sums.old.figures.voided }
-    ensures work { work.new ≤ work.old + (most_for (length (readings_at Import chains.now key.now)) + most_for (length (readings_at Export chains.now key.now))) }
-    ensures grows { work.old ≤ work.new }
+    ensures work { IsWork (most_at chains.now key.now) work.old work.new }
 {
     let tx = key.tx();
     let (at, was) = found(&sums.kept, tx);
     let period = sums.period;
     let less = take_gap(&mut sums.quarters, period, place, work);
     let more = add_own(&mut sums.quarters, period, place, chains, key, own, work);
-    let all = trade(
-        Energies {
-            import: sums.energy,
-            export: sums.export,
-        },
-        &less,
-        &more,
-    );
-    sums.energy = all.import;
-    sums.export = all.export;
+    sums.energies = trade(sums.energies, &less, &more);
     let own = trade(energies_of(&was), &less, &more);
     let is = standing_after(chains, tx, key.seq(), names, was, own);
     replace_standing(sums, at, tx, &Change { was, is });
@@ -217,28 +189,18 @@ pub(crate) fn take_event(
     work: &mut Work,
 )
     requires within { AreAllowed chains.now.limits (stored chains.now) }
-    requires to_go { (es : List Entry) × (AreAllowed chains.now.limits es × (IsToGo es chains.now key.now (by_direction place.now.import.before place.now.export.before) (by_direction place.now.import.behind place.now.export.behind) × AreSummed chains.now.limits es sums.old.kept sums.old.evses.items sums.old.period sums.old.quarters sums.old.energy sums.old.export sums.old.figures)) }
-    ensures summed { (es : List Entry) → AreAllowed chains.now.limits es → IsToGo es chains.now key.now (by_direction place.now.import.before place.now.export.before) (by_direction place.now.import.behind place.now.export.behind) → AreSummed chains.now.limits es sums.old.kept sums.old.evses.items sums.old.period sums.old.quarters sums.old.energy sums.old.export sums.old.figures → AreSummed chains.now.limits (stored chains.now) sums.new.kept sums.new.evses.items sums.new.period sums.new.quarters sums.new.energy sums.new.export sums.new.figures }
+    requires to_go { (es : List Entry) × AreShrinking es chains.now key.now place.now sums.old }
+    ensures summed { AreSummed chains.now.limits (stored chains.now) sums.new }
     ensures period { sums.new.period ≡ sums.old.period }
     ensures voided { sums.new.figures.voided ≡ sums.old.figures.voided }
-    ensures work { work.new ≤ work.old + (most_for (length (readings_at Import chains.now key.now)) + most_for (length (readings_at Export chains.now key.now))) }
-    ensures grows { work.old ≤ work.new }
+    ensures work { IsWork (most_at chains.now key.now) work.old work.new }
 {
     let tx = key.tx();
     let was = sums.kept.get(tx);
     let period = sums.period;
     let less = take_own(&mut sums.quarters, period, place, chains, key, work);
     let more = add_gap(&mut sums.quarters, period, place, work);
-    let all = trade(
-        Energies {
-            import: sums.energy,
-            export: sums.export,
-        },
-        &less,
-        &more,
-    );
-    sums.energy = all.import;
-    sums.export = all.export;
+    sums.energies = trade(sums.energies, &less, &more);
     let own = trade(energies_of(&was), &less, &more);
     let is = standing_of(chains, tx, own);
     replace_standing(sums, None, tx, &Change { was, is });

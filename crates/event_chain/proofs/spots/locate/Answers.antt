@@ -15,6 +15,10 @@ unreachable-requires-in-None-get c =
     ∙ sym (found_at c.new-at.result es c.keys_rise.ensures.rising) ∙ sym c.get-2.ensures ∙ c.in-None-get.is in
     let f : false ≡ true = ap is_some (sym none) ∙ c.requires in cc
 
-pub returns-clause-slot : goal.returns-clause-slot
-returns-clause-slot c =
-    sym (ap (λ (x : Index). place_of c.new-at.result x.entries) c.stored-stored.ensures) ∙ sym (found_at c.new-at.result c.stored-stored.result.entries c.keys_rise.ensures.rising) ∙ sym c.get-2.ensures ∙ c.in-Some-get.is
+pub returns : goal.returns
+returns c = record {
+  row = sym (c.in-Some.ensures ∙ ap (λ t. row_of t c.args.table.now.rows) c.tx.ensures);
+  key_is = c.new-at.ensures ∙ ap (rank c.in-Some.row.slot) c.seq.ensures.value;
+  slot = sym (ap (λ (x : Index). place_of c.new-at.result x.entries) c.stored-stored.ensures) ∙ sym (found_at c.new-at.result c.stored-stored.result.entries c.keys_rise.ensures.rising) ∙ sym c.get-2.ensures ∙ c.in-Some-get.is;
+  number = omega (arith, c.seq.ensures.value, c.seq.ensures.range);
+}

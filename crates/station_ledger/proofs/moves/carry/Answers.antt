@@ -1,41 +1,27 @@
-use Rattle.std.proofs.Common.{sym, subst, ◌∙◌, arith}
-use Rattle.std.specs.FinMap as finite
-use Rattle.station_ledger.specs.Kept.{IsReady}
-use Rattle.station_ledger.proofs.Commands.{found_voided, found_live, some_voided, delivered_voided, restored_voided, voided_voided_more, erased_voided}
+use Rattle.std.proofs.Common.{sym, subst}
+use Rattle.station_ledger.specs.Kept.{CanDo, IsDone}
 use Rattle.station_ledger.proofs.moves.carry.Goals as goal
 
-pub restore-requires-clause-counted : goal.restore-requires-clause-counted
-restore-requires-clause-counted c =
-    let old = c.args.chains.now in
-    let ready = subst (IsReady old) c.in-Restore.is c.requires.ready in
-    omega (arith, c.requires.voided, some_voided old c.in-Restore.key (found_voided (finite.get old.events c.in-Restore.key) ready))
+pub deliver-requires : goal.deliver-requires
+deliver-requires c = subst (λ x. CanDo x c.args.chains.now c.args.sums.now) c.in-Deliver.is c.requires
 
-pub erase-requires-clause-counted : goal.erase-requires-clause-counted
-erase-requires-clause-counted c =
-    let old = c.args.chains.now in
-    let ready = subst (IsReady old) c.in-Erase.is c.requires.ready in
-    omega (arith, c.requires.voided, some_voided old c.in-Erase.key (found_voided (finite.get old.events c.in-Erase.key) ready))
+pub returns-in-Deliver-clause-done : goal.returns-in-Deliver-clause-done
+returns-in-Deliver-clause-done c = subst (λ x. IsDone x c.args.chains.now c.deliver.new.chains c.args.sums.now c.deliver.new.sums) (sym c.in-Deliver.is) c.deliver.ensures.done
 
-pub returns-in-Deliver-clause-voided : goal.returns-in-Deliver-clause-voided
-returns-in-Deliver-clause-voided c =
-    let old = c.args.chains.now in
-    let ready = subst (IsReady old) c.in-Deliver.is c.requires.ready in
-    c.deliver.ensures.voided ∙ c.requires.voided ∙ sym (delivered_voided old c.deliver.new.chains c.in-Deliver.key c.in-Deliver.event c.deliver.ensures.events ready.0)
+pub void-requires : goal.void-requires
+void-requires c = subst (λ x. CanDo x c.args.chains.now c.args.sums.now) c.in-Void.is c.requires
 
-pub returns-in-Void-clause-voided : goal.returns-in-Void-clause-voided
-returns-in-Void-clause-voided c =
-    let old = c.args.chains.now in
-    let ready = subst (IsReady old) c.in-Void.is c.requires.ready in
-    omega (arith, c.void.ensures.voided, c.requires.voided, voided_voided_more old c.void.new.chains c.in-Void.key c.void.ensures.events (found_live (finite.get old.events c.in-Void.key) ready))
+pub returns-in-Void-clause-done : goal.returns-in-Void-clause-done
+returns-in-Void-clause-done c = subst (λ x. IsDone x c.args.chains.now c.void.new.chains c.args.sums.now c.void.new.sums) (sym c.in-Void.is) c.void.ensures.done
 
-pub returns-in-Restore-clause-voided : goal.returns-in-Restore-clause-voided
-returns-in-Restore-clause-voided c =
-    let old = c.args.chains.now in
-    let ready = subst (IsReady old) c.in-Restore.is c.requires.ready in
-    omega (arith, c.restore.ensures.voided, c.requires.voided, restored_voided old c.restore.new.chains c.in-Restore.key c.restore.ensures.events (found_voided (finite.get old.events c.in-Restore.key) ready))
+pub restore-requires : goal.restore-requires
+restore-requires c = subst (λ x. CanDo x c.args.chains.now c.args.sums.now) c.in-Restore.is c.requires
 
-pub returns-in-Erase-clause-voided : goal.returns-in-Erase-clause-voided
-returns-in-Erase-clause-voided c =
-    let old = c.args.chains.now in
-    let ready = subst (IsReady old) c.in-Erase.is c.requires.ready in
-    omega (arith, c.erase.ensures.voided, c.requires.voided, erased_voided old c.erase.new.chains c.in-Erase.key c.erase.ensures.events (found_voided (finite.get old.events c.in-Erase.key) ready))
+pub returns-in-Restore-clause-done : goal.returns-in-Restore-clause-done
+returns-in-Restore-clause-done c = subst (λ x. IsDone x c.args.chains.now c.restore.new.chains c.args.sums.now c.restore.new.sums) (sym c.in-Restore.is) c.restore.ensures.done
+
+pub erase-requires : goal.erase-requires
+erase-requires c = subst (λ x. CanDo x c.args.chains.now c.args.sums.now) c.in-Erase.is c.requires
+
+pub returns-in-Erase-clause-done : goal.returns-in-Erase-clause-done
+returns-in-Erase-clause-done c = subst (λ x. IsDone x c.args.chains.now c.erase.new.chains c.args.sums.now c.erase.new.sums) (sym c.in-Erase.is) c.erase.ensures

@@ -1,13 +1,22 @@
-use Rattle.std.proofs.Common.{refl, sym, subst}
+use Rattle.std.proofs.Common.{sym, subst, arith}
 use Rattle.std.specs.FinMap as finite
 use Rattle.event_chain.specs.Chains.{stored}
 use Rattle.station_ledger.specs.Sums.{AreSummed}
-use Rattle.station_ledger.proofs.Commands.{found_voided, erased, summed_same}
+use Rattle.station_ledger.proofs.Commands.{found_voided, erased, erased_voided, some_voided, summed_same, summed_voided}
 use Rattle.station_ledger.proofs.moves.erase.Goals as goal
 
-pub returns-clause-summed : goal.returns-clause-summed
-returns-clause-summed c =
-    let old = c.args.chains.now in let new = c.remove.new.self in
-    let summed = subst (λ l. AreSummed l (stored old) c.args.sums.now.kept c.args.sums.now.evses.items c.args.sums.now.period c.args.sums.now.quarters c.args.sums.now.energy c.args.sums.now.export c.args.sums.now.figures) (sym c.remove.ensures.limits) c.requires.summed in
-    let same = erased old new c.args.key.now c.remove.ensures.events (found_voided (finite.get old.events c.args.key.now) c.requires.voided) in
-    summed_same new.limits (stored old) (stored new) c.args.sums.now.kept c.args.sums.now.evses.items c.args.sums.now.period c.args.sums.now.quarters c.args.sums.now.energy c.args.sums.now.export c.args.sums.now.figures _ same refl refl refl refl summed
+pub overflow_sub-sums : goal.overflow_sub-sums
+overflow_sub-sums c =
+    let old = c.args.chains.now in let key = c.args.key.now in
+    omega (arith, c.requires.voided, some_voided old key (found_voided (finite.get old.events key) c.requires.ready))
+
+pub returns : goal.returns
+returns c =
+    let old = c.args.chains.now in let new = c.remove.new.self in let key = c.args.key.now in let e = c.remove.ensures.events in let f = found_voided (finite.get old.events key) c.requires.ready in
+    record {
+      limits = c.remove.ensures.limits;
+      events = e;
+      summed = summed_voided (summed_same (stored new) (erased old new key e f) (subst (λ l. AreSummed l (stored old) c.args.sums.now) (sym c.remove.ensures.limits) c.requires.summed));
+      period = λ i. c.args.sums.now.period;
+      voided = omega (arith, c.requires.voided, erased_voided old new key e f);
+    }

@@ -1,6 +1,5 @@
 use Rattle.std.proofs.Common.{ℕ, sym, ap, ◌∙◌}
 use Rattle.std.specs.List.{count_by}
-use Rattle.event_chain.specs.Placed.{carriers_of}
 use Rattle.ledger_model.specs.Complete.{kinds_of}
 use Rattle.event_chain.specs.Chains.{Chained, stored}
 use Rattle.event_chain.specs.Kept.{is_end}
@@ -12,4 +11,4 @@ pub returns : goal.returns
 returns c =
     let m = c.self.inside in let k = c.self.invariant in let rows = m.table.rows in let es = m.places.stored.entries in let slots = m.store.slots in
     ap (λ (p : ℕ × ℕ). p.1) c.counts_in.ensures ∙ ends_counted rows es slots k.figured c.args.tx.now c.get.result c.get.ensures
-    ∙ ap (λ xs. count_by is_end (kinds_of c.args.tx.now xs)) (sym (entries_all m.limits m.table m.store m.places.stored m.places.live (carriers_of m.places) m.places.naming k)) ∙ ap (λ (x : Chained). count_by is_end (kinds_of c.args.tx.now (stored x))) c.self.view_is
+    ∙ ap (λ xs. count_by is_end (kinds_of c.args.tx.now xs)) (sym (entries_all k)) ∙ ap (λ (x : Chained). count_by is_end (kinds_of c.args.tx.now (stored x))) c.self.view_is

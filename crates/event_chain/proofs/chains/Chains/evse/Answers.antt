@@ -1,5 +1,4 @@
 use Rattle.std.proofs.Common.{subst, sym, ap, ◌∙◌}
-use Rattle.event_chain.specs.Placed.{carriers_of}
 use Rattle.ledger_model.specs.Evse.{evse_of}
 use Rattle.event_chain.specs.Chains.{Chained, stored}
 use Rattle.event_chain.specs.Edits.{IsStored, first_under, evse_at}
@@ -19,4 +18,4 @@ returns c =
     let m = c.self.inside in let k = c.self.invariant in let rows = m.table.rows in let es = m.places.stored.entries in let slots = m.store.slots in
     c.evse_at.ensures ∙ ap (evse_at slots) (c.first_naming.ensures ∙ ap (first_under m.places.naming.entries) c.get.ensures)
     ∙ sym (evse_number rows es m.places.naming.entries slots k.keyed.rising k.keyed.ranks k.indexed.names c.args.tx.now)
-    ∙ ap (λ xs. evse_of c.args.tx.now xs) (sym (entries_all m.limits m.table m.store m.places.stored m.places.live (carriers_of m.places) m.places.naming k)) ∙ ap (λ (x : Chained). evse_of c.args.tx.now (stored x)) c.self.view_is
+    ∙ ap (λ xs. evse_of c.args.tx.now xs) (sym (entries_all k)) ∙ ap (λ (x : Chained). evse_of c.args.tx.now (stored x)) c.self.view_is

@@ -1,5 +1,4 @@
 use Rattle.std.proofs.Common.{length, arith, ◌-◌, slice_get, option_map, sym, ap, ◌∙◌}
-use Rattle.event_chain.specs.Placed.{carriers_of}
 use Rattle.ledger_model.specs.Gaps.{numbers_of}
 use Rattle.event_chain.specs.Chains.{Chained, stored}
 use Rattle.event_chain.specs.Edits.{last_under}
@@ -17,4 +16,4 @@ returns c =
     let m = c.self.inside in let k = c.self.invariant in let rows = m.table.rows in let es = m.places.stored.entries in let slots = m.store.slots in
     c.number_of.ensures ∙ ap (option_map number_in) (c.last_live.ensures ∙ ap (last_under m.places.live.entries) c.get.ensures)
     ∙ sym (last_number rows es m.places.live.entries slots k.keyed.rising k.keyed.ranks k.indexed.lives c.args.tx.now)
-    ∙ ap (λ xs. let ns = numbers_of c.args.tx.now xs in slice_get ns (length ns - 1)) (sym (entries_all m.limits m.table m.store m.places.stored m.places.live (carriers_of m.places) m.places.naming k)) ∙ ap (λ (x : Chained). let ns = numbers_of c.args.tx.now (stored x) in slice_get ns (length ns - 1)) c.self.view_is
+    ∙ ap (λ xs. let ns = numbers_of c.args.tx.now xs in slice_get ns (length ns - 1)) (sym (entries_all k)) ∙ ap (λ (x : Chained). let ns = numbers_of c.args.tx.now (stored x) in slice_get ns (length ns - 1)) c.self.view_is

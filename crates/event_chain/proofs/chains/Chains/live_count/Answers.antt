@@ -1,5 +1,4 @@
 use Rattle.std.proofs.Common.{ℕ, length, sym, ap, ◌∙◌}
-use Rattle.event_chain.specs.Placed.{carriers_of}
 use Rattle.ledger_model.specs.Content.{live_of}
 use Rattle.event_chain.specs.Chains.{Chained, stored}
 use Rattle.event_chain.proofs.Counts.{live_counted}
@@ -10,4 +9,4 @@ pub returns : goal.returns
 returns c =
     let m = c.self.inside in let k = c.self.invariant in let rows = m.table.rows in let es = m.places.stored.entries in let slots = m.store.slots in
     ap (λ (p : ℕ × ℕ). p.0) c.counts_in.ensures ∙ live_counted rows es slots k.figured c.args.tx.now c.get.result c.get.ensures
-    ∙ ap (λ xs. length (live_of c.args.tx.now xs)) (sym (entries_all m.limits m.table m.store m.places.stored m.places.live (carriers_of m.places) m.places.naming k)) ∙ ap (λ (x : Chained). length (live_of c.args.tx.now (stored x))) c.self.view_is
+    ∙ ap (λ xs. length (live_of c.args.tx.now xs)) (sym (entries_all k)) ∙ ap (λ (x : Chained). length (live_of c.args.tx.now (stored x))) c.self.view_is

@@ -1,5 +1,4 @@
 use Rattle.std.proofs.Common.{sym, ap, ◌∙◌}
-use Rattle.event_chain.specs.Placed.{carriers_of}
 use Rattle.ledger_model.specs.Deltas.{first_reading, last_reading, own_readings, before_key, behind_key}
 use Rattle.event_chain.specs.Table.{row_of}
 use Rattle.event_chain.specs.Chains.{Chained, stored}
@@ -18,11 +17,11 @@ sides_of-requires-clause-row c = c.get-row.ensures ∙ ap (λ t. row_of t c.self
 pub returns-clause-before : goal.returns-clause-before
 returns-clause-before c =
     let m = c.self.inside in let d = c.args.direction in let key = c.args.key.now in
-    c.sides_of.ensures.before ∙ ap (λ xs. last_reading (own_readings d key.tx (before_key key xs))) (sym (entries_all m.limits m.table m.store m.places.stored m.places.live (carriers_of m.places) m.places.naming c.self.invariant))
+    c.sides_of.ensures.before ∙ ap (λ xs. last_reading (own_readings d key.tx (before_key key xs))) (sym (entries_all c.self.invariant))
     ∙ ap (λ (x : Chained). last_reading (own_readings d key.tx (before_key key (stored x)))) c.self.view_is
 
 pub returns-clause-behind : goal.returns-clause-behind
 returns-clause-behind c =
     let m = c.self.inside in let d = c.args.direction in let key = c.args.key.now in
-    c.sides_of.ensures.behind ∙ ap (λ xs. first_reading (own_readings d key.tx (behind_key key xs))) (sym (entries_all m.limits m.table m.store m.places.stored m.places.live (carriers_of m.places) m.places.naming c.self.invariant))
+    c.sides_of.ensures.behind ∙ ap (λ xs. first_reading (own_readings d key.tx (behind_key key xs))) (sym (entries_all c.self.invariant))
     ∙ ap (λ (x : Chained). first_reading (own_readings d key.tx (behind_key key (stored x)))) c.self.view_is

@@ -1,8 +1,7 @@
 use Rattle.std.proofs.Common.{length, sym, ap, ◌∙◌}
-use Rattle.event_chain.specs.Placed.{carriers_of}
 use Rattle.event_chain.specs.Chains.{Chained, stored}
 use Rattle.event_chain.proofs.Facts.{entries_all}
 use Rattle.event_chain.proofs.chains.Chains.stored_events.Goals as goal
 
 pub returns : goal.returns
-returns c = let m = c.self.inside in let k = c.self.invariant in c.len.ensures ∙ sym k.counted.all_are ∙ ap length (sym (entries_all m.limits m.table m.store m.places.stored m.places.live (carriers_of m.places) m.places.naming k)) ∙ ap (λ (x : Chained). length (stored x)) c.self.view_is
+returns c = let m = c.self.inside in let k = c.self.invariant in c.len.ensures ∙ sym k.counted.all_are ∙ ap length (sym (entries_all k)) ∙ ap (λ (x : Chained). length (stored x)) c.self.view_is

@@ -1,5 +1,4 @@
 use Rattle.std.proofs.Common.{◌≡◌, ◌-◌, sym, ap, ◌∙◌, arith}
-use Rattle.event_chain.specs.Placed.{carriers_of}
 use Rattle.ledger_model.specs.Step.{readings_stored}
 use Rattle.event_chain.specs.Chains.{Chained, stored}
 use Rattle.event_chain.proofs.Facts.{entries_all}
@@ -8,4 +7,4 @@ use Rattle.event_chain.proofs.chains.Chains.stored_readings.Goals as goal
 pub returns : goal.returns
 returns c =
     let m = c.self.inside in let k = c.self.invariant in let left : c.readings.result - c.free_readings.result ≡ m.store.readings = omega (arith, c.readings.ensures.value, c.free_readings.ensures, k.counted.room_is) in
-    left ∙ k.counted.readings_are ∙ ap readings_stored (sym (entries_all m.limits m.table m.store m.places.stored m.places.live (carriers_of m.places) m.places.naming k)) ∙ ap (λ (x : Chained). readings_stored (stored x)) c.self.view_is
+    left ∙ k.counted.readings_are ∙ ap readings_stored (sym (entries_all k)) ∙ ap (λ (x : Chained). readings_stored (stored x)) c.self.view_is

@@ -1,5 +1,4 @@
 use Rattle.std.proofs.Common.{sym, ap, ◌∙◌}
-use Rattle.event_chain.specs.Placed.{carriers_of}
 use Rattle.ledger_model.specs.Content.{transactions_of}
 use Rattle.event_chain.specs.Chains.{Chained, stored}
 use Rattle.event_chain.proofs.Facts.{entries_all}
@@ -7,4 +6,4 @@ use Rattle.event_chain.proofs.Ids.{ids_flat}
 use Rattle.event_chain.proofs.chains.Chains.transactions.Goals as goal
 
 pub returns : goal.returns
-returns c = let m = c.self.inside in let k = c.self.invariant in c.of.ensures ∙ sym (ids_flat m.table.rows m.places.stored.entries m.store.slots k.keyed.rising k.keyed.filled) ∙ ap transactions_of (sym (entries_all m.limits m.table m.store m.places.stored m.places.live (carriers_of m.places) m.places.naming k)) ∙ ap (λ (x : Chained). transactions_of (stored x)) c.self.view_is
+returns c = let m = c.self.inside in let k = c.self.invariant in c.of.ensures ∙ sym (ids_flat m.table.rows m.places.stored.entries m.store.slots k.keyed.rising k.keyed.filled) ∙ ap transactions_of (sym (entries_all k)) ∙ ap (λ (x : Chained). transactions_of (stored x)) c.self.view_is

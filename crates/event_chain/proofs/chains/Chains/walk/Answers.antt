@@ -1,5 +1,4 @@
 use Rattle.std.proofs.Common.{option_map, sym, ap, ◌∙◌}
-use Rattle.event_chain.specs.Placed.{carriers_of}
 use Rattle.ledger_model.specs.Gaps.{numbers_of}
 use Rattle.event_chain.specs.declared.row.TableRow.{TableRow}
 use Rattle.event_chain.specs.Chains.{Chained, stored}
@@ -20,11 +19,11 @@ returns-in-Some c =
     let m = c.self.inside in let k = c.self.invariant in
     c.over.ensures ∙ ap (λ o. numbers_at m.places.live.entries (option_map (λ (r : TableRow). r.slot) o)) c.in-Some.ensures
     ∙ sym (live_numbers m.table.rows m.places.stored.entries m.places.live.entries m.store.slots k.keyed.rising k.keyed.ranks k.indexed.lives c.args.tx.now)
-    ∙ ap (numbers_of c.args.tx.now) (sym (entries_all m.limits m.table m.store m.places.stored m.places.live (carriers_of m.places) m.places.naming k)) ∙ ap (λ (x : Chained). numbers_of c.args.tx.now (stored x)) c.self.view_is
+    ∙ ap (numbers_of c.args.tx.now) (sym (entries_all k)) ∙ ap (λ (x : Chained). numbers_of c.args.tx.now (stored x)) c.self.view_is
 
 pub returns-in-None : goal.returns-in-None
 returns-in-None c =
     let m = c.self.inside in let k = c.self.invariant in
     c.over-in-None.ensures ∙ ap (λ o. numbers_at m.places.live.entries (option_map (λ (r : TableRow). r.slot) o)) c.in-None.ensures
     ∙ sym (live_numbers m.table.rows m.places.stored.entries m.places.live.entries m.store.slots k.keyed.rising k.keyed.ranks k.indexed.lives c.args.tx.now)
-    ∙ ap (numbers_of c.args.tx.now) (sym (entries_all m.limits m.table m.store m.places.stored m.places.live (carriers_of m.places) m.places.naming k)) ∙ ap (λ (x : Chained). numbers_of c.args.tx.now (stored x)) c.self.view_is
+    ∙ ap (numbers_of c.args.tx.now) (sym (entries_all k)) ∙ ap (λ (x : Chained). numbers_of c.args.tx.now (stored x)) c.self.view_is

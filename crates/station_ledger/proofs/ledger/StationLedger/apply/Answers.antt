@@ -1,4 +1,4 @@
-use Rattle.std.proofs.Common.{refl, sym, ap, subst, ◌∙◌}
+use Rattle.std.proofs.Common.{rules, refl, sym, ap, subst, ◌∙◌}
 use Rattle.std.specs.FinMap as finite
 use Rattle.ledger_model.specs.Limits.{Bounds}
 use Rattle.ledger_model.specs.Step.{Reached, answer, events_after}
@@ -9,28 +9,29 @@ use Rattle.station_ledger.specs.Sums.{AreAllowed, AreSummed}
 use Rattle.station_ledger.proofs.Reaching.{allowed, reached_next}
 use Rattle.station_ledger.proofs.ledger.StationLedger.apply.Goals as goal
 
-pub carry_out-requires-clause-before : goal.carry_out-requires-clause-before
-carry_out-requires-clause-before c =
-    let l = c.self.inside in let k = c.self.invariant in
-    subst (λ (b : Bounds). AreAllowed b (stored l.chains)) (sym k.limits_are) (allowed l.limits k.few_transactions k.few_events k.few_readings l.changes (content_in l.chains l.changes) k.reached)
-
-pub carry_out-requires-clause-after : goal.carry_out-requires-clause-after
-carry_out-requires-clause-after c =
+pub carry_out-requires : goal.carry_out-requires
+carry_out-requires c =
     let l = c.self.inside in let k = c.self.invariant in let m = c.in-Accepted.changes in
     let a = ap (λ (x : Ledger). answer x.limits x.content c.args.command) c.self.view_is ∙ sym (sym c.in-Accepted.is ∙ c.judge_at-answer.ensures) in
     let reached = reached_next l.limits (content_in l.chains l.changes) l.changes m c.args.command refl c.keeps_ranges.ensures k.reached a in
-    subst (λ (b : Bounds). AreAllowed b (finite.entries (events_after l.chains.events c.args.command))) (sym k.limits_are) (allowed l.limits k.few_transactions k.few_events k.few_readings m (record { events = events_after l.chains.events c.args.command; changes = m }) reached)
+    record {
+      ready = search rules;
+      before = subst (λ (b : Bounds). AreAllowed b (stored l.chains)) (sym k.limits_are) (allowed l.limits k.few_transactions k.few_events k.few_readings l.changes (content_in l.chains l.changes) k.reached);
+      after = subst (λ (b : Bounds). AreAllowed b (finite.entries (events_after l.chains.events c.args.command))) (sym k.limits_are) (allowed l.limits k.few_transactions k.few_events k.few_readings m (record { events = events_after l.chains.events c.args.command; changes = m }) reached);
+      summed = subst (λ (b : Bounds). AreSummed b (stored l.chains) l.sums) (sym k.limits_are) k.summed;
+      voided = k.voided_are;
+    }
 
 pub invariant_of-self : goal.invariant_of-self
 invariant_of-self c =
-    let l = c.self.inside in let k = c.self.invariant in let m = c.in-Accepted.changes in let e = c.carry_out.ensures in let s = c.carry_out.new.sums in
+    let l = c.self.inside in let k = c.self.invariant in let m = c.in-Accepted.changes in let e = c.carry_out.ensures.done in let s = c.carry_out.new.sums in
     let a = ap (λ (x : Ledger). answer x.limits x.content c.args.command) c.self.view_is ∙ sym (sym c.in-Accepted.is ∙ c.judge_at-answer.ensures) in
     let reached = reached_next l.limits (content_in l.chains l.changes) l.changes m c.args.command refl c.keeps_ranges.ensures k.reached a in
     let same = e.limits ∙ k.limits_are in
     record {
       limits_are = same;
       reached = subst (Reached l.limits m) (sym (λ i. record { events = e.events i; changes = m })) reached;
-      summed = subst (λ (b : Bounds). AreSummed b (stored c.carry_out.new.chains) s.kept s.evses.items s.period s.quarters s.energy s.export s.figures) same e.summed;
+      summed = subst (λ (b : Bounds). AreSummed b (stored c.carry_out.new.chains) s) same e.summed;
       voided_are = e.voided;
       few_transactions = k.few_transactions;
       few_events = k.few_events;

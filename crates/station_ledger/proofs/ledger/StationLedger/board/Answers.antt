@@ -24,7 +24,7 @@ board_of-requires-clause-numbered c =
 pub board_of-requires-clause-summed : goal.board_of-requires-clause-summed
 board_of-requires-clause-summed c =
     let l = c.self.inside in let k = c.self.invariant in
-    subst (λ (b : Bounds). AreSummed b (stored l.chains) l.sums.kept l.sums.evses.items l.sums.period l.sums.quarters l.sums.energy l.sums.export l.sums.figures) (sym k.limits_are) k.summed
+    subst (λ (b : Bounds). AreSummed b (stored l.chains) l.sums) (sym k.limits_are) k.summed
 
 pub returns-clause-board : goal.returns-clause-board
 returns-clause-board c = subst (λ (x : Ledger). IfOk c.board_of.result (λ b. b ≡ board x.period (entries x.content))) c.self.view_is c.board_of.ensures

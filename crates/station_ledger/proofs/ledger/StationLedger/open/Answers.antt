@@ -14,7 +14,7 @@ invariant_of-result c =
     record {
       limits_are = c.in_ok-open.ensures.limits;
       reached = λ i. record { events = c.in_ok-open.ensures.empty i; changes = 0 };
-      summed = subst (λ (es : List Entry). AreSummed c.args.limits es sums.kept sums.evses.items sums.period sums.quarters sums.energy sums.export sums.figures) (sym empty) c.in_ok-open-2.ensures.summed;
+      summed = subst (λ (es : List Entry). AreSummed c.args.limits es sums) (sym empty) c.in_ok-open-2.ensures.summed;
       voided_are = c.in_ok-open-2.ensures.voided ∙ sym (ap (count_by (λ (e : Entry). e.1.voided)) empty);
       few_transactions = c.keep_ranges.ensures.transactions;
       few_events = c.keep_ranges.ensures.events;
