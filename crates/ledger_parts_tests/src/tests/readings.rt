@@ -21,13 +21,7 @@ impl Told {
     // Its key in the transaction of slot 3.
     fn key(self) -> Option<MomentKey> {
         let moment = self.moment()?;
-        Some(MomentKey::new(
-            3,
-            Direction::Import,
-            moment,
-            u32::from(self.number),
-            0,
-        ))
+        Some(MomentKey::new(3, Direction::Import, moment, u32::from(self.number), 0))
     }
 
     // The reading, whose level is the number of its event.
