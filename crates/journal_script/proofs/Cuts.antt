@@ -1,6 +1,5 @@
 -- A journal that was cut at any byte, with a mark behind it.
 use Rattle.std.proofs.Common.{◌≡◌, ◌≢◌, ℕ, zero, suc, ◌≤◌, true, not, ◌==◌, List, [], ◌∷◌, ◌++◌, All, length, take, drop, get_or, ◌⊎◌, inl, inr, refl, sym, ap, subst, ◌∙◌, arith, append_assoc, append-nil, length-append, eq-eqb, zero-le}
-use Rattle.std.specs.Prelude.{codes}
 use Rattle.std.specs.List.{list_all}
 use Rattle.std.proofs.lemmas.Bool.{cases_lt, false≢true}
 use Rattle.std.proofs.lemmas.List.{take-append-le}
@@ -19,6 +18,7 @@ use Rattle.site_desk.specs.declared.plan.StationPlan.{StationPlan}
 use Rattle.station_cell.specs.Cell.{Cell}
 use Rattle.journal_script.specs.Cuts.{BeginsNext, CutsAreScripts, HasWhole, IsMark}
 use Rattle.journal_script.specs.Journals.{EndsWhole, IsSpoken, Shows}
+use Rattle.journal_script.specs.Restoring.{run_line}
 use Rattle.journal_script.proofs.Journals.{journals_are_scripts}
 use Rattle.journal_script.proofs.LinesRead.{both_whole}
 use Rattle.journal_script.proofs.LastByte.{last}
@@ -91,7 +91,7 @@ no_feed bytes h = λ k d less e. false≢true (sym (ap not (eq-eqb (get_or bytes
 
 marks : (mark : List ℕ) → IsMark mark → Marks mark
 marks mark (inl e) = record { back = []; feedless = no_feed [] refl; ends = inl refl; is = e }
-marks mark (inr e) = record { back = codes " a run of ocpp_board begins"; feedless = no_feed (codes " a run of ocpp_board begins") refl; ends = inr refl; is = e }
+marks mark (inr e) = record { back = drop 1 run_line; feedless = no_feed (drop 1 run_line) refl; ends = inr refl; is = e }
 
 -- the part of a line and a mark behind it are one line
 one_line : (part mark : List ℕ) (m : Marks mark) → HasNoFeed part → lines_of longest_line (part ++ mark) ≡ ended longest_line (part ++ 35 ∷ m.back) ∷ []

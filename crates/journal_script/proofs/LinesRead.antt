@@ -42,14 +42,13 @@ one_more true e = sym e
 one_more false e = refl
 
 -- a line that was answered and told
-pub told_line : (s t : Script) (seen now : LeftOut) (line marked lost other : Line) (reply told : List ℕ) → line_step s line ≡ (t, reply) → told ≡ reply
-    → now.is_marked ≡ is_marked marked → now.has_lost ≡ (seen.has_lost || is_lost told lost)
-    → line ≡ other → marked ≡ other → lost ≡ other → standing t now ≡ read_line (standing s seen) other
-told_line s t seen now line marked lost other reply told is tells m l same same' same'' =
-    let script : t ≡ (line_step s other).0 = sym (ap (λ p. p.0) is) ∙ ap (λ x. (line_step s x).0) same in
-    let marks : now.is_marked ≡ is_marked other = m ∙ ap is_marked same' in
+pub told_line : (s t : Script) (seen now : LeftOut) (line other : Line) (reply : List ℕ) → line_step s other ≡ (t, reply)
+    → now.is_marked ≡ is_marked line → now.has_lost ≡ (seen.has_lost || is_lost reply line) → line ≡ other → standing t now ≡ read_line (standing s seen) other
+told_line s t seen now line other reply is m l same =
+    let script : t ≡ (line_step s other).0 = sym (ap (λ p. p.0) is) in
+    let marks : now.is_marked ≡ is_marked other = m ∙ ap is_marked same in
     let loses : now.has_lost ≡ (seen.has_lost || is_lost (line_step s other).1 other) =
-    l ∙ ap (λ r. seen.has_lost || is_lost r lost) (tells ∙ sym (ap (λ p. p.1) is) ∙ ap (λ x. (line_step s x).1) same) ∙ ap (λ x. seen.has_lost || is_lost (line_step s other).1 x) same'' in
+    l ∙ ap (λ x. seen.has_lost || is_lost reply x) same ∙ ap (λ r. seen.has_lost || is_lost r other) (sym (ap (λ p. p.1) is)) in
     λ i. record { script = script i; marked = marks i; lost = loses i }
 
 pub both_read : (s : Standing) (one other : List Line) → read_lines s (one ++ other) ≡ read_lines (read_lines s one) other

@@ -10,6 +10,7 @@ use Rattle.site_desk.specs.declared.plan.SitePlan.{SitePlan}
 use Rattle.site_desk.specs.declared.plan.StationPlan.{StationPlan}
 use Rattle.station_cell.specs.Cell.{Cell}
 use Rattle.journal_script.specs.Journals.{AreLeft, EndsWhole, HasOnce, IsSpoken, Shows}
+use Rattle.journal_script.specs.Restoring.{run_line}
 
 -- What is put behind a journal that is restored, before `listen`.
 abbrev pub restore_mark : List ℕ
@@ -17,7 +18,7 @@ restore_mark = codes "#\n"
 
 -- How a run begins in a journal.
 abbrev pub run_begins : List ℕ
-run_begins = codes "# a run of ocpp_board begins\n"
+run_begins = run_line ++ 10 ∷ []
 
 -- What stands behind a journal that was cut: the mark of a restore, or the next run's first line.
 abbrev pub IsMark : List ℕ → Type 0

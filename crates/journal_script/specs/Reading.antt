@@ -6,11 +6,10 @@ use Rattle.script_lines.specs.declared.line_reader.LineEnd.TheVariants.{Feed}
 use Rattle.script_lines.specs.declared.line_reader.LineReader.{LineReader}
 use Rattle.script_lines.specs.Lines.{HasNoFeed, Line, lines_of}
 use Rattle.script_lines.specs.Reading.{line_of}
-use Rattle.script_ledgers.specs.Script.{Script, line_step}
-use Rattle.site_desk.specs.declared.plan.SitePlan.{SitePlan}
-use Rattle.site_desk.specs.declared.plan.StationPlan.{StationPlan}
-use Rattle.station_cell.specs.Cell.{Cell}
+use Rattle.script_ledgers.specs.Script.{Script, line_step, start}
 use Rattle.journal_script.specs.declared.left_out.LeftOut.{LeftOut}
+use Rattle.journal_script.specs.declared.restored.Restored.{Restored}
+use Rattle.journal_script.specs.declared.source.Source.{Source}
 use Rattle.journal_script.specs.Journals.{EndsWhole, Shows}
 use Rattle.journal_script.specs.Restoring.{HasNoListen, is_lost, is_marked}
 
@@ -22,6 +21,10 @@ pub record Standing : Type 0 where
 
 abbrev pub standing : Script → LeftOut → Standing
 standing script told = record { script = script; marked = told.is_marked; lost = told.has_lost }
+
+-- Before the first line.
+abbrev pub begun : Standing
+begun = record { script = start; marked = false; lost = false }
 
 -- A line more.
 abbrev pub read_line : Standing → Line → Standing
@@ -56,21 +59,38 @@ pub record Stops (most room left : ℕ) (more : Bool) (old new : Standing) (r0 r
   pub counted : length read + length bytes + left ≡ room
   pub consumed : Consumes r0 r1 (read ++ bytes)
 
--- The same by the reader of lines, before and after.
-abbrev pub StopsAt : Bool → LineReader → LineReader → Standing → Standing → Option (List ℕ) → Option (List ℕ) → Type 0
-StopsAt more before after old new r0 r1 = Stops before.max_line_bytes before.room after.room more old new r0 r1 after.held.items
-
 -- The line that is held.
 abbrev pub held_line : LineReader → Line
 held_line lines = line_of Feed lines.max_line_bytes lines.held.items
 
--- What the script leaves once it is read: the contents of these cells, whether a line is lost, and whether the last ends with `#`.
-pub record Left (s : Standing) (sites : List SitePlan) (stations : List StationPlan) (cells : List Cell) (lost marked : Bool) : Type 0 where
-  pub shows : Shows s.script sites stations cells
-  pub loses : lost ≡ s.lost
+-- A reader of lines took one line more.
+abbrev pub TakesLine : Bool → LineReader → LineReader → Option (List ℕ) → Option (List ℕ) → Type 0
+TakesLine more before after r0 r1 = (bytes : List ℕ) × Consumes r0 r1 bytes × ReadsLine before.max_line_bytes before.room after.room more bytes after.held.items
+
+-- A place in a script: where it stands, and the reader of its lines.
+pub record Place : Type 0 where
+  pub standing : Standing
+  pub lines : LineReader
+
+-- The place of a script that stands so and is read on from there.
+abbrev pub place : Script → Source → Place
+place script source = record { standing = standing script source.left_out; lines = source.lines }
+
+-- The same place, once the line that is held was taken.
+abbrev pub read_on : Place → Place
+read_on p = record { standing = read_line p.standing (held_line p.lines); lines = p.lines }
+
+-- A loop over lines stopped, from place to place.
+abbrev pub StopsAt : Bool → Place → Place → Option (List ℕ) → Option (List ℕ) → Type 0
+StopsAt more p q r0 r1 = Stops p.lines.max_line_bytes p.lines.room q.lines.room more p.standing q.standing r0 r1 q.lines.held.items
+
+-- What a script leaves that stands so: the contents of what is restored, whether a line is lost, and whether the last ends with `#`.
+pub record IsLeft (s : Standing) (r : Restored) (marked : Bool) : Type 0 where
+  pub shows : Shows s.script r.draft.sites r.draft.stations r.cells.items
+  pub loses : r.has_lost ≡ s.lost
   pub ends : marked ≡ s.marked
 
--- Behind declarations that end where the script stands, the ledgers are opened and what is left of it is read: nothing where no line opens them, and else the line that is held and all up to `listen`. What is left then is this.
-abbrev pub GoesOn : Bool → LineReader → Standing → Option (List ℕ) → Option (List ℕ) → (Standing → Type 0) → Type 0
-GoesOn false lines s r0 r1 leaves = (r1 ≡ r0) × leaves s
-GoesOn true lines s r0 r1 leaves = (after : LineReader) × (t : Standing) × StopsAt false lines after (read_line s (held_line lines)) t r0 r1 × leaves t
+-- Behind declarations that end at this place, the ledgers are opened and what is left of the script is read: nothing where no line opens them, and else the line that is held and all up to `listen`. What is left then is this.
+abbrev pub GoesOn : Bool → Place → Option (List ℕ) → Option (List ℕ) → (Standing → Type 0) → Type 0
+GoesOn false p r0 r1 leaves = (r1 ≡ r0) × leaves p.standing
+GoesOn true p r0 r1 leaves = (q : Place) × StopsAt false (read_on p) q r0 r1 × leaves q.standing

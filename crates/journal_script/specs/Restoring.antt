@@ -1,13 +1,12 @@
 -- What a restored script was read up to, and what it leaves.
-use Rattle.std.specs.Prelude.{◌≡◌, ◌≢◌, ◌&&◌, ◌||◌, ℕ, Bool, true, false, eqb, not, List, [], ◌∷◌, ◌++◌, All, None, Some, codes}
+use Rattle.std.specs.Prelude.{◌≡◌, ◌≢◌, ◌&&◌, ◌||◌, ℕ, Bool, true, false, eqb, not, List, [], ◌∷◌, ◌++◌, All, Option, None, Some, codes}
 use Rattle.std.specs.Io.BufRead.{ends_with_byte, strip_last}
+use Rattle.std.specs.Io.KnownBytes.{Consumes}
 use Rattle.std.specs.List.{ends_with, starts_with}
 use Rattle.script_lines.specs.Lines.{HasNoFeed, Line, lines_of}
 use Rattle.script_lines.specs.Ranges.{longest_line}
 use Rattle.script_ledgers.specs.Script.{Script, line_step, start, script_after}
-use Rattle.site_desk.specs.declared.plan.SitePlan.{SitePlan}
-use Rattle.site_desk.specs.declared.plan.StationPlan.{StationPlan}
-use Rattle.station_cell.specs.Cell.{Cell}
+use Rattle.journal_script.specs.declared.restored.Restored.{Restored}
 use Rattle.journal_script.specs.Journals.{EndsWhole, Shows}
 
 -- The bytes are the line `listen`, with the line feed that ends it and perhaps a carriage return before.
@@ -16,6 +15,14 @@ pub record IsListen (bytes : List ℕ) : Type 0 where
   pub feedless : HasNoFeed raw
   pub is : bytes ≡ raw ++ 10 ∷ []
   pub last : strip_last 13 raw ≡ codes "listen"
+
+-- What was consumed ends with the line `listen`, and of what stands before it this holds.
+abbrev pub ReadsToListen : Option (List ℕ) → Option (List ℕ) → (List ℕ → Type 0) → Type 0
+ReadsToListen before after holds = (read last : List ℕ) × Consumes before after (read ++ last) × IsListen last × holds read
+
+-- The first line of a run, a comment.
+abbrev pub run_line : List ℕ
+run_line = codes "# a run of ocpp_board begins"
 
 -- Whether a line ends with `#`. One that is too long doesn't.
 abbrev pub is_marked : Line → Bool
@@ -30,7 +37,7 @@ marked_by before (line ∷ lines) = marked_by (is_marked line) lines
 -- Whether a line ends as one does that a kill cut: with the mark of a restore, or with the next run's first line.
 abbrev pub is_cut : Line → Bool
 is_cut None = false
-is_cut (Some bytes) = ends_with_byte 35 bytes || ends_with eqb bytes (codes "# a run of ocpp_board begins")
+is_cut (Some bytes) = ends_with_byte 35 bytes || ends_with eqb bytes run_line
 
 -- Whether the answer to a line says that it left nothing: a fault, a refusal or a CALLERROR.
 abbrev pub leaves_nothing : List ℕ → Bool
@@ -49,13 +56,13 @@ loses s (line ∷ lines) = is_lost (line_step s line).1 line || loses (line_step
 abbrev pub HasNoListen : ℕ → List ℕ → Type 0
 HasNoListen most read = All (λ line. line ≢ Some (codes "listen")) (lines_of most read)
 
--- The script was read, and its stations have the contents of these cells. Its last line ends with `#`, none is `listen`, and `lost` says whether one is lost.
-pub record IsRestored (read : List ℕ) (lost : Bool) (sites : List SitePlan) (stations : List StationPlan) (cells : List Cell) : Type 0 where
+-- The script was read, and what is restored of it has its stations in the contents that it leaves. Its last line ends with `#`, none is `listen`, and what is restored says whether one is lost.
+pub record IsRestored (read : List ℕ) (r : Restored) : Type 0 where
   pub whole : EndsWhole read
   pub marked : marked_by false (lines_of longest_line read) ≡ true
   pub no_listen : HasNoListen longest_line read
-  pub loses : lost ≡ loses start (lines_of longest_line read)
-  pub shows : Shows (script_after start (lines_of longest_line read)) sites stations cells
+  pub loses : r.has_lost ≡ loses start (lines_of longest_line read)
+  pub shows : Shows (script_after start (lines_of longest_line read)) r.draft.sites r.draft.stations r.cells.items
 
 -- The script was read, and its last line doesn't end with `#`.
 pub record IsUnmarked (read : List ℕ) : Type 0 where

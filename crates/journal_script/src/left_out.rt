@@ -6,8 +6,9 @@ ghost use Rattle.journal_script.specs.Restoring.{is_cut, is_lost, is_marked, lea
 use itoa::Buffer;
 use std::io::Write;
 
-// How a run's first line ends, which makes one line of itself and of what a kill left before it.
-const RUN: &[u8] = b"# a run of ocpp_board begins";
+/// The first line of a run in a journal, a comment. It makes one line of itself and of what a kill left before it, which
+/// changes nothing.
+pub const RUN_LINE: &[u8] = b"# a run of ocpp_board begins";
 
 // Counts the lines of a script, and tells those whose answers say that nothing was taken.
 #[derive(Drop)]
@@ -79,7 +80,7 @@ fn is_cut(line: Option<&[u8]>) -> bool
     ensures { result ≡ is_cut (line_bytes line.entry) }
 {
     match line {
-        Some(bytes) => ends_with_mark(bytes) || bytes.ends_with(RUN),
+        Some(bytes) => ends_with_mark(bytes) || bytes.ends_with(RUN_LINE),
         None => false,
     }
 }

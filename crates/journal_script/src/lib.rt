@@ -10,8 +10,13 @@ mod fault;
 pub mod laws;
 mod left_out;
 mod lines;
+mod opened;
+mod restored;
 mod restoring;
+mod source;
 
 pub use fault::RestoreFault;
+pub use left_out::RUN_LINE;
 pub use lines::{is_script_line, message_line};
-pub use restoring::{Restored, restore};
+pub use restored::Restored;
+pub use restoring::restore;

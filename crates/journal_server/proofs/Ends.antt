@@ -1,10 +1,12 @@
 -- What a server's script and its boards are, of what its desk was when it was closed.
-use Rattle.std.proofs.Common.{◌≡◌, ℕ, zero, suc, ◌<◌, ◌≤◌, Bool, true, false, List, [], ◌∷◌, ◌++◌, Option, None, Some, All, map, length, slice_get, refl, sym, ap, subst, ◌∙◌, arith}
+use Rattle.std.proofs.Common.{◌≡◌, ℕ, zero, suc, ◌<◌, ◌≤◌, Bool, List, [], ◌∷◌, ◌++◌, Option, None, Some, All, length, slice_get, refl, sym, ap, subst, ◌∙◌, arith}
+use Rattle.std.specs.Io.KnownBytes.{Appends, append_known}
 use Rattle.std.proofs.lemmas.List.Elements.{All-cons, All-head, All-nil, All-tail}
 use Rattle.board_report.specs.Texts.{board_text}
 use Rattle.desk_report.specs.Closed.{boards_text, closed_site}
 use Rattle.kept_desk.specs.declared.entry.Entry.{Entry}
 use Rattle.kept_desk.specs.Entries.{of_station, text_of}
+use Rattle.kept_desk.specs.Journal.{IsWritten}
 use Rattle.journal_script.specs.Journals.{AreLeft, HasOnce, IsSpoken, station_name}
 use Rattle.journal_script.specs.Speaking.{Speaks}
 use Rattle.journal_script.proofs.Boards.{boards_are_those_of_cells}
@@ -128,3 +130,22 @@ script_of_plan front sites planned stations plan firsts before now buffer broken
     its_script front sites stations firsts before now buffer broken boards none of_plan restored
     (subst (λ x. IsEnded (names_of stations) (contents_of firsts) before now buffer broken x stations boards) s
     (subst (λ x. IsEnded (names_of x) (contents_of firsts) before now buffer broken planned x boards) t e))
+
+-- what was written behind a head was written behind what stood before it
+written_behind : {C : Type 0} (broken : Bool) (before begun now : Option (List ℕ)) (buffer head : List ℕ) (log : List (Entry C)) → Appends before begun head → IsWritten broken begun now buffer log → IsWritten broken (append_known before head) now buffer log
+written_behind broken None begun now buffer head log begins w = record { front = w.front; begins = w.begins; lines = w.lines; whole = w.whole; handed_on = w.handed_on; appended = tt }
+written_behind broken (Some bytes) None now buffer head log begins w = absurd begins
+written_behind broken (Some bytes) (Some more) now buffer head log begins w = subst (λ b. IsWritten broken (Some b) now buffer log) begins w
+
+pub script_behind : (front : List ℕ) (sites : List SitePlan) (stations : List StationPlan) (firsts : List Cell) (before begun now : Option (List ℕ)) (buffer head : List ℕ) (broken : Bool) (boards : List ℕ)
+    → Appends before begun head → IsItsScript front sites stations firsts begun now buffer broken boards → IsItsScript front sites stations firsts (append_known before head) now buffer broken boards
+script_behind front sites stations firsts before begun now buffer head broken boards begins s = record {
+  log = s.log;
+  written = written_behind broken before begun now buffer head s.log begins s.written;
+  cells = s.cells;
+  opened = s.opened;
+  spoken = s.spoken;
+  left = s.left;
+  ended = s.ended;
+  shown = s.shown;
+}

@@ -1,10 +1,11 @@
 -- What a server with a journal read, wrote and showed.
-use Rattle.std.specs.Prelude.{◌≡◌, ℕ, zero, suc, ◌<◌, Bool, false, true, List, [], ◌++◌, length, Option, Some, All, map, slice_get}
-use Rattle.std.specs.Io.KnownBytes.{Appends, Consumes}
+use Rattle.std.specs.Prelude.{◌≡◌, ℕ, zero, suc, ◌<◌, Bool, false, true, List, [], ◌++◌, length, Option, IfSome, Some, All, map, slice_get}
+use Rattle.std.specs.Io.KnownBytes.{append_known}
 use Rattle.desk_report.specs.Closed.{boards_text}
 use Rattle.kept_desk.specs.declared.entry.Entry.{Entry}
 use Rattle.kept_desk.specs.Entries.{of_station, text_of}
 use Rattle.kept_desk.specs.Journal.{IsWritten}
+use Rattle.journal_script.specs.Cuts.{run_begins}
 use Rattle.journal_script.specs.Journals.{EndsWhole, IsSpoken, Shows}
 use Rattle.journal_script.specs.Restoring.{HasNoListen, IsListen, loses, marked_by}
 use Rattle.journal_script.specs.Speaking.{Speaks}
@@ -71,35 +72,33 @@ pub record IsItsScript (front : List ℕ) (sites : List SitePlan) (stations : Li
 -- A server that began anew with this plan: its script is what it wrote, a head that declares the plan's sites and stations, without a change, and its lines.
 pub record IsNewRun (sites : List SitePlan) (stations : List StationPlan) (before now : Option (List ℕ)) (buffer : List ℕ) (broken : Bool) (boards : List ℕ) : Type 0 where
   pub head : List ℕ
-  pub begun : Option (List ℕ)
-  pub begins : Appends before begun head
   pub read : List SitePlan
   pub firsts : List Cell
   pub declares : Declares sites read firsts
-  pub script : IsItsScript head read stations firsts begun now buffer broken boards
+  pub script : IsItsScript head read stations firsts (append_known before head) now buffer broken boards
 
--- A server that was restored: its script is what it read, in whole lines, before the first line `listen`, followed by what it wrote, a head and its lines. The last line that was read ends with `#`, and none is lost unless that was allowed.
+-- An input, as far as it is known, begins with these bytes.
+abbrev pub Begins : Option (List ℕ) → List ℕ → Type 0
+Begins input front = IfSome input (λ bytes. (rest : List ℕ) × (bytes ≡ front ++ rest))
+
+-- A server that was restored: its script is what it read, in whole lines, before the first line `listen`, followed by what it wrote, the first line of a run and its lines. The last line that was read ends with `#`, and none is lost unless that was allowed.
 pub record IsRestoredRun (allows : Bool) (input before now : Option (List ℕ)) (buffer : List ℕ) (broken : Bool) (boards : List ℕ) : Type 0 where
   pub read : List ℕ
   pub last : List ℕ
-  pub rest : Option (List ℕ)
-  pub reads : Consumes input rest (read ++ last)
+  pub reads : Begins input (read ++ last)
   pub listens : IsListen last
   pub whole : EndsWhole read
   pub marked : marked_by false (lines_of longest_line read) ≡ true
   pub kept : allows ≡ false → loses start (lines_of longest_line read) ≡ false
   pub no_listen : HasNoListen longest_line read
-  pub head : List ℕ
-  pub begun : Option (List ℕ)
-  pub begins : Appends before begun head
   pub sites : List SitePlan
   pub stations : List StationPlan
   pub firsts : List Cell
-  pub script : IsItsScript (read ++ head) sites stations firsts begun now buffer broken boards
+  pub script : IsItsScript (read ++ run_begins) sites stations firsts (append_known before run_begins) now buffer broken boards
 
 -- A server that was not restored, since of what it read up to the line `listen` this is so.
 abbrev pub IsRefused : Option (List ℕ) → (List ℕ → Type 0) → Type 0
-IsRefused input why = (read last : List ℕ) × (rest : Option (List ℕ)) × Consumes input rest (read ++ last) × IsListen last × why read
+IsRefused input why = (read last : List ℕ) × Begins input (read ++ last) × IsListen last × why read
 
 -- What a desk with a journal was when it was closed, and its boards.
 pub record IsEnded (name : ℕ → List ℕ) (first : ℕ → Content) (before now : Option (List ℕ)) (buffer : List ℕ) (broken : Bool) (sites : List SitePlan) (stations : List StationPlan) (boards : List ℕ) : Type 0 where

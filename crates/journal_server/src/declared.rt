@@ -1,19 +1,29 @@
 //! The declarations of a plan, as a script.
+ghost use Rattle.std.specs.Prelude.{◌≡◌, IfOk};
+ghost use Rattle.journal_script.specs.Cuts.{run_begins};
+
 use itoa::Buffer;
+use journal_script::RUN_LINE;
 use ledger_model::{Limits, Name};
 use site_desk::{Plan, SitePlan, StationPlan};
 use std::alloc::{AllocError, Global};
 
-// How a run begins in a journal. Behind a line that a kill cut, it makes of that line and itself one that changes nothing.
-pub(crate) const RUN: &[u8] = b"# a run of ocpp_board begins\n";
-
 // What ends the head of a journal, as it ends what is restored: a script that is restored has it before its line `listen`.
 const MARK: &[u8] = b"#\n";
 
-// How a journal begins: the comment of its run, the declarations of the plan, and the mark.
-pub(crate) fn journal_head(alloc: Global, plan: &Plan) -> Result<Vec<u8>, AllocError> {
+// How a run begins in a journal: its first line.
+pub(crate) fn run_head(alloc: Global) -> Result<Vec<u8>, AllocError>
+    ensures { IfOk result (λ head. head.items ≡ run_begins) }
+{
     let mut head = Vec::new(alloc);
-    head.extend_from_slice(RUN)?;
+    head.extend_from_slice(RUN_LINE)?;
+    head.push(b'\n')?;
+    Ok(head)
+}
+
+// How a journal begins: the first line of its run, the declarations of the plan, and the mark.
+pub(crate) fn journal_head(alloc: Global, plan: &Plan) -> Result<Vec<u8>, AllocError> {
+    let mut head = run_head(alloc)?;
     for station in plan.stations.as_slice() {
         put_limits(&mut head, &station.limits)?;
         put_station(&mut head, plan.sites.as_slice(), station)?;

@@ -48,6 +48,12 @@ impl From<RestoreFault> for JournalFault {
 }
 
 impl From<AllocError> for JournalFault {
+    ghost use Rattle.std.specs.Prelude.{◌≡◌};
+    ghost use Rattle.journal_server.specs.declared.fault.JournalFault.TheVariants.{Service};
+    ghost use Rattle.site_server.specs.declared.fault.ServiceFault.TheVariants.{OutOfMemory};
+
+    ghost from_gives = { λ error e. e ≡ Service OutOfMemory };
+
     fn from(_error: AllocError) -> JournalFault {
         JournalFault::Service(ServiceFault::OutOfMemory)
     }

@@ -10,7 +10,7 @@ ghost use Rattle.site_desk.specs.Plan.{plan_fault};
 ghost use Rattle.site_desk.specs.Roster.{AreCellsOf};
 ghost use Rattle.journal_server.specs.Served.{IsNewRun, IsRefused, IsRestoredRun};
 
-use crate::declared::{RUN, journal_head};
+use crate::declared::{journal_head, run_head};
 use crate::fault::JournalFault;
 use crate::run::{Served, run_restored};
 use crate::same::is_declared;
@@ -123,7 +123,8 @@ pub fn serve_restored<
         return Err(JournalFault::LeftOut);
     }
     tell_restored(told, restored.cells.as_slice());
-    let journal = begin(journal, RUN)?;
+    let head = run_head(rt.alloc())?;
+    let journal = begin(journal, head.as_slice())?;
     let served = run_restored(rt, restored, restoring.live, input, journal, told, lines)?;
     Ok(served)
 }
@@ -167,7 +168,7 @@ fn tell_restored<T: Write>(told: &mut T, cells: &[StationCell]) {
 
 // What the head of a journal leaves: the stations that it declares, without events.
 fn restore_declared<R: AllocGlobal + Threads>(rt: &R, head: &[u8]) -> Result<Restored, JournalFault>
-    ensures restored { IfOk result (λ r. IsRestored head.now r.has_lost r.draft.sites r.draft.stations r.cells.items) }
+    ensures restored { IfOk result (λ r. IsRestored head.now r) }
     ensures makes_desk { IfOk result (λ r. (plan_fault r.draft.sites r.draft.stations ≡ None) × AreCellsOf r.draft.sites r.draft.stations r.cells.items) }
 {
     let mut text = Vec::with_capacity(rt.alloc(), head.len().saturating_add(LISTEN.len()))?;

@@ -1,6 +1,8 @@
+pub mod Asking
 pub mod Browsing
 pub mod Ordered
 pub mod Replied
 pub mod Responses
+pub mod Seated
 pub mod Shelved
 pub mod Told

@@ -1,4 +1,6 @@
 //! What a browser asks for, by the head of its request.
+ghost use Rattle.live_server.specs.Asking.{AsksAt, IsAskedBy};
+
 use httparse::Status;
 use httparse::spans::{EMPTY_HEADER_SPAN, parse_request};
 use ledger_model::Name;
@@ -29,7 +31,9 @@ pub(crate) enum Request {
 }
 
 // Reads the bytes that came of a request.
-pub(crate) fn read_request(bytes: &[u8]) -> Request {
+pub(crate) fn read_request(bytes: &[u8]) -> Request
+    ensures { IsAskedBy bytes.now result }
+{
     let mut headers = [EMPTY_HEADER_SPAN; MAX_HEADERS];
     match parse_request(bytes, &mut headers) {
         Ok(Status::Complete(head)) => {
@@ -45,7 +49,9 @@ pub(crate) fn read_request(bytes: &[u8]) -> Request {
 }
 
 // What a path asks for.
-fn asked_at(path: &[u8]) -> Request {
+fn asked_at(path: &[u8]) -> Request
+    ensures { AsksAt path.now result }
+{
     if path == b"/".as_slice() {
         return Request::Sites;
     }

@@ -1,4 +1,7 @@
 //! Which worker serves whom, and who has to go.
+ghost use Rattle.std.specs.Prelude.{◌≡◌, ◌+◌, ◌%◌, ◌^◌, ◌<◌, IfOk, None, Some, length, replicate, slice_get, slice_set};
+ghost use Rattle.live_server.specs.Seated.{HasGreeted, HasBegun, IsOldestOf, IsTold, count_at, free, is_at, older_by, serving};
+
 use std::alloc::{AllocError, Global};
 
 // How many sessions of one station may run at once.
@@ -9,34 +12,37 @@ const MIN_FREE: usize = 16;
 
 // A connection that a worker serves.
 #[derive(Clone, Copy)]
-struct Served {
+pub(crate) struct Served {
     // The station of its session; none in its handshake.
-    station: Option<u16>,
+    pub(crate) station: Option<u16>,
     // Its number among all handshakes and sessions that began.
-    number: u64,
+    pub(crate) number: u64,
 }
 
 /// Which worker serves a handshake, and which a session of which station.
 #[derive(Drop)]
 pub struct Seats {
     // What each worker serves; a connection that was told to end counts no more.
-    served: Vec<Option<Served>>,
-    begun: u64,
+    pub(crate) served: Vec<Option<Served>>,
+    pub(crate) begun: u64,
 }
 
 impl Seats {
     /// Seats for so many workers, who serve nobody.
-    pub fn open(alloc: Global, workers: usize) -> Result<Seats, AllocError> {
-        let mut served = Vec::with_capacity(alloc, workers)?;
-        for _ in 0..workers {
-            served.push(None)?;
-        }
+    pub fn open(alloc: Global, workers: usize) -> Result<Seats, AllocError>
+        ensures { IfOk result (λ s. s.served.items ≡ replicate workers None) }
+    {
+        let mut served = Vec::new(alloc);
+        served.resize(workers, None)?;
         Ok(Seats { served, begun: 0 })
     }
 
     /// Notes that a worker's connection is in its handshake, and gives the worker of the oldest handshake where fewer
     /// than 16 workers were left.
-    pub fn greet(&mut self, worker: usize) -> Option<usize> {
+    pub fn greet(&mut self, worker: usize) -> Option<usize>
+        ensures greeted { HasGreeted worker self.new.begun self.old.served.items result self.new.served.items }
+        ensures number { self.new.begun ≡ (self.old.begun + 1) % 2 ^ 64 }
+    {
         let oldest = if self.free() < MIN_FREE {
             self.take_oldest(None)
         } else {
@@ -48,7 +54,10 @@ impl Seats {
 
     /// Notes that a worker's session of this station begins, and gives the worker of the station's oldest session where
     /// it is now one too many.
-    pub fn begin(&mut self, worker: usize, station: u16) -> Option<usize> {
+    pub fn begin(&mut self, worker: usize, station: u16) -> Option<usize>
+        ensures begun { HasBegun worker station self.new.begun self.old.served.items result self.new.served.items }
+        ensures number { self.new.begun ≡ (self.old.begun + 1) % 2 ^ 64 }
+    {
         self.note(worker, Some(station));
         if self.count_of(Some(station)) <= MAX_SESSIONS {
             return None;
@@ -57,14 +66,20 @@ impl Seats {
     }
 
     /// Notes that a worker's connection ended.
-    pub fn end(&mut self, worker: usize) {
+    pub fn end(&mut self, worker: usize)
+        ensures served { self.new.served.items ≡ slice_set self.old.served.items worker None }
+        ensures begun { self.new.begun ≡ self.old.begun }
+    {
         if let Some(row) = self.served.get_mut(worker) {
             *row = None;
         }
     }
 
     // Notes what a worker serves from now on.
-    fn note(&mut self, worker: usize, station: Option<u16>) {
+    fn note(&mut self, worker: usize, station: Option<u16>)
+        ensures served { self.new.served.items ≡ serving worker station self.new.begun self.old.served.items }
+        ensures begun { self.new.begun ≡ (self.old.begun + 1) % 2 ^ 64 }
+    {
         self.begun = self.begun.wrapping_add(1);
         let number = self.begun;
         if let Some(row) = self.served.get_mut(worker) {
@@ -73,35 +88,82 @@ impl Seats {
     }
 
     // The worker of the oldest session of a station, or of the oldest handshake, which counts no more.
-    fn take_oldest(&mut self, station: Option<u16>) -> Option<usize> {
+    fn take_oldest(&mut self, station: Option<u16>) -> Option<usize>
+        ensures told { IsTold station self.old.served.items result self.new.served.items }
+        ensures begun { self.new.begun ≡ self.old.begun }
+    {
         let oldest = self.oldest_of(station)?;
         self.end(oldest);
         Some(oldest)
     }
 
     // How many workers serve nobody.
-    fn free(&self) -> usize {
+    fn free(&self) -> usize
+        ensures { result ≡ free self.now.served.items }
+    {
         self.served.iter().filter(|row| row.is_none()).count()
     }
 
     // How many sessions of a station there are, or handshakes.
-    fn count_of(&self, station: Option<u16>) -> usize {
-        self.served
-            .iter()
-            .filter(|row| row.is_some_and(|one| one.station == station))
-            .count()
+    fn count_of(&self, station: Option<u16>) -> usize
+        ensures { result ≡ count_at station self.now.served.items }
+    {
+        self.served.iter().filter(|row| is_at(station, row)).count()
     }
 
     // The worker of the oldest session of a station, or of the oldest handshake.
-    fn oldest_of(&self, station: Option<u16>) -> Option<usize> {
-        let mut oldest: Option<(usize, u64)> = None;
-        for (worker, row) in self.served.iter().enumerate() {
-            if let Some(one) = row {
-                if one.station == station && oldest.is_none_or(|(_, number)| one.number < number) {
-                    oldest = Some((worker, one.number));
-                }
-            }
+    fn oldest_of(&self, station: Option<u16>) -> Option<usize>
+        ensures { IsOldestOf (length self.now.served.items) station self.now.served.items result }
+    {
+        let mut oldest = None;
+        for worker in 0..self.served.len() {
+            oldest = older_of(&self.served, worker, oldest, station);
         }
-        Some(oldest?.0)
+        oldest
+    }
+}
+
+// Tells whether a worker has a session of this station, or a handshake where there is none.
+fn is_at(station: Option<u16>, row: &Option<Served>) -> bool
+    ensures { result ≡ is_at station row.now }
+{
+    match row {
+        Some(one) => one.station == station,
+        None => false,
+    }
+}
+
+// The worker of the oldest session of a station, or of the oldest handshake, among those up to this worker, where this
+// one is the oldest of those before.
+fn older_of(
+    rows: &[Option<Served>],
+    worker: usize,
+    oldest: Option<usize>,
+    station: Option<u16>,
+) -> Option<usize>
+    requires there { worker < length rows.now }
+    requires oldest { IsOldestOf worker station rows.now oldest }
+    ensures { IsOldestOf (worker + 1) station rows.now result }
+{
+    let Some(one) = rows[worker] else {
+        return oldest;
+    };
+    if one.station != station {
+        return oldest;
+    }
+    match oldest {
+        Some(other) => oldest_of_two(rows, other, worker, one.number),
+        None => Some(worker),
+    }
+}
+
+// The first of these workers, unless it has a greater number than this one, which the second has.
+fn oldest_of_two(rows: &[Option<Served>], first: usize, second: usize, number: u64) -> Option<usize>
+    requires { first < length rows.now }
+    ensures { result ≡ older_by (slice_get rows.now first) first second number }
+{
+    match rows[first] {
+        Some(one) if one.number <= number => Some(first),
+        _ => Some(second),
     }
 }

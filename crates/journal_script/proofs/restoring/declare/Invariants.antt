@@ -6,8 +6,8 @@ use Rattle.journal_script.proofs.restoring.declare.Given as goal
 
 abbrev pub invariant-lines : goal.invariant-lines
 invariant-lines g l =
-    Goes l.fn.lines.max_line_bytes l.fn.lines.room l.lines.room (standing (planned l.fn.draft) l.fn.left_out) (standing (planned l.draft) l.left_out) (g.R.Read.remaining l.fn.reader) (g.R.Read.remaining l.reader)
-    × (l.lines.max_line_bytes ≡ l.fn.lines.max_line_bytes)
+    Goes l.fn.source.lines.max_line_bytes l.fn.source.lines.room l.source.lines.room (standing (planned l.fn.draft) l.fn.source.left_out) (standing (planned l.draft) l.source.left_out) (g.R.Read.remaining l.fn.reader) (g.R.Read.remaining l.reader)
+    × (l.source.lines.max_line_bytes ≡ l.fn.source.lines.max_line_bytes)
 
 abbrev pub decreases-lines : goal.decreases-lines
-decreases-lines g l = l.lines.room
+decreases-lines g l = l.source.lines.room

@@ -9,5 +9,5 @@ returns-clause-restored g c =
     let text : c.as_slice-reader.result.now ≡ c.args.head.now ++ codes "listen\n" = search rules in
     let rest : c.restore.new.reader.now ≡ [] = none_left c.restore.new.reader.now c.is_empty.result (search rules) c.is_empty.ensures in
     let consumed : c.as_slice-reader.result.now ≡ (told.0 ++ told.1) ++ c.restore.new.reader.now = told.2 in
-    subst (λ r. IsRestored r c.in_ok-restored.restored.has_lost c.in_ok-restored.restored.draft.sites c.in_ok-restored.restored.draft.stations c.in_ok-restored.restored.cells.items)
+    subst (λ read. IsRestored read c.in_ok-restored.restored)
     (script_is c.args.head.now told.0 told.1 told.3 (sym text ∙ consumed ∙ ap (λ l. (told.0 ++ told.1) ++ l) rest ∙ append-nil (told.0 ++ told.1))) told.4

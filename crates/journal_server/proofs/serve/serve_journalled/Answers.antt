@@ -2,6 +2,7 @@ use Rattle.std.proofs.Common.{◌≡◌, true, sym, subst, ◌∙◌, rules}
 use Rattle.std.specs.Io.Buffered.{writer_contents}
 use Rattle.std.specs.Io.KnownBytes.{Appends}
 use Rattle.journal_server.specs.Served.{Declares, IsItsScript}
+use Rattle.journal_server.proofs.Ends.{script_behind}
 use Rattle.journal_server.proofs.serve.serve_journalled.Goals as goal
 
 pub returns : goal.returns
@@ -16,13 +17,13 @@ returns g c =
     (subst (Declares c.args.plan.now.sites.items c.plan.result.now.sites.items) c.as_slice-2.ensures.value (c.is_declared.ensures.sites told)) in
     let own = c.in_ok-restored.ensures.restored in
     let ran = c.in_ok-served.ensures c.as_slice.result.now (record { whole = own.whole; shows = own.shows }) in
+    let begins = subst (Appends (writer_contents g.W.Write.contents c.args.journal) begun) same c.in_ok-journal.ensures.begins in
     record {
       head = c.as_slice.result.now;
-      begun = begun;
-      begins = subst (Appends (writer_contents g.W.Write.contents c.args.journal) begun) same c.in_ok-journal.ensures.begins;
       read = sites;
       firsts = firsts;
       declares = declares;
-      script = subst (λ x. IsItsScript c.as_slice.result.now sites x firsts begun (g.W.Write.contents served.journal.inner) served.journal.buf.items served.is_broken served.boards.items)
-          (sym c.plan.ensures.stations ∙ c.is_declared.ensures.stations told) ran;
+      script = script_behind _ _ _ _ _ begun _ _ c.as_slice.result.now _ _ begins
+          (subst (λ x. IsItsScript c.as_slice.result.now sites x firsts begun (g.W.Write.contents served.journal.inner) served.journal.buf.items served.is_broken served.boards.items)
+          (sym c.plan.ensures.stations ∙ c.is_declared.ensures.stations told) ran);
     }

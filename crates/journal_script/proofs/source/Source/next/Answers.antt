@@ -1,13 +1,13 @@
 use Rattle.std.proofs.Common.{◌∙◌, ap, sym}
 use Rattle.script_lines.specs.Lines.{ended}
 use Rattle.journal_script.proofs.LinesRead.{is_other, listens, no_more, one_more}
-use Rattle.journal_script.proofs.restoring.next.Goals as goal
+use Rattle.journal_script.proofs.source.Source.next.Goals as goal
 
-pub returns-in-Feed-clause-reads : goal.returns-in-Feed-clause-reads
-returns-in-Feed-clause-reads g c =
+pub returns-in-Feed-clause-takes : goal.returns-in-Feed-clause-takes
+returns-in-Feed-clause-takes g c =
     let t = rw c.in-Feed.is at c.in_ok-next_line.ensures.takes in
     let p = t.2 in
-    let most = c.args.lines.now.max_line_bytes in
+    let most = c.args.self.now.lines.max_line_bytes in
     let held = c.next_line.new.self.held.items in
     let line = c.line.ensures ∙ ap (λ m. ended m held) c.next_line.ensures.max_line_bytes in (
       t.0,
