@@ -4,16 +4,16 @@ use std::test::Fail;
 
 // A reading of an event: so many minutes after 2026-03-01T10:00:00Z, below an hour, and its number.
 #[derive(Clone, Copy)]
-struct Told {
+struct Sample {
     minute: u8,
     number: u8,
 }
 
-const fn told(minute: u8, number: u8) -> Told {
-    Told { minute, number }
+const fn sample_at(minute: u8, number: u8) -> Sample {
+    Sample { minute, number }
 }
 
-impl Told {
+impl Sample {
     fn moment(self) -> Option<Moment> {
         Moment::new(1_772_359_200_000_000_000 + u64::from(self.minute % 60) * 60_000_000_000)
     }
@@ -31,8 +31,8 @@ impl Told {
 }
 
 // Puts a reading in where there is none and there is room; tells whether it did.
-fn put(index: &mut ReadingIndex, told: Told) -> bool {
-    let (Some(key), Some(reading)) = (told.key(), told.reading()) else {
+fn put(index: &mut ReadingIndex, sample: Sample) -> bool {
+    let (Some(key), Some(reading)) = (sample.key(), sample.reading()) else {
         return false;
     };
     if index.holds(key) || index.len() >= index.capacity() {
@@ -43,10 +43,10 @@ fn put(index: &mut ReadingIndex, told: Told) -> bool {
 }
 
 // Whether this is that reading, under its key.
-fn is_told(found: Option<(MomentKey, Reading)>, wanted: Option<Told>) -> bool {
+fn is_sample(found: Option<(MomentKey, Reading)>, wanted: Option<Sample>) -> bool {
     match (found, wanted) {
-        (Some((key, reading)), Some(told)) => {
-            told.key() == Some(key) && told.reading() == Some(reading)
+        (Some((key, reading)), Some(sample)) => {
+            sample.key() == Some(key) && sample.reading() == Some(reading)
         }
         (None, None) => true,
         _ => false,
@@ -56,50 +56,71 @@ fn is_told(found: Option<(MomentKey, Reading)>, wanted: Option<Told>) -> bool {
 // Whether these readings stand on either side of a key.
 fn stand_around(
     index: &ReadingIndex,
-    told: Told,
-    before: Option<Told>,
-    behind: Option<Told>,
+    sample: Sample,
+    before: Option<Sample>,
+    behind: Option<Sample>,
 ) -> bool {
-    match told.key() {
+    match sample.key() {
         Some(key) => {
             let found = index.around(key);
-            is_told(found.0, before) && is_told(found.1, behind)
+            is_sample(found.0, before) && is_sample(found.1, behind)
         }
         None => false,
     }
 }
 
 // Takes a reading out.
-fn take(index: &mut ReadingIndex, told: Told) {
-    if let Some(key) = told.key() {
+fn take(index: &mut ReadingIndex, sample: Sample) {
+    if let Some(key) = sample.key() {
         index.take(key);
     }
 }
 
 // The number of the event of a key.
-fn number(told: Told) -> Option<u32> {
-    Some(told.key()?.number())
+fn number(sample: Sample) -> Option<u32> {
+    Some(sample.key()?.number())
 }
 
 #[test]
 fn readings_go_by_moment_then_number(rt: HostRuntime) -> Result<(), Fail> {
     let mut index = ReadingIndex::open(rt.alloc(), 4)?;
-    assert!(rt; put(&mut index, told(0, 0)) && put(&mut index, told(10, 2)));
-    assert!(rt; put(&mut index, told(10, 1)) && put(&mut index, told(5, 3)));
-    assert!(rt; !put(&mut index, told(5, 3)) && !put(&mut index, told(6, 4)));
-    assert!(rt; stand_around(&index, told(10, 1), Some(told(5, 3)), Some(told(10, 1))));
-    assert!(rt; stand_around(&index, told(10, 2), Some(told(10, 1)), Some(told(10, 2))));
-    assert!(rt; stand_around(&index, told(11, 0), Some(told(10, 2)), None));
-    take(&mut index, told(10, 1));
-    take(&mut index, told(20, 1));
-    assert!(rt; stand_around(&index, told(10, 1), Some(told(5, 3)), Some(told(10, 2))));
-    assert!(rt; index.len() == 3 && number(told(10, 2)) == Some(2));
+    assert!(rt; put(&mut index, sample_at(0, 0)) && put(&mut index, sample_at(10, 2)));
+    assert!(rt; put(&mut index, sample_at(10, 1)) && put(&mut index, sample_at(5, 3)));
+    assert!(rt; !put(&mut index, sample_at(5, 3)) && !put(&mut index, sample_at(6, 4)));
+    assert!(rt;
+        stand_around(
+            &index,
+            sample_at(10, 1),
+            Some(sample_at(5, 3)),
+            Some(sample_at(10, 1))
+        )
+    );
+    assert!(rt;
+        stand_around(
+            &index,
+            sample_at(10, 2),
+            Some(sample_at(10, 1)),
+            Some(sample_at(10, 2))
+        )
+    );
+    assert!(rt; stand_around(&index, sample_at(11, 0), Some(sample_at(10, 2)), None));
+    take(&mut index, sample_at(10, 1));
+    take(&mut index, sample_at(20, 1));
+    assert!(rt;
+        stand_around(
+            &index,
+            sample_at(10, 1),
+            Some(sample_at(5, 3)),
+            Some(sample_at(10, 2))
+        )
+    );
+    assert!(rt; index.len() == 3 && number(sample_at(10, 2)) == Some(2));
     Ok(())
 }
 
 // Whether nothing of another transaction, or of the other direction, stands around a key.
 fn is_alone(index: &ReadingIndex, slot: u32, direction: Direction) -> bool {
-    let Some(moment) = told(5, 0).moment() else {
+    let Some(moment) = sample_at(5, 0).moment() else {
         return false;
     };
     let key = MomentKey::new(slot & 0xff_ffff, direction, moment, 1, 0);
@@ -110,7 +131,7 @@ fn is_alone(index: &ReadingIndex, slot: u32, direction: Direction) -> bool {
 #[test]
 fn readings_of_another_owner_are_none(rt: HostRuntime) -> Result<(), Fail> {
     let mut index = ReadingIndex::open(rt.alloc(), 2)?;
-    assert!(rt; put(&mut index, told(0, 0)) && put(&mut index, told(10, 1)));
+    assert!(rt; put(&mut index, sample_at(0, 0)) && put(&mut index, sample_at(10, 1)));
     assert!(rt; is_alone(&index, 2, Direction::Import) && is_alone(&index, 4, Direction::Import));
     assert!(rt; is_alone(&index, 3, Direction::Export));
     assert!(rt; !is_alone(&index, 3, Direction::Import));
