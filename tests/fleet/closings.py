@@ -18,7 +18,6 @@ from tests.fleet.trials import Trial, event
 ZONE = ZoneInfo("Europe/Berlin")
 # The channel on which answers are told here.
 CHANNEL = "closings"
-APPEND = "insert into own_log (shard, gateway, token, line) values ($1, $2, $3, $4)"
 BLOCKED = """
 select count(*) from pg_stat_activity where wait_event_type = 'Lock' and application_name like 'ocpp-board %'
 """
@@ -92,9 +91,7 @@ class ClosingTrial(Trial):
             shard = self.homes[line.split(" ", 2)[1]]
             self.lines.setdefault(shard, []).append(line)
             self.asked.append(line)
-            await self.owner.execute(APPEND, shard, CHANNEL, len(self.asked), line)
-        shards = " ".join(map(str, set(self.homes.values())))
-        await self.owner.execute("select pg_notify('wake', $1)", shards)
+            await self.fleet.come(self.owner, shard, [line], CHANNEL, len(self.asked))
         await self.fleet.until_told(self.owner)
         tokens = range(front + 1, len(self.asked) + 1)
         return [self.answers.get(token, "no answer") for token in tokens]

@@ -12,6 +12,10 @@ these is not as it must be.
     worker       a worker is killed with -9
     gateway      a gateway is killed with -9
     replay       a worker's replay is killed with -9
+    order        workers are killed between giving lines their places and telling answers, sessions while they give them
+    open         transactions stay open: one that wrote in another database, a station that is added, an operator's line
+    server       the database and all its processes are killed with -9 and started again, twice
+    stopped      a gateway is stopped, and woken
     hang         a worker is stopped, fenced by another one, and woken
     two-workers  all workers are made to believe that they hold all shards
     network      what is between the gateways and the database is stopped and goes on, then ends and is there again
@@ -37,12 +41,37 @@ from tests.fleet.fleet import BIN, SCHEMA, children, ended, free_port, part, too
 from tests.fleet.trials import MISTAKEN, RIGHT, Trial, parsed, parser_of, tried
 
 # Faults of one fleet, and the two that need one of their own.
-COMMON = ["worker", "gateway", "replay", "hang", "two-workers", "network", "plan"]
+COMMON = ["worker", "gateway", "replay", "order", "open", "server", "stopped"]
+COMMON += ["hang", "two-workers", "network", "plan"]
 OWN = ["primary", "disk"]
 # Waits in seconds that are not passed while a part is killed, besides ten times the run's median, which is long
 # where the machine is busy: less than it takes to see that a worker hangs, so no time ran out.
-LONGEST = {"worker": 2.5, "gateway": 2.5, "replay": 2.5}
+LONGEST = {"worker": 2.5, "gateway": 2.5, "replay": 2.5, "open": 1.0}
 EACH = 20
+# A worker that tells answers late.
+LATE = """
+import asyncio
+from ocpp_board.fleet.worker import Session
+
+tell = Session.tell
+
+async def late(self, answered):
+    await asyncio.sleep(0.2)
+    await tell(self, answered)
+
+Session.tell = late
+"""
+# Sessions of workers that give lines their places at the moment.
+NUMBERING = """
+select count(pg_terminate_backend(pid)) from pg_stat_activity
+where application_name like 'worker_%' and query like '%numbered%' and state = 'active'
+"""
+# Shards whose places have a gap or are no more than their lines, and lines that have none.
+UNEVEN = """
+select count(*) from (
+    select shard from own_log group by shard having count(*) <> max(place) or min(place) <> 1
+    union all select shard from inbox union all select shard from inbox_kept) u
+"""
 
 
 class Demo(Trial):
@@ -117,6 +146,77 @@ class Demo(Trial):
 
     async def replay(self) -> None:
         os.kill(children(self.workers[0].pid)[0], signal.SIGKILL)
+
+    async def order(self) -> None:
+        """Workers that are killed between giving lines their places and telling answers, and while they give them."""
+        words = ("--db", self.fleet.dsn("ledger_worker"), "--program", self.fleet.program)
+        for _ in range(3):
+            self.workers.pop(0).kill()
+            self.workers.append(
+                self.fleet.patched(LATE, "worker", *words, "--hang", 3, "--boards", 0.5)
+            )
+            await asyncio.sleep(0.5)
+        for _ in range(3):
+            self.workers.pop(0).kill()
+            self.workers.append(self.fleet.worker("--hang", 3, "--boards", 0.5))
+        ended_ones = 0
+        for _ in range(150):
+            ended_ones += await self.owner.fetchval(NUMBERING)
+            await asyncio.sleep(0.01)
+        print(f"order: {ended_ones} sessions ended while they gave lines their places", flush=True)
+
+    async def in_order(self) -> None:
+        """Whether places have no gap, and each station's lines are in the order in which it sent them."""
+        await self.fleet.until_told(self.owner)
+        uneven = await self.owner.fetchval(UNEVEN)
+        rows = await self.owner.fetch("select line, min(place) as place from own_log group by line")
+        places = {row["line"]: row["place"] for row in rows}
+        last, late = dict[str, int](), 0
+        for line in dict.fromkeys(self.fleet.sent()):
+            station, place = line.split(" ", 2)[1], places.get(line, 0)
+            late += place <= last.get(station, 0)
+            last[station] = place
+        self.check(
+            not uneven and not late,
+            f"order: {len(rows)} lines; shards with a gap or with lines that have no place: {uneven}; lines in front "
+            f"of one that their station sent before: {late}",
+        )
+
+    async def open_ones(self) -> None:
+        """Transactions that stay open for 4 seconds."""
+        self.fleet.databases[0].psql("postgres", "-c", "create database elsewhere")
+        void = f"select operate('void', 'CS-{self.fleet.stations - 1:05}', 'TX-99', 1)"
+        sessions = []
+        for database, query in (
+            ("elsewhere", "create table one as select 1"),
+            ("ledger", f"select add_station({self.shards - 1}, 'open', 'CS-OPEN')"),
+            ("ledger", void),
+        ):
+            sessions.append(await connect(self.fleet.dsn("owner", database=database)))
+            await sessions[-1].execute("set idle_in_transaction_session_timeout = 0; begin")
+            await sessions[-1].execute(query)
+        await asyncio.sleep(4)
+        for session in sessions:
+            await session.execute("rollback")
+            await session.close()
+
+    async def server(self) -> None:
+        """The database and all its processes are killed, and it is started again."""
+        tooks = []
+        for _ in range(2):
+            self.fleet.databases[0].kill()
+            began = time.monotonic()
+            await asyncio.to_thread(self.fleet.databases[0].start)
+            tooks.append(f"{time.monotonic() - began:.1f}")
+            await asyncio.sleep(1.5)
+        print(f"server: the database began again in {' and '.join(tooks)} s", flush=True)
+
+    async def stopped(self) -> None:
+        """A gateway that is stopped once its stations send, and woken."""
+        await asyncio.sleep(0.5)
+        self.gateways[0][0].send_signal(signal.SIGSTOP)
+        await asyncio.sleep(self.words.stop)
+        self.gateways[0][0].send_signal(signal.SIGCONT)
 
     async def hang(self) -> None:
         self.workers[0].send_signal(signal.SIGSTOP)
@@ -220,9 +320,10 @@ class Demo(Trial):
             if name == "network":
                 await self.network()
             else:
-                await self.under_load(
-                    name, getattr(self, name.replace("-", "_")), longest=LONGEST.get(name, 0)
-                )
+                fault = getattr(self, {"open": "open_ones"}.get(name, name.replace("-", "_")))
+                await self.under_load(name, fault, longest=LONGEST.get(name, 0))
+            if name == "order":
+                await self.in_order()
             if name == "two-workers":
                 for process in self.workers:
                     process.kill()
@@ -238,10 +339,10 @@ class Demo(Trial):
 
     async def compaction(self) -> None:
         # What a gateway answered again is not in the log: these are as of stations that came to another gateway.
-        await self.owner.execute(
-            "insert into own_log (shard, line) select shard, line from own_log where shard < 4 and id % 20 = 0"
-        )
-        await self.owner.execute("select pg_notify('wake', '0 1 2 3')")
+        query = "select line from own_log where shard = $1 and place % 20 = 0"
+        for shard in range(4):
+            rows = await self.owner.fetch(query, shard)
+            await self.fleet.come(self.owner, shard, [row["line"] for row in rows])
         await self.fleet.until_told(self.owner)
         before = await self.owner.fetchval("select count(*) from own_log")
         command = [
@@ -273,7 +374,7 @@ class Demo(Trial):
         row = next(
             row
             for row in await self.owner.fetch(
-                "select line from own_log where shard = 0 order by xid, id"
+                "select line from own_log where shard = 0 order by place"
             )
             if row["line"] in lines
         )
@@ -385,8 +486,12 @@ class Demo(Trial):
         )
         gateway = await connect(self.fleet.dsn("ledger_gateway"))
         for query in (
-            "insert into own_log (shard, line) values (0, 'void CS-00000 TX-0 1')",
-            "insert into own_log (shard, line) values (0, E'msg CS-00000 1\\nvoid CS-00000 TX-0 1')",
+            "insert into inbox (shard, line) values (0, 'void CS-00000 TX-0 1')",
+            "insert into inbox (shard, line) values (0, E'msg CS-00000 1\\nvoid CS-00000 TX-0 1')",
+            "insert into inbox_kept (shard, line) values (0, 'msg CS-00000 1')",
+            "insert into own_log (shard, place, line) values (0, 1000000, 'msg CS-00000 1')",
+            "select line from inbox",
+            "delete from inbox",
             "select line from own_log",
             "delete from own_log",
             "update own_shard set moving_to = 2",
@@ -499,7 +604,7 @@ def main() -> int:
         nargs="+",
         choices=COMMON + OWN,
         default=COMMON,
-        help="which (default: the first seven)",
+        help=f"which (default: all but {' and '.join(OWN)})",
     )
     parser.add_argument(
         "--stations", type=int, default=120, help="how many for each fault (default: 120)"
@@ -512,6 +617,9 @@ def main() -> int:
     )
     parser.add_argument(
         "--cut", type=float, default=2, help="seconds for which the network is stopped (default: 2)"
+    )
+    parser.add_argument(
+        "--stop", type=float, default=3, help="seconds for which a gateway is stopped (default: 3)"
     )
     words = parsed(parser)
     shared = [name for name in words.faults if name in COMMON]

@@ -551,7 +551,9 @@ class Demo(Trial):
         for query in (
             "select line from own_log",
             "delete from own_log",
-            "insert into own_log (shard, line) values (0, 'void a b 1')",
+            "insert into inbox_kept (shard, line) values (0, 'void a b 1')",
+            "insert into own_log (shard, place, line) values (0, 1000, 'msg a [2]')",
+            "select line from inbox_kept",
         ):
             try:
                 await session.execute(query)
@@ -595,6 +597,7 @@ class Demo(Trial):
             await self.fleet.owner(),
             await connect(self.fleet.dsn("owner").replace("/ledger", "/second")),
         ]
+        self.fleet.worker("--boards", 1, dsn=self.fleet.dsn("ledger_worker", database="second"))
         shards = (self.shards, self.shards + 1, self.shards + 2)
         self.shards += 3
         for shard, owner in zip(shards, (owners[0], owners[0], owners[1])):

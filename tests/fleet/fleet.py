@@ -27,7 +27,26 @@ TOP = Path(__file__).resolve().parent.parent.parent
 SCHEMA = TOP / "python/ocpp_board/fleet/schema.sql"
 # As it was before stations could be retired, for trying that such a database is migrated.
 OLD_SCHEMA = TOP / "tests/fleet/old-schema.sql"
-UNTOLD = "select count(*) from own_log l join own_shard s using (shard) where (l.xid, l.id) > (s.xid, s.id)"
+# Lines whose answers are not noted as told.
+UNTOLD = """
+select (select count(*) from inbox) + (select count(*) from inbox_kept) + count(*)
+from own_log l join numbering n using (shard) where l.place > n.told
+"""
+# Lines that come as those of feeds and operators do, with the channel and the tokens of their answers.
+COME = """
+with added as (
+    insert into inbox_kept (shard, gateway, token, line)
+    select w.shard, $2, w.token, w.line
+    from unnest($1::int[], $3::bigint[], $4::text[]) with ordinality as w (shard, token, line, place)
+    order by w.place returning shard, id)
+select count(pg_notify('wake_kept', shard || ':' || id)) from added
+"""
+# Lines of a log, of which nobody is told.
+FILL = """
+insert into own_log (shard, place, line)
+select $1, coalesce((select max(place) from own_log where shard = $1), 0) + w.place, w.line
+from unnest($2::text[]) with ordinality as w (line, place)
+"""
 BIN = Path("/usr/lib/postgresql/15/bin")
 
 
@@ -234,6 +253,11 @@ class Fleet:
         login = dsn or self.dsn("ledger_worker")
         return self.start(*tool("worker"), "--db", login, "--program", self.program, *more)
 
+    def patched(self, code: str, *words: object, **more: Any) -> subprocess.Popen[bytes]:
+        """A tool that begins with this code."""
+        code += "\nimport sys; from ocpp_board.cli import main; sys.argv[0] = 'ocpp-board'; sys.exit(main())"
+        return self.start(sys.executable, "-c", code, *words, **more)
+
     def gateway(self, *dsns: str, port: int = 0) -> tuple[subprocess.Popen[bytes], str]:
         logins = [word for dsn in dsns or [self.dsn("ledger_gateway")] for word in ("--db", dsn)]
         process = self.start(
@@ -301,6 +325,13 @@ class Fleet:
         """All lines that were answered."""
         return [line for record in self.records for line in record.read_text().splitlines()]
 
+    async def come(
+        self, owner: Any, shard: int, lines: list[str], channel: str | None = None, first: int = 0
+    ) -> None:
+        """Lines of a shard come, whose answers are told on a channel with tokens from this one on."""
+        tokens = list(range(first, first + len(lines)))
+        await owner.execute(COME, [shard] * len(lines), channel, tokens, lines)
+
     async def compare(self, owner: Any, shard: int = 0) -> list[str]:
         """What differs: answered lines that the log lacks, and boards, of this shard and those behind it, that are not
         those of a replay from scratch."""
@@ -356,7 +387,7 @@ class Fleet:
         return found
 
     async def until_told(self, owner: Any, seconds: float = 20) -> None:
-        """Waits until the log's lines are answered, for so many seconds at most."""
+        """Waits until all lines are answered, for so many seconds at most."""
         end = time.monotonic() + seconds
         while await owner.fetchval(UNTOLD) and time.monotonic() < end:
             await asyncio.sleep(0.02)

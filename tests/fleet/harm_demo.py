@@ -4,11 +4,11 @@
     tests/one fleet.harm_demo ocpp_board --big      with a log of more than 1 GiB, for which it takes 4 GiB of memory
 
 It starts PostgreSQL 15 in a temporary folder, workers and gateways. Then come: a host of the list that lets nobody
-in; a server that would lose or spoil what is answered; strangers by the hundred; connections that never end their
-handshake; a gateway's own replay that hangs, and a clock of 1972; a station that changes its shard; zones; a snapshot
-that stays open; a station that sends one event again and again, or long ones without end; a synchronous standby that
-is gone; a server whose file has synchronous_commit off and that is killed; a log of more than a replay reads;
-channels that PostgreSQL refuses. The status is 1 where something is not as it must be.
+in; a server that would lose or spoil what is answered; a dump that a younger server takes; strangers by the hundred;
+connections that never end their handshake; a gateway's own replay that hangs, and a clock of 1972; a station that
+changes its shard; zones; a snapshot that stays open; a station that sends one event again and again, or long ones
+without end; a synchronous standby that is gone; a server whose file has synchronous_commit off and that is killed; a
+log of more than a replay reads; channels that PostgreSQL refuses. The status is 1 where something is not as it must be.
 """
 
 import argparse
@@ -27,23 +27,33 @@ import asyncpg
 
 from ocpp_board.fleet.database import connect
 from tests.fleet.client import Client
-from tests.fleet.fleet import Database, children, ended, tool
+from tests.fleet.fleet import BIN, FILL, Database, children, ended, tool
 from tests.fleet.trials import Trial, event, parsed, parser_of, tried
 
 STATIONS = 40
 # Seconds that a database, a replay or a handshake has.
 LIMIT = 10
-# A station that never comes has lines in the log here, for which nobody waits.
-APPEND = (
-    "insert into own_log (shard, gateway, token, line) values (0, $1, $2, 'void CS-00000 TX-9 1')"
-)
+# A station that never comes has lines here, for which nobody waits.
+APPEND = """
+insert into inbox_kept (shard, gateway, token, line) values (0, $1, $2, 'void CS-00000 TX-9 1')
+"""
 # The session in which a gateway looked for a stranger last.
 LOOKING = """
 select pid from pg_stat_activity where application_name like 'gateway_%' and query like '%t.station = %'
 order by query_start desc limit 1
 """
-FILL = """
-insert into own_log (shard, line) select 901, $1 || repeat('x', $2) || $3 from generate_series(1, 4200)
+BIG = """
+insert into own_log (shard, place, line)
+select 901, place, $1 || repeat('x', $2) || $3 from generate_series(1, 4200) as s (place)
+"""
+# Transactions that the server has and another has not.
+TRANSACTIONS = """
+do $$ begin
+    for number in 1 .. 3000 loop
+        perform pg_current_xact_id();
+        commit;
+    end loop;
+end $$
 """
 COUNT = "select count(*) from own_log where line like 'msg ' || $1 || ' %'"
 OF_GATEWAY = "select count(*) from pg_stat_activity where application_name like 'gateway_%'"
@@ -121,7 +131,7 @@ class Demo(Trial):
             except asyncpg.PostgresError as fault:
                 self.check(True, f"a channel of {len(values[0])} letters: {fault}")
         await self.owner.execute(
-            'alter table own_log drop constraint if exists "a channel has 1 to 63 bytes"'
+            'alter table inbox_kept drop constraint "a channel has 1 to 63 bytes"'
         )
         await self.owner.add_listener("harm", self.told)
         before = await self.sessions()
@@ -129,7 +139,7 @@ class Demo(Trial):
             await self.owner.execute(APPEND, "harm", token)
             await self.owner.execute(APPEND, long, token)
             await self.owner.execute(APPEND, "harm", None)
-        await self.owner.execute("select pg_notify('wake', '0')")
+        await self.owner.execute("select pg_notify('wake_kept', '0:0')")
 
         async def are_told() -> bool:
             return len(self.answers) == 3
@@ -192,9 +202,6 @@ class Demo(Trial):
             self.check(text.startswith("2 ") and wanted in text, f"{settings}: {text}")
         self.other.stop()
         self.other.start()
-        self.other.psql("ledger", "-c", "insert into own_shard (shard, xid) values (0, '1000000')")
-        text = await asyncio.to_thread(self.begun, login)
-        self.check(text.startswith("2 ") and "still to come to" in text, f"a dump: {text}")
         self.other.psql(
             "postgres", "-c",
             "create database odd encoding 'SQL_ASCII' template template0 locale 'C'",
@@ -208,6 +215,49 @@ class Demo(Trial):
             self.check(False, "the schema is made in a database of another encoding")
         except subprocess.CalledProcessError:
             self.check(True, "the schema is not made in a database of another encoding")
+        self.other.stop()
+
+    async def dump(self) -> None:
+        """A dump that a server takes which has had fewer transactions, and that goes on there."""
+        await self.owner.execute(TRANSACTIONS)
+        await self.answered("before a dump", station="CS-00007")
+        self.other.start()
+        self.other.psql("postgres", "-c", "create database dumped")
+        words = ("-h", "127.0.0.1", "-p", str(self.fleet.databases[0].port), "-U", "owner")
+        process = self.fleet.start(BIN / "pg_dump", *words, "ledger", stdout=subprocess.PIPE)
+        dumped, _ = await asyncio.to_thread(process.communicate)
+        self.other.psql("dumped", "-f", "-", input=dumped, stdout=self.fleet.log)
+        copy = await connect(self.fleet.dsn("owner", self.other.port, database="dumped"))
+        owners = (self.owner, copy)
+        logs = [await owner.fetch("select shard, place, line from own_log") for owner in owners]
+        numbers = [await owner.fetchval("select pg_current_xact_id()::text") for owner in owners]
+        self.check(
+            set(logs[0]) == set(logs[1]) and int(numbers[1]) < int(numbers[0]),
+            f"a dump of {len(logs[1])} lines, into a server with transactions {numbers[1]}, {numbers[0]} before",
+        )
+        url = self.url
+        login = self.fleet.dsn("ledger_worker", self.other.port, database="dumped")
+        worker = self.fleet.worker("--boards", 0.5, dsn=login)
+        login = self.fleet.dsn("ledger_gateway", self.other.port, database="dumped")
+        gateway, self.url = await asyncio.to_thread(self.fleet.gateway, login)
+        await self.answered("by the dump", 20, "CS-00007")
+        await copy.execute(f"select operate('void', 'CS-00007', 'T-{self.number - 1}', 0)")
+        board = "select voided, events from own_board_station where station = 'CS-00007'"
+
+        async def is_voided() -> bool:
+            row = await copy.fetchrow(board)
+            return row is not None and tuple(row) == (1, 1)
+
+        self.check(
+            await self.until(10, is_voided),
+            "an event of the dump is voided, and a later one counts",
+        )
+        places = await copy.fetch("select shard, count(*) - max(place) from own_log group by shard")
+        self.check(not any(row[1] for row in places), "its places go on where they were")
+        await copy.close()
+        for process in (worker, gateway):
+            process.kill()
+        self.url = url
         self.other.stop()
 
     async def strangers(self) -> None:
@@ -282,14 +332,9 @@ class Demo(Trial):
         took = time.monotonic() - began
         self.check(heard.startswith('[3,"1",'), f"its replay hangs: {heard} after {took:.0f} s")
 
-    def patched(self, code: str, *words: object, **more: Any) -> subprocess.Popen[bytes]:
-        """A tool that begins with this code."""
-        code += "\nimport sys; from ocpp_board.cli import main; sys.argv[0] = 'ocpp-board'; sys.exit(main())"
-        return self.fleet.start(sys.executable, "-c", code, *words, **more)
-
     async def clock(self) -> None:
         """A gateway whose clock is before 2000."""
-        process = self.patched(
+        process = self.fleet.patched(
             "import time; real = time.time; time.time = lambda: real() - 1_700_000_000",
             "gateway", "--db", self.fleet.dsn("ledger_gateway"), "--program", self.fleet.program,
             "--port", 0, stdout=subprocess.PIPE,
@@ -352,7 +397,7 @@ class Demo(Trial):
             "set idle_in_transaction_session_timeout = 0; begin isolation level repeatable read; "
             "select count(*) from own_shard"
         )
-        query = "select n_tup_upd from pg_stat_user_tables where relname = 'own_shard'"
+        query = "select n_tup_upd from pg_stat_user_tables where relname = 'numbering'"
         await asyncio.sleep(1)
         before = await self.owner.fetchval(query)
         count, seconds = await self.load(8)
@@ -362,7 +407,7 @@ class Demo(Trial):
         await reader.close()
         self.check(
             count > 500 and written < 10 * (seconds + 3),
-            f"own_shard had {written} versions written for {count} answers in {seconds:.0f} s",
+            f"numbering had {written} versions written for {count} answers in {seconds:.0f} s",
         )
 
     async def load(self, seconds: float) -> tuple[int, float]:
@@ -463,8 +508,7 @@ class Demo(Trial):
             for number in range(200)
         ]
         texts = [line for line in lines for _ in range(3)] + ["void FULL T-1 1", "void FULL T-9 9"]
-        for text in texts:
-            await self.owner.execute("insert into own_log (shard, line) values (900, $1)", text)
+        await self.owner.execute(FILL, 900, texts)
         self.workers = [self.fleet.worker("--boards", 0.5)]
         board = "select text from own_board where shard = 900"
 
@@ -472,8 +516,8 @@ class Demo(Trial):
             return "voided=1" in (await self.owner.fetchval(board) or "")
 
         noted = (
-            "select (s.xid, s.id) = (l.xid, l.id) from own_shard s, lateral (select xid, id from own_log"
-            " where shard = 900 order by xid desc, id desc limit 1) l where s.shard = 900"
+            "select told = (select max(place) from own_log where shard = 900) from numbering "
+            "where shard = 900"
         )
 
         async def is_noted() -> bool:
@@ -484,18 +528,17 @@ class Demo(Trial):
         before = await self.owner.fetchval(board)
         size = sum(len(text) + 1 for text in texts)
         words = ("--db", self.fleet.dsn("owner", self.fleet.databases[0].port), "--program")
-        process = self.patched(
+        process = self.fleet.patched(
             f"import ocpp_board.fleet.compact as one; one.PIECE = {size // 2}",
             "compact", *words, self.fleet.program, "--shard", 900, stdout=-1, stderr=-2,
         )  # fmt: skip
         status, said = await ended(process)
         self.check(status == 0 and "400 repeats" in said, f"compacted in parts: {said}")
-        for text in lines[:150]:
-            await self.owner.execute("insert into own_log (shard, line) values (900, $1)", text)
+        await self.owner.execute(FILL, 900, lines[:150])
         self.workers.pop().kill()
         dsn = self.fleet.dsn("ledger_worker", self.fleet.databases[0].port)
         self.workers.append(
-            self.patched(
+            self.fleet.patched(
                 f"import ocpp_board.fleet.worker as one; one.LONGEST_SCRIPT = {size // 2}",
                 "worker", "--db", dsn, "--program", self.fleet.program, "--boards", 0.5,
             )  # fmt: skip
@@ -516,11 +559,7 @@ class Demo(Trial):
         await self.owner.execute("select add_station(901, 'big', 'BIG')")
         text = event("Big", 0, "Started", "2026-03-01T10:00:00Z", 1000)
         front, back = f"msg BIG {text}".split('"seqNo"')
-        await self.owner.execute(FILL, front + '"x":"', 262_000 - len(text), f'","seqNo"{back}')
-        await self.owner.execute(
-            "update own_shard set (xid, id) = (select xid, id from own_log where shard = 901 "
-            "order by xid desc, id desc limit 1) where shard = 901"
-        )
+        await self.owner.execute(BIG, front + '"x":"', 262_000 - len(text), f'","seqNo"{back}')
         size = await self.owner.fetchval(
             "select sum(octet_length(line)) from own_log where shard = 901"
         )
@@ -534,7 +573,7 @@ class Demo(Trial):
     async def run(self) -> None:
         await self.open()
         for job in (
-            self.hosts, self.servers, self.strangers, self.handshakes, self.replay, self.clock,
+            self.hosts, self.servers, self.dump, self.strangers, self.handshakes, self.replay, self.clock,
             self.plan, self.snapshot, self.flood, self.standby, self.crash, self.full_log,
             self.channels,
         ):  # fmt: skip

@@ -24,7 +24,7 @@ from typing import Any
 from ocpp_board.fleet.database import Fault, said
 from ocpp_board.fleet.plans import Plan
 from ocpp_board.fleet.replays import Replay
-from tests.fleet.fleet import Fleet, children, ended
+from tests.fleet.fleet import FILL, Fleet, children, ended
 from tests.fleet.trials import FAULTS, MISTAKEN, messages, parsed, parser_of
 
 log = logging.getLogger(__name__)
@@ -100,7 +100,7 @@ async def load(fleet: Fleet, words: argparse.Namespace) -> int:
         used = {name: spent(pids) - before[name] for name, pids in parts.items()}
         count = int(text.split()[0])
         own = ", ".join(f"{name} {1e6 * seconds / count:.0f}" for name, seconds in used.items())
-        batches = await owner.fetchval("select count(distinct xid) from own_log")
+        batches = await owner.fetchval("select count(distinct xmin::text) from own_log")
         rows = await owner.fetchval("select count(*) from own_log")
         print(f"processor time a message in us: {own}; {rows / max(1, batches):.1f} lines a commit")
     differ = await fleet.compared(owner, seconds=30)
@@ -121,12 +121,7 @@ async def recovery(fleet: Fleet, words: argparse.Namespace) -> int:
             for station in range(shard * each, shard * each + each)
             for text in dict.fromkeys(messages(station, events))
         ]
-        await owner.execute(
-            "insert into own_log (shard, line) select $1, line from unnest($2::text[]) with ordinality "
-            "as l (line, place) order by place",
-            shard,
-            lines,
-        )
+        await owner.execute(FILL, shard, lines)
     count = await owner.fetchval("select count(*) from own_log")
     size = await owner.fetchval("select pg_total_relation_size('own_log')")
     began = time.monotonic()

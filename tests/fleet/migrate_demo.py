@@ -18,15 +18,18 @@ from tests.fleet.closings import ClosingTrial, local, session
 from tests.fleet.fleet import BIN, OLD_SCHEMA
 from tests.fleet.trials import parsed, parser_of, tried
 
-# What each table had before.
+# What each table had before, and has still.
 TABLES = """
 select relname from pg_class where relkind = 'r' and relnamespace = 'public'::regnamespace order by 1
 """
 COLUMNS = """
 select string_agg(attname, ', ' order by attnum) from pg_attribute
-where attrelid = $1::text::regclass and attnum > 0 and not attisdropped
+where attrelid = $1::text::regclass and attnum > 0 and not attisdropped and attname not in ('xid', 'taken')
+    and (attname <> 'id' or attrelid = 'stray'::regclass)
 """
 ARCHIVE = "north.shard-0.1.script"
+# Answers were told up to the first line.
+MARK = "update own_shard set (xid, id) = (select xid, id from own_log order by xid, id limit 1)"
 CLOSED_PERIOD = """
 insert into own_closed_period (shard, site, closing, station, starts, day, up, down)
 values (0, 'north', 1, 'A', $1, $2, $3, 0)
@@ -55,7 +58,7 @@ class Demo(ClosingTrial):
         self.lines[0] = first + second
         for text in second:
             await self.owner.execute("insert into own_log (shard, line) values (0, $1)", text)
-        await self.owner.execute("update own_shard set xid = pg_current_xact_id()")
+        await self.owner.execute(MARK)
         declared = "limits 256 2048 2048 1000000000\nstation north A\nstation north B\n"
         text = declared + "".join(line + "\n" for line in first)
         (self.archives / ARCHIVE).write_text(text)
@@ -110,6 +113,13 @@ class Demo(ClosingTrial):
         self.check(
             await self.rows(columns) == before,
             f"schema.sql twice over a database of an earlier one: {sum(map(len, before.values()))} rows as before",
+        )
+        rows = await self.owner.fetch("select line, place from own_log order by place")
+        told = await self.owner.fetchval("select told from numbering where shard = 0")
+        self.check(
+            [tuple(row) for row in rows] == [(self.lines[0][4], 1), (self.lines[0][5], 2)]
+            and told == 1,
+            f"the lines of the log have their places, and answers were told up to {told}",
         )
         differ = [
             text

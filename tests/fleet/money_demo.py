@@ -205,7 +205,10 @@ class Demo(ClosingTrial):
         await self.once(f"the move at its end: {said}", status == 0)
         login = self.fleet.dsn("ledger_worker", database="second")
         self.fleet.worker("--boards", 0.2, dsn=login)
-        await self.until("select count(*) from board where cell = 2 and plan > 0 and id > 0", 1)
+        query = """
+            select count(*) from board b join shard s using (cell, shard, plan) where cell = 2
+        """
+        await self.until(query, 1)
         await self.once("a board of the other cell's worker", True)
 
     async def once(self, text: str, is_right: bool) -> None:

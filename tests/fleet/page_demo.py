@@ -88,12 +88,9 @@ class Demo(Trial):
         await self.until(lambda rows: sum(row["events"] for row in rows) == 27, "boards as rows")
 
     async def append(self, station: str, texts: list[str]) -> None:
-        for text in texts:
-            await self.owner.execute(
-                "insert into own_log (shard, line) select shard, $2 from own_station where station = $1",
-                station,
-                f"msg {station} {text}",
-            )
+        query = "select shard from own_station where station = $1"
+        shard = await self.owner.fetchval(query, station)
+        await self.fleet.come(self.owner, shard, [f"msg {station} {text}" for text in texts])
 
     async def until(self, is_so: Any, what: str) -> None:
         end = time.monotonic() + 15
@@ -249,7 +246,8 @@ class Demo(Trial):
             self.fleet.dsn("ledger_operator"), password=self.fleet.password
         )
         for query in (
-            "insert into own_log (shard, line) values (0, 'msg CS-00 [2]')",
+            "insert into inbox_kept (shard, line) values (0, 'msg CS-00 [2]')",
+            "insert into own_log (shard, place, line) values (0, 1000, 'void CS-00 T-1 1')",
             "delete from own_log",
             "update own_board set text = ''",
             "delete from own_station",

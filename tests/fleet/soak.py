@@ -3,11 +3,13 @@
     tests/one fleet.soak ocpp_board                                              two minutes
     tests/one fleet.soak ocpp_board --seconds 3600 --stations 1000 --rate 500 --each-close 600
 
-Each 6 seconds a worker, a gateway or a replay is killed with -9; each second an answered event is voided; each 20
-seconds the next day of each site is closed, and one `ocpp-board close-day` in four is killed. Stations' clocks run
-fast, so that days pass. At the end the day is closed once more, and boards with archives have to be those of a
-replay from scratch of all that was answered and voided, and what is settled that replay's periods. It tells the
-memory of each part at the quarters of the run. The status is 1 where something is not as it must be.
+Each 6 seconds a worker, a gateway or a replay is killed with -9; each second an answered event is voided, and one is
+sent again over another gateway; each 20 seconds the next day of each site is closed, and one `ocpp-board close-day` in
+four is killed. Five times, spread over the run, the database is killed with all its processes, or a single one of
+them; a gateway is stopped for a twentieth of the run. The clocks of two workers are three days fast and 400 slow.
+Stations' clocks run fast, so that days pass. At the end the day is closed once more, and boards with archives have to
+be those of a replay from scratch of all that was answered and voided, and what is settled that replay's periods. It
+tells the memory of each part at the quarters of the run. The status is 1 where something is not as it must be.
 """
 
 import argparse
@@ -21,12 +23,23 @@ import sys
 import time
 from datetime import date, timedelta
 from pathlib import Path
+from typing import Any
 
+import asyncpg
+
+from ocpp_board.fleet.database import LOST, Unreachable
+from tests.fleet.client import Client
 from tests.fleet.fleet import children, ended, free_port
 from tests.fleet.trials import Trial, parsed, parser_of, tried
 
 FIRST = date(2026, 3, 1)
 EACH = 50
+# What is killed of the database, one after the other, and days by which the clocks of workers are wrong.
+CRASHES = ("all", "one", "all", "one", "all")
+CLOCKS = (0, 3, -400)
+CLOCK = "import time; real = time.time; time.time = lambda: real() + 86400 * {}"
+# A process of the database that serves a worker or a gateway.
+BACKEND = "select pid from pg_stat_activity where application_name ~ '^(worker|gateway)_' order by random() limit 1"
 # Bytes of the record from which events to void are chosen.
 RECENT = 1 << 17
 
@@ -61,6 +74,8 @@ class Soak(Trial):
         self.archives.mkdir()
         self.voids: list[str] = []
         self.kills: dict[str, int] = dict.fromkeys(("worker", "gateway", "replay", "close_day"), 0)
+        self.crashes = self.repeats = 0
+        self.is_down = False
         self.day, self.closings = FIRST, 0
         self.sizes: list[dict[str, float]] = []
         self.workers: list[subprocess.Popen[bytes]] = []
@@ -71,8 +86,12 @@ class Soak(Trial):
         limits = (256, self.words.events + 64, self.words.events + 64)
         await self.fleet.add(self.owner, self.words.stations, EACH, 0, limits)
         self.ports = [free_port() for _ in range(3)]
-        self.workers = [self.fleet.worker("--hang", 3) for _ in range(3)]
+        self.workers = [self.start_worker(place) for place in range(3)]
         self.gateways = [(await asyncio.to_thread(self.start_gateway, port)) for port in self.ports]
+
+    def start_worker(self, place: int) -> subprocess.Popen[bytes]:
+        words = ("--db", self.fleet.dsn("ledger_worker"), "--program", self.fleet.program)
+        return self.fleet.patched(CLOCK.format(CLOCKS[place]), "worker", *words, "--hang", 3)
 
     def start_gateway(self, port: int) -> subprocess.Popen[bytes]:
         return self.fleet.gateway(port=port)[0]
@@ -86,7 +105,9 @@ class Soak(Trial):
             place = self.chance.randrange(3)
             if what == "worker":
                 self.workers[place].kill()
-                self.workers[place] = self.fleet.worker("--hang", 3)
+                self.workers[place] = self.start_worker(place)
+            elif self.is_down:
+                continue  # A gateway would not begin.
             elif what == "gateway":
                 self.gateways[place].kill()
                 self.gateways[place].wait()
@@ -109,12 +130,68 @@ class Soak(Trial):
             words = (station, payload["transactionInfo"]["transactionId"], payload["seqNo"])
             if str(words) not in voided:
                 voided.add(str(words))
-                await self.owner.execute("select operate('void', $1, $2, $3)", *words)
+                # The same line once more changes nothing that it changed.
+                await self.done("select operate('void', $1, $2, $3)", *words)
                 self.voids.append(f"void {words[0]} {words[1]} {words[2]}")
+
+    async def done(self, query: str, *values: object) -> Any:
+        """What a statement gives, which is tried until the database does it."""
+        while True:
+            try:
+                if self.owner.is_closed():
+                    self.owner = await self.fleet.owner()
+                return await self.owner.fetchval(query, *values)
+            except (*LOST, Unreachable, asyncpg.PostgresError):
+                self.owner.terminate()
+                await asyncio.sleep(0.2)
+
+    async def repeat(self) -> None:
+        """Sends an event that was answered once more, over a gateway of its own."""
+        while True:
+            await asyncio.sleep(1)
+            if not (lines := recent(self.fleet.records[0])):
+                continue
+            _, station, text = self.chance.choice(lines).split(" ", 2)
+            try:
+                url = f"ws://127.0.0.1:{self.chance.choice(self.ports)}/ocpp"
+                link = await Client.open(url, station)
+                heard = await link.said(10)
+                if heard == "101":
+                    link.send(text.encode())
+                    heard = await link.said(10)
+                    self.repeats += 1
+                    is_taken = heard.startswith(("[3,", "closed"))
+                    self.check(is_taken, f"an event of {station} once more: {heard}")
+                link.transport.abort()
+            except (OSError, asyncio.TimeoutError):
+                pass
+
+    async def crash(self) -> None:
+        """Kills the database, or one of its processes, and stops a gateway."""
+        database, pause = self.fleet.databases[0], self.words.seconds / (len(CRASHES) + 2)
+        for what in CRASHES:
+            await asyncio.sleep(pause)
+            self.is_down, self.crashes = True, self.crashes + 1
+            if what == "all":
+                database.kill()
+                await asyncio.to_thread(database.start)
+            else:
+                os.kill(await self.done(BACKEND), signal.SIGKILL)
+            await self.done("select 1")
+            self.is_down = False
+        await asyncio.sleep(pause)
+        process = self.gateways[0]
+        process.send_signal(signal.SIGSTOP)
+        await asyncio.sleep(self.words.seconds / 20)
+        process.send_signal(signal.SIGCONT)
+        await asyncio.sleep(self.words.seconds)
 
     async def close_all(self, may_kill: bool) -> None:
         for site in range(-(-self.words.stations // EACH)):
-            command = self.fleet.closing(f"site-{site}", self.archives, self.day)
+            command, crashes = (
+                self.fleet.closing(f"site-{site}", self.archives, self.day),
+                self.crashes,
+            )
             process = self.fleet.start(*command, stdout=subprocess.PIPE, stderr=subprocess.STDOUT)
             if may_kill and self.chance.random() < 0.25:
                 await asyncio.sleep(self.chance.random())
@@ -123,7 +200,8 @@ class Soak(Trial):
                     self.kills["close_day"] += 1
             status, text = await ended(process)
             # Where the plan or a worker's place changed in between it closed nothing, and is called again next time.
-            if status not in (0, -9) and "changed meanwhile" not in text:
+            is_told = "changed meanwhile" in text or crashes != self.crashes or self.is_down
+            if status not in (0, -9) and not is_told:
                 self.check(False, f"ocpp-board close-day: {text}")
             self.closings += status == 0
 
@@ -170,7 +248,9 @@ class Soak(Trial):
         began = time.monotonic()
         jobs = [
             asyncio.create_task(job)
-            for job in (self.kill(), self.void(), self.finish(began), self.weigh())
+            for job in (
+                self.kill(), self.void(), self.repeat(), self.crash(), self.finish(began), self.weigh(),
+            )  # fmt: skip
         ]
         waiting = asyncio.create_task(ended(load))
         await asyncio.wait([waiting, *jobs], return_when=asyncio.FIRST_COMPLETED)
@@ -181,10 +261,13 @@ class Soak(Trial):
         for job in jobs:
             job.cancel()
         await asyncio.gather(*jobs, return_exceptions=True)
+        self.gateways[0].send_signal(signal.SIGCONT)
         self.check(status == 0, text)
         print(
-            f"killed: {self.kills}; voided: {len(self.voids)}; closings: {self.closings}, the last of {self.day}"
+            f"killed: {self.kills}; the database or one of its processes: {self.crashes}; voided: {len(self.voids)}; "
+            f"sent again: {self.repeats}; closings: {self.closings}, the last of {self.day}"
         )
+        await self.done("select 1")
         for part in self.sizes[0] if self.sizes else ():
             print(
                 f"memory of {part} in MB: {', '.join(f'{size[part]:.0f}' for size in self.sizes)}"

@@ -1,6 +1,7 @@
 """The fleet's plans, figures, payloads and closings, without a database."""
 
 import asyncio
+import json
 from datetime import datetime, timezone
 
 import pytest
@@ -12,9 +13,24 @@ from ocpp_board.energies import Flow  # noqa: E402
 from ocpp_board.fleet.archives import LATER, Late, packed, unpacked, widened  # noqa: E402
 from ocpp_board.fleet.close_day import differences  # noqa: E402
 from ocpp_board.fleet import database  # noqa: E402
-from ocpp_board.fleet.database import Fault, Unreachable, places, said, wakes  # noqa: E402
+from ocpp_board.fleet.board_writer import Board, chunks  # noqa: E402
+from ocpp_board.fleet.database import (  # noqa: E402
+    Fault,
+    Unreachable,
+    places,
+    said,
+    wakes,
+    woken_by,
+)
 from ocpp_board.fleet.events import citrine_event, event_of, maeve_event  # noqa: E402
-from ocpp_board.fleet.figures import added, figures, joined, new_rows, periods  # noqa: E402
+from ocpp_board.fleet.figures import (  # noqa: E402
+    added,
+    blocks,
+    figures,
+    joined,
+    new_rows,
+    periods,
+)
 from ocpp_board.fleet.compact import pieces  # noqa: E402
 from ocpp_board.fleet.gateway import (  # noqa: E402
     BURST,
@@ -42,7 +58,7 @@ from ocpp_board.fleet.page_texts import (  # noqa: E402
     with_links,
 )
 from ocpp_board.fleet.plans import Plan  # noqa: E402
-from ocpp_board.fleet.worker import order, payloads_of  # noqa: E402
+from ocpp_board.fleet.worker import payloads_of  # noqa: E402
 from ocpp_board.messages import Refused  # noqa: E402
 
 FLOW = "up=1 down=0 export_up=0 export_down=0"
@@ -97,10 +113,12 @@ def test_a_refused_login_is_a_fault_where_every_host_gives_it(
 
 
 def test_payloads_of_wakes_fit() -> None:
-    texts = list(wakes(range(4_000)))
+    firsts = {shard: 10 * shard for shard in range(4_000)}
+    texts = list(wakes(firsts))
     assert all(len(text) < 8_000 for text in texts) and len(texts) > 1
-    assert [int(word) for text in texts for word in text.split()] == list(range(4_000))
-    assert list(wakes([])) == []
+    found = [woken_by(text) for text in texts]
+    assert {shard: first for part in found for shard, first in part.items()} == firsts
+    assert list(wakes({})) == []
 
 
 def test_what_a_fault_says() -> None:
@@ -154,10 +172,30 @@ def test_a_board_joined_with_archives_has_their_energy() -> None:
 
 
 def test_rows_of_what_changed_alone() -> None:
-    assert new_rows(BOARD, BOARD) == "{}"
-    assert '"periods"' not in new_rows(BOARD.replace("events=2", "events=3"), BOARD)
-    gone = new_rows(f"board north period=900\n{TOTAL}\nstation A\n{TOTAL}\nend\n", BOARD)
-    assert '"gone_periods"' in gone and '"gone_transactions"' in gone
+    block = blocks(BOARD)["A"]
+    whole = new_rows("A", block, "")
+    assert [len(whole[name]) for name in ("stations", "periods", "transactions", "gaps")] == 4 * [1]
+    assert whole["gaps"] == [{"station": "A", "transaction": "t1", "first": 1, "last": 3}]
+    some = new_rows("A", block.replace("events=2", "events=3", 1), block)
+    assert some["stations"][0]["events"] == 3
+    assert not any(rows for name, rows in some.items() if name != "stations")
+    gone = new_rows("A", TOTAL, block)
+    assert gone["gone_periods"] and gone["gone_transactions"] and not gone["gaps"]
+
+
+def test_chunks_of_a_board_have_whole_stations_that_changed() -> None:
+    texts = [f"station S{number}\n{TOTAL}\n{PERIOD}" for number in range(1_200)]
+    board = Board(1, "north", 7, 2, "\n".join(["board north period=900", TOTAL, *texts, "end\n"]))
+    made = chunks(board, {})
+    assert sum(len(chunk.lines) for chunk in made) == 1_200 and len(made) == 3
+    assert all(len(json.loads(chunk.rows)["stations"]) == len(chunk.lines) for chunk in made)
+    shown = {name: (5, text) for chunk in made for name, text in chunk.lines.items()}
+    assert chunks(board, shown) == []
+    shown["S3"] = (5, TOTAL)
+    found = chunks(board, shown)
+    assert list(found[0].lines) == ["S3"] and json.loads(found[0].rows)["stations"][0]["base"] == 5
+    del shown["S3"]
+    assert json.loads(chunks(board, shown)[0].rows)["stations"][0]["base"] is None
 
 
 def test_answers_are_told_in_notifications_that_fit() -> None:
@@ -166,10 +204,6 @@ def test_answers_are_told_in_notifications_that_fit() -> None:
     assert all(len(payload) <= 7_900 for payload in payloads)
     assert channels == ["g1", "g1", "g1", "g2"]
     assert "\n".join(payloads[:3]).count("x" * 3_000) == 5
-
-
-def test_places_of_the_log_are_ordered_by_numbers() -> None:
-    assert order(("999", 5)) < order(("1000", 1)) < order(("1000", 2))
 
 
 def test_repeats() -> None:

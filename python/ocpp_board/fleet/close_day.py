@@ -50,10 +50,7 @@ from ocpp_board.words import add_program, parser_of
 log = logging.getLogger(__name__)
 
 NAME = "ocpp-board close-day"
-REMOVE = """
-delete from own_log l using unnest($2::text[], $3::bigint[]) as g (xid, id)
-where l.shard = $1 and l.xid = g.xid::xid8 and l.id = g.id
-"""
+REMOVE = "delete from own_log where shard = $1 and place = any($2::bigint[])"
 # Its worker begins a replay anew from what is left; the plan that lines were replayed under is still that.
 REPLAN = "update own_shard set plan = plan + 1 where shard = $1 and plan = $2 and moving_to is null"
 # The same where lines came to be known: it tells the worker.
@@ -79,8 +76,8 @@ select station, starts, sum(up)::bigint as up, sum(down)::bigint as down, sum(ex
 where shard = $1 and station = any($2) group by station, starts
 """
 CLOSING = """
-insert into own_closing (shard, site, closing, day, period, xid, id, archive, plan)
-values ($1, $2, $3, $4, $5, $6::text::xid8, $7, $8, $9)
+insert into own_closing (shard, site, closing, day, period, place, archive, plan)
+values ($1, $2, $3, $4, $5, $6, $7, $8)
 """
 CLOSED = """
 insert into own_closed_period (shard, site, closing, station, starts, day, up, down, export_up, export_down)
@@ -159,9 +156,9 @@ class Sorted(NamedTuple):
 
     def removed(self) -> list[Any]:
         """The rows that leave the log."""
-        staying = {line.row["id"] for line in self.waiting()}
+        staying = {line.row["place"] for line in self.waiting()}
         lines = [line for line in self.live if line.transaction in self.gone or not line.is_change]
-        return [line.row for line in lines + self.late if line.row["id"] not in staying]
+        return [line.row for line in lines + self.late if line.row["place"] not in staying]
 
 
 class Closing:
@@ -194,16 +191,12 @@ class Closing:
         query = "select * from own_station where shard = $1 and site = $2 order by place"
         self.stations = [dict(row) for row in await self.fetch(query, self.site)]
 
-    async def read(self) -> tuple[Any, list[Any]]:
-        """Up to where answers were told, and the lines of the site's stations up to there."""
-        mark = (await self.fetch("select plan, xid::text, id from own_shard where shard = $1"))[0]
-        names = set(self.names())
-        rows = [
-            row
-            for row in await self.fetch(compact.READ, mark["xid"], mark["id"])
-            if station_of(row["line"]) in names
-        ]
-        return mark, rows
+    async def read(self) -> tuple[int, int, list[Any]]:
+        """The shard's plan, the last place of its log, and the lines of the site's stations."""
+        plan = (await self.fetch("select plan from own_shard where shard = $1"))[0]["plan"]
+        names, rows = set(self.names()), await self.fetch(compact.READ)
+        place = rows[-1]["place"] if rows else 0
+        return plan, place, [row for row in rows if station_of(row["line"]) in names]
 
     def plan(self, lines: list[str]) -> Plan:
         """The plan of the site's stations, with limits that take these lines whatever they were."""
@@ -269,7 +262,7 @@ class Closing:
         station, name = line.transaction or (station_of(line.text), "each transaction")
         log.warning(
             "shard %d: line %d of the log can't be read: %s; %s of %s stays in it",
-            *(self.shard, line.row["id"], fault, name, station),
+            *(self.shard, line.row["place"], fault, name, station),
         )
 
     async def pack(self) -> None:
@@ -350,7 +343,7 @@ class Closing:
         """Closes the day, and says in one line what that was."""
         await self.reserve()
         await self.pack()
-        mark, rows = await self.read()
+        plan, place, rows = await self.read()
         before = await self.fetch(BEFORE, self.site)
         if before and before[-1]["period"] != self.period:
             raise Fault(
@@ -371,7 +364,7 @@ class Closing:
             return (
                 f"{self.site}, shard {self.shard}: {day} is closed already, and nothing came since"
             )
-        values = (day, self.period, mark["xid"], mark["id"], name, mark["plan"] + 1)
+        values = (day, self.period, place, name, plan + 1)
         async with self.session.transaction():
             await self.session.execute(CLOSING, *head, *values)
             await self.session.executemany(CLOSED, [(*head, *row) for row in settled])
@@ -379,7 +372,9 @@ class Closing:
                 ARCHIVED_PERIOD, [(*head, *key, *flow) for key, flow in moved.items()]
             )
             await self.write_transactions(head, in_file, leaving)
-            await self.take_out(mark, removed)
+            await self.take_out(plan, removed)
+        # Behind the commit: to be told, others would wait for it.
+        await self.session.execute("select pg_notify('plan', $1)", str(self.shard))
         self.tell_late(log_lines.late)
         return self.told(day, log_lines, settled, [row["day"] for row in before], name)
 
@@ -406,18 +401,16 @@ class Closing:
             PACKED, [(*head, *one, packed(lines)) for one, lines in leaving.items()]
         )
 
-    async def take_out(self, mark: Any, removed: list[Any]) -> None:
+    async def take_out(self, plan: int, removed: list[Any]) -> None:
         """Takes rows out of the log. Raises Fault where that or the plan was changed meanwhile."""
-        xids, ids = [row["xid"] for row in removed], [row["id"] for row in removed]
         done = [
-            await self.session.execute(REMOVE, self.shard, xids, ids),
-            await self.session.execute(REPLAN, self.shard, mark["plan"]),
+            await self.session.execute(REPLAN, self.shard, plan),
+            await self.session.execute(REMOVE, self.shard, [row["place"] for row in removed]),
         ]
-        if done != [f"DELETE {len(removed)}", "UPDATE 1"]:
+        if done != ["UPDATE 1", f"DELETE {len(removed)}"]:
             raise Fault(
                 f"shard {self.shard}: its plan or its log was changed meanwhile; nothing was taken from it"
             )
-        await self.session.execute("select pg_notify('plan', $1)", str(self.shard))
 
     def told(
         self, day: date, log_lines: Sorted, settled: list[Any], before: list[date], name: str | None

@@ -2,11 +2,11 @@
 
     PGPASSWORD=.. ocpp-board compact --db postgresql://OWNER@HOST:PORT/DATABASE --program ocpp_board --shard 7
 
-The log up to where answers were told is replayed under the plan's limits, and after each message the station's
-total is asked for. A message that was taken and left the total as it was is a repeat, since each accepted change
-counts in it. What was refused stays, since it tells of a conflict; so does what came for archived transactions, which
-the next closing takes. Before anything is removed the lines that are
-left are replayed, and their boards must be the same. A log of more than a replay reads is replayed in parts.
+The log is replayed under the plan's limits, and after each message the station's total is asked for. A message that
+was taken and left the total as it was is a repeat, since each accepted change counts in it. What was refused stays,
+since it tells of a conflict; so does what came for archived transactions, which the next closing takes. Before
+anything is removed the lines that are left are replayed, and their boards must be the same. A log of more than a
+replay reads is replayed in parts.
 """
 
 import argparse
@@ -23,14 +23,10 @@ from ocpp_board.limits import LONGEST_SCRIPT
 from ocpp_board.words import add_program, parser_of
 
 NAME = "ocpp-board compact"
-# Nothing that was told up to a place is changed behind it, so reading needs no transaction, which would stall workers.
-# The order is by l.xid, since a bare xid would be the text that is selected.
-READ = """
-select l.xid::text, l.id, l.at, l.line from own_log l where l.shard = $1 and (l.xid, l.id) <= ($2::text::xid8, $3)
-order by l.xid, l.id
-"""
+# Lines come behind these alone, whatever is open elsewhere.
+READ = "select place, at, line from own_log where shard = $1 order by place"
 # Not under limits other than those that they were found under.
-REMOVE = "select remove_repeats($1, $2, $3, $4)"
+REMOVE = "select remove_repeats($1, $2, $3)"
 # Bytes of a log that are handed to one replay, which reads three times as many with totals and what came before; and
 # those that are handed to it at once.
 PIECE, BLOCK_BYTES = LONGEST_SCRIPT // 3, 1 << 20
@@ -116,25 +112,22 @@ async def compact(words: argparse.Namespace) -> None:
     session = await connect(words.db, application_name=NAME)
     if not await session.fetchval("select reserve_shard($1)", words.shard):
         raise Fault(f"shard {words.shard} is being moved or compacted by another program")
-    mark = await session.fetchrow(
-        "select plan, xid::text, id from own_shard where shard = $1", words.shard
-    )
-    if mark is None:
+    number = await session.fetchval("select plan from own_shard where shard = $1", words.shard)
+    if number is None:
         raise Fault(f"no shard {words.shard} in this cell")
     plan = await Plan.of(session.fetch, words.shard, with_period)
-    rows = await session.fetch(READ, words.shard, mark["xid"], mark["id"])
+    rows = await session.fetch(READ, words.shard)
     late = await Late(words.shard, plan.rows, True).places(
         session.fetch, [row["line"] for row in rows]
     )
     rows = [row for place, row in enumerate(rows) if place not in late]
     whole = await replayed(words.program, plan, [row["line"] for row in rows])
     gone = [row for row, answer in zip(rows, whole.answers) if is_repeat(*answer)]
-    places = {(row["xid"], row["id"]) for row in gone}
-    left = [row["line"] for row in rows if (row["xid"], row["id"]) not in places]
+    places = {row["place"] for row in gone}
+    left = [row["line"] for row in rows if row["place"] not in places]
     if whole.boards != (await replayed(words.program, plan, left)).boards:
         raise Fault(f"shard {words.shard}: the boards would change, so nothing was removed")
-    xids, ids = [row["xid"] for row in gone], [row["id"] for row in gone]
-    await session.execute(REMOVE, words.shard, mark["plan"], xids, ids)
+    await session.execute(REMOVE, words.shard, number, sorted(places))
     await session.close()
     print(f"shard {words.shard}: {len(rows)} lines, {len(gone)} repeats removed, boards as before")
 

@@ -2,14 +2,14 @@
 
 import asyncio
 import os
-from collections.abc import Iterable, Iterator
+from collections.abc import Iterator, Mapping
 from typing import Any
 from urllib.parse import unquote, urlsplit
 
 import asyncpg
 
-# Each session: commits that are on disk, no compiling of small queries, no open transaction that stalls readers, and an
-# end of what is cut off.
+# Each session: commits that are on disk, no compiling of small queries, no transaction that stays open and so keeps
+# what was deleted, and an end of what is cut off.
 SETTINGS = {
     "synchronous_commit": "on",
     "jit": "off",
@@ -19,8 +19,13 @@ SETTINGS = {
     "tcp_keepalives_count": "3",
     "tcp_user_timeout": "10000",
 }
-# Besides, for gateways and workers: a statement that was planned while a table was empty uses its index as that grows.
-BY_INDEX = {"enable_seqscan": "off", "enable_bitmapscan": "off"}
+# Besides, for gateways and workers: a statement is planned once, and one that was planned while a table was empty uses
+# its index as that grows.
+BY_INDEX = {
+    "enable_seqscan": "off",
+    "enable_bitmapscan": "off",
+    "plan_cache_mode": "force_generic_plan",
+}
 LOST = (
     OSError,
     asyncio.TimeoutError,
@@ -32,8 +37,7 @@ LOST = (
 # What a host is, and what it has to be for no answered event to be lost.
 HOST = """
 select pg_is_in_recovery() as is_standby, current_setting('fsync') = 'on' as has_fsync,
-    current_setting('full_page_writes') = 'on' as has_full_pages, getdatabaseencoding() as encoding,
-    to_regprocedure('log_is_ahead()') is not null as has_log
+    current_setting('full_page_writes') = 'on' as has_full_pages, getdatabaseencoding() as encoding
 """
 # Addresses by which a session was had: what a host refuses from then on is no fault of the words.
 LET_IN = set[str]()
@@ -41,8 +45,13 @@ LET_IN = set[str]()
 ADMISSION = 5.0
 # Bytes of a notification, which PostgreSQL ends at 7,999.
 PAYLOAD = 7_900
-# A wake tells nothing that the log does not, so it waits for no disk.
-WAKE = "select set_config('synchronous_commit', 'off', true), pg_notify('wake', $1)"
+# A wake tells nothing that inboxes do not, so it waits for no disk.
+WAKE = "select set_config('synchronous_commit', 'off', true), pg_notify('wake_kept', $1)"
+# Ends the sessions that a program of this name left behind: they may hold locks still, and wait for a standby.
+FORMER = """
+select pg_terminate_backend(pid) from pg_stat_activity
+where application_name = $1 and datname = current_database() and usename = current_user and pid <> pg_backend_pid()
+"""
 
 
 class Fault(Exception):
@@ -129,11 +138,6 @@ async def seen_at(session: Any) -> tuple[bool, str]:
         why = "full_page_writes is off, so what is answered may be lost"
     elif row["encoding"] != "UTF8":
         why = f"the encoding of the database is {row['encoding']}, and has to be UTF8"
-    elif row["has_log"] and await session.fetchval("select log_is_ahead()", timeout=ADMISSION):
-        why = (
-            "the log has transactions that this server has still to come to, as after a dump that was restored: "
-            "raise its epoch by pg_resetwal -e, or take a physical copy"
-        )
     return False, why
 
 
@@ -197,13 +201,32 @@ async def within(seconds: float, session: Any, call: str, *values: Any) -> Any:
     return job.result()
 
 
-def wakes(shards: Iterable[int]) -> Iterator[str]:
-    """The payloads of notifications that wake these shards."""
-    text = " ".join(map(str, sorted(shards)))
+class Asked:
+    """A session that is asked one thing at a time, each with an end to waiting."""
+
+    def __init__(self, database: Any, seconds: float) -> None:
+        self.database, self.seconds = database, seconds
+        self.using = asyncio.Lock()
+
+    async def ask(self, query: str, *values: Any) -> Any:
+        """The rows of a statement; a database that does not answer is a lost one."""
+        async with self.using:
+            return await within(self.seconds, self.database, "fetch", query, *values)
+
+
+def wakes(firsts: Mapping[int, int]) -> Iterator[str]:
+    """The payloads of notifications that wake these shards, each with the number of its first line."""
+    text = " ".join(f"{shard}:{first}" for shard, first in sorted(firsts.items()))
     while text:
         end = len(text) if len(text) < PAYLOAD else text.rindex(" ", 0, PAYLOAD)
         yield text[:end]
         text = text[end + 1 :]
+
+
+def woken_by(payload: str) -> dict[int, int]:
+    """The shards that such a payload wakes, each with the number of its first line."""
+    pairs = (word.split(":") for word in payload.split())
+    return {int(shard): int(first) for shard, first in pairs}
 
 
 def password_or_fault() -> None:

@@ -20,16 +20,16 @@ APPEND = """
 with w as materialized (
     select w.shard, w.line, w.place from unnest($1::int[], $2::text[]) with ordinality as w (shard, line, place)
     join own_shard s on s.shard = w.shard where s.moving_to is null),
-events as (insert into own_log (shard, line) select shard, line from w order by place),
+events as (insert into inbox_kept (shard, line) select shard, line from w order by place returning shard, id),
 strays as (
     insert into stray (source, station, line)
     select $3, t.station, t.line from unnest($4::text[], $5::text[]) with ordinality as t (station, line, place)
     order by t.place),
 fed as (
     insert into fed (source, place, front)
-    select $3, $6, $7 where $6::bigint is not null and (select count(*) from w) = cardinality($1::int[])
+    select $3, $6, $7 where $6::bigint is not null and (select count(*) from events) = cardinality($1::int[])
     on conflict (source) do update set place = excluded.place, front = excluded.front, at = now())
-select count(*) as count from w
+select shard, min(id) as first, count(*) as rows from events group by shard
 """
 STRAYS = "select id, station, line from stray where station = any($1) order by id limit 500"
 STATIONS_OF_STRAYS = "select distinct station from stray"
@@ -145,9 +145,10 @@ class Cell:
             batch.place,
             batch.front,
         )
-        is_whole = bool(await self.within("fetchval", APPEND, *values) == len(events))
+        rows = await self.within("fetch", APPEND, *values)
+        is_whole = bool(sum(row["rows"] for row in rows) == len(events))
         self.is_stale |= not is_whole
-        for payload in wakes(set(numbers)):
+        for payload in wakes({row["shard"]: row["first"] for row in rows}):
             await self.within("execute", WAKE, payload)
         return is_whole
 

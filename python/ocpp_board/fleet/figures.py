@@ -1,6 +1,5 @@
 """The texts of boards as numbers: each line of a station by what it is of."""
 
-import json
 from collections.abc import Iterable, Mapping
 from datetime import datetime
 from typing import Any
@@ -11,6 +10,8 @@ from ocpp_board.energies import FLOW, Flow, flow_of
 # A station's line: its station, its kind (total, evse, period, tx or gap), and which one of that kind.
 Key = tuple[str, str, str]
 Figures = dict[Key, Numbers]
+# Rows of boards' tables, by what they are.
+Parts = dict[str, list[dict[str, Any]]]
 # What rose and fell in the periods of stations.
 Flows = dict[tuple[str, datetime], Flow]
 
@@ -66,9 +67,10 @@ def blocks(text: str) -> dict[str, str]:
     return dict(part.rstrip("\n").split("\n", 1) for part in parts)
 
 
-def new_rows(text: str, base: str) -> str:
-    """The rows by which a board differs from an earlier one of the same stations, for show_board."""
-    parts: dict[str, list[dict[str, Any]]] = {
+def new_rows(station: str, block: str, base: str) -> Parts:
+    """The rows by which a station's lines of a board differ from those of an earlier one, for show_stations; all of its
+    rows where there is none. Its total is among them in any case."""
+    parts: Parts = {
         name: []
         for name in (
             "stations",
@@ -79,37 +81,33 @@ def new_rows(text: str, base: str) -> str:
             "gone_transactions",
         )
     }
-    old = blocks(base)
-    for station, block in blocks(text).items():
-        if old.get(station) == block:
-            continue
-        before, after = set(old.get(station, "").split("\n")), set(block.split("\n"))
-        fresh = set[tuple[str, str]]()
-        for line in after - before:
-            front, *gaps = line.split(" gap ")
-            kind, name, *words = front.split(" ")
-            if kind == "total":
-                parts["stations"].append({"station": station} | numbers_of([name, *words]))
-            elif kind in ("quarter", "period"):
-                parts["periods"].append({"station": station, "starts": name} | numbers_of(words))
-                fresh.add(("periods", name))
-            elif kind == "tx":
-                parts["transactions"].append(
-                    {"station": station, "transaction": name} | numbers_of(words)
+    total = block.split("\n", 1)[0]
+    parts["stations"].append({"station": station} | numbers_of(total.split(" ")[1:]))
+    before, after = set(base.split("\n")), set(block.split("\n"))
+    fresh = set[tuple[str, str]]()
+    for line in after - before:
+        front, *gaps = line.split(" gap ")
+        kind, name, *words = front.split(" ")
+        if kind in ("quarter", "period"):
+            parts["periods"].append({"station": station, "starts": name} | numbers_of(words))
+            fresh.add(("periods", name))
+        elif kind == "tx":
+            parts["transactions"].append(
+                {"station": station, "transaction": name} | numbers_of(words)
+            )
+            fresh.add(("transactions", name))
+            for gap in gaps:
+                first, last = map(int, gap.split(".."))
+                parts["gaps"].append(
+                    {"station": station, "transaction": name, "first": first, "last": last}
                 )
-                fresh.add(("transactions", name))
-                for gap in gaps:
-                    first, last = map(int, gap.split(".."))
-                    parts["gaps"].append(
-                        {"station": station, "transaction": name, "first": first, "last": last}
-                    )
-        for line in before - after:
-            kind, name = (line.split(" ") + [""])[:2]
-            if kind in ("quarter", "period") and ("periods", name) not in fresh:
-                parts["gone_periods"].append({"station": station, "starts": name})
-            elif kind == "tx" and ("transactions", name) not in fresh:
-                parts["gone_transactions"].append({"station": station, "transaction": name})
-    return json.dumps({name: part for name, part in parts.items() if part})
+    for line in before - after:
+        kind, name = (line.split(" ") + [""])[:2]
+        if kind in ("quarter", "period") and ("periods", name) not in fresh:
+            parts["gone_periods"].append({"station": station, "starts": name})
+        elif kind == "tx" and ("transactions", name) not in fresh:
+            parts["gone_transactions"].append({"station": station, "transaction": name})
+    return parts
 
 
 def words_of(names: Iterable[str], numbers: Mapping[str, int]) -> str:

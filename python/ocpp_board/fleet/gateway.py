@@ -2,10 +2,10 @@
 
     PGPASSWORD=.. ocpp-board gateway --db postgresql://ledger_gateway@a:5432,b:5432/ledger --port 9100
 
-`--db` is given once for each cell. What came while the last batch went to disk is the next batch: one insert, one
-commit. An event's answer is the worker's, who sees committed rows alone, so an answer implies that the row is on
-disk. What surely is no event is answered by a `replay` of the gateway's own and not kept. It keeps nothing:
-stations send again what has no answer.
+`--db` is given once for each cell. What came while the last batch was appended is the next batch: one insert, which
+waits for no disk. An event's answer is the worker's, who tells it once the event's line is in the log on disk; what has
+no answer the gateway appends again where its session with the database ends. What surely is no event is answered by
+a `replay` of the gateway's own and not kept. It keeps nothing: stations send again what has no answer.
 """
 
 import argparse
@@ -28,13 +28,11 @@ from websockets.server import ServerConnection
 from ocpp_board.fleet import parts
 from ocpp_board.fleet.database import (
     BY_INDEX,
+    FORMER,
     LOST,
-    WAKE,
     Unreachable,
     connect,
     said,
-    seen,
-    wakes,
     within,
 )
 from ocpp_board.fleet.plans import knows_period
@@ -69,8 +67,9 @@ NOTIFICATIONS = {
 UNANSWERED = 16
 # Characters of the id of a message.
 LONGEST_ID = 36
-# A batch has so many lines and bytes at most.
-BATCH, BATCH_BYTES = 1000, 4_000_000
+# A batch has so many lines and bytes at most, and begins so many seconds behind the last one at least: to append what
+# comes one after the other costs more than to append it together.
+BATCH, BATCH_BYTES, GATHERED = 1000, 4_000_000, 0.005
 # Seconds: for the database or a replay to answer, for a handshake from its connection on, and without a byte from a
 # station, twice its heartbeat interval; between looks for stations that the plan did not have.
 ANSWER, HANDSHAKE, SILENCE, LOOKS = 10, 10, 600, 0.05
@@ -81,11 +80,21 @@ EVENTS, BYTES, BURST = 20, 65_536, 60
 REPEATED = 60
 # Moments that the ledger knows, in seconds since 1970.
 MOMENTS = (FIRST_MOMENT.timestamp(), PAST_MOMENTS.timestamp())
+# Each shard is woken by the number of its first line; 250 of these fit into a notification.
 APPEND = """
-insert into own_log (shard, gateway, token, line)
-select w.shard, $1, w.token, w.line
-from unnest($2::int[], $3::bigint[], $4::text[]) with ordinality as w (shard, token, line, place)
-join own_shard s on s.shard = w.shard where s.moving_to is null order by w.place
+with added as (
+    insert into inbox (shard, gateway, token, line)
+    select w.shard, $1, w.token, w.line
+    from unnest($2::int[], $3::bigint[], $4::text[]) with ordinality as w (shard, token, line, place)
+    join own_shard s on s.shard = w.shard where s.moving_to is null order by w.place
+    returning shard, id),
+firsts as (
+    select shard, min(id) as first, count(*) as rows, row_number() over () / 250 as part
+    from added group by shard),
+woken as (
+    select pg_notify('wake', string_agg(shard || ':' || first, ' ')) as told, sum(rows) as rows
+    from firsts group by part)
+select coalesce(sum(rows), 0)::int as rows, count(told) from woken
 """
 STATIONS = """
 select t.shard, t.station from own_station t join own_shard s using (shard)
@@ -95,8 +104,6 @@ NAMED = """
 select t.shard, t.station from own_station t join own_shard s using (shard)
 where t.station = any($1) and s.moving_to is null and t.retired is null
 """
-# Whether a session's commit waits for a synchronous standby.
-WAITS = "select wait_event = 'SyncRep' from pg_stat_activity where pid = $1"
 
 
 def empty_answer(text: str) -> str | None:
@@ -159,28 +166,29 @@ class Cell:
     def __init__(self, gateway: "Gateway", dsn: str) -> None:
         self.gateway, self.dsn = gateway, dsn
         self.queue: deque[int] = deque()
-        self.filled, self.woken, self.asked = asyncio.Event(), asyncio.Event(), asyncio.Event()
+        self.filled, self.asked = asyncio.Event(), asyncio.Event()
         # Stations that came and were not in the plan when it was read.
         self.sought: dict[str, asyncio.Future[None]] = {}
-        self.shards: set[int] = set()
         self.second: Any = None
         self.is_up = False
         self.asking = asyncio.Lock()
         self.last_told = ""
 
     async def run(self) -> None:
-        """Keeps sessions with the database: one appends, one wakes and reads the plan, one looks for strangers."""
+        """Keeps sessions with the database: one appends, one reads the plan, one looks for strangers."""
         while True:
             sessions: list[Any] = []
             try:
                 # One after the other: of several at once, one that fails would leave the others behind.
                 for _ in range(3):
-                    name = self.gateway.name
-                    sessions.append(await connect(self.dsn, application_name=name, **BY_INDEX))
+                    name, more = self.gateway.name, {"synchronous_commit": "off", **BY_INDEX}
+                    sessions.append(await connect(self.dsn, application_name=name, **more))
+                    if len(sessions) == 1:
+                        await within(ANSWER, sessions[0], "fetch", FORMER, name)
                 await self.open(sessions[1])
                 jobs = [
                     asyncio.create_task(job)
-                    for job in (self.append(sessions[0]), self.wake(), self.look(sessions[2]))
+                    for job in (self.append(sessions[0]), self.look(sessions[2]))
                 ]
                 try:
                     done, _ = await asyncio.wait(jobs, return_when=asyncio.FIRST_EXCEPTION)
@@ -282,8 +290,11 @@ class Cell:
                 )
                 continue
             self.filled.clear()
+            clock = asyncio.get_running_loop().time
             while self.queue:
+                began = clock()
                 await self.append_batch(session)
+                await asyncio.sleep(began + GATHERED - clock())
 
     async def append_batch(self, session: Any) -> None:
         """One insert of what waits, up to the limits of a batch."""
@@ -298,43 +309,11 @@ class Cell:
                 size += len(wait.text)
         if not tokens:
             return
-        done = await self.committed(session, shards, tokens, lines)
-        self.shards.update(shards)
-        self.woken.set()
-        if done != f"INSERT 0 {len(tokens)}":
+        values = (self.gateway.name, shards, tokens, lines)
+        if await within(ANSWER, session, "fetchval", APPEND, *values) != len(tokens):
             # A shard is moving. What was appended may be so again.
             await self.load(sorted(set(shards)))
             self.gateway.queue_again(tokens)
-
-    async def committed(
-        self, session: Any, shards: list[int], tokens: list[int], lines: list[str]
-    ) -> str:
-        """Appends lines, and says what was done. Raises what `within` does.
-
-        A commit that waits for a standby is waited for: another session would wait behind it, and one more each time.
-        """
-        job = asyncio.ensure_future(
-            session.execute(APPEND, self.gateway.name, shards, tokens, lines)
-        )
-        job.add_done_callback(seen)
-        while not (await asyncio.wait([job], timeout=ANSWER))[0]:
-            if not await self.ask("fetchval", WAITS, session.get_server_pid()):
-                session.terminate()
-                raise asyncio.TimeoutError(f"no answer in {ANSWER} seconds")
-            self.tell_once(f"{self.dsn}: commits wait for the synchronous standby")
-        if self.last_told:
-            self.tell_once(f"{self.dsn}: it commits")
-            self.last_told = ""
-        return str(job.result())
-
-    async def wake(self) -> None:
-        """Wakes the shards that were appended to; while it does, the next batch is under way."""
-        while True:
-            await self.woken.wait()
-            self.woken.clear()
-            shards, self.shards = self.shards, set()
-            for text in wakes(shards):
-                await self.ask("execute", WAKE, text)
 
 
 class StationLink(Link):

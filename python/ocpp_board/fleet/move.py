@@ -2,10 +2,10 @@
 
     PGPASSWORD=.. ocpp-board move --from postgresql://OWNER@a/ledger --to postgresql://OWNER@b/ledger --shard 7
 
-Most of its log is copied while it grows. Then the shard takes no lines: what its stations send waits in the
-gateways; its worker gives it back; the rest of the log and the plan are copied, and the shard is there. Gateways,
-which hear of it from both cells, append what waited, and a worker of the other cell answers, too, what was not
-answered yet.
+Most of its log is copied while it grows, each line with its place. Then the shard takes no lines: what its stations
+send waits in the gateways; its worker gives it back; the rest of the log, lines of operators and feeds that have no
+place yet, and the plan are copied, and the shard is there. Gateways, which hear of it from both cells, append what
+waited, and a worker of the other cell answers, too, what was not answered yet.
 
 It may end at any time: call it again, and it goes on.
 """
@@ -24,42 +24,43 @@ from ocpp_board.words import parser_of
 NAME = "ocpp-board move"
 # Lines that are copied at once.
 COPIED = 2_000
-# Rows are copied in their order; behind the oldest open transaction there may be more to come in between. The order is
-# by l.xid, since a bare xid would be the text that is selected.
 READ = """
-select l.xid::text, l.id, l.at, l.gateway, l.token, l.line from own_log l
-where l.shard = $1 and (l.xid, l.id) > ($2::text::xid8, $3) and ($4 or l.xid < pg_snapshot_xmin(pg_current_snapshot()))
-order by l.xid, l.id limit $5
+select place, at, gateway, token, line from own_log where shard = $1 and place > $2 order by place limit $3
 """
 WRITE = """
-insert into own_log (shard, at, gateway, token, line)
-select $1, w.at, w.gateway, w.token, w.line
-from unnest($2::timestamptz[], $3::text[], $4::bigint[], $5::text[]) with ordinality
-as w (at, gateway, token, line, place) order by w.place
+insert into own_log (shard, place, at, gateway, token, line)
+select $1, w.* from unnest($2::bigint[], $3::timestamptz[], $4::text[], $5::bigint[], $6::text[]) as w
 """
-# Up to which line answers were told: as many lines in the one log as in the other.
-TOLD = """
-select count(*) from own_log l join own_shard s using (shard)
-where shard = $1 and (l.xid, l.id) <= (s.xid, s.id)
+# It waits for lines of operators and feeds that are under way; all others see from then on that the shard moves.
+CUT = "select from own_shard where shard = $1 for update"
+# From here on nobody who held the shard gives a line its place.
+FENCE = "update numbering set taken = taken + 1 where shard = $1"
+# Its plan goes on: boards and closings of earlier ones are told by it.
+BEGIN = "insert into own_shard (shard, plan) values ($1, $2)"
+STATE = """
+select plan + 1 as plan, taken, freed, told, bytes from own_shard join numbering using (shard) where shard = $1
 """
+NUMBERING = "update numbering set taken = $2, freed = $3, told = $4, bytes = $5 where shard = $1"
+KEPT = "select at, gateway, token, line from inbox_kept where shard = $1 order by id"
+KEEP = "insert into inbox_kept (shard, at, gateway, token, line) values ($1, $2, $3, $4, $5)"
 # What goes with a shard, in an order in which it can be written.
 PARTS = (
     ("own_site", "site, period, zone", "site"),
     ("own_station", "site, station, transactions, events, readings, changes, retired", "place"),
-    ("own_board", "site, text, at, plan", "site"),
+    ("own_board", "site, text, at, plan, place", "site"),
     *(
-        (f"own_board_{part}", f"site, station, {columns}", "station")
+        (f"own_board_{part}", f"site, station, at, place, {columns}", "station")
         for part, columns in (
-            ("station", f"at, {', '.join(TOTAL)}"),
-            ("period", f"starts, at, {', '.join(FLOW)}"),
+            ("station", f"written, plan, {', '.join(TOTAL)}"),
+            ("period", f"starts, {', '.join(FLOW)}"),
             (
                 "transaction",
-                f"transaction, at, evse, events, first, last, complete, missing, {', '.join(FLOW)}",
+                f"transaction, evse, events, first, last, complete, missing, {', '.join(FLOW)}",
             ),
-            ("gap", "transaction, first, last, at"),
+            ("gap", "transaction, first, last"),
         )
     ),
-    ("own_closing", "site, closing, day, period, at, archive, plan", "closing"),
+    ("own_closing", "site, closing, day, period, at, archive, plan, place", "closing"),
     (
         "own_closed_period",
         "site, closing, station, starts, day, up, down, export_up, export_down",
@@ -77,7 +78,6 @@ PARTS = (
     ),
     ("own_archived_lines", "site, closing, station, transaction, lines", "transaction"),
 )
-PLACE = "select l.xid::text, l.id from own_log l where l.shard = $1 order by l.xid, l.id offset $2 limit 1"
 
 
 class Move:
@@ -85,73 +85,57 @@ class Move:
 
     def __init__(self, source: Any, target: Any, shard: int) -> None:
         self.source, self.target, self.shard = source, target, shard
-        self.place = ("0", 0)
-        self.lines = 0
+        self.place = self.lines = 0
 
-    async def copy(self, is_last: bool) -> int:
+    async def copy(self) -> int:
         """Copies up to 2,000 lines, and gives their number."""
-        rows = await self.source.fetch(READ, self.shard, *self.place, is_last, COPIED)
+        rows = await self.source.fetch(READ, self.shard, self.place, COPIED)
         if rows:
-            columns = [[row[name] for row in rows] for name in ("at", "gateway", "token", "line")]
-            await self.target.execute(WRITE, self.shard, *columns)
-            self.place = (rows[-1]["xid"], rows[-1]["id"])
+            await self.target.execute(WRITE, self.shard, *map(list, zip(*rows)))
+            self.place = rows[-1]["place"]
             self.lines += len(rows)
         return len(rows)
 
     async def cut(self, cell: int) -> None:
-        """From here on the shard takes no lines: each gateway's insert is either done or sees it."""
+        """From here on the shard takes no lines, and none gets a place. What gateways append meanwhile they append
+        again where it arrives."""
         async with self.source.transaction():
-            await self.source.execute(
-                "set local lock_timeout = '5s'; lock table own_log in share mode"
-            )
+            await self.source.execute("set local lock_timeout = '5s'")
+            await self.source.execute(CUT, self.shard)
             await self.source.execute(
                 "update own_shard set moving_to = $2 where shard = $1", self.shard, cell
             )
             await self.source.execute("select pg_notify('plan', $1)", str(self.shard))
         await self.source.execute("select pg_advisory_lock(1, $1)", self.shard, timeout=60)
+        await self.source.execute(FENCE, self.shard)
 
     async def land(self) -> None:
-        """The rest of the log, the plan and the boards, at once."""
+        """The rest of the log, what has no place yet, the plan and the boards, at once."""
         async with self.target.transaction():
-            while await self.copy(True):
+            while await self.copy():
                 pass
-            told_lines = await self.source.fetchval(TOLD, self.shard)
-            place = (
-                await self.target.fetchrow(PLACE, self.shard, told_lines - 1)
-                if told_lines
-                else None
-            )
-            # Its plan goes on: boards and closings of earlier ones are told by it.
-            plan = await self.source.fetchval(
-                "select plan + 1 from own_shard where shard = $1", self.shard
-            )
-            await self.target.execute(
-                "insert into own_shard (shard, plan, xid, id) values ($1, $2, $3::text::xid8, $4)",
-                self.shard,
-                plan,
-                place["xid"] if place else "0",
-                place["id"] if place else 0,
-            )
+            plan, *numbering = await self.source.fetchrow(STATE, self.shard)
+            await self.target.execute(BEGIN, self.shard, plan)
+            await self.target.execute(NUMBERING, self.shard, *numbering)
             for table, columns, order in PARTS:
                 names = columns.split(", ")
                 rows = await self.source.fetch(
                     f"select {columns} from {table} where shard = $1 order by {order}", self.shard
                 )
-                # Places of the log are others here: those of boards and closings begin with the first one.
-                has_place = table.startswith("own_board") or table == "own_closing"
-                more, zeros = (", xid, id", ", '0', 0") if has_place else ("", "")
                 marks = ", ".join(f"${place}" for place in range(2, len(names) + 2))
                 await self.target.executemany(
-                    f"insert into {table} (shard, {columns}{more}) values ($1, {marks}{zeros})",
+                    f"insert into {table} (shard, {columns}) values ($1, {marks})",
                     [(self.shard, *row.values()) for row in rows],
                 )
+            kept = await self.source.fetch(KEPT, self.shard)
+            await self.target.executemany(KEEP, [(self.shard, *row) for row in kept])
 
     async def leave(self) -> None:
         """Removes the shard from the cell where it was."""
         async with self.source.transaction():
             await self.source.execute("delete from own_shard where shard = $1", self.shard)
-            await self.source.execute("delete from own_log where shard = $1", self.shard)
-            await self.source.execute("delete from own_closing where shard = $1", self.shard)
+            for table in ("own_log", "own_closing", "inbox", "inbox_kept"):
+                await self.source.execute(f"delete from {table} where shard = $1", self.shard)
             await self.source.execute("select pg_notify('plan', $1)", str(self.shard))
 
 
@@ -184,7 +168,7 @@ async def run(words: argparse.Namespace) -> None:
         await target.execute(
             "delete from own_log where shard = $1", words.shard
         )  # What an earlier try left.
-        while await move.copy(False) == COPIED:
+        while await move.copy() == COPIED:
             pass
         stopped = time.monotonic()
         await move.cut(there)

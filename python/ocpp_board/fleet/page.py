@@ -79,19 +79,19 @@ cross join lateral (
            coalesce(sum(export_down), 0)::bigint as export_down, max(at) as at
     from own_board_station b where b.shard = p.shard and b.site = p.site) b
 cross join lateral (
-    select count(*) as archived, count(*) filter (where complete) as archived_complete,
-           coalesce(sum(missing), 0)::bigint as archived_missing, coalesce(sum(up), 0)::bigint as archived_up,
-           coalesce(sum(down), 0)::bigint as archived_down,
-           coalesce(sum(export_up), 0)::bigint as archived_export_up,
-           coalesce(sum(export_down), 0)::bigint as archived_export_down
+    select count(*) as archived, count(*) filter (where a.complete) as archived_complete,
+           coalesce(sum(a.missing), 0)::bigint as archived_missing, coalesce(sum(a.up), 0)::bigint as archived_up,
+           coalesce(sum(a.down), 0)::bigint as archived_down,
+           coalesce(sum(a.export_up), 0)::bigint as archived_export_up,
+           coalesce(sum(a.export_down), 0)::bigint as archived_export_down
     from own_archived_transaction a join own_closing c using (shard, site, closing)
-    left join own_board o using (shard, site)
+    left join own_board_station o using (shard, site, station)
     where a.shard = p.shard and a.site = p.site and (o.plan is null or c.plan <= o.plan)) a
 order by p.site, p.shard
 """
 # Up to which closing the board knows what archives have: it is written anew some seconds after one.
 BOARD = """
-select p.shard, p.period, p.zone, b.text, b.xid::text as xid, b.id, b.at,
+select p.shard, p.period, p.zone, b.text, b.place, b.at,
        (select max(closing) from own_closing c
         where c.shard = p.shard and c.site = p.site and c.plan <= b.plan) as closing
 from own_site p left join own_board b using (shard, site) where p.site = $1 order by p.shard
@@ -214,7 +214,7 @@ class Cell:
                 token,
             )
             try:
-                place = (await self.fetch(OPERATE, *values))[0]["operate"]
+                number = (await self.fetch(OPERATE, *values))[0]["operate"]
             except LOST as fault:
                 self.drop()
                 return (
@@ -224,7 +224,7 @@ class Cell:
         try:
             return await asyncio.wait_for(wait, ANSWERED)
         except asyncio.TimeoutError:
-            return f"none yet: the line is in the log as {place}, and no worker answered in {ANSWERED} seconds"
+            return f"none yet: the line came as number {number}, and no worker answered in {ANSWERED} seconds"
 
 
 class Ledger:
@@ -540,7 +540,7 @@ class Handler(BaseHTTPRequestHandler):
         if not FILE.fullmatch(file):
             raise Wrong(HTTPStatus.NOT_FOUND, f"a site has no page {file!r}")
         rows, faults = self.server.wait(self.server.ledger.site(name))
-        keys = ("shard", "period", "zone", "xid", "id", "at", "closing")
+        keys = ("shard", "period", "zone", "place", "at", "closing")
         mark = [(cell.dsn, *(row[key] for key in keys)) for cell, row in rows]
         pages = self.server.pages.get(name, mark)
         if pages is None:

@@ -3,7 +3,7 @@
 --     psql -v cell=1 -f schema.sql
 --
 -- Needs PostgreSQL 15, a superuser, and a database that is empty or has the schema of an earlier version, which it
--- brings to this one in one transaction: workers are stopped before it, and those of this version started behind it.
+-- brings to this one in one transaction: all tools are stopped before it, and those of this version started behind it.
 -- The passwords of the roles come from the environment:
 -- GATEWAY_PASSWORD, FEED_PASSWORD, WORKER_PASSWORD, READER_PASSWORD and OPERATOR_PASSWORD; a role whose variable is not
 -- set gets none.
@@ -76,22 +76,35 @@ begin
     end if;
 end $$;
 
--- A shard: up to 64 stations with one log and one `replay`. It says up to which place of the log replies were given.
+-- A shard: up to 64 stations with one log and one `replay`.
 create table if not exists shard (
     cell smallint not null default :cell,
     shard integer not null,
     moving_to smallint,                    -- the cell that it moves to (move.py); it takes no lines then
-    plan bigint not null default 0,        -- rises with each change of its sites and stations
-    taken bigint not null default 0,       -- how often a worker took it
-    xid xid8 not null default '0',
-    id bigint not null default 0
+    plan bigint not null default 0         -- rises with each change of its sites and stations
 ) partition by list (cell);
 create table if not exists own_shard partition of shard (
     primary key (shard),
     check (shard >= 0)
 ) for values in (:cell) with (fillfactor = 50);
 
-alter table shard add column if not exists bytes bigint not null default 0;     -- of its log; a script has 1 GiB at most
+-- How a shard's lines get their places in its log: by the worker that took it last. What is written here is written by
+-- nobody who changes a plan, so that an open change of a plan stops no answer.
+create table if not exists numbering (
+    shard integer primary key references own_shard on delete cascade,
+    taken bigint not null default 0,       -- how often a worker took it
+    freed bigint not null default 0,       -- the last place that a line left, which no other line gets
+    told bigint not null default 0,        -- up to which place answers were told
+    bytes bigint not null default 0        -- of its log; a script has 1 GiB at most
+) with (fillfactor = 50);
+
+create or replace function begin_numbering() returns trigger language plpgsql as $$
+begin
+    insert into numbering (shard) values (new.shard);
+    return null;
+end $$;
+create or replace trigger begin_numbering after insert on own_shard
+    for each row execute function begin_numbering();
 
 create table if not exists site (
     cell smallint not null default :cell,
@@ -183,6 +196,8 @@ begin
             or not exists (select from own_shard where shard = old.shard) then
         return coalesce(new, old);
     elsif exists (select from own_log where shard = old.shard and split_part(line, ' ', 2) = old.station)
+            or exists (select from inbox where shard = old.shard and split_part(line, ' ', 2) = old.station)
+            or exists (select from inbox_kept where shard = old.shard and split_part(line, ' ', 2) = old.station)
             or exists (select from own_closed_period where shard = old.shard and station = old.station)
             or exists (select from own_archived_transaction where shard = old.shard and station = old.station) then
         raise 'station % has lines in the log or in archives, so it stays as it is; select retire_station(''%'') lets '
@@ -243,51 +258,109 @@ create or replace view station_twice as
 
 -- The log ------------------------------------------------------------------------------------------------------------
 
--- Lines of a shard's script, in the order of (xid, id). Numbers alone are not in the order of commits; below the oldest
--- transaction that is still open, (xid, id) is: no row ever commits in front of one that was read there.
-create sequence if not exists place_in_log;
-create table if not exists log (
-    cell smallint not null default :cell,
+-- What came and has no place yet. The worker that holds a shard moves its lines from here into the log, and answers them
+-- once they are on disk there. So what is lost here was never answered: a gateway appends it again. Lines that nobody
+-- appends again, those of operators and feeds, are in inbox_kept, which is on disk. The first line of each batch is told
+-- on the channel `wake` or `wake_kept`.
+do $$
+begin
+    if to_regclass('place_in_log') is not null then
+        alter sequence place_in_log rename to place_in_inbox;
+    end if;
+end $$;
+create sequence if not exists place_in_inbox;
+create unlogged table if not exists inbox (
     shard integer not null,
-    xid xid8 not null default pg_current_xact_id(),
-    id bigint not null default nextval('place_in_log'),
+    id bigint not null default nextval('place_in_inbox'),
     at timestamptz not null default now(),
     gateway text,                          -- the channel on which the line's answer is told, with the token
     token bigint,
-    line text not null
-) partition by list (cell);
-create table if not exists own_log partition of log (
-    primary key (shard, xid, id),
+    line text not null,
+    primary key (shard, id),
     -- Each line has exactly one line of answer, or all answers behind it would be those of others.
     constraint "a line is msg, void, restore or erase without a line feed, of at most 262,400 bytes" check (
-        line ~ '^(msg|void|restore|erase) ' and strpos(line, E'\n') = 0 and octet_length(line) <= 262400)
+        line ~ '^(msg|void|restore|erase) ' and strpos(line, E'\n') = 0 and octet_length(line) <= 262400),
+    constraint "a channel has 1 to 63 bytes" check (octet_length(gateway) between 1 and 63)
+) with (autovacuum_vacuum_scale_factor = 0, autovacuum_vacuum_threshold = 2000, autovacuum_vacuum_cost_delay = 0);
+create table if not exists inbox_kept (like inbox including all);
+
+-- A shard that moves takes no line that is kept; whoever moves it waits for those that are under way, and carries them.
+create or replace function keep_line() returns trigger language plpgsql security definer
+    set search_path = public, pg_temp as $$
+begin
+    perform from own_shard where shard = new.shard and moving_to is null for key share;
+    return case when found then new end;
+end $$;
+create or replace trigger keep_line before insert on inbox_kept for each row execute function keep_line();
+
+-- The lines of a shard's script, in the order of their places.
+create table if not exists log (
+    cell smallint not null default :cell,
+    shard integer not null,
+    at timestamptz not null default now(), -- when it came
+    gateway text,
+    token bigint,
+    line text not null,
+    place bigint not null
+) partition by list (cell);
+create table if not exists own_log partition of log (
+    primary key (shard, place)
 ) for values in (:cell);
 
+-- A log whose order was that of (xid, id): its lines get their places by that order, once.
 do $$
+declare
+    name text;
 begin
-    if not exists (select from pg_constraint where conname = 'a channel has 1 to 63 bytes') then
-        update own_log set gateway = null where octet_length(gateway) not between 1 and 63;
-        alter table own_log add constraint "a channel has 1 to 63 bytes" check (octet_length(gateway) between 1 and 63);
+    if exists (select from pg_attribute where attrelid = 'own_log'::regclass and attname = 'xid' and not attisdropped) then
+        insert into numbering (shard, told)
+            select shard, (select count(*) from own_log l where l.shard = s.shard and (l.xid, l.id) <= (s.xid, s.id))
+            from own_shard s;
+        create temporary table former on commit drop as
+            select shard, row_number() over (partition by shard order by xid, id) as place, at, token, line,
+                case when octet_length(gateway) between 1 and 63 then gateway end as gateway
+            from own_log;
+        truncate own_log;
+        alter table own_log
+            drop constraint "a line is msg, void, restore or erase without a line feed, of at most 262,400 bytes",
+            drop constraint if exists "a channel has 1 to 63 bytes";
+        drop policy messages on own_log;
+        drop policy commands on own_log;
+        revoke insert (shard, gateway, token, line) on own_log from ledger_gateway, ledger_operator;
+        alter table log drop column xid, drop column id, add column place bigint;
+        alter table log alter column place set not null;
+        alter table own_log add primary key (shard, place);
+        insert into own_log (shard, place, at, gateway, token, line)
+            select shard, place, at, gateway, token, line from former order by shard, place;
+        alter table shard drop column xid, drop column id, drop column taken, drop column if exists bytes;
+        foreach name in array array['board', 'board_station', 'board_period', 'board_transaction', 'board_gap', 'closing'] loop
+            execute format('alter table %I drop column xid, drop column id', name);
+        end loop;
+        drop function if exists log_is_ahead();
+        drop function if exists show_board(integer, text, xid8, bigint, xid8, bigint, text, jsonb);
+        drop function if exists show_board(integer, text, xid8, bigint, xid8, bigint, text, jsonb, bigint);
+        drop function if exists remove_repeats(integer, bigint, text[], bigint[]);
     end if;
 end $$;
 
--- Whether lines are of transactions that this server has still to come to, as after a dump that was restored: what is
--- appended would come in front of them.
-create or replace function log_is_ahead() returns boolean language sql security definer
-    set search_path = public, pg_temp as $$
-    select exists (
-        select from own_shard s
-        left join lateral (select xid from own_log where shard = s.shard order by xid desc, id desc limit 1) l on true
-        where greatest(s.xid, l.xid) >= pg_snapshot_xmax(pg_current_snapshot()));
-$$;
+-- A place is given once, also where its line leaves the log.
+create or replace function free_places() returns trigger language plpgsql as $$
+begin
+    update numbering n set freed = g.place
+        from (select shard, max(place) as place from gone group by shard) g where n.shard = g.shard and n.freed < g.place;
+    return null;
+end $$;
+create or replace trigger free_places after delete on own_log referencing old table as gone
+    for each statement execute function free_places();
 
--- An operator's line, which is behind all that came before: operate('void', 'CS-00441', 'TX-2', 3). Whoever listens on a
--- channel is told its answer there, with the token.
+-- An operator's line, which comes behind all that was answered: operate('void', 'CS-00441', 'TX-2', 3). It gives the number
+-- of the line in inbox_kept; its place in the log comes within moments. Whoever listens on a channel is told its answer
+-- there, with the token.
 create or replace function operate(command text, station_name text, transaction_id text, sequence_number bigint,
         channel text default null, channel_token bigint default null) returns bigint language plpgsql as $$
 declare
     shard_number integer;
-    place bigint;
+    number bigint;
 begin
     if command not in ('void', 'restore', 'erase') then
         raise 'a command is void, restore or erase, and not %', command;
@@ -305,17 +378,20 @@ begin
     if shard_number is null then
         raise 'no station % in this cell', station_name;
     end if;
-    insert into own_log (shard, gateway, token, line)
+    insert into inbox_kept (shard, gateway, token, line)
         values (shard_number, channel, channel_token,
             format('%s %s %s %s', command, station_name, transaction_id, sequence_number))
-        returning id into place;
-    perform pg_notify('wake', shard_number::text);
-    return place;
+        returning id into number;
+    if number is null then
+        raise 'shard % moves to another cell', shard_number;
+    end if;
+    perform pg_notify('wake_kept', shard_number || ':' || number);
+    return number;
 end $$;
 
 -- What feed.py took ---------------------------------------------------------------------------------------------------
 
--- Up to which byte of a file its events are in this cell's log.
+-- Up to which byte of a file its events are in this cell.
 create table if not exists fed (
     source text primary key,
     place bigint not null,
@@ -334,13 +410,11 @@ create index if not exists stray_station_idx on stray (station);
 
 -- Boards -------------------------------------------------------------------------------------------------------------
 
--- The text of a site's board after the log up to (xid, id). Of a site with stations in several shards one a shard.
+-- The text of a site's board after the log up to a place. Of a site with stations in several shards one a shard.
 create table if not exists board (
     cell smallint not null default :cell,
     shard integer not null,
     site text not null,
-    xid xid8 not null,
-    id bigint not null,
     at timestamptz not null default now(),
     text text not null
 ) partition by list (cell);
@@ -350,6 +424,7 @@ create table if not exists own_board partition of board (
 ) for values in (:cell);
 -- The plan under which it was replayed: it is without what closings up to that plan archived.
 alter table board add column if not exists plan bigint not null default 0;
+alter table board add column if not exists place bigint not null default 0;
 
 -- The same as rows, each with when it came to be as it is, and by which place of the log. Energies are in mWh.
 create table if not exists board_station (
@@ -357,8 +432,6 @@ create table if not exists board_station (
     shard integer not null,
     site text not null,
     station text not null,
-    xid xid8 not null,
-    id bigint not null,
     at timestamptz not null default now(),
     events bigint not null,
     voided bigint not null,
@@ -381,8 +454,6 @@ create table if not exists board_period (
     site text not null,
     station text not null,
     starts timestamptz not null,
-    xid xid8 not null,
-    id bigint not null,
     at timestamptz not null default now(),
     up bigint not null,
     down bigint not null,
@@ -400,8 +471,6 @@ create table if not exists board_transaction (
     site text not null,
     station text not null,
     transaction text not null,
-    xid xid8 not null,
-    id bigint not null,
     at timestamptz not null default now(),
     evse smallint not null,                -- 0: none named
     events bigint not null,
@@ -428,8 +497,6 @@ create table if not exists board_gap (
     transaction text not null,
     first bigint not null,
     last bigint not null,
-    xid xid8 not null,
-    id bigint not null,
     at timestamptz not null default now()
 ) partition by list (cell);
 create table if not exists own_board_gap partition of board_gap (
@@ -437,84 +504,147 @@ create table if not exists own_board_gap partition of board_gap (
     foreign key (shard, site, station, transaction) references own_board_transaction on delete cascade
 ) for values in (:cell);
 
--- Writes a board as text and as rows. `parts` has the rows that are new since the board of (base_xid, base_id), and those
--- that are gone; all rows where that is null. False where the board is of an earlier place than the one that is there,
--- not based on that, or of a plan that is no longer the shard's.
-drop function if exists show_board(integer, text, xid8, bigint, xid8, bigint, text, jsonb);
-create or replace function show_board(shard_number integer, site_name text, base_xid xid8, base_id bigint,
-        new_xid xid8, new_id bigint, new_text text, parts jsonb, new_plan bigint) returns boolean language plpgsql as $$
+alter table board_station add column if not exists place bigint not null default 0;
+alter table board_period add column if not exists place bigint not null default 0;
+alter table board_transaction add column if not exists place bigint not null default 0;
+alter table board_gap add column if not exists place bigint not null default 0;
+-- Up to which place of the log a station's rows were written last, and under which plan.
+alter table board_station add column if not exists written bigint not null default 0;
+alter table board_station add column if not exists plan bigint not null default 0;
+
+-- Writes a board's text, behind that of the place `base`, or behind none. False where a later one is there or not that of
+-- the base, or the plan is no longer the shard's. Where there is no base rows of stations go that the board does not have.
+create or replace function show_board(shard_number integer, site_name text, base bigint, new_place bigint,
+        new_plan bigint, new_text text, stations text[]) returns boolean language plpgsql as $$
 declare
-    had record;
+    had bigint;
 begin
-    if new_plan <> (select plan from own_shard where shard = shard_number) then
+    if new_plan is distinct from (select plan from own_shard where shard = shard_number) then
         return false;
     end if;
-    select xid, id into had from own_board where shard = shard_number and site = site_name for update;
-    if (had.xid, had.id) > (new_xid, new_id) or base_xid <> had.xid or base_id <> had.id then
+    select place into had from own_board where shard = shard_number and site = site_name for update;
+    if had > new_place or base is not null and base is distinct from had then
         return false;
     end if;
-    insert into own_board (shard, site, xid, id, text, plan)
-        values (shard_number, site_name, new_xid, new_id, new_text, new_plan)
-        on conflict (shard, site) do update set xid = new_xid, id = new_id, at = now(), text = new_text, plan = new_plan;
-    if base_xid is null then
-        delete from own_board_station where shard = shard_number and site = site_name and station not in
-            (select station from jsonb_to_recordset(parts->'stations') as r (station text));
-        delete from own_board_period where shard = shard_number and site = site_name and (station, starts) not in
-            (select station, starts from jsonb_to_recordset(parts->'periods') as r (station text, starts timestamptz));
-        delete from own_board_transaction where shard = shard_number and site = site_name
-            and (station, transaction) not in (select station, transaction
-                from jsonb_to_recordset(parts->'transactions') as r (station text, transaction text));
+    insert into own_board (shard, site, place, text, plan)
+        values (shard_number, site_name, new_place, new_text, new_plan)
+        on conflict (shard, site) do update set place = new_place, at = now(), text = new_text, plan = new_plan;
+    if base is null then
+        delete from own_board_station where shard = shard_number and site = site_name and station <> all (stations);
+        delete from own_board_period where shard = shard_number and site = site_name and station <> all (stations);
+        delete from own_board_transaction
+            where shard = shard_number and site = site_name and station <> all (stations);
     end if;
-    delete from own_board_period b
-        using jsonb_to_recordset(parts->'gone_periods') as r (station text, starts timestamptz)
-        where b.shard = shard_number and b.site = site_name and b.station = r.station and b.starts = r.starts;
-    delete from own_board_transaction b
-        using jsonb_to_recordset(parts->'gone_transactions') as r (station text, transaction text)
-        where b.shard = shard_number and b.site = site_name and b.station = r.station and b.transaction = r.transaction;
+    return true;
+end $$;
+
+-- Writes some stations of a board as rows. `parts` has for each station what is new since its rows of the place `base`, and
+-- what is gone; all of its rows where `base` is null. It gives the stations that are left as they are: their rows are of a
+-- later place or not of the base, or the board is gone, or the plan is no longer the shard's.
+create or replace function show_stations(shard_number integer, site_name text, new_place bigint, new_plan bigint,
+        parts jsonb) returns text[] language plpgsql as $$
+declare
+    named text[] := array(select station from jsonb_to_recordset(parts->'stations') as r (station text));
+    shown text[];
+    whole text[];
+begin
+    perform from own_board where shard = shard_number and site = site_name for key share;
+    if not found or new_plan is distinct from (select plan from own_shard where shard = shard_number) then
+        return named;
+    end if;
+    perform from own_board_station where shard = shard_number and site = site_name and station = any (named)
+        order by station for update;
+    select array_agg(r.station), array_agg(r.station) filter (where r.base is null) into shown, whole
+        from jsonb_to_recordset(parts->'stations') as r (station text, base bigint)
+        left join own_board_station b on b.shard = shard_number and b.site = site_name and b.station = r.station
+        where r.base = b.written or r.base is null and (b.station is null or b.written <= new_place);
+    if whole is not null then
+        delete from own_board_period b
+            where shard = shard_number and site = site_name and station = any (whole) and (station, starts) not in
+                (select station, starts
+                 from jsonb_to_recordset(parts->'periods') as r (station text, starts timestamptz));
+        delete from own_board_transaction b
+            where shard = shard_number and site = site_name and station = any (whole) and (station, transaction) not in
+                (select station, transaction
+                 from jsonb_to_recordset(parts->'transactions') as r (station text, transaction text));
+    end if;
+    if parts ? 'gone_periods' then
+        delete from own_board_period b
+            using jsonb_to_recordset(parts->'gone_periods') as r (station text, starts timestamptz)
+            where b.shard = shard_number and b.site = site_name and b.station = r.station and b.starts = r.starts
+                and r.station = any (shown);
+    end if;
+    if parts ? 'gone_transactions' then
+        delete from own_board_transaction b
+            using jsonb_to_recordset(parts->'gone_transactions') as r (station text, transaction text)
+            where b.shard = shard_number and b.site = site_name and b.station = r.station
+                and b.transaction = r.transaction and r.station = any (shown);
+    end if;
     insert into own_board_station as b
-            (shard, site, station, xid, id, events, voided, transactions, complete, missing, up, down,
+            (shard, site, station, place, written, plan, events, voided, transactions, complete, missing, up, down,
             export_up, export_down)
-        select shard_number, site_name, station, new_xid, new_id, events, voided, transactions, complete, missing, up, down,
-            coalesce(export_up, 0), coalesce(export_down, 0)
+        select shard_number, site_name, station, new_place, new_place, new_plan, events, voided, transactions, complete,
+            missing, up, down, coalesce(export_up, 0), coalesce(export_down, 0)
         from jsonb_to_recordset(parts->'stations') as r (station text, events bigint, voided bigint,
             transactions bigint, complete bigint, missing bigint, up bigint, down bigint, export_up bigint,
             export_down bigint)
-        on conflict (shard, site, station) do update set xid = excluded.xid, id = excluded.id, at = now(),
+        where station = any (shown)
+        on conflict (shard, site, station) do update set written = excluded.written, plan = excluded.plan,
+            place = case
+                when (b.events, b.voided, b.transactions, b.complete, b.missing, b.up, b.down, b.export_up, b.export_down)
+                    = (excluded.events, excluded.voided, excluded.transactions, excluded.complete, excluded.missing,
+                    excluded.up, excluded.down, excluded.export_up, excluded.export_down)
+                then b.place else excluded.place end,
+            at = case
+                when (b.events, b.voided, b.transactions, b.complete, b.missing, b.up, b.down, b.export_up, b.export_down)
+                    = (excluded.events, excluded.voided, excluded.transactions, excluded.complete, excluded.missing,
+                    excluded.up, excluded.down, excluded.export_up, excluded.export_down)
+                then b.at else now() end,
             events = excluded.events, voided = excluded.voided, transactions = excluded.transactions,
             complete = excluded.complete, missing = excluded.missing, up = excluded.up, down = excluded.down,
             export_up = excluded.export_up, export_down = excluded.export_down
-        where (b.events, b.voided, b.transactions, b.complete, b.missing, b.up, b.down, b.export_up, b.export_down) <>
-            (excluded.events, excluded.voided, excluded.transactions, excluded.complete, excluded.missing, excluded.up,
-            excluded.down, excluded.export_up, excluded.export_down);
-    insert into own_board_period as b (shard, site, station, starts, xid, id, up, down, export_up, export_down)
-        select shard_number, site_name, station, starts, new_xid, new_id, up, down, coalesce(export_up, 0),
-            coalesce(export_down, 0)
-        from jsonb_to_recordset(parts->'periods') as r (station text, starts timestamptz, up bigint, down bigint,
-            export_up bigint, export_down bigint)
-        on conflict (shard, site, station, starts) do update set xid = excluded.xid, id = excluded.id, at = now(),
-            up = excluded.up, down = excluded.down, export_up = excluded.export_up, export_down = excluded.export_down
-        where (b.up, b.down, b.export_up, b.export_down) <>
-            (excluded.up, excluded.down, excluded.export_up, excluded.export_down);
-    insert into own_board_transaction as b (shard, site, station, transaction, xid, id, evse, events, first, last,
-            complete, missing, up, down, export_up, export_down)
-        select shard_number, site_name, station, transaction, new_xid, new_id, evse, events, first, last,
-            complete = 1, missing, up, down, coalesce(export_up, 0), coalesce(export_down, 0)
-        from jsonb_to_recordset(parts->'transactions') as r (station text, transaction text, evse smallint,
-            events bigint, first bigint, last bigint, complete smallint, missing bigint, up bigint, down bigint,
-            export_up bigint, export_down bigint)
-        on conflict (shard, site, station, transaction) do update set xid = excluded.xid, id = excluded.id, at = now(),
-            evse = excluded.evse, events = excluded.events, first = excluded.first, last = excluded.last,
-            complete = excluded.complete, missing = excluded.missing, up = excluded.up, down = excluded.down,
-            export_up = excluded.export_up, export_down = excluded.export_down
-        where (b.evse, b.events, b.first, b.last, b.complete, b.missing, b.up, b.down, b.export_up, b.export_down) <>
-            (excluded.evse, excluded.events, excluded.first, excluded.last, excluded.complete, excluded.missing,
-            excluded.up, excluded.down, excluded.export_up, excluded.export_down);
-    delete from own_board_gap b using jsonb_to_recordset(parts->'transactions') as r (station text, transaction text)
-        where b.shard = shard_number and b.site = site_name and b.station = r.station and b.transaction = r.transaction;
-    insert into own_board_gap (shard, site, station, transaction, first, last, xid, id)
-        select shard_number, site_name, station, transaction, first, last, new_xid, new_id
-        from jsonb_to_recordset(parts->'gaps') as r (station text, transaction text, first bigint, last bigint);
-    return true;
+        where b.written <= excluded.written;
+    if parts ? 'periods' then
+        insert into own_board_period as b (shard, site, station, starts, place, up, down, export_up, export_down)
+            select shard_number, site_name, station, starts, new_place, up, down, coalesce(export_up, 0),
+                coalesce(export_down, 0)
+            from jsonb_to_recordset(parts->'periods') as r (station text, starts timestamptz, up bigint, down bigint,
+                export_up bigint, export_down bigint)
+            where station = any (shown)
+            on conflict (shard, site, station, starts) do update set place = excluded.place, at = now(),
+                up = excluded.up, down = excluded.down, export_up = excluded.export_up,
+                export_down = excluded.export_down
+            where (b.up, b.down, b.export_up, b.export_down) <>
+                (excluded.up, excluded.down, excluded.export_up, excluded.export_down);
+    end if;
+    if parts ? 'transactions' then
+        insert into own_board_transaction as b (shard, site, station, transaction, place, evse, events, first, last,
+                complete, missing, up, down, export_up, export_down)
+            select shard_number, site_name, station, transaction, new_place, evse, events, first, last,
+                complete = 1, missing, up, down, coalesce(export_up, 0), coalesce(export_down, 0)
+            from jsonb_to_recordset(parts->'transactions') as r (station text, transaction text, evse smallint,
+                events bigint, first bigint, last bigint, complete smallint, missing bigint, up bigint, down bigint,
+                export_up bigint, export_down bigint)
+            where station = any (shown)
+            on conflict (shard, site, station, transaction) do update set place = excluded.place, at = now(),
+                evse = excluded.evse, events = excluded.events, first = excluded.first, last = excluded.last,
+                complete = excluded.complete, missing = excluded.missing, up = excluded.up, down = excluded.down,
+                export_up = excluded.export_up, export_down = excluded.export_down
+            where (b.evse, b.events, b.first, b.last, b.complete, b.missing, b.up, b.down, b.export_up, b.export_down) <>
+                (excluded.evse, excluded.events, excluded.first, excluded.last, excluded.complete, excluded.missing,
+                excluded.up, excluded.down, excluded.export_up, excluded.export_down);
+        delete from own_board_gap b
+            using jsonb_to_recordset(parts->'transactions') as r (station text, transaction text)
+            where b.shard = shard_number and b.site = site_name and b.station = r.station
+                and b.transaction = r.transaction and r.station = any (shown);
+    end if;
+    if parts ? 'gaps' then
+        insert into own_board_gap (shard, site, station, transaction, first, last, place)
+            select shard_number, site_name, station, transaction, first, last, new_place
+            from jsonb_to_recordset(parts->'gaps') as r (station text, transaction text, first bigint, last bigint)
+            where station = any (shown);
+    end if;
+    return array(select unnest(named) except select unnest(shown));
 end $$;
 
 -- Closed days --------------------------------------------------------------------------------------------------------
@@ -527,8 +657,6 @@ create table if not exists closing (
     closing integer not null,              -- 1, 2, ..
     day date not null,                     -- in the site's zone
     period integer not null,
-    xid xid8 not null,
-    id bigint not null,
     at timestamptz not null default now(),
     archive text                           -- the file of the lines that it took out of the log
 ) partition by list (cell);
@@ -538,6 +666,7 @@ create table if not exists own_closing partition of closing (
 
 -- The plan that the closing made: boards of earlier plans still have what it archived.
 alter table closing add column if not exists plan bigint not null default 0;
+alter table closing add column if not exists place bigint not null default 0;
 
 -- The energy in mWh of a station's period as it was settled, and behind that what later closings found it to differ.
 create table if not exists closed_period (
@@ -614,15 +743,15 @@ create table if not exists own_archived_lines (
 create or replace view moved_shard as
     select cell, shard from shard s
     where exists (select from shard t where t.cell = s.moving_to and t.shard = s.shard);
--- Energy in kWh by local time: what is in the log, and what closings took out of it before the board was made.
+-- Energy in kWh by local time: what is in the log, and what closings took out of it before a station's rows were written.
 create or replace view energy as
     select site, (starts at time zone zone)::date as day, starts at time zone zone as local_start, starts, station,
         trim_scale(sum(up) / 1000000) as up_kwh, trim_scale(sum(down) / 1000000) as down_kwh,
         trim_scale(sum(export_up) / 1000000) as export_up_kwh, trim_scale(sum(export_down) / 1000000) as export_down_kwh
     from (select cell, shard, site, station, starts, up, down, export_up, export_down from board_period union all
-          select cell, shard, site, a.station, a.starts, a.up, a.down, a.export_up, a.export_down
+          select cell, shard, site, station, a.starts, a.up, a.down, a.export_up, a.export_down
           from archived_period a join closing c using (cell, shard, site, closing)
-              left join board b using (cell, shard, site)
+              left join board_station b using (cell, shard, site, station)
           where b.plan is null or c.plan <= b.plan) as flow
     join site using (cell, shard, site)
     where (cell, shard) not in (select cell, shard from moved_shard)
@@ -670,46 +799,70 @@ create or replace function reserve_shard(shard_number integer) returns boolean l
 $$;
 
 -- Removes repeats that were found under this plan. Whoever holds the shard begins a replay anew, from fewer lines.
-create or replace function remove_repeats(shard_number integer, found_plan bigint, xids text[], ids bigint[])
+create or replace function remove_repeats(shard_number integer, found_plan bigint, places bigint[])
     returns void language plpgsql security definer set search_path = public, pg_temp as $$
 declare
     removed bigint;
 begin
     update own_shard set plan = plan + 1
-        where shard = shard_number and plan = found_plan and moving_to is null and cardinality(ids) > 0;
-    if not found and cardinality(ids) > 0 then
+        where shard = shard_number and plan = found_plan and moving_to is null and cardinality(places) > 0;
+    if not found and cardinality(places) > 0 then
         raise 'shard %: its plan was changed meanwhile, so nothing was removed', shard_number;
     end if;
-    delete from own_log l using unnest(xids, ids) as g (xid, id)
-        where l.shard = shard_number and l.xid = g.xid::xid8 and l.id = g.id and l.line like 'msg %';
+    delete from own_log where shard = shard_number and place = any (places) and line like 'msg %';
     get diagnostics removed = row_count;
-    if removed <> cardinality(ids) then
+    if removed <> cardinality(places) then
         raise 'shard %: its log was changed meanwhile, so nothing was removed', shard_number;
     end if;
     perform pg_notify('plan', shard_number::text);
 end $$;
-revoke execute on function remove_repeats(integer, bigint, text[], bigint[]) from public;
+revoke execute on function remove_repeats(integer, bigint, bigint[]) from public;
 
 -- Roles --------------------------------------------------------------------------------------------------------------
 
 -- A gateway sees the plan and inserts `msg` lines; it reads, changes and removes nothing.
 grant select on own_cell, own_shard, own_site, own_station to ledger_gateway, ledger_worker, ledger_reader;
-grant insert (shard, gateway, token, line) on own_log to ledger_gateway;
-grant usage on sequence place_in_log to ledger_gateway;
-alter table own_log enable row level security;
-drop policy if exists messages on own_log;
-create policy messages on own_log for insert to ledger_gateway with check (line like 'msg %');
-drop policy if exists lines on own_log;
-create policy lines on own_log for select to ledger_worker, ledger_reader using (true);
--- A feed appends as a gateway does, and keeps how far it came and what has no station yet.
+grant insert (shard, gateway, token, line), select (shard, id) on inbox to ledger_gateway;
+grant usage on sequence place_in_inbox to ledger_gateway;
+alter table inbox enable row level security;
+drop policy if exists messages on inbox;
+create policy messages on inbox for insert to ledger_gateway with check (line like 'msg %');
+drop policy if exists numbers on inbox;
+create policy numbers on inbox for select to ledger_gateway using (true);
+-- A feed inserts such lines where they are kept, and keeps how far it came and what has no station yet.
 grant ledger_gateway to ledger_feed;
+grant insert (shard, line), select (shard, id) on inbox_kept to ledger_feed;
+alter table inbox_kept enable row level security;
+drop policy if exists messages on inbox_kept;
+create policy messages on inbox_kept for insert to ledger_feed with check (line like 'msg %');
 grant select, insert, update on fed to ledger_feed;
 grant select, insert, delete on stray to ledger_feed;
+-- An operator reads what a reader reads, and inserts operators' lines.
+grant ledger_reader to ledger_operator;
+grant insert (shard, gateway, token, line), select (shard, id) on inbox_kept to ledger_operator;
+grant usage on sequence place_in_inbox to ledger_operator;
+drop policy if exists commands on inbox_kept;
+create policy commands on inbox_kept for insert to ledger_operator with check (line !~ '^msg ');
+drop policy if exists numbers on inbox_kept;
+create policy numbers on inbox_kept for select to ledger_feed, ledger_operator using (true);
 
+-- A worker moves lines into the log, and writes boards.
+grant select, delete on inbox, inbox_kept to ledger_worker;
+drop policy if exists lines on inbox;
+create policy lines on inbox to ledger_worker using (true);
+drop policy if exists lines on inbox_kept;
+create policy lines on inbox_kept to ledger_worker using (true);
+grant select on sequence place_in_inbox to ledger_worker;
+alter table own_log enable row level security;
+drop policy if exists lines on own_log;
+create policy lines on own_log for select to ledger_worker, ledger_reader using (true);
+drop policy if exists places on own_log;
+create policy places on own_log for insert to ledger_worker with check (true);
+grant insert (shard, place, at, gateway, token, line) on own_log to ledger_worker;
+grant select, update (taken, told, bytes) on numbering to ledger_worker;
 grant select on own_log, own_closing, own_archived_transaction, own_archived_lines to ledger_worker;
-grant update (taken, xid, id, bytes) on own_shard to ledger_worker;
 -- It compacts a shard whose log is nearly full.
-grant execute on function remove_repeats(integer, bigint, text[], bigint[]) to ledger_worker;
+grant execute on function remove_repeats(integer, bigint, bigint[]) to ledger_worker;
 grant select, insert, update, delete on own_board, own_board_station, own_board_period, own_board_transaction,
     own_board_gap, worker to ledger_worker;
 
@@ -717,14 +870,7 @@ grant select on shard, site, station, station_twice, log, board, own_log, own_bo
     board_station, board_period, board_transaction, board_gap, energy, lacking, moved_shard,
     own_board_station, own_board_period, own_board_transaction, own_board_gap,
     closing, closed_period, archived_period, archived_transaction, settled_period,
-    own_closing, own_closed_period, own_archived_period, own_archived_transaction, fed, stray to ledger_reader;
-
--- An operator reads what a reader reads, and inserts operators' lines.
-grant ledger_reader to ledger_operator;
-grant insert (shard, gateway, token, line) on own_log to ledger_operator;
-grant usage on sequence place_in_log to ledger_operator;
-drop policy if exists commands on own_log;
-create policy commands on own_log for insert to ledger_operator with check (line !~ '^msg ');
+    own_closing, own_closed_period, own_archived_period, own_archived_transaction, numbering, fed, stray to ledger_reader;
 
 -- Other cells --------------------------------------------------------------------------------------------------------
 

@@ -1,39 +1,61 @@
-"""Runs one `ocpp_board replay` for each shard that it holds, and answers what gateways append to the log.
+"""Runs one `ocpp_board replay` for each shard that it holds, and answers what gateways append.
 
     PGPASSWORD=.. ocpp-board worker --db postgresql://ledger_worker@a:5432,b:5432/ledger --program ocpp_board
 
 Any number of workers share the shards of a cell. Each beat a worker looks who lives; where that or the plan changed
-it takes or gives back shards until the shares are even, and it ends the session of a worker whose beat is too old.
-A shard that it takes is replayed from the start of its log; answers that were told before are kept silent. It reads
-only shards that were woken: by a gateway that appended, by a change of the plan, or by itself where it has not read
-all. Boards of shards that changed are written again and again.
+it takes or gives back shards until the shares are even, and it ends the sessions of a worker whose beat is too old.
+A shard that it takes is replayed from the start of its log; answers that were told before are kept silent. From then
+on it gives each line that comes its place in the log, and tells its answer once that is on disk. It looks only at
+shards that were woken: by a gateway that appended, by a change of the plan, or by itself where it has not read all.
+Boards of shards that changed are written again and again.
 
 A worker keeps nothing. It may be killed at any time, and whatever it is told twice it answers twice.
 """
 
 import argparse
 import asyncio
+import itertools
 import logging
 import os
+import random
 import secrets
-from collections.abc import Coroutine, Sequence
+from collections.abc import Coroutine, Mapping, Sequence
 from typing import Any
 
 import asyncpg
 
 from ocpp_board.fleet import parts
 from ocpp_board.fleet.archives import HAS_ARCHIVED, Late
+from ocpp_board.fleet.board_writer import Board, BoardWriter, Shown
 from ocpp_board.fleet.database import (
     BY_INDEX,
+    FORMER,
     LOST,
     PAYLOAD,
+    Asked,
     Fault,
     Unreachable,
     connect,
     said,
+    seen,
     within,
+    woken_by,
 )
-from ocpp_board.fleet.figures import new_rows
+from ocpp_board.fleet.orders import (
+    CONTESTED,
+    INBOXES,
+    LOOK,
+    MOST_BYTES,
+    MOST_ROWS,
+    NUMBER,
+    PROGRESS,
+    READ,
+    STATE,
+    TAKE,
+    TELL,
+    UNTOLD,
+    WAITS,
+)
 from ocpp_board.fleet.plans import Plan, knows_period
 from ocpp_board.fleet.replays import Replay, ReplayEnded
 from ocpp_board.limits import LONGEST_SCRIPT
@@ -42,78 +64,33 @@ from ocpp_board.words import add_program, parser_of
 
 log = logging.getLogger(__name__)
 
-READ = """
-select w.shard, r.*
-from unnest($1::int[], $2::text[], $3::bigint[], $4::text[], $5::bigint[]) as w (shard, xid, id, told_xid, told_id)
-cross join lateral (
-    select count(*) filter (where taken) as rows,
-           count(*) filter (where not taken) > 0 or count(*) = 1000 as more,
-           count(*) filter (where taken and (l.xid, l.id) <= (w.told_xid::xid8, w.told_id)) as silent,
-           string_agg(line, E'\\n') filter (where taken) as text,
-           array_agg(gateway) filter (where taken) as gateways,
-           array_agg(token) filter (where taken) as tokens,
-           (array_agg(l.xid::text) filter (where taken))[count(*) filter (where taken)] as xid,
-           (array_agg(l.id) filter (where taken))[count(*) filter (where taken)] as id
-    from (select m.*, m.xid < pg_snapshot_xmin(pg_current_snapshot()) and
-                      sum(octet_length(m.line)) over (order by m.xid, m.id) - octet_length(m.line) < 1000000 as taken
-          from (select xid, id, gateway, token, line from own_log
-                where shard = w.shard and (xid, id) > (w.xid::xid8, w.id)
-                order by xid, id limit 1000) m
-          order by m.xid, m.id) l
-) r
-where r.rows > 0 or r.more
-"""
-TELL = "select count(pg_notify(channel, payload)) from unnest($1::text[], $2::text[]) as n (channel, payload)"
-# What pg_notify refuses: a channel or a payload that can't be, and what its queue has no room for.
-UNTOLD = (asyncpg.DataError, asyncpg.ProgramLimitExceededError)
-# Up to where answers were told. It needs no disk: what they speak of is on it, and whoever comes after reads the log
-# again, and tells at most some answers twice. A row is not written for each answer, since a snapshot that stays open
-# keeps all its versions.
-PROGRESS = """
-update own_shard s set xid = w.xid::xid8, id = w.id, bytes = w.bytes
-from unnest($1::int[], $2::text[], $3::bigint[], $4::bigint[]) as w (shard, xid, id, bytes)
-where s.shard = w.shard and (s.xid, s.id) < (w.xid::xid8, w.id)
-"""
-# A session of this worker that was lost may hold locks still, and wait for a standby.
-FORMER = """
-select pg_terminate_backend(pid) from pg_stat_activity
-where application_name = $1 and pid <> pg_backend_pid() and usename = current_user
-"""
-# The workers that live, this one among them from its second beat on.
+# The workers that live, this one among them from its second beat on, each with the session that holds its shards.
 BEAT = """
 with beat as (
     insert into worker (worker, pid, began, beat, shards)
-    select $1, pid, backend_start, clock_timestamp(), $2 from pg_stat_activity where pid = pg_backend_pid()
+    select $1, pid, backend_start, clock_timestamp(), $2 from pg_stat_activity where pid = $3
     on conflict (worker) do update
         set pid = excluded.pid, began = excluded.began, beat = excluded.beat, shards = excluded.shards)
 select living_workers() as living
 """
+# All sessions of a worker have its name.
 FENCE = """
-with hung as (
-    delete from worker where beat < clock_timestamp() - make_interval(secs => $1) returning pid, began, worker)
-select worker, pg_terminate_backend(a.pid) from hung left join pg_stat_activity a
-on a.pid = hung.pid and a.backend_start = hung.began
+with hung as (delete from worker where beat < clock_timestamp() - make_interval(secs => $1) returning worker)
+select worker, count(pg_terminate_backend(a.pid)) from hung left join pg_stat_activity a
+on a.application_name = worker and a.datname = current_database() and a.usename = current_user group by worker
 """
 HOLD = "select shard from unnest($1::int[]) as s (shard) where hold_shard(shard) limit $2"
-# This one is flushed, and waits for the standby: so does what was read before it, whatever crashed meanwhile.
-TAKE = """
-update own_shard set taken = taken + 1 where shard = any($1)
-returning shard, plan, xid::text as xid, id, set_config('synchronous_commit', 'on', true)
-"""
-# A board never gives way to that of an earlier place, whoever writes it.
-BOARD = "select show_board($1, $2, $3::text::xid8, $4, $5::text::xid8, $6, $7, $8::text::jsonb, $9) as is_taken"
 # Shards that are read at once, and those among them that still read their log from the start.
 AT_ONCE, OPENING = 64, 2
-# Seconds after which the other shards no longer wait for a slow one.
-SLOW = 0.02
+# Seconds after which the other shards no longer wait for a slow one, and for which what comes is handled together.
+SLOW, GATHERED = 0.02, 0.005
 # Beats after which a worker looks at all shards again, whether something changed or not; for which it does so at each
 # beat where something changed, since others have to give back first; and after which it looks for those that hang.
 SWEEP, SETTLING, FENCING = 20, 5, 5
-# A board that was written is followed by a pause of so many times what that took: answers come first, and where the
-# machine is busy boards are written less often.
-PAUSE = 4
-# Seconds between notes of progress.
-NOTING = 0.5
+# Seconds between notes of progress, and the longest pause before a shard that another worker took is taken again.
+NOTING, CONTEST = 0.5, 0.05
+# Shards whose boards are made at once.
+SHOWN = 8
 # Shards taken at once, and seconds in which the program has to open a plan.
 TAKEN, OPENING_TIME = 16, 60
 
@@ -122,34 +99,43 @@ class Shard:
     """A shard that this worker holds."""
 
     def __init__(self, row: Any, replay: Replay, sites: list[str], late: Late) -> None:
-        self.number, self.plan = row["shard"], row["plan"]
-        self.told = self.noted = (row["xid"], row["id"])
-        self.read = ("0", 0)
+        self.number, self.plan, self.taken = row["shard"], row["plan"], row["taken"]
+        # Places of the log: its last one, up to where the replay has it, and up to where answers were told and noted.
+        self.last, self.read = row["last"], 0
+        self.told = self.noted = row["told"]
+        # Which line of its inbox is the oldest that may have come unseen, and which was the next at the last look.
+        self.oldest = self.next = 0
         self.replay, self.sites, self.late = replay, sites, late
-        # The place and the text of each site's board as it was written last.
-        self.shown: dict[str, tuple[tuple[str, int], str]] = {}
+        self.shown: dict[str, Shown] = {}
         self.began = asyncio.get_running_loop().time()
         self.lines = self.bytes = 0
         self.changed, self.due = True, 0.0
-        self.is_loaded = self.is_answering = False
+        self.is_loaded = self.is_answering = self.is_showing = False
         self.busy = asyncio.Lock()
 
 
-Answers = tuple[Shard, list[tuple[str, str]], bool]
+Answers = tuple[Shard, list[tuple[str, str]]]
 
 
 class Session:
-    """A session with the database, and the shards that are held by it; what ends the one ends the other."""
+    """Sessions with the database, and the shards that are held by one of them; what ends the one ends the others."""
 
-    def __init__(self, words: argparse.Namespace, database: Any) -> None:
-        self.words, self.database = words, database
-        self.using = asyncio.Lock()
+    def __init__(self, words: argparse.Namespace, databases: Sequence[Any]) -> None:
+        self.words, self.databases = words, databases
+        # One holds the shards, moves their lines and tells answers; its commits may wait for a standby. So beats have
+        # another one, and boards, which are many rows, a third.
+        self.holder, self.beats, self.boards = (Asked(one, words.hang) for one in databases)
+        self.writer = BoardWriter(self.boards)
+        self.living = 0
         self.shards: dict[int, Shard] = {}
         # Shards whose lock is held and that are not open yet.
         self.opening: set[int] = set()
         self.refused: dict[int, int] = {}
-        self.woken: set[int] = set()
+        # Shards whose log has not been read to its end, and those with lines in an inbox, with the first of them.
+        self.behind: set[int] = set()
+        self.woken: dict[str, dict[int, int]] = {channel: {} for channel in INBOXES}
         self.waking, self.planned = asyncio.Event(), asyncio.Event()
+        self.showing = asyncio.Semaphore(SHOWN)
         self.jobs: set[asyncio.Task[Any]] = set()
         self.answering: set[asyncio.Task[Answers | None]] = set()
         self.lost: asyncio.Future[None] = asyncio.get_running_loop().create_future()
@@ -170,10 +156,11 @@ class Session:
     async def run(self) -> None:
         """Works until the session is lost. Raises what it was lost by."""
         try:
-            await self.database.add_listener("wake", self.wake)
-            await self.database.add_listener("plan", lambda *_: self.planned.set())
-            await self.ask(FORMER, self.words.name)
-            for job in (self.beat(), self.read(), self.show(), self.note()):
+            for channel in INBOXES:
+                await self.holder.database.add_listener(channel, self.wake)
+            await self.holder.database.add_listener("plan", lambda *_: self.planned.set())
+            await self.beat_once()
+            for job in (self.beat(), self.keep_share(), self.read(), self.show(), self.note()):
                 self.spawn(job)
             await self.lost
         finally:
@@ -181,49 +168,93 @@ class Session:
                 task.cancel()
             for shard in self.shards.values():
                 shard.replay.kill()
-            self.database.terminate()
+            for database in self.databases:
+                database.terminate()
 
     async def ask(self, query: str, *values: Any) -> Any:
-        """One statement; a database that does not answer is a lost one."""
-        async with self.using:
-            return await within(self.words.hang, self.database, "fetch", query, *values)
+        """One statement of the session that holds the shards."""
+        return await self.holder.ask(query, *values)
 
-    def wake(self, _session: Any, _pid: int, _channel: str, payload: str) -> None:
-        """Shards were appended to."""
-        self.woken.update(number for number in map(int, payload.split()) if number in self.shards)
-        if self.woken:
-            self.waking.set()
+    async def committed(self, query: str, *values: Any) -> Any:
+        """The same, with a commit that is waited for as long as it waits for a standby: another session would wait
+        behind it, and one more each time."""
+        async with self.holder.using:
+            database = self.holder.database
+            job = asyncio.ensure_future(database.fetch(query, *values))
+            job.add_done_callback(seen)
+            while not (await asyncio.wait([job], timeout=self.words.hang))[0]:
+                if not await self.beats.ask(WAITS, database.get_server_pid()):
+                    raise asyncio.TimeoutError(f"no answer in {self.words.hang:g} seconds")
+                log.warning("commits wait for the synchronous standby")
+            return job.result()
+
+    async def read_state(self, numbers: list[int]) -> dict[int, Any]:
+        """How shards stand, once they are taken."""
+        return {row["shard"]: row for row in await self.ask(STATE, numbers)}
+
+    def wake(self, _session: Any, _pid: int, channel: str, payload: str) -> None:
+        """Lines of shards came."""
+        self.wake_all(channel, woken_by(payload))
+
+    def wake_all(self, channel: str, firsts: Mapping[int, int]) -> None:
+        """Has an inbox of these shards looked at, from its first new line on."""
+        woken = self.woken[channel]
+        for number, first in firsts.items():
+            if number in self.shards:
+                woken[number] = min(first, woken.get(number, first))
+                self.waking.set()
 
     # Shares of the shards ---------------------------------------------------------------------------------------------
 
+    async def beat_once(self) -> None:
+        """Tells that this worker lives, and looks how many do."""
+        pid = self.holder.database.get_server_pid()
+        rows = await self.beats.ask(BEAT, self.words.name, len(self.shards), pid)
+        self.living = rows[0]["living"]
+
     async def beat(self) -> None:
-        """Tells again and again that this worker lives, takes its share, and ends those that hang."""
-        beats, lived, settling = 0, -1, 0
-        while True:
-            living = (await self.ask(BEAT, self.words.name, len(self.shards)))[0]["living"]
-            if living != lived or self.planned.is_set():
+        """Tells again and again that this worker lives, and ends those that hang."""
+        for beats in itertools.count():
+            await self.beat_once()
+            if beats % FENCING == 0:
+                for row in await self.beats.ask(FENCE, self.words.hang):
+                    log.warning(
+                        "ended the sessions of the worker %s, which has not beaten", row["worker"]
+                    )
+            await asyncio.sleep(self.words.beat)
+
+    async def keep_share(self) -> None:
+        """Takes its share of the shards, and looks at all that it holds again and again."""
+        lived, settling = -1, 0
+        for beats in itertools.count():
+            if self.living != lived or self.planned.is_set():
                 settling = SETTLING
-            lived = living
+            lived = self.living
             self.planned.clear()
             if settling or beats % SWEEP == 0:
-                settling = SETTLING if await self.share(max(1, living)) else max(0, settling - 1)
+                settling = SETTLING if await self.share(max(1, lived)) else max(0, settling - 1)
             if beats % SWEEP == 0:
-                self.woken.update(self.shards)
-                self.waking.set()
-            if beats % FENCING == 0:
-                for row in await self.ask(FENCE, self.words.hang):
-                    log.warning(
-                        "ended the session of the worker %s, which has not beaten", row["worker"]
-                    )
-            beats += 1
+                await self.sweep()
             try:
                 await asyncio.wait_for(self.planned.wait(), self.words.beat)
             except asyncio.TimeoutError:
                 pass
 
+    async def sweep(self) -> None:
+        """Looks into the inboxes of all shards that are loaded."""
+        shards = [shard for shard in self.shards.values() if shard.is_loaded]
+        columns = [shard.number for shard in shards], [shard.oldest for shard in shards]
+        rows = await self.ask(LOOK, *columns)
+        found = {row["shard"]: row for row in rows}
+        for shard in shards:
+            shard.oldest, shard.next = shard.next, found[shard.number]["next"]
+        for channel in INBOXES:
+            firsts = {row["shard"]: row[channel] for row in rows if row[channel] is not None}
+            self.wake_all(channel, firsts)
+
     async def share(self, living: int) -> bool:
         """Takes or gives back shards, so that this worker has its share. Whether there may be more to take."""
-        rows = await self.ask(
+        rows = await self.beats.ask(
             "select shard, plan from own_shard where moving_to is null order by shard"
         )
         plans = {row["shard"]: row["plan"] for row in rows}
@@ -268,9 +299,10 @@ class Session:
     async def open(self, number: int, pause: float) -> None:
         """Begins the replay of a shard whose lock is held, after so many seconds."""
         await asyncio.sleep(pause)
-        rows = await self.ask(TAKE, [number])
+        await self.committed(TAKE, [number])
+        state = (await self.read_state([number])).get(number)
         try:
-            if not rows:
+            if state is None:
                 raise Fault("is no longer in the plan")
             plan = await Plan.of(self.ask, number, self.words.with_period)
             replay = await Replay.start(self.words.program)
@@ -278,7 +310,7 @@ class Session:
             late = Late(number, plan.rows, bool(await self.ask(HAS_ARCHIVED, number)))
         except Fault as fault:
             log.error("shard %d: %s; it is left alone until its plan changes", number, fault)
-            self.refused[number] = rows[0]["plan"] if rows else -1
+            self.refused[number] = state["plan"] if state else -1
             await self.let_go(number)
             return
         except (ReplayEnded, OSError, asyncio.TimeoutError) as fault:
@@ -287,9 +319,9 @@ class Session:
             await asyncio.sleep(0.5)
             await self.let_go(number)
             return
-        self.shards[number] = Shard(rows[0], replay, plan.sites, late)
+        self.shards[number] = Shard(state, replay, plan.sites, late)
         self.opening.discard(number)
-        self.woken.add(number)
+        self.behind.add(number)
         self.waking.set()
 
     async def let_go(self, number: int) -> None:
@@ -302,19 +334,24 @@ class Session:
 
     def next_to_read(self) -> list[Shard]:
         """Woken shards that wait for no answer; of those that read their log from the start only some."""
-        self.woken.intersection_update(self.shards)
-        ready = [
-            self.shards[number] for number in self.woken if not self.shards[number].is_answering
-        ]
+        for woken in self.woken.values():
+            for number in woken.keys() - self.shards.keys():
+                del woken[number]
+        self.behind.intersection_update(self.shards)
+        numbers = self.behind.union(*self.woken.values())
+        ready = [self.shards[number] for number in numbers]
+        ready = [shard for shard in ready if not shard.is_answering]
         opening = [shard for shard in ready if not shard.is_loaded][:OPENING]
         return [shard for shard in ready if shard.is_loaded][: AT_ONCE - OPENING] + opening
 
     async def read(self) -> None:
-        """Reads what was appended to woken shards, has it answered, and tells the answers."""
+        """Gives lines of woken shards their places, has them answered, and tells the answers."""
+        clock = asyncio.get_running_loop().time
         while True:
             await self.waking.wait()
             self.waking.clear()
             while True:
+                began = clock()
                 shards = self.next_to_read()
                 new = await self.hand_over(shards) if shards else []
                 if new:
@@ -322,31 +359,22 @@ class Session:
                 done = [task for task in self.answering if task.done()]
                 self.answering.difference_update(done)
                 await self.tell([answers for task in done if (answers := task.result())])
+                await asyncio.sleep(began + GATHERED - clock())
                 if not shards and not done:
                     break
-                if shards and not new:
-                    await asyncio.sleep(0.002)
 
     async def hand_over(self, shards: list[Shard]) -> list[asyncio.Task[Answers | None]]:
         """Reads what is new in these shards, and begins to answer it."""
-        self.woken.difference_update(shard.number for shard in shards)
-        rows = await self.ask(
-            READ,
-            [shard.number for shard in shards],
-            [shard.read[0] for shard in shards],
-            [shard.read[1] for shard in shards],
-            [shard.told[0] for shard in shards],
-            [shard.told[1] for shard in shards],
-        )
-        found = {row["shard"]: row for row in rows}
+        rows = await self.read_behind([shard for shard in shards if not shard.is_loaded])
+        for channel in INBOXES:
+            had = {row["shard"] for row in rows}
+            rows += await self.number(
+                channel, [one for one in shards if one.is_loaded and one.number not in had]
+            )
         new = []
-        for shard in shards:
-            row = found.get(shard.number)
-            if row is None:
-                self.loaded(shard)
-            elif not row["rows"]:
-                self.woken.add(shard.number)
-            elif self.shards.get(shard.number) is shard:
+        for row in rows:
+            shard = self.shards.get(row["shard"])
+            if shard and shard in shards:
                 shard.is_answering = True
                 task = self.spawn(self.answer(shard, row))
                 task.add_done_callback(lambda _: self.waking.set())
@@ -354,12 +382,67 @@ class Session:
         self.answering.update(new)
         return new
 
+    async def read_behind(self, shards: list[Shard]) -> list[Any]:
+        """The next lines of logs that have not been read to their end."""
+        if not shards:
+            return []
+        columns = zip(*((shard.number, shard.read, shard.last, shard.told) for shard in shards))
+        rows = list(await self.ask(READ, *map(list, columns)))
+        for shard in shards:
+            if shard.number not in {row["shard"] for row in rows}:
+                self.loaded(shard)
+        return rows
+
+    async def number(self, channel: str, shards: list[Shard]) -> list[Any]:
+        """Gives lines that came to these shards their places in the log, and gives them as they are there."""
+        woken = self.woken[channel]
+        shards = [shard for shard in shards if shard.number in woken]
+        if not shards:
+            return []
+        firsts = {shard.number: woken.pop(shard.number) for shard in shards}
+        columns = zip(*((one.number, firsts[one.number], one.last, one.taken) for one in shards))
+        try:
+            rows = list(await self.committed(NUMBER[channel], *map(list, columns)))
+        except CONTESTED as fault:
+            log.warning("shards are held twice, and taken again: %s", said(fault))
+            await self.take_again(shards)
+            self.wake_all(channel, firsts)
+            return []
+        for row in rows:
+            if (shard := self.shards.get(row["shard"])) and shard in shards:
+                shard.last = row["place"]
+            # A letter has four bytes at most.
+            if row["rows"] == MOST_ROWS or len(row["text"]) >= MOST_BYTES // 4:
+                self.wake_all(channel, {row["shard"]: row["id"] + 1})
+        return rows
+
+    async def take_again(self, shards: list[Shard]) -> None:
+        """Takes those of these shards that another worker took; what that one moved is read before all else."""
+        await asyncio.sleep(CONTEST * random.random())
+        shards = [shard for shard in shards if self.shards.get(shard.number) is shard]
+        numbers = [shard.number for shard in shards]
+        states = await self.read_state(numbers)
+        lost = [
+            one.number for one in shards if one.taken != states.get(one.number, {}).get("taken")
+        ]
+        if lost:
+            await self.committed(TAKE, lost)
+            states = await self.read_state(numbers)
+        for shard in shards:
+            if state := states.get(shard.number):
+                shard.taken, shard.last = state["taken"], state["last"]
+                if shard.read < shard.last:
+                    shard.is_loaded = False
+                    self.behind.add(shard.number)
+
     def loaded(self, shard: Shard) -> None:
-        """The shard's log was read to its end."""
-        if not shard.is_loaded:
-            shard.is_loaded = True
-            took = asyncio.get_running_loop().time() - shard.began
-            log.info("shard %d: %d lines replayed in %.2f s", shard.number, shard.lines, took)
+        """The shard's log was read to its end; what lies in its inboxes comes next."""
+        self.behind.discard(shard.number)
+        shard.is_loaded, shard.read = True, shard.last
+        took = asyncio.get_running_loop().time() - shard.began
+        log.info("shard %d: %d lines replayed in %.2f s", shard.number, shard.lines, took)
+        for channel in INBOXES:
+            self.wake_all(channel, {shard.number: 0})
 
     async def answer(self, shard: Shard, row: Any) -> Answers | None:
         """Hands a shard's lines to its replay, and gives the answers that gateways wait for."""
@@ -375,7 +458,7 @@ class Session:
         ):
             self.reopen(shard)
             return None
-        shard.read, shard.changed = (row["xid"], row["id"]), shard.changed or is_live
+        shard.read, shard.changed = row["place"], shard.changed or is_live
         shard.lines += row["rows"]
         self.weigh(shard, len(row["text"].encode()) + 1)
         front = row["silent"]
@@ -385,7 +468,7 @@ class Session:
             for gateway, token, text in parts
             if gateway and token is not None
         ]
-        return shard, told, row["more"]
+        return shard, told
 
     def weigh(self, shard: Shard, size: int) -> None:
         """Counts so many bytes of the shard's log. It is told where that is half full, and compacted where nearly."""
@@ -400,9 +483,7 @@ class Session:
                     self.spawn(self.compact(shard.number))
 
     async def compact(self, number: int) -> None:
-        """Compacts a shard in a process of its own, once it is noted how far answers were told, up to where that looks.
-        Its plan then changes, and its replay begins anew."""
-        await asyncio.sleep(2 * NOTING)
+        """Compacts a shard in a process of its own. Its plan then changes, and its replay begins anew."""
         words = ["--db", self.words.db, "--program", self.words.program, "--shard", str(number)]
         made = await asyncio.to_thread(run_tool, "compact", words, b"")
         told = made.stderr.decode("utf-8", "replace").strip().splitlines()[-1:]
@@ -434,20 +515,14 @@ class Session:
 
     async def tell(self, answered: list[Answers]) -> None:
         """Tells answers to the gateways that wait for them."""
-        new = [shard for shard, *_ in answered if order(shard.read) > order(shard.told)]
-        places = [shard.read for shard in new]
-        channels, payloads = payloads_of(
-            [answer for _, answers, _ in answered for answer in answers]
-        )
+        places = [shard.read for shard, _ in answered]
+        channels, payloads = payloads_of([answer for _, answers in answered for answer in answers])
         if channels:
             await self.notify(channels, payloads)
-        for shard, place in zip(new, places):
-            shard.told = place
-        for shard, _, more in answered:
+        for (shard, _), place in zip(answered, places):
+            shard.told = max(shard.told, place)
             shard.is_answering = False
-            if more:
-                self.woken.add(shard.number)
-            else:
+            if not shard.is_loaded and shard.read >= shard.last:
                 self.loaded(shard)
 
     async def notify(self, channels: list[str], payloads: list[str]) -> None:
@@ -465,61 +540,50 @@ class Session:
         """Notes again and again up to which places answers were told."""
         while True:
             await asyncio.sleep(NOTING)
-            new = [shard for shard in self.shards.values() if shard.told != shard.noted]
+            new = [(one, one.told) for one in self.shards.values() if one.told != one.noted]
             if new:
-                places = [shard.told for shard in new]
-                numbers = [shard.number for shard in new]
-                sizes = [shard.bytes for shard in new]
-                await self.ask(PROGRESS, numbers, *map(list, zip(*places)), sizes)
-                for shard, place in zip(new, places):
-                    shard.noted = place
+                columns = zip(*((shard.number, told, shard.bytes) for shard, told in new))
+                await self.boards.ask(PROGRESS, *map(list, columns))
+                for shard, told in new:
+                    shard.noted = told
 
     # Boards -----------------------------------------------------------------------------------------------------------
 
     async def show(self) -> None:
-        """Writes the boards of shards that changed."""
+        """Has the boards of shards that changed written."""
         clock = asyncio.get_running_loop().time
         while True:
             await asyncio.sleep(0.1)
-            for shard in list(self.shards.values()):
+            for shard in self.shards.values():
                 # A shard that has not read its log to the end once would show less than is known.
-                if not shard.changed or not shard.is_loaded or clock() < shard.due:
-                    continue
-                try:
-                    async with shard.busy:
-                        # Lines in front of where answers were told may be in an archive by now.
-                        shard.changed, place = False, max(shard.read, shard.told, key=order)
-                        texts = [
-                            await asyncio.wait_for(shard.replay.board(site), self.words.hang)
-                            for site in shard.sites
-                        ]
-                except (ReplayEnded, OSError, asyncio.TimeoutError):
-                    self.reopen(shard)
-                    continue
-                for site, text in zip(shard.sites, texts):
-                    if self.shards.get(shard.number) is shard:
-                        began = clock()
-                        await self.write(shard, site, place, text.decode())
-                        await asyncio.sleep(PAUSE * (clock() - began))
-                shard.due = clock() + self.words.boards
+                is_new = shard.changed and shard.is_loaded and not shard.is_showing
+                if is_new and clock() >= shard.due:
+                    shard.is_showing = True
+                    self.spawn(self.show_one(shard))
 
-    async def write(self, shard: Shard, site: str, place: tuple[str, int], text: str) -> None:
-        """Writes a board, by what is new since the one that this worker wrote before."""
-        base, old = shard.shown.pop(site, ((None, None), ""))
-        done = await self.ask(
-            BOARD, shard.number, site, *base, *place, text, new_rows(text, old), shard.plan
-        )
-        if done[0]["is_taken"]:
-            shard.shown[site] = (place, text)
-        elif base[0]:
-            shard.changed = (
-                True  # Another worker wrote one, or the plan changed: all rows next time.
-            )
-
-
-def order(place: tuple[str, int]) -> tuple[int, int]:
-    """Places of the log as they follow one another."""
-    return int(place[0]), place[1]
+    async def show_one(self, shard: Shard) -> None:
+        """Writes the boards of a shard, one after the other, by what is new since those that it wrote before."""
+        async with self.showing:
+            try:
+                async with shard.busy:
+                    shard.changed, place = False, shard.read
+                    texts = [
+                        await asyncio.wait_for(shard.replay.board(site), self.words.hang)
+                        for site in shard.sites
+                    ]
+            except (ReplayEnded, OSError, asyncio.TimeoutError):
+                self.reopen(shard)
+                return
+            for site, text in zip(shard.sites, texts):
+                if self.shards.get(shard.number) is shard:
+                    shown = shard.shown.setdefault(site, Shown())
+                    had, board = shown.place, Board(
+                        shard.number, site, place, shard.plan, text.decode()
+                    )
+                    if not await self.writer.write(board, shown) and had is not None:
+                        # Another worker wrote some, or the plan changed: these whole next time.
+                        shard.changed = True
+        shard.is_showing, shard.due = False, asyncio.get_running_loop().time() + self.words.boards
 
 
 def payloads_of(answers: list[tuple[str, str]]) -> tuple[list[str], list[str]]:
@@ -537,20 +601,37 @@ def payloads_of(answers: list[tuple[str, str]]) -> tuple[list[str], list[str]]:
     return channels + list(texts), payloads + ["\n".join(lines) for lines in texts.values()]
 
 
+async def opened(words: argparse.Namespace) -> list[Any]:
+    """The sessions of a worker, once those that it had before are ended."""
+    databases = list[Any]()
+    try:
+        for _ in range(3):
+            databases.append(
+                await connect(
+                    words.db, application_name=words.name, synchronous_commit="off", **BY_INDEX
+                )
+            )
+            if len(databases) == 1:
+                await within(words.hang, databases[0], "fetch", FORMER, words.name)
+    except BaseException:
+        for database in databases:
+            database.terminate()
+        raise
+    return databases
+
+
 async def work(words: argparse.Namespace) -> None:
     """Sessions, one after the other: where one is lost the next begins anew."""
     is_first, last = True, ""
     while True:
         try:
-            database = await connect(
-                words.db, application_name=words.name, synchronous_commit="off", **BY_INDEX
-            )
+            databases = await opened(words)
             if is_first:
                 print("ready", flush=True)
             elif last:
                 log.info("connected")
             is_first, last = False, ""
-            await Session(words, database).run()
+            await Session(words, databases).run()
         except (*LOST, Unreachable, asyncpg.PostgresError) as fault:
             text = f"{said(fault)}; tried again and again"
             if text != last:

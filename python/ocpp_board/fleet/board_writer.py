@@ -1,0 +1,113 @@
+"""Writes boards as text and as rows, by a session of its own, in transactions that are small.
+
+A board's text comes first, and then its stations, some at a time: each station's rows are of one place of the log. What
+is written is what differs from what was written before, told apart outside the event loop. A board of an earlier place
+never takes the place of a later one, whoever writes it.
+"""
+
+import asyncio
+import json
+from collections.abc import Mapping
+from typing import Any, NamedTuple
+
+from ocpp_board.fleet.database import Asked
+from ocpp_board.fleet.figures import Parts, blocks, new_rows
+
+BOARD = "select show_board($1, $2, $3, $4, $5, $6, $7) as is_shown"
+STATIONS = "select show_stations($1, $2, $3, $4, $5::text::jsonb) as left_out"
+# Rows of one transaction, or of one station where that has more.
+MOST_ROWS = 1000
+# What was written is followed by a pause of so many times what that took: answers come first, and where the machine is
+# busy boards are written less often.
+PAUSE = 4
+
+
+class Shown:
+    """A board as it was written last: its place of the log, and the lines of stations, each with its own place."""
+
+    def __init__(self) -> None:
+        self.place: int | None = None
+        self.stations: dict[str, tuple[int, str]] = {}
+
+
+class Chunk(NamedTuple):
+    """Some stations of a board: their lines, and the rows that differ."""
+
+    lines: dict[str, str]
+    rows: str
+
+
+class Board(NamedTuple):
+    """A site's board after the log up to a place, under a plan of its shard."""
+
+    shard: int
+    site: str
+    place: int
+    plan: int
+    text: str
+
+
+def chunks(board: Board, shown: Mapping[str, tuple[int, str]]) -> list[Chunk]:
+    """What differs from what was shown, some stations at a time."""
+    made, lines, parts, size = list[Chunk](), dict[str, str](), list[Parts](), 0
+    for station, block in blocks(board.text).items():
+        base, before = shown.get(station, (None, ""))
+        if before == block:
+            continue
+        part = new_rows(station, block, before)
+        part["stations"][0]["base"] = base
+        count = sum(map(len, part.values()))
+        if lines and size + count > MOST_ROWS:
+            made.append(Chunk(lines, packed(parts)))
+            lines, parts, size = {}, [], 0
+        lines[station] = block
+        parts.append(part)
+        size += count
+    return made + [Chunk(lines, packed(parts))] * bool(lines)
+
+
+def packed(parts: list[Parts]) -> str:
+    """The rows of some stations, as show_stations takes them."""
+    whole: Parts = {}
+    for part in parts:
+        for name, rows in part.items():
+            if rows:
+                whole.setdefault(name, []).extend(rows)
+    return json.dumps(whole)
+
+
+class BoardWriter:
+    """The session that writes boards."""
+
+    def __init__(self, session: Asked) -> None:
+        self.session = session
+        self.turn = asyncio.Lock()
+
+    async def ask(self, query: str, *values: object) -> list[Any]:
+        """A statement in its turn, and the pause behind it."""
+        async with self.turn:
+            clock = asyncio.get_running_loop().time
+            began = clock()
+            rows = await self.session.ask(query, *values)
+            await asyncio.sleep(PAUSE * (clock() - began))
+        return [row[0] for row in rows]
+
+    async def write(self, board: Board, shown: Shown) -> bool:
+        """Writes a board, and notes in `shown` what it wrote. False where not all of it could be."""
+        made = await asyncio.to_thread(chunks, board, dict(shown.stations))
+        # Without a base each station is among these.
+        names = [name for chunk in made for name in chunk.lines]
+        places = (shown.place, board.place, board.plan)
+        if not (await self.ask(BOARD, board.shard, board.site, *places, board.text, names))[0]:
+            shown.place, shown.stations = None, {}
+            return False
+        shown.place, are_all = board.place, True
+        for chunk in made:
+            values = (board.shard, board.site, board.place, board.plan, chunk.rows)
+            left_out = (await self.ask(STATIONS, *values))[0]
+            for station, lines in chunk.lines.items():
+                shown.stations[station] = (board.place, lines)
+            for station in left_out:
+                del shown.stations[station]
+                are_all = False
+        return are_all

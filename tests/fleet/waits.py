@@ -1,0 +1,181 @@
+"""Measures how long stations wait while something large or slow goes on beside them.
+
+    tests/one fleet.waits ocpp_board
+    tests/one fleet.waits ocpp_board --what open --seconds 60
+
+Stations of some shards send. Meanwhile a transaction that wrote in another database stays open (`open`), boards of 64
+full stations are written whole again and again (`boards`), or a day of 60,000 lines is closed (`closing`). The 99th
+wait of the stations that send has to be below a second. The status is 1 where it is not, or where a board is wrong.
+"""
+
+import argparse
+import asyncio
+import re
+import subprocess
+import sys
+import time
+
+from ocpp_board.fleet.database import connect
+from ocpp_board.fleet.plans import Plan
+from tests.fleet.fleet import FILL, ended
+from tests.fleet.trials import Trial, messages, parsed, parser_of, tried
+
+# Stations of a shard that is full, and of each that sends.
+FULL, EACH = 64, 20
+# Events of a full station, and of one whose sessions are closed: 60,032 lines.
+EVENTS = {"boards": 2048, "closing": 938}
+# By which all stations of the last days are over.
+DAY = "2026-03-20"
+LINES = "select count(*) from own_log where shard = $1"
+# Stations whose rows are those of the plan, and rows of periods and sessions.
+WRITTEN = (
+    "select count(*) from own_board_station join own_shard s using (shard, plan) where shard = $1"
+)
+ROWS = """
+select (select count(*) from own_board_period where shard = $1)
+    + (select count(*) from own_board_transaction where shard = $1)
+"""
+
+
+class Waits(Trial):
+    def __init__(self, words: argparse.Namespace) -> None:
+        super().__init__(words)
+        self.shards = 0
+
+    async def open(self) -> None:
+        await self.one_cell()
+        self.archives = self.fleet.folder / "archives"
+        self.archives.mkdir()
+        self.workers = [self.fleet.worker() for _ in range(2)]
+        _, self.url = await asyncio.to_thread(self.fleet.gateway)
+
+    async def filled(self, events: int) -> tuple[int, list[str]]:
+        """A shard of 64 stations with so many events each: its number, and its lines."""
+        shard, self.shards = self.shards, self.shards + 1
+        first = await self.fleet.add(self.owner, FULL, FULL, shard)
+        lines = list[str]()
+        for number in range(first, first + FULL):
+            texts = dict.fromkeys(messages(number, events))
+            lines += [f"msg CS-{number:05} {text}" for text in texts]
+        await self.owner.execute(FILL, shard, lines)
+        # Its replay begins anew, with these.
+        await self.owner.execute("update own_shard set plan = plan + 1 where shard = $1", shard)
+        await self.owner.execute("select pg_notify('plan', $1)", str(shard))
+        return shard, lines
+
+    async def loaded(self, shard: int, lines: list[str]) -> bool:
+        """Whether the board of a shard comes to be that of a replay of these lines, within two minutes."""
+        plan = await Plan.of(self.owner.fetch, shard, self.fleet.with_period)
+        texts = [*lines, f"board site-{shard}"]
+        script = plan.lines + "".join(f"{text}\n" for text in texts).encode()
+        command = [self.fleet.program, "replay"]
+        made = await asyncio.to_thread(
+            lambda: subprocess.run(command, input=script, stdout=subprocess.PIPE, check=True).stdout
+        )
+        wanted = made[made.index(b"board ") :].decode()
+        query = "select text = $2 from own_board where shard = $1"
+        end = time.monotonic() + 120
+        while not await self.owner.fetchval(query, shard, wanted) and time.monotonic() < end:
+            await asyncio.sleep(0.5)
+        return bool(await self.owner.fetchval(query, shard, wanted))
+
+    async def sent_meanwhile(self, name: str, seconds: float) -> "asyncio.Task[None]":
+        """Stations that send for so many seconds, whose waits are told."""
+        shard, self.shards = self.shards, self.shards + -(-self.words.stations // EACH)
+        first = await self.fleet.add(self.owner, self.words.stations, EACH, shard)
+        # One in five is sent twice.
+        events = max(2, int(seconds * self.words.rate / self.words.stations / 1.2))
+        words = ("--events", events, "--rate", self.words.rate, "--seconds", 3 * seconds + 60)
+        load = self.fleet.load([self.url], first, self.words.stations, *words)
+
+        async def told() -> None:
+            status, text = await ended(load)
+            found = re.search(r"longest \d+ / (\d+) / \d+ ms", text)
+            self.check(status == 0 and found and int(found[1]) < 1000, f"{name}: {text}")
+            differ = await self.fleet.compared(self.owner, shard, 30)
+            self.check(not differ, f"{name}: every board of those that sent {differ or 'is right'}")
+
+        return asyncio.create_task(told())
+
+    async def open_one(self) -> None:
+        """A transaction of another database that has written, and stays open."""
+        self.fleet.databases[0].psql("postgres", "-c", "create database elsewhere")
+        waiting = await self.sent_meanwhile("open", self.words.seconds + 3)
+        await asyncio.sleep(1)
+        session = await connect(self.fleet.dsn("owner", database="elsewhere"))
+        await session.execute("set idle_in_transaction_session_timeout = 0; begin")
+        await session.execute("create table one as select 1")
+        await asyncio.sleep(self.words.seconds)
+        await session.execute("rollback")
+        await session.close()
+        await waiting
+
+    async def boards(self) -> None:
+        """Boards of full stations, which are written whole where their plan changes."""
+        shard, lines = await self.filled(EVENTS["boards"])
+        self.check(await self.loaded(shard, lines), f"boards: {len(lines)} lines of a full shard")
+        waiting, tooks = await self.sent_meanwhile("boards", self.words.seconds), list[float]()
+        session, rows = await self.fleet.owner(), 0
+        while not waiting.done():
+            began = time.monotonic()
+            await session.execute("update own_shard set plan = plan + 1 where shard = $1", shard)
+            await session.execute("delete from own_board_period where shard = $1", shard)
+            await session.execute("select pg_notify('plan', $1)", str(shard))
+            while await session.fetchval(WRITTEN, shard) < FULL and not waiting.done():
+                await asyncio.sleep(0.2)
+            tooks.append(time.monotonic() - began)
+            rows = max(rows, await session.fetchval(ROWS, shard))
+        await session.close()
+        await waiting
+        told = ", ".join(f"{took:.0f}" for took in tooks[:-1])
+        self.check(
+            len(tooks) > 1,
+            f"boards: {rows} rows of periods and sessions, written whole in {told} s",
+        )
+
+    async def closing(self) -> None:
+        """A day whose sessions have 60,000 lines."""
+        shard, lines = await self.filled(EVENTS["closing"])
+        self.check(await self.loaded(shard, lines), f"closing: {len(lines)} lines of a shard")
+        waiting = await self.sent_meanwhile("closing", self.words.seconds)
+        await asyncio.sleep(1)
+        began = time.monotonic()
+        command = self.fleet.closing(f"site-{shard}", self.archives, DAY)
+        status, text = await ended(self.fleet.start(*command, stdout=-1, stderr=-2))
+        took, left = time.monotonic() - began, await self.owner.fetchval(LINES, shard)
+        self.check(
+            status == 0 and left == 0,
+            f"closing: {text}; in {took:.0f} s, {left} lines left in the log",
+        )
+        await waiting
+
+    async def run(self) -> None:
+        await self.open()
+        jobs = {"open": self.open_one, "boards": self.boards, "closing": self.closing}
+        for name in self.words.what:
+            await jobs[name]()
+        await self.owner.close()
+
+
+def main() -> int:
+    """Measures it, and gives the exit status."""
+    parser = parser_of(__doc__)
+    whats = ["open", "boards", "closing"]
+    parser.add_argument(
+        "--what", nargs="+", choices=whats, default=whats, help="which (default: all)"
+    )
+    parser.add_argument(
+        "--seconds", type=float, default=60, help="for which stations send (default: 60)"
+    )
+    parser.add_argument(
+        "--stations", type=int, default=100, help="how many send each time (default: 100)"
+    )
+    parser.add_argument(
+        "--rate", type=float, default=100, help="messages a second in all (default: 100)"
+    )
+    words = parsed(parser)
+    return tried("waits", lambda: Waits(words))
+
+
+if __name__ == "__main__":
+    sys.exit(main())
