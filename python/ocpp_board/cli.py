@@ -39,6 +39,7 @@ TOOLS = {
     "close-day": Tool("fleet.close_day", "fleet: closes a site's settlement day"),
     "compact": Tool("fleet.compact", "fleet: removes repeats from a shard's log"),
     "move": Tool("fleet.move", "fleet: moves a shard to another cell"),
+    "password": Tool("fleet.set_password", "fleet: sets the password of a station"),
 }
 
 

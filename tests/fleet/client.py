@@ -31,10 +31,16 @@ class Client(ClientLink):
         return await asyncio.wait_for(self.heard.get(), seconds)
 
     @classmethod
-    async def open(cls, url: str, station: str) -> "Client":
-        """Connects the station to a gateway."""
+    async def open(cls, url: str, station: str, login: str = "", address: str = "") -> "Client":
+        """Connects the station to a gateway, with a login USER:PASSWORD and from an address of this machine where these
+        are told."""
+        if login:
+            url = url.replace("ws://", f"ws://{login}@")
         loop, whole = asyncio.get_running_loop(), parse_uri(f"{url}/{station}")
         _, link = await loop.create_connection(
-            lambda: cls(f"{url}/{station}"), whole.host, whole.port
+            lambda: cls(f"{url}/{station}"),
+            whole.host,
+            whole.port,
+            local_addr=(address, 0) if address else None,
         )
         return link

@@ -11,6 +11,7 @@ import subprocess
 import sys
 import tempfile
 import time
+from collections.abc import Sequence
 from datetime import date
 from pathlib import Path
 from typing import Any
@@ -241,7 +242,7 @@ class Fleet:
         """The passwords that schema.sql takes from the environment."""
         return {
             f"{role}_PASSWORD": self.password
-            for role in ("GATEWAY", "FEED", "WORKER", "READER", "OPERATOR")
+            for role in ("GATEWAY", "FEED", "WORKER", "READER", "OPERATOR", "PROVISIONER")
         }
 
     def start(self, *command: object, **more: Any) -> subprocess.Popen[bytes]:
@@ -258,7 +259,10 @@ class Fleet:
         code += "\nimport sys; from ocpp_board.cli import main; sys.argv[0] = 'ocpp-board'; sys.exit(main())"
         return self.start(sys.executable, "-c", code, *words, **more)
 
-    def gateway(self, *dsns: str, port: int = 0) -> tuple[subprocess.Popen[bytes], str]:
+    def gateway(
+        self, *dsns: str, port: int = 0, options: Sequence[str] = ("--open",)
+    ) -> tuple[subprocess.Popen[bytes], str]:
+        """A gateway, which asks for no passwords unless its options are others, and the address that stations have."""
         logins = [word for dsn in dsns or [self.dsn("ledger_gateway")] for word in ("--db", dsn)]
         process = self.start(
             *tool("gateway"),
@@ -267,6 +271,7 @@ class Fleet:
             self.program,
             "--port",
             port,
+            *options,
             stdout=subprocess.PIPE,
         )
         assert process.stdout

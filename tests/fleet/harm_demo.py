@@ -337,7 +337,7 @@ class Demo(Trial):
         process = self.fleet.patched(
             "import time; real = time.time; time.time = lambda: real() - 1_700_000_000",
             "gateway", "--db", self.fleet.dsn("ledger_gateway"), "--program", self.fleet.program,
-            "--port", 0, stdout=subprocess.PIPE,
+            "--port", 0, "--open", stdout=subprocess.PIPE,
         )  # fmt: skip
         assert process.stdout
         words = (await asyncio.to_thread(process.stdout.readline)).decode().split()

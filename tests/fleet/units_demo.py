@@ -123,8 +123,9 @@ class Demo(Trial):
         ports, log = [str(free_port()), str(free_port())], self.fleet.folder / "csms.log"
         secret = {"PGPASSWORD": self.fleet.password}
         self.set_up(
-            "gateway", DB=f"--db {self.fleet.dsn('ledger_gateway')}", PORT=ports[0], **secret
-        )
+            "gateway", DB=f"--db {self.fleet.dsn('ledger_gateway')}", PORT=ports[0],
+            OPTIONS="--open", **secret,
+        )  # fmt: skip
         self.set_up("worker", DB=self.fleet.dsn("ledger_worker"), **secret)
         source = f"file {log} --form ocpp --follow"
         self.set_up("feed", DB=f"--db {self.fleet.dsn('ledger_feed')}", SOURCE=source, **secret)

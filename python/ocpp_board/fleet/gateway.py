@@ -6,6 +6,9 @@
 waits for no disk. An event's answer is the worker's, who tells it once the event's line is in the log on disk; what has
 no answer the gateway appends again where its session with the database ends. What surely is no event is answered by
 a `replay` of the gateway's own and not kept. It keeps nothing: stations send again what has no answer.
+
+A station is let in by HTTP Basic, with its name and the password that `ocpp-board password` set; with --open each one
+of the plan is.
 """
 
 import argparse
@@ -25,7 +28,7 @@ import asyncpg
 from websockets.http11 import Request, Response
 from websockets.server import ServerConnection
 
-from ocpp_board.fleet import parts
+from ocpp_board.fleet import parts, passwords
 from ocpp_board.fleet.database import (
     BY_INDEX,
     FORMER,
@@ -35,6 +38,7 @@ from ocpp_board.fleet.database import (
     said,
     within,
 )
+from ocpp_board.fleet.passwords import Given, Passwords, Stored, Verdict
 from ocpp_board.fleet.plans import knows_period
 from ocpp_board.fleet.replays import Replay, ReplayEnded
 from ocpp_board.fleet.websocket import MOST, SUBPROTOCOL, Link
@@ -73,6 +77,8 @@ BATCH, BATCH_BYTES, GATHERED = 1000, 4_000_000, 0.005
 # Seconds: for the database or a replay to answer, for a handshake from its connection on, and without a byte from a
 # station, twice its heartbeat interval; between looks for stations that the plan did not have.
 ANSWER, HANDSHAKE, SILENCE, LOOKS = 10, 10, 600, 0.05
+# What one who is not let in is told, whatever of it was wrong.
+ASKED = "a station's name and its password are asked for\n"
 # What a station may have appended: events and bytes a second, and for how many seconds at once.
 EVENTS, BYTES, BURST = 20, 65_536, 60
 # Seconds for which an event that was accepted last is answered again without being appended. Not for ever: an operator
@@ -103,6 +109,11 @@ where s.moving_to is null and t.retired is null and ($1::int[] is null or s.shar
 NAMED = """
 select t.shard, t.station from own_station t join own_shard s using (shard)
 where t.station = any($1) and s.moving_to is null and t.retired is null
+"""
+# Also of a station whose shard moves: it is told to come again, and not that its password is wrong.
+PASSWORDS = """
+select p.station, hash, salt, seen_at from station_password p join own_station t using (station)
+where p.station = any($1) and t.retired is null order by p.station, set_at desc
 """
 
 
@@ -168,7 +179,7 @@ class Cell:
         self.queue: deque[int] = deque()
         self.filled, self.asked = asyncio.Event(), asyncio.Event()
         # Stations that came and were not in the plan when it was read.
-        self.sought: dict[str, asyncio.Future[None]] = {}
+        self.sought: dict[str, asyncio.Future[list[Any]]] = {}
         self.second: Any = None
         self.is_up = False
         self.asking = asyncio.Lock()
@@ -221,6 +232,8 @@ class Cell:
         await second.add_listener(
             "plan", lambda *words: asyncio.ensure_future(self.replan([int(words[3])]))
         )
+        await second.add_listener("password", lambda *words: self.gateway.door.forget(words[3]))
+        self.gateway.door.forget_all()
         await self.load(None)
         if self.last_told:
             self.tell_once(f"{self.dsn}: connected")
@@ -253,12 +266,23 @@ class Cell:
         except (*LOST, asyncpg.PostgresError):
             pass  # The session is lost, and the next one reads all.
 
-    async def find(self, station: str) -> None:
-        """Looks for one station, which may be new. Raises CancelledError where the database is lost meanwhile."""
+    async def saw(self, station: str, known: bytes) -> bool:
+        """Notes that a station came with this password. Whether it has it still, and the cell answers."""
+        try:
+            is_there: bool = await self.ask(
+                "fetchval", "select saw_password($1, $2)", station, known
+            )
+        except (*LOST, asyncpg.PostgresError):
+            return False
+        return is_there
+
+    async def find(self, station: str) -> list[Stored]:
+        """Looks for one station, which may be new, and for its passwords, where these are asked for. Raises
+        CancelledError where the database is lost meanwhile."""
         if station not in self.sought:
             self.sought[station] = asyncio.get_running_loop().create_future()
             self.asked.set()
-        await asyncio.shield(self.sought[station])
+        return passwords.stored(self, await asyncio.shield(self.sought[station]))
 
     async def look(self, session: Any) -> None:
         """Looks for all who came since the last look, so that strangers keep nobody else waiting."""
@@ -270,13 +294,17 @@ class Cell:
                 rows = await within(ANSWER, session, "fetch", NAMED, list(sought))
                 found = {row["station"]: row["shard"] for row in rows}
                 self.gateway.move_in(self, found, set())
+                stored = dict[str, list[Any]]()
+                if not self.gateway.words.open:
+                    for row in await within(ANSWER, session, "fetch", PASSWORDS, list(sought)):
+                        stored.setdefault(row["station"], []).append(row)
             except BaseException:
                 for future in sought.values():
                     future.cancel()
                 raise
-            for future in sought.values():
+            for station, future in sought.items():
                 if not future.done():
-                    future.set_result(None)
+                    future.set_result(stored.get(station, []))
             await asyncio.sleep(LOOKS)
 
     async def append(self, session: Any) -> None:
@@ -326,7 +354,7 @@ class StationLink(Link):
         super().__init__(self.server)
         self.gateway = gateway
         self.began = self.seen = time.monotonic()
-        self.is_in = False
+        self.has_asked = False
         self.unanswered = 0
         # Why no messages are read: the station reads too slowly, or sends too much.
         self.is_slow = self.is_paced = False
@@ -347,15 +375,24 @@ class StationLink(Link):
 
     def handshake(self, event: Request | Response) -> None:
         assert isinstance(event, Request)
+        self.has_asked = True
         self.name = station_in(event.path)
-        if self.name in self.gateway.homes:
+        given = passwords.taken_from(event.headers, self.name)
+        is_open = self.gateway.words.open
+        if self.name in self.gateway.homes and (
+            is_open or self.gateway.door.is_known(self.name, given)
+        ):
             self.admit(event)
-        else:
+        elif is_open or not self.name:
             self.gateway.spawn(self.look_for(event))
+        elif given.is_basic:
+            self.gateway.spawn(self.judge(event, given))
+        else:
+            self.reject(http.HTTPStatus.UNAUTHORIZED, ASKED)
 
     async def look_for(self, event: Request) -> None:
         """Lets a station in that is not known yet, where a cell has it."""
-        are_all_up = await self.gateway.find(self.name) if self.name else True
+        are_all_up, _ = await self.gateway.find(self.name) if self.name else (True, [])
         if self.is_lost:
             return
         if self.name in self.gateway.homes:
@@ -368,17 +405,35 @@ class StationLink(Link):
                 "a cell does not answer: the station may be one of its\n",
             )
 
+    async def judge(self, event: Request, given: Given) -> None:
+        """Lets a station in whose password is right; one that the plan does not have is told what a wrong one is."""
+        name = self.name
+        peer = str((self.transport.get_extra_info("peername") or ("",))[0])
+        address = passwords.address_of(peer, event.headers, self.gateway.words.proxy)
+        verdict = await self.gateway.door.judge(
+            name, address, given, lambda: self.gateway.find(name)
+        )
+        if self.is_lost:
+            return
+        if verdict is Verdict.WRONG:
+            self.reject(http.HTTPStatus.UNAUTHORIZED, ASKED)
+        elif verdict is Verdict.RIGHT and name in self.gateway.homes:
+            self.admit(event)
+        else:
+            self.reject(http.HTTPStatus.SERVICE_UNAVAILABLE, "not at the moment: come again\n")
+
     def reject(self, status: http.HTTPStatus, text: str) -> None:
         """Sends a station away."""
         response = self.server.reject(status, text)
         if status is http.HTTPStatus.SERVICE_UNAVAILABLE:
             response.headers["Retry-After"] = "5"
+        elif status is http.HTTPStatus.UNAUTHORIZED:
+            response.headers["WWW-Authenticate"] = 'Basic realm="ocpp", charset="UTF-8"'
         self.server.send_response(response)
         self.flush()
 
     def admit(self, event: Request) -> None:
         """Lets a station in that offers the subprotocol."""
-        self.is_in = True
         response = self.server.accept(event)
         self.server.send_response(response)
         self.flush()
@@ -531,6 +586,7 @@ class Gateway:
         self.name = f"gateway_{secrets.token_hex(6)}"
         self.cells = [Cell(self, dsn) for dsn in words.db]
         self.own = OwnReplay(words.program)
+        self.door = Passwords()
         # Where each station's events go: its cell and its shard.
         self.homes: dict[str, tuple[Cell, int]] = {}
         self.waiting: dict[int, Wait] = {}
@@ -584,11 +640,12 @@ class Gateway:
                 [token for token, wait in self.waiting.items() if wait.link.name in new]
             )
 
-    async def find(self, station: str) -> bool:
-        """Looks for a station in all cells. Whether all answered."""
+    async def find(self, station: str) -> tuple[bool, list[Stored]]:
+        """Looks for a station in all cells. Whether all answered, and its passwords where they are asked for."""
         up = [cell for cell in self.cells if cell.is_up]
         found = await asyncio.gather(*(cell.find(station) for cell in up), return_exceptions=True)
-        return len(up) == len(self.cells) and all(one is None for one in found)
+        lists = [one for one in found if isinstance(one, list)]
+        return len(lists) == len(self.cells), [known for one in lists for known in one]
 
     def answered(self, _session: Any, _pid: int, _channel: str, payload: str) -> None:
         """A worker told answers."""
@@ -608,7 +665,7 @@ class Gateway:
                     del self.waiting[token]
                     wait.link.close(1013, "no answer yet, try again")
             for link in list(self.links):
-                if not link.is_in and link.began < now - HANDSHAKE:
+                if not link.has_asked and link.began < now - HANDSHAKE:
                     link.transport.abort()
                 elif link.seen < now - SILENCE:
                     link.close(1000, f"nothing came for {SILENCE} seconds")
@@ -616,6 +673,8 @@ class Gateway:
 
     async def run(self) -> None:
         """Listens, once a cell is up, until a job fails."""
+        if self.words.open:
+            log.warning("--open: each station of the plan is let in without a password")
         jobs = [
             asyncio.create_task(job)
             for job in (*(cell.run() for cell in self.cells), self.own.run(), self.give_up())
@@ -646,6 +705,18 @@ def main(argv: Sequence[str], prog: str) -> int:
         type=float,
         default=25,
         help="seconds until a station is sent away (default: 25)",
+    )
+    parser.add_argument(
+        "--proxy",
+        metavar="ADDRESS",
+        action="append",
+        default=[],
+        help="a proxy before it, which tells the address of a station in X-Forwarded-For",
+    )
+    parser.add_argument(
+        "--open",
+        action="store_true",
+        help="let each station of the plan in without a password, as in a laboratory",
     )
     words = parts.parsed(parser, argv)
 

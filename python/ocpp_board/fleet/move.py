@@ -43,6 +43,10 @@ select plan + 1 as plan, taken, freed, told, bytes from own_shard join numbering
 NUMBERING = "update numbering set taken = $2, freed = $3, told = $4, bytes = $5 where shard = $1"
 KEPT = "select at, gateway, token, line from inbox_kept where shard = $1 order by id"
 KEEP = "insert into inbox_kept (shard, at, gateway, token, line) values ($1, $2, $3, $4, $5)"
+PASSWORDS = """
+select p.* from station_password p join own_station using (station) where shard = $1 order by station, set_at
+"""
+SET = "insert into station_password (station, hash, salt, set_at, seen_at) values ($1, $2, $3, $4, $5)"
 # What goes with a shard, in an order in which it can be written.
 PARTS = (
     ("own_site", "site, period, zone", "site"),
@@ -127,6 +131,8 @@ class Move:
                     f"insert into {table} (shard, {columns}) values ($1, {marks})",
                     [(self.shard, *row.values()) for row in rows],
                 )
+            passwords = await self.source.fetch(PASSWORDS, self.shard)
+            await self.target.executemany(SET, [tuple(row) for row in passwords])
             kept = await self.source.fetch(KEPT, self.shard)
             await self.target.executemany(KEEP, [(self.shard, *row) for row in kept])
 

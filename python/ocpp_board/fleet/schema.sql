@@ -5,8 +5,8 @@
 -- Needs PostgreSQL 15, a superuser, and a database that is empty or has the schema of an earlier version, which it
 -- brings to this one in one transaction: all tools are stopped before it, and those of this version started behind it.
 -- The passwords of the roles come from the environment:
--- GATEWAY_PASSWORD, FEED_PASSWORD, WORKER_PASSWORD, READER_PASSWORD and OPERATOR_PASSWORD; a role whose variable is not
--- set gets none.
+-- GATEWAY_PASSWORD, FEED_PASSWORD, WORKER_PASSWORD, READER_PASSWORD, OPERATOR_PASSWORD and PROVISIONER_PASSWORD; a role
+-- whose variable is not set gets none.
 --
 -- shard, site, station, log and board are tables over all cells; what lies in this one is own_shard, own_site, own_station,
 -- own_log and own_board, and `see_cell` adds another one's. Gateways and workers use the own ones alone, so that a cell
@@ -21,6 +21,7 @@
 \getenv worker_password WORKER_PASSWORD
 \getenv reader_password READER_PASSWORD
 \getenv operator_password OPERATOR_PASSWORD
+\getenv provisioner_password PROVISIONER_PASSWORD
 
 begin;
 set local client_min_messages = warning;
@@ -36,7 +37,8 @@ do $$
 declare
     role_name text;
 begin
-    foreach role_name in array array['ledger_gateway', 'ledger_feed', 'ledger_worker', 'ledger_reader', 'ledger_operator'] loop
+    foreach role_name in array array['ledger_gateway', 'ledger_feed', 'ledger_worker', 'ledger_reader', 'ledger_operator',
+            'ledger_provisioner'] loop
         if not exists (select from pg_roles where rolname = role_name) then
             execute format('create role %I login', role_name);
         end if;
@@ -56,6 +58,9 @@ end $$;
 \endif
 \if :{?operator_password}
     alter role ledger_operator password :'operator_password';
+\endif
+\if :{?provisioner_password}
+    alter role ledger_provisioner password :'provisioner_password';
 \endif
 
 create table if not exists own_cell (
@@ -255,6 +260,71 @@ create or replace view station_twice as
     select station, array_agg(cell order by cell) as cells
     from station join shard using (cell, shard) where moving_to is null
     group by station having count(*) > 1;
+
+-- Passwords ----------------------------------------------------------------------------------------------------------
+
+-- The passwords by which gateways let stations in, as salted hashes (passwords.py). A station has two from when a new one
+-- is set until it comes with that.
+create table if not exists station_password (
+    station name_in_plan not null references own_station on delete cascade on update cascade,
+    hash bytea not null,
+    salt bytea not null,
+    set_at timestamptz not null,
+    seen_at timestamptz,                   -- when the station came with it first
+    primary key (station, set_at),
+    constraint "a hash has 32 bytes" check (octet_length(hash) = 32),
+    constraint "a salt has 16 bytes" check (octet_length(salt) = 16)
+);
+
+-- Gateways forget what was right.
+create or replace function password_changed() returns trigger language plpgsql as $$
+begin
+    if tg_op <> 'INSERT' then
+        perform pg_notify('password', old.station);
+    end if;
+    if tg_op <> 'DELETE' then
+        perform pg_notify('password', new.station);
+    end if;
+    return null;
+end $$;
+create or replace trigger password_changed after insert or delete or update of station, hash, salt on station_password
+    for each row execute function password_changed();
+
+-- Sets a station's password. The one that it came with last is good until it comes with the new one, or ends at once. A
+-- shard that moves takes none: they are carried with it.
+create or replace function set_password(station_name text, new_hash bytea, new_salt bytea, at_once boolean default false)
+    returns void language plpgsql security definer set search_path = public, pg_temp as $$
+begin
+    perform from own_shard s where moving_to is null
+        and shard = (select shard from own_station where station = station_name) for key share;
+    if not found then
+        raise 'no station % in this cell, or its shard moves to another one', station_name;
+    end if;
+    perform from own_station where station = station_name for no key update;
+    delete from station_password where station = station_name and (at_once or set_at <> (
+        select set_at from station_password where station = station_name order by seen_at is null, set_at desc limit 1));
+    insert into station_password (station, hash, salt, set_at)
+        select station_name, new_hash, new_salt, greatest(clock_timestamp(), max(set_at) + interval '1 microsecond')
+        from station_password where station = station_name;
+end $$;
+revoke execute on function set_password(text, bytea, bytea, boolean) from public;
+
+-- A station came with this password, so older ones end. Whether the station has it still.
+create or replace function saw_password(station_name text, seen_hash bytea)
+    returns boolean language plpgsql security definer set search_path = public, pg_temp as $$
+declare
+    seen timestamptz;
+begin
+    perform from own_shard s where moving_to is null
+        and shard = (select shard from own_station where station = station_name) for key share;
+    if found then
+        update station_password set seen_at = coalesce(seen_at, now())
+            where station = station_name and hash = seen_hash returning set_at into seen;
+        delete from station_password where station = station_name and set_at < seen;
+    end if;
+    return seen is not null;
+end $$;
+revoke execute on function saw_password(text, bytea) from public;
 
 -- The log ------------------------------------------------------------------------------------------------------------
 
@@ -820,17 +890,25 @@ revoke execute on function remove_repeats(integer, bigint, bigint[]) from public
 
 -- Roles --------------------------------------------------------------------------------------------------------------
 
--- A gateway sees the plan and inserts `msg` lines; it reads, changes and removes nothing.
-grant select on own_cell, own_shard, own_site, own_station to ledger_gateway, ledger_worker, ledger_reader;
+-- A gateway sees the plan and the hashes of passwords, tells which one it saw, and inserts `msg` lines; it reads, changes
+-- and removes nothing else.
+grant select on own_cell, own_shard, own_site, own_station to ledger_gateway, ledger_feed, ledger_worker, ledger_reader;
+grant select on station_password to ledger_gateway;
+grant execute on function saw_password(text, bytea) to ledger_gateway;
 grant insert (shard, gateway, token, line), select (shard, id) on inbox to ledger_gateway;
-grant usage on sequence place_in_inbox to ledger_gateway;
+grant usage on sequence place_in_inbox to ledger_gateway, ledger_feed;
 alter table inbox enable row level security;
 drop policy if exists messages on inbox;
 create policy messages on inbox for insert to ledger_gateway with check (line like 'msg %');
 drop policy if exists numbers on inbox;
 create policy numbers on inbox for select to ledger_gateway using (true);
 -- A feed inserts such lines where they are kept, and keeps how far it came and what has no station yet.
-grant ledger_gateway to ledger_feed;
+do $$
+begin
+    if pg_has_role('ledger_feed', 'ledger_gateway', 'member') then
+        revoke ledger_gateway from ledger_feed;
+    end if;
+end $$;
 grant insert (shard, line), select (shard, id) on inbox_kept to ledger_feed;
 alter table inbox_kept enable row level security;
 drop policy if exists messages on inbox_kept;
@@ -845,6 +923,8 @@ drop policy if exists commands on inbox_kept;
 create policy commands on inbox_kept for insert to ledger_operator with check (line !~ '^msg ');
 drop policy if exists numbers on inbox_kept;
 create policy numbers on inbox_kept for select to ledger_feed, ledger_operator using (true);
+-- A provisioner sets passwords of stations, and sees nothing.
+grant execute on function set_password(text, bytea, bytea, boolean) to ledger_provisioner;
 
 -- A worker moves lines into the log, and writes boards.
 grant select, delete on inbox, inbox_kept to ledger_worker;

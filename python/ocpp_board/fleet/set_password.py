@@ -1,0 +1,62 @@
+"""Sets the password by which gateways let a station in (HTTP Basic, OCPP 2.0.1 Part 2, BasicAuthPassword).
+
+    PGPASSWORD=.. ocpp-board password --db postgresql://ledger_provisioner@a:5432,b:5432/ledger CS-00441 < FILE
+
+It reads the password, 16 to 40 characters, from standard input: one line. The plan keeps a salted hash of it. What the
+station came with last stays good until it comes with the new one; with --at-once it ends now, for a password that
+others may know. Connections that stand go on.
+"""
+
+import argparse
+import getpass
+import secrets
+import sys
+from collections.abc import Sequence
+
+from ocpp_board.fleet import parts
+from ocpp_board.fleet.database import Fault, connect
+from ocpp_board.fleet.passwords import SALT, fault_of, hashed
+from ocpp_board.words import parser_of
+
+NAME = "ocpp-board password"
+# Characters that are read at most: a longer line is no password.
+LONGEST_READ = 4096
+
+
+def read() -> str:
+    """The password from standard input; a terminal does not show it. Raises Fault where it may not be one."""
+    try:
+        text = getpass.getpass() if sys.stdin.isatty() else sys.stdin.readline(LONGEST_READ)
+    except (EOFError, UnicodeDecodeError):
+        raise Fault("standard input has no password") from None
+    password = text.removesuffix("\n").removesuffix("\r")
+    if fault := fault_of(password):
+        raise Fault(fault)
+    return password
+
+
+async def run(words: argparse.Namespace) -> None:
+    """Sets it. Raises Fault where the cell has no such station."""
+    password, salt = read(), secrets.token_bytes(SALT)
+    session = await connect(words.db, application_name=NAME)
+    await session.execute(
+        "select set_password($1, $2, $3, $4)",
+        words.station,
+        hashed(password.encode(), salt),
+        salt,
+        words.at_once,
+    )
+    await session.close()
+    print(f"{words.station}: the password is set")
+
+
+def main(argv: Sequence[str], prog: str) -> int:
+    """Runs the program with these words; gives its exit status."""
+    parser = parser_of(prog, __doc__)
+    parts.add_cell(parser, f"the database of the station's cell: {parts.ADDRESS}")
+    parser.add_argument("station", metavar="STATION", help="which station")
+    parser.add_argument(
+        "--at-once", action="store_true", help="the password that it had is good no longer"
+    )
+    words = parts.parsed(parser, argv)
+    return parts.done(lambda: run(words))
