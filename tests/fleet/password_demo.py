@@ -4,7 +4,8 @@
 
 It starts PostgreSQL 15 in a temporary folder and a gateway, sets passwords by the tool, and plays stations and
 strangers: with no password, a wrong one, another station's, one that was changed; and with so many wrong ones that
-they are slowed down, which may be so for nobody else. The status is 1 where something is not as it must be.
+they are slowed down, which may be so for nobody else. A station that connects again, here or at another gateway, has
+to end its older connection. The status is 1 where something is not as it must be.
 """
 
 import argparse
@@ -17,13 +18,14 @@ import time
 from collections.abc import Callable
 
 import asyncpg
+from websockets.frames import OP_TEXT, Frame
 from websockets.http11 import Request, Response
 
 from ocpp_board.fleet.database import connect
 from ocpp_board.fleet.passwords import FREE, PAUSE, SALT, hashed
 from tests.fleet.client import Client
 from tests.fleet.fleet import tool
-from tests.fleet.trials import Trial, parsed, parser_of, tried
+from tests.fleet.trials import Trial, event, parsed, parser_of, tried
 
 A, B, C, D, E, UNKNOWN = "CS-00000", "CS-00001", "CS-00002", "CS-00003", "CS-00004", "CS-99999"
 # What each station has at first, and what some have later.
@@ -31,6 +33,11 @@ FIRST = {name: f"first-{name}-0123" for name in (A, B, C, D, E)}
 SECOND, THIRD, WRONG = "second-4567-89ab-cdef", "third-89ab-cdef-0123", "wrong-0123-4567-89ab"
 # Seconds in which a gateway hears of what was changed.
 HEARD = 0.3
+HANDSHAKE = (
+    "GET /ocpp/{} HTTP/1.1\r\nHost: a\r\nUpgrade: websocket\r\nConnection: Upgrade\r\n"
+    "Sec-WebSocket-Version: 13\r\nSec-WebSocket-Key: AAAAAAAAAAAAAAAAAAAAAA==\r\n"
+    "Sec-WebSocket-Protocol: ocpp2.0.1\r\nAuthorization: Basic {}\r\n\r\n"
+)
 OPEN = "--open: each station of the plan is let in without a password"
 
 
@@ -153,6 +160,24 @@ class Demo(Trial):
             f"all of these are answered alike: {answers[0]}",
         )
 
+    async def hasty(self) -> None:
+        """Who sends an event without waiting for the answer to its handshake."""
+        host, port = self.url.removeprefix("ws://").removesuffix("/ocpp").split(":")
+        text = event("TX-HASTY", 0, "Started", "2026-03-01T10:00:00Z", 1000)
+        for password, wanted in ((WRONG, b" 401 "), (FIRST[A], b" 101 ")):
+            reader, writer = await asyncio.open_connection(host, int(port))
+            login = base64.b64encode(f"{A}:{password}".encode()).decode()
+            frame = Frame(OP_TEXT, text.encode()).serialize(mask=True)
+            writer.write(HANDSHAKE.format(A, login).encode() + frame)
+            line = await asyncio.wait_for(reader.readline(), 10)
+            await asyncio.sleep(HEARD)
+            lines = await self.owner.fetchval("select count(*) from inbox")
+            self.check(
+                wanted in line and lines == 0,
+                f"an event that comes with its handshake: {line.decode().strip()}, {lines} appended",
+            )
+            writer.close()
+
     async def rotation(self) -> None:
         """The old password is good until the new one is seen."""
         await self.is_answered("the first password", 101, B, FIRST[B])
@@ -207,6 +232,31 @@ class Demo(Trial):
         )
         await took("another name from another address", is_quick, D, FIRST[D])
 
+    async def connected_again(self) -> None:
+        """The newer connection of a station is served, and the older one is closed."""
+        other, url = await asyncio.to_thread(self.fleet.gateway, options=())
+        links = list[Client]()
+        for place in (self.url, self.url, url, self.url, url):
+            links.append(await Client.open(place, D, f"{D}:{FIRST[D]}", self.address()))
+            self.check(await links[-1].said() == "101", f"connection {len(links)} of {D}")
+            if len(links) > 1:
+                heard = await links[-2].said(5)
+                reason = links[-2].connection.close_reason
+                self.check(
+                    heard == "closed 1000" and reason == "the station connected again",
+                    f"connection {len(links) - 1}: {heard}, {reason}",
+                )
+            await asyncio.sleep(HEARD)
+        links[-1].send(b'[2,"1","Heartbeat",{}]')
+        heard = await links[-1].said()
+        self.check(heard.startswith('[3,"1",'), f"the last one is served: {heard}")
+        both = [await Client.open(place, D, f"{D}:{FIRST[D]}") for place in (self.url, url)]
+        heards = [await link.said() for link in both] + [await links[-1].said()]
+        await asyncio.sleep(HEARD)
+        left = [link for link in both if not link.is_lost]
+        self.check(len(left) == 1, f"of two at once one is left: {len(left)}, {heards}")
+        other.kill()
+
     async def log(self) -> None:
         """What is told."""
         text = (self.fleet.folder / "parts.log").read_text()
@@ -257,9 +307,11 @@ class Demo(Trial):
         await self.tools()
         await self.roles()
         await self.strangers()
+        await self.hasty()
         await self.rotation()
         await self.changes()
         await self.slowed()
+        await self.connected_again()
         await self.log()
         process.kill()
         await self.moved()

@@ -84,6 +84,8 @@ EVENTS, BYTES, BURST = 20, 65_536, 60
 # Seconds for which an event that was accepted last is answered again without being appended. Not for ever: an operator
 # may have erased it.
 REPEATED = 60
+# Stations of one notification of those that were let in.
+LET_IN = 100
 # Moments that the ledger knows, in seconds since 1970.
 MOMENTS = (FIRST_MOMENT.timestamp(), PAST_MOMENTS.timestamp())
 # Each shard is woken by the number of its first line; 250 of these fit into a notification.
@@ -180,6 +182,9 @@ class Cell:
         self.filled, self.asked = asyncio.Event(), asyncio.Event()
         # Stations that came and were not in the plan when it was read.
         self.sought: dict[str, asyncio.Future[list[Any]]] = {}
+        # Stations that were let in, for gateways to hear of it, each with the number of its connection.
+        self.let_in: dict[str, int] = {}
+        self.has_let_in = asyncio.Event()
         self.second: Any = None
         self.is_up = False
         self.asking = asyncio.Lock()
@@ -199,7 +204,11 @@ class Cell:
                 await self.open(sessions[1])
                 jobs = [
                     asyncio.create_task(job)
-                    for job in (self.append(sessions[0]), self.look(sessions[2]))
+                    for job in (
+                        self.append(sessions[0]),
+                        self.look(sessions[2]),
+                        self.tell_let_in(),
+                    )
                 ]
                 try:
                     done, _ = await asyncio.wait(jobs, return_when=asyncio.FIRST_EXCEPTION)
@@ -233,7 +242,9 @@ class Cell:
             "plan", lambda *words: asyncio.ensure_future(self.replan([int(words[3])]))
         )
         await second.add_listener("password", lambda *words: self.gateway.door.forget(words[3]))
+        await second.add_listener("let_in", lambda *words: self.gateway.heard_let_in(words[3]))
         self.gateway.door.forget_all()
+        self.has_let_in.set()
         await self.load(None)
         if self.last_told:
             self.tell_once(f"{self.dsn}: connected")
@@ -307,6 +318,26 @@ class Cell:
                     future.set_result(stored.get(station, []))
             await asyncio.sleep(LOOKS)
 
+    async def tell_let_in(self) -> None:
+        """Tells all gateways, this one too, which stations were let in here, in the order of the database."""
+        while True:
+            await self.has_let_in.wait()
+            self.has_let_in.clear()
+            while self.let_in:
+                some = list(self.let_in.items())[:LET_IN]
+                # One that is gone is not told: its station may be elsewhere by now.
+                words = [
+                    f"{station}:{number}"
+                    for station, number in some
+                    if self.gateway.is_served(station, number)
+                ]
+                payload = " ".join([self.gateway.name, *words])
+                await self.ask("execute", "select pg_notify('let_in', $1)", payload)
+                for station, number in some:
+                    if self.let_in.get(station) == number:
+                        del self.let_in[station]
+            await asyncio.sleep(LOOKS)
+
     async def append(self, session: Any) -> None:
         """Appends what waits, batch by batch."""
         while True:
@@ -355,6 +386,8 @@ class StationLink(Link):
         self.gateway = gateway
         self.began = self.seen = time.monotonic()
         self.has_asked = False
+        # Its number among those that were let in, and whether all gateways heard of it.
+        self.number, self.is_told = 0, False
         self.unanswered = 0
         # Why no messages are read: the station reads too slowly, or sends too much.
         self.is_slow = self.is_paced = False
@@ -368,6 +401,8 @@ class StationLink(Link):
     def connection_lost(self, fault: Exception | None) -> None:
         super().connection_lost(fault)
         self.gateway.links.discard(self)
+        if self.gateway.served.get(self.name) is self:
+            del self.gateway.served[self.name]
 
     def data_received(self, data: bytes) -> None:
         self.seen = time.monotonic()
@@ -437,8 +472,16 @@ class StationLink(Link):
         response = self.server.accept(event)
         self.server.send_response(response)
         self.flush()
-        if response.status_code == 101 and self.connection.subprotocol is None:
+        if response.status_code != 101:
+            return
+        if self.connection.subprotocol is None:
             self.close(1002, f"the subprotocol {SUBPROTOCOL} is not offered")
+        else:
+            self.gateway.serve(self)
+
+    def replace(self) -> None:
+        """The station has a newer connection, here or at another gateway."""
+        self.close(1000, "the station connected again")
 
     def text(self, data: bytes) -> None:
         try:
@@ -592,6 +635,9 @@ class Gateway:
         self.waiting: dict[int, Wait] = {}
         self.paces: dict[str, Pace] = {}
         self.links: set[StationLink] = set()
+        # The connection of each station, and how many there were.
+        self.served: dict[str, StationLink] = {}
+        self.let_in = 0
         self.jobs: set[asyncio.Task[None]] = set()
         self.token = 0
 
@@ -600,6 +646,33 @@ class Gateway:
         task = asyncio.create_task(job)
         self.jobs.add(task)
         task.add_done_callback(self.jobs.discard)
+
+    def serve(self, link: StationLink) -> None:
+        """Serves a station by this connection, which ends an older one here, and by a notification elsewhere."""
+        if older := self.served.get(link.name):
+            older.replace()
+        self.let_in += 1
+        link.number = self.let_in
+        self.served[link.name] = link
+        cell, _ = self.homes[link.name]
+        cell.let_in[link.name] = link.number
+        cell.has_let_in.set()
+
+    def is_served(self, station: str, number: int) -> bool:
+        """Whether the connection of this number is still the one by which the station is served here."""
+        link = self.served.get(station)
+        return link is not None and link.number == number
+
+    def heard_let_in(self, payload: str) -> None:
+        """A gateway let stations in. What was told here before that is older; what is told later is newer."""
+        gateway, *words = payload.split(" ")
+        for word in words:
+            station, _, number = word.rpartition(":")
+            link = self.served.get(station)
+            if link and gateway != self.name and link.is_told:
+                link.replace()
+            elif link and gateway == self.name and self.is_served(station, int(number)):
+                link.is_told = True
 
     def keep(self, link: StationLink, text: str) -> None:
         """Takes an event, which waits for its answer."""

@@ -49,6 +49,8 @@ class Link(asyncio.Protocol):
         for event in self.connection.events_received():
             if not isinstance(event, Frame):
                 self.handshake(event)
+            elif self.connection.state is State.CONNECTING:
+                continue  # What comes before the other end is let in is nobody's.
             elif event.opcode in (OP_TEXT, OP_BINARY, OP_CONT):
                 self.frame(event)
         self.flush()
