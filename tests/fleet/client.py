@@ -1,6 +1,7 @@
 """A station that sends to a gateway what it is told to."""
 
 import asyncio
+import ssl
 
 from websockets.http11 import Request, Response
 from websockets.uri import parse_uri
@@ -31,16 +32,24 @@ class Client(ClientLink):
         return await asyncio.wait_for(self.heard.get(), seconds)
 
     @classmethod
-    async def open(cls, url: str, station: str, login: str = "", address: str = "") -> "Client":
-        """Connects the station to a gateway, with a login USER:PASSWORD and from an address of this machine where these
-        are told."""
+    async def open(
+        cls,
+        url: str,
+        station: str,
+        login: str = "",
+        address: str = "",
+        context: ssl.SSLContext | None = None,
+    ) -> "Client":
+        """Connects the station to a gateway, with a login USER:PASSWORD, from an address of this machine and by TLS
+        where these are told."""
         if login:
-            url = url.replace("ws://", f"ws://{login}@")
+            url = url.replace("://", f"://{login}@")
         loop, whole = asyncio.get_running_loop(), parse_uri(f"{url}/{station}")
         _, link = await loop.create_connection(
             lambda: cls(f"{url}/{station}"),
             whole.host,
             whole.port,
             local_addr=(address, 0) if address else None,
+            ssl=context,
         )
         return link

@@ -8,7 +8,7 @@ no answer the gateway appends again where its session with the database ends. Wh
 a `replay` of the gateway's own and not kept. It keeps nothing: stations send again what has no answer.
 
 A station is let in by HTTP Basic, with its name and the password that `ocpp-board password` set; with --open each one
-of the plan is.
+of the plan is, and with --client-ca who has a certificate of its name.
 """
 
 import argparse
@@ -28,7 +28,7 @@ import asyncpg
 from websockets.http11 import Request, Response
 from websockets.server import ServerConnection
 
-from ocpp_board.fleet import parts, passwords
+from ocpp_board.fleet import parts, passwords, station_tls
 from ocpp_board.fleet.database import (
     BY_INDEX,
     FORMER,
@@ -306,7 +306,7 @@ class Cell:
                 found = {row["station"]: row["shard"] for row in rows}
                 self.gateway.move_in(self, found, set())
                 stored = dict[str, list[Any]]()
-                if not self.gateway.words.open:
+                if not (self.gateway.words.open or self.gateway.words.client_ca):
                     for row in await within(ANSWER, session, "fetch", PASSWORDS, list(sought)):
                         stored.setdefault(row["station"], []).append(row)
             except BaseException:
@@ -414,6 +414,13 @@ class StationLink(Link):
         self.name = station_in(event.path)
         given = passwords.taken_from(event.headers, self.name)
         is_open = self.gateway.words.open
+        if self.gateway.words.client_ca:
+            certificate = self.transport.get_extra_info("peercert")
+            if station_tls.common_name(certificate) != self.name:
+                return self.reject(
+                    http.HTTPStatus.FORBIDDEN, "the certificate is of another name\n"
+                )
+            is_open = True
         if self.name in self.gateway.homes and (
             is_open or self.gateway.door.is_known(self.name, given)
         ):
@@ -424,6 +431,7 @@ class StationLink(Link):
             self.gateway.spawn(self.judge(event, given))
         else:
             self.reject(http.HTTPStatus.UNAUTHORIZED, ASKED)
+        return None
 
     async def look_for(self, event: Request) -> None:
         """Lets a station in that is not known yet, where a cell has it."""
@@ -630,6 +638,7 @@ class Gateway:
         self.cells = [Cell(self, dsn) for dsn in words.db]
         self.own = OwnReplay(words.program)
         self.door = Passwords()
+        self.certificates = station_tls.Certificates(words)
         # Where each station's events go: its cell and its shard.
         self.homes: dict[str, tuple[Cell, int]] = {}
         self.waiting: dict[int, Wait] = {}
@@ -759,8 +768,14 @@ class Gateway:
                 if job.done():
                     job.result()
         server = await asyncio.get_running_loop().create_server(
-            lambda: StationLink(self), self.words.host, self.words.port, backlog=4096
+            lambda: StationLink(self),
+            self.words.host,
+            self.words.port,
+            backlog=4096,
+            ssl=self.certificates.first,
+            ssl_handshake_timeout=HANDSHAKE if self.certificates.first else None,
         )
+        self.certificates.follow()
         print(f"listening {self.words.host}:{server.sockets[0].getsockname()[1]}", flush=True)
         done, _ = await asyncio.wait(jobs, return_when=asyncio.FIRST_EXCEPTION)
         for job in done:
@@ -786,6 +801,7 @@ def main(argv: Sequence[str], prog: str) -> int:
         default=[],
         help="a proxy before it, which tells the address of a station in X-Forwarded-For",
     )
+    station_tls.add_options(parser)
     parser.add_argument(
         "--open",
         action="store_true",

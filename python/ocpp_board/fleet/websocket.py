@@ -94,14 +94,25 @@ class Link(asyncio.Protocol):
             if data:
                 self.transport.write(data)
             else:
-                self.transport.write_eof()
+                self.end()
                 self.cut_later()
+
+    def end(self) -> None:
+        """Sends no more. TLS has no end of one direction alone."""
+        if self.transport.can_write_eof():
+            self.transport.write_eof()
+        else:
+            self.transport.close()
 
     def eof_received(self) -> bool:
         """The other end sends no more."""
-        if not self.is_lost:
+        if self.is_lost:
+            return False
+        try:
             self.connection.receive_eof()
-            self.flush()
+        except EOFError:
+            self.transport.abort()  # Within a handshake.
+        self.flush()
         return False
 
     def connection_lost(self, fault: Exception | None) -> None:
