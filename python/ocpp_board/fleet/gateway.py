@@ -38,11 +38,11 @@ from ocpp_board.fleet.database import (
     said,
     within,
 )
+from ocpp_board.fleet.own_replay import OwnReplay
 from ocpp_board.fleet.passwords import Given, Passwords, Stored, Verdict
 from ocpp_board.fleet.plans import knows_period
-from ocpp_board.fleet.replays import Replay, ReplayEnded
 from ocpp_board.fleet.websocket import MOST, SUBPROTOCOL, Link
-from ocpp_board.limits import FIRST_MOMENT, LONGEST_MESSAGE, MOMENT, PAST_MOMENTS, is_name
+from ocpp_board.limits import LONGEST_MESSAGE, is_name
 from ocpp_board.messages import HEAD, one_line, parsed
 from ocpp_board.words import add_program, parser_of
 
@@ -74,7 +74,7 @@ LONGEST_ID = 36
 # A batch has so many lines and bytes at most, and begins so many seconds behind the last one at least: to append what
 # comes one after the other costs more than to append it together.
 BATCH, BATCH_BYTES, GATHERED = 1000, 4_000_000, 0.005
-# Seconds: for the database or a replay to answer, for a handshake from its connection on, and without a byte from a
+# Seconds: for the database to answer, for a handshake from its connection on, and without a byte from a
 # station, twice its heartbeat interval; between looks for stations that the plan did not have.
 ANSWER, HANDSHAKE, SILENCE, LOOKS = 10, 10, 600, 0.05
 # What one who is not let in is told, whatever of it was wrong.
@@ -86,8 +86,6 @@ EVENTS, BYTES, BURST = 20, 65_536, 60
 REPEATED = 60
 # Stations of one notification of those that were let in.
 LET_IN = 100
-# Moments that the ledger knows, in seconds since 1970.
-MOMENTS = (FIRST_MOMENT.timestamp(), PAST_MOMENTS.timestamp())
 # Each shard is woken by the number of its first line; 250 of these fit into a notification.
 APPEND = """
 with added as (
@@ -566,69 +564,6 @@ class StationLink(Link):
         self.resume()
 
 
-class OwnReplay:
-    """A replay of the gateway's own, which answers what is no event, in the order in which it was asked."""
-
-    def __init__(self, program: str) -> None:
-        self.program = program
-        self.asked: deque[tuple[StationLink, str]] = deque()
-        self.replay: Replay | None = None
-        self.second = 0
-        # Since when the first of these waits.
-        self.since = 0.0
-
-    async def run(self) -> None:
-        """Keeps a replay running, and hands its answers on."""
-        while True:
-            replay: Replay | None = None
-            try:
-                replay = await Replay.start(self.program)
-                replay.write(b"limits 1 1 1 1\nstation - -\n")
-                self.replay, self.second, self.since = replay, 0, time.monotonic()
-                for _, text in self.asked:
-                    self.write(text)
-                while True:
-                    answer = await self.next_answer(replay)
-                    self.since = time.monotonic()
-                    self.asked.popleft()[0].answer(answer)
-            except (ReplayEnded, OSError) as fault:
-                self.replay = None
-                log.warning("%s, and begins anew", fault)
-                if replay:
-                    replay.kill()
-                await asyncio.sleep(0.1)
-
-    async def next_answer(self, replay: Replay) -> bytes:
-        """The next answer. Raises ReplayEnded where one is waited for too long."""
-        job = asyncio.ensure_future(replay.answers(1))
-        while not (await asyncio.wait([job], timeout=1))[0]:
-            if self.asked and self.since < time.monotonic() - ANSWER:
-                job.cancel()
-                raise ReplayEnded(f"the replay {replay.process.pid} hangs")
-        return job.result()[0]
-
-    def ask(self, link: StationLink, text: str) -> None:
-        """Asks for the answer to a text, which goes to the link."""
-        if not self.asked:
-            self.since = time.monotonic()
-        self.asked.append((link, text))
-        try:
-            self.write(text)
-        except (ReplayEnded, OSError):
-            pass  # `run` is told so too, begins anew, and asks again.
-
-    def write(self, text: str) -> None:
-        """Hands a text to the replay, where that runs."""
-        if self.replay is None:
-            return
-        now, clock = int(time.time()), ""
-        # A clock that is wrong by decades is not told: the replay answers with the moment that it has.
-        if now != self.second and MOMENTS[0] <= now < MOMENTS[1]:
-            clock = time.strftime(f"now {MOMENT}\n", time.gmtime(now))
-        self.second = now
-        self.replay.write(f"{clock}msg - {text}\n".encode())
-
-
 class Gateway:
     """Stations' connections, and where their events go."""
 
@@ -757,6 +692,7 @@ class Gateway:
         """Listens, once a cell is up, until a job fails."""
         if self.words.open:
             log.warning("--open: each station of the plan is let in without a password")
+        self.certificates.follow()
         jobs = [
             asyncio.create_task(job)
             for job in (*(cell.run() for cell in self.cells), self.own.run(), self.give_up())
@@ -775,7 +711,6 @@ class Gateway:
             ssl=self.certificates.first,
             ssl_handshake_timeout=HANDSHAKE if self.certificates.first else None,
         )
-        self.certificates.follow()
         print(f"listening {self.words.host}:{server.sockets[0].getsockname()[1]}", flush=True)
         done, _ = await asyncio.wait(jobs, return_when=asyncio.FIRST_EXCEPTION)
         for job in done:
