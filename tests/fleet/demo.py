@@ -389,7 +389,9 @@ class Demo(Trial):
             and time.monotonic() < end
         ):
             await asyncio.sleep(0.2)
-        differ = await self.fleet.compare(self.owner)
+        # The rows of a board come behind its text.
+        while len(differ := await self.fleet.compare(self.owner)) != 2 and time.monotonic() < end:
+            await asyncio.sleep(0.2)
         self.check(len(differ) == 2, f"a row deleted by hand makes the comparison fail: {differ}")
 
     # Bad input --------------------------------------------------------------------------------------------------------
