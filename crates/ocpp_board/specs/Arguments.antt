@@ -4,13 +4,17 @@ use Rattle.core.specs.Str.Parse.{IsNumeral, digits_value, without_leading_plus}
 use Rattle.clap.specs.Matches.{matched_of, one_text, raw_values}
 use Rattle.clap.specs.declared.parser.matches.Found.{Found}
 use Rattle.std.specs.declared.result.Result.{Result}
+use Rattle.std.specs.declared.result.Result.TheVariants.{Err}
 use Rattle.site_desk.specs.declared.plan.Plan.{Plan}
 use Rattle.ocpp_board.specs.declared.asked.Asked.{Asked}
 use Rattle.ocpp_board.specs.declared.asked.Asked.TheVariants.{Replay, Serve, ServeLive, ServeJournalled, ServeRestored, Simulate}
 use Rattle.live_server.specs.declared.service.Live.{Live}
 use Rattle.ledger_model.specs.Quarter.{IsPeriod, default_period}
+use Rattle.ledger_model.specs.Limits.{Bounds}
+use Rattle.ocpp_board.specs.LimitWords.{AsksLimits}
 use Rattle.ocpp_board.specs.StationWords.{AnswersWords}
 use Rattle.ocpp_board.specs.declared.station_words.WordFault.{WordFault}
+use Rattle.ocpp_board.specs.declared.station_words.WordFault.TheVariants.{BadLimits}
 use Rattle.site_server.specs.declared.service.Service.{Service}
 use Rattle.station_link.specs.Sim.{IsSimulated}
 
@@ -75,13 +79,22 @@ pub record AsksPeriod (found : Found) (period : ℕ) : Type 0 where
   pub gives : Gives found (codes "period") 16 default_period given
   pub within : IsPeriod given → period ≡ given
 
--- The words that name stations.
-abbrev pub words_of : Found → List (List ℕ)
-words_of found = unwrap_or (option_map raw_values (matched_of found (codes "stations"))) []
+-- The words of an option, where it is used.
+abbrev pub option_words : Found → List ℕ → Option (List (List ℕ))
+option_words found option = option_map raw_values (matched_of found option)
 
--- The plan of a server is that of its words, in which each site has the settlement period that is asked for, and a viewer where its totals are watched.
+-- The words that name stations.
+abbrev pub station_words : Found → List (List ℕ)
+station_words found = unwrap_or (option_words found (codes "stations")) []
+
+-- The plan under these limits is that of the words, in which each site has the settlement period that is asked for, and a viewer where its totals are watched; where words state no limits, that is told.
+abbrev pub AsksStations : Found → ℕ → Option Bounds → Result Plan WordFault → Type 0
+AsksStations found glances None plan = plan ≡ Err BadLimits
+AsksStations found glances (Some limits) plan = (period : ℕ) × (AsksPeriod found period × AnswersWords plan (if nat_lt 0 glances then 1 else 0) period limits (station_words found))
+
+-- The plan of a server is that of its words, under the limits that are asked for.
 abbrev pub AsksPlan : Found → ℕ → Result Plan WordFault → Type 0
-AsksPlan found glances plan = (period : ℕ) × (AsksPeriod found period × AnswersWords plan (if nat_lt 0 glances then 1 else 0) period (words_of found))
+AsksPlan found glances plan = (limits : Option Bounds) × (AsksLimits (option_words found (codes "limits")) limits × AsksStations found glances limits plan)
 
 -- Whether a server that lives has a journal, and whether it is restored.
 pub record AsksKept (found : Found) (journal restore : Bool) : Type 0 where

@@ -4,14 +4,14 @@ use Rattle.std.specs.List.{before_first, after_first, find, position}
 use Rattle.std.specs.Str.{bytes_eq}
 use Rattle.std.specs.declared.result.Result.{Result}
 use Rattle.std.specs.declared.result.Result.TheVariants.{Ok, Err}
-use Rattle.ledger_model.specs.Limits.{default_limits}
+use Rattle.ledger_model.specs.Limits.{Bounds}
 use Rattle.ledger_model.specs.Name.{is_name}
 use Rattle.site_desk.specs.declared.plan.Plan.{Plan}
 use Rattle.site_desk.specs.declared.plan.SitePlan.{SitePlan}
 use Rattle.site_desk.specs.declared.plan.StationPlan.{StationPlan}
 use Rattle.site_desk.specs.Plan.{is_past, site_number, sites_with}
 use Rattle.ocpp_board.specs.declared.station_words.WordFault.{WordFault}
-use Rattle.ocpp_board.specs.declared.station_words.WordFault.TheVariants.{BadStation, PlanLimit}
+use Rattle.ocpp_board.specs.declared.station_words.WordFault.TheVariants.{BadLimits, BadStation, PlanLimit}
 
 -- what stands before the first `/` of a word, and what stands behind it
 abbrev pub site_of : List ℕ → List ℕ
@@ -29,27 +29,28 @@ abbrev pub found_site : List ℕ → List SitePlan → Option ℕ
 found_site word sites = position (λ s. bytes_eq (site_of word) s.name) sites
 
 -- with the station of this word a plan would have more than it may
-abbrev pub is_too_many : List SitePlan → List StationPlan → List ℕ → Bool
-is_too_many sites stations word = is_past (found_site word sites) sites stations default_limits
+abbrev pub is_too_many : Bounds → List SitePlan → List StationPlan → List ℕ → Bool
+is_too_many limits sites stations word = is_past (found_site word sites) sites stations limits
 
--- the station of a word under the default limits
-abbrev pub new_station : List SitePlan → List ℕ → StationPlan
-new_station sites word = record { site = site_number (found_site word sites) sites; name = station_of word; limits = default_limits }
+-- the station of a word under these limits
+abbrev pub new_station : Bounds → List SitePlan → List ℕ → StationPlan
+new_station limits sites word = record { site = site_number (found_site word sites) sites; name = station_of word; limits = limits }
 
--- the words declare their stations in their order, each site with so many viewers and this settlement period where it is mentioned first, up to the first that is one too many: that word, and the plan up to it
-abbrev pub declared_by : ℕ → ℕ → List (List ℕ) → List SitePlan → List StationPlan → Option (List ℕ) × (List SitePlan × List StationPlan)
-declared_by viewers period [] sites stations = (None, (sites, stations))
-declared_by viewers period (word ∷ words) sites stations =
-    if is_too_many sites stations word
+-- the words declare their stations under these limits, in their order, each site with so many viewers and this settlement period where it is mentioned first, up to the first that is one too many: that word, and the plan up to it
+abbrev pub declared_by : ℕ → ℕ → Bounds → List (List ℕ) → List SitePlan → List StationPlan → Option (List ℕ) × (List SitePlan × List StationPlan)
+declared_by viewers period limits [] sites stations = (None, (sites, stations))
+declared_by viewers period limits (word ∷ words) sites stations =
+    if is_too_many limits sites stations word
     then (Some word, (sites, stations))
-    else declared_by viewers period words (sites_with (found_site word sites) (site_of word) viewers period sites) (stations ++ new_station sites word ∷ [])
+    else declared_by viewers period limits words (sites_with (found_site word sites) (site_of word) viewers period sites) (stations ++ new_station limits sites word ∷ [])
 
 -- the first word that names no station
 abbrev pub first_bad : List (List ℕ) → Option (List ℕ)
 first_bad words = find (λ w. is_none (station_word w)) words
 
--- Words make the plan that they declare; else the first word that names no station is told, or, where all do, the first that is one too many.
-abbrev pub AnswersWords : Result Plan WordFault → ℕ → ℕ → List (List ℕ) → Type 0
-AnswersWords (Ok plan) viewers period words = (first_bad words ≡ None) × (declared_by viewers period words [] [] ≡ (None, (plan.sites.items, plan.stations.items)))
-AnswersWords (Err (BadStation word)) viewers period words = first_bad words ≡ Some word.now
-AnswersWords (Err (PlanLimit word)) viewers period words = (first_bad words ≡ None) × ((declared_by viewers period words [] []).0 ≡ Some word.now)
+-- Words make the plan that they declare under these limits; else the first word that names no station is told, or, where all do, the first that is one too many.
+abbrev pub AnswersWords : Result Plan WordFault → ℕ → ℕ → Bounds → List (List ℕ) → Type 0
+AnswersWords (Ok plan) viewers period limits words = (first_bad words ≡ None) × (declared_by viewers period limits words [] [] ≡ (None, (plan.sites.items, plan.stations.items)))
+AnswersWords (Err BadLimits) viewers period limits words = ⊥
+AnswersWords (Err (BadStation word)) viewers period limits words = first_bad words ≡ Some word.now
+AnswersWords (Err (PlanLimit word)) viewers period limits words = (first_bad words ≡ None) × ((declared_by viewers period limits words [] []).0 ≡ Some word.now)

@@ -15,6 +15,9 @@ const MAX_GLANCES: i64 = 600;
 // The seconds that a settlement period may have.
 const PERIODS: [&str; 4] = ["300", "900", "1800", "3600"];
 
+// What help calls the four limits.
+const LIMITS: [&str; 4] = ["TRANSACTIONS", "EVENTS", "READINGS", "CHANGES"];
+
 const ABOUT: &str =
     "The transaction ledger and site board of an OCPP 2.0.1 charging station management system";
 
@@ -74,8 +77,9 @@ the server ends with `fault LeftOut`, but with --allow-left-out.
     ocpp_board serve --live --journal --restore --port 9000 >> journal
 
 Exit status: 0; 1 with `fault <name>` (ListenFailed, ReadFault, WriteFault, OutOfMemory,
-Torn, NotRestored, NotMarked, LeftOut, TooMuchInput); 2 for a fault of the arguments, or with `fault BadStation`, `fault PlanLimit` or `fault StationTwice`.
-A second line tells the cause: the word, the station, or the system's words for the port.";
+Torn, NotRestored, NotMarked, LeftOut, TooMuchInput); 2 for a fault of the arguments, or with `fault BadLimits`, `fault BadStation`,
+`fault PlanLimit` or `fault StationTwice`. A second line tells the cause: the ranges of limits, the word, the station, or
+the system's words for the port.";
 
 const SIM_EXAMPLE: &str = "\
 Each station CS-<k> of site sim sends its transaction SIM-<k> out of order and its first event
@@ -142,7 +146,8 @@ fn with_numbers<'a>(alloc: Global, command: Command<'a>) -> Result<Command<'a>, 
         .arg(port_option(alloc))?
         .arg(connections_option(alloc))?
         .arg(watch_option(alloc))?
-        .arg(period_option(alloc))
+        .arg(period_option(alloc))?
+        .arg(limits_option(alloc))
 }
 
 // The command with the options of a server that lives.
@@ -195,6 +200,17 @@ fn period_option<'a>(alloc: Global) -> Arg<'a> {
     option(alloc, "period", "SECONDS", "900", help).value_parser(PERIODS.as_slice())
 }
 
+fn limits_option<'a>(alloc: Global) -> Arg<'a> {
+    Arg::new(alloc, "limits")
+        .long("limits")
+        .value_names(LIMITS.as_slice())
+        .num_args(LIMITS.len())
+        .help(
+            "What each station may keep, as the script's line `limits` says it [default: 1024 16384 16384 9223372036854775808]",
+        )
+        .value_parser(value_parser!(u64))
+}
+
 fn live_option<'a>(alloc: Global) -> Result<Arg<'a>, AllocError> {
     Arg::new(alloc, "live")
         .long("live")
@@ -220,6 +236,7 @@ fn restore_option<'a>(alloc: Global) -> Result<Arg<'a>, AllocError> {
         .help("With --live, begin with the script on standard input up to its line `listen`")
         .conflicts_with("stations")?
         .conflicts_with("period")?
+        .conflicts_with("limits")?
         .requires_arg("live")
 }
 

@@ -3,6 +3,7 @@ ghost use Rattle.std.specs.Prelude.{◌≡◌, ◌≤◌, codes, true};
 ghost use Rattle.clap.specs.Matches.{found_of};
 ghost use Rattle.ocpp_board.specs.Arguments.{AsksLive, AsksPeriod, AsksPlan, AsksServe, AsksService, AsksSimulate, IsAskable, IsFlag, is_live};
 
+use crate::limit_words::limits_of;
 use crate::station_words::{WordFault, plan_of};
 use clap::ArgMatches;
 use journal_server::Restoring;
@@ -70,9 +71,12 @@ fn live_asked<'a>(matches: &ArgMatches<'a>) -> Asked<'a>
 fn plan_asked<'a>(matches: &ArgMatches<'a>, glances: u16) -> Result<Plan, WordFault<'a>>
     ensures { AsksPlan (found_of matches.now) glances result }
 {
+    let Some(limits) = limits_of(matches.get_strs("limits")) else {
+        return Err(WordFault::BadLimits);
+    };
     let words = matches.get_strs("stations").unwrap_or(&[]);
     let viewers = if glances > 0 { 1 } else { 0 };
-    plan_of(words, viewers, period_of(matches))
+    plan_of(words, viewers, period_of(matches), limits)
 }
 
 /// What the options of `serve --live` ask for.

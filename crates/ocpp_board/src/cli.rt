@@ -8,7 +8,9 @@ use clap::Error;
 use clap::error::ErrorKind;
 use desk_report::write_out;
 use journal_server::{JournalFault, Restoring, Served, serve_journalled, serve_restored};
-use ledger_model::{MAX_SITES, MAX_STATIONS};
+use ledger_model::{
+    MAX_CHANGES, MAX_EVENTS, MAX_PLAN_READINGS, MAX_SITES, MAX_STATIONS, MAX_TRANSACTIONS,
+};
 use live_server::{Live, serve_live};
 use script_replay::{ReplayFault, replay_buffered};
 use site_desk::Plan;
@@ -320,13 +322,17 @@ fn tell_word<E: Write>(errors: &mut E, fault: WordFault<'_>) -> u8
     ensures { result ≡ MISTAKEN }
 {
     let _ = match fault {
+        WordFault::BadLimits => writeln!(
+            errors,
+            "fault {fault}\nlimits are transactions 1 to {MAX_TRANSACTIONS}, events and readings 1 to {MAX_EVENTS}, changes 1 to {MAX_CHANGES}"
+        ),
         WordFault::BadStation(word) => writeln!(
             errors,
             "fault {fault}\n{word}: not a site and a station parted by one /"
         ),
         WordFault::PlanLimit(word) => writeln!(
             errors,
-            "fault {fault}\n{word}: a server has at most {MAX_STATIONS} stations of {MAX_SITES} sites"
+            "fault {fault}\n{word}: a server has at most {MAX_STATIONS} stations of {MAX_SITES} sites, which may keep {MAX_PLAN_READINGS} readings in all"
         ),
     };
     MISTAKEN

@@ -10,6 +10,8 @@ use std::fmt::{Display, Formatter};
 /// Why words make no plan, and the word that tells it. The first that applies answers.
 #[derive(Clone, Copy, Debug)]
 pub enum WordFault<'a> {
+    /// The words of the limits are not four decimals, each in its range.
+    BadLimits,
     /// This word is not two names parted by one `/`.
     BadStation(&'a str),
     /// With this word there are more sites or stations than a plan may have.
@@ -19,23 +21,28 @@ pub enum WordFault<'a> {
 impl Display for WordFault<'_> {
     fn fmt<W: fmt::Write>(&self, f: &mut Formatter<W>) -> fmt::Result {
         f.pad(match self {
+            WordFault::BadLimits => "BadLimits",
             WordFault::BadStation(_) => "BadStation",
             WordFault::PlanLimit(_) => "PlanLimit",
         })
     }
 }
 
-/// The plan of the stations that these words name, in their order, under the default limits. A site begins at
-/// its first mention, and has so many viewers and this settlement period. Names of stations that stand twice are left to the desk to
-/// refuse.
-pub fn plan_of<'a>(words: &[&'a str], viewers: u16, period: Period) -> Result<Plan, WordFault<'a>>
-    ensures { AnswersWords result viewers period (map (λ w. w.now) words.now) }
+/// The plan of the stations that these words name, in their order, under these limits. A site begins at its first mention,
+/// and has so many viewers and this settlement period. Names of stations that stand twice are left to the desk to refuse.
+pub fn plan_of<'a>(
+    words: &[&'a str],
+    viewers: u16,
+    period: Period,
+    limits: Limits,
+) -> Result<Plan, WordFault<'a>>
+    ensures { AnswersWords result viewers period limits (map (λ w. w.now) words.now) }
 {
     if let Some(word) = first_bad(words) {
         return Err(WordFault::BadStation(word));
     }
     let mut plan = Plan::new();
-    match declare_words(&mut plan, words, viewers, period) {
+    match declare_words(&mut plan, words, viewers, period, limits) {
         Some(word) => Err(WordFault::PlanLimit(word)),
         None => Ok(plan),
     }
@@ -60,9 +67,10 @@ fn declare_words<'a>(
     words: &[&'a str],
     viewers: u16,
     period: Period,
+    limits: Limits,
 ) -> Option<&'a str>
     requires good { first_bad (map (λ w. w.now) words.now) ≡ None }
-    ensures { declared_by viewers period (map (λ w. w.now) words.now) plan.old.sites.items plan.old.stations.items ≡ (option_map (λ w. w.now) result, (plan.new.sites.items, plan.new.stations.items)) }
+    ensures { declared_by viewers period limits (map (λ w. w.now) words.now) plan.old.sites.items plan.old.stations.items ≡ (option_map (λ w. w.now) result, (plan.new.sites.items, plan.new.stations.items)) }
 {
     let [word, rest @ ..] = words else {
         return None;
@@ -70,11 +78,11 @@ fn declare_words<'a>(
     let Some((site, station)) = station_word(word) else {
         return Some(word);
     };
-    if plan.is_past(&site, &Limits::default()) {
+    if plan.is_past(&site, &limits) {
         return Some(word);
     }
-    plan.declare(site, viewers, period, station, Limits::default());
-    declare_words(plan, rest, viewers, period)
+    plan.declare(site, viewers, period, station, limits);
+    declare_words(plan, rest, viewers, period, limits)
 }
 
 /// The site and the station of a word `SITE/STATION`.
