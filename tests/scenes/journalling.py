@@ -611,6 +611,37 @@ def declarations_written_once(program: str) -> None:
         holds(journal, RUN + DECLARED.replace(b" 900\n", b" 300\n") + RUN)
 
 
+def orders_written_once(program: str) -> None:
+    """A server by moment writes so, and a restored one reads so: the end's first reading is that of the start."""
+    rise = "up=200000 down=0 export_up=0 export_down=0\n"
+    total = f"total events=3 voided=0 transactions=1 complete=1 missing=0 {rise}"
+    period = f"period 2026-03-01T10:00:00Z {rise}"
+    told = f"{total}evse 0 {rise}{period}tx t1 evse=0 events=3 first=0 last=2 complete=yes missing=0 {rise}"
+    written = (
+        f"board north period=900 order=moment\n{total}{period}station A\n{told}station B\n{NONE}\nend\n"
+        f"board south period=900 order=moment\n{NONE}\nstation C\n{NONE}\nend\n"
+    )
+    with folder() as journal:
+        with begun(program, journal, "--order", "moment") as server:
+            station = Station(server, "A")
+            end = event(2, "Ended", "2026-03-01T10:00:00Z", 1000)
+            for number, text in enumerate((FIRST, SECOND, end), 1):
+                sends(station, text, f'[3,"{number}",{{}}]'.encode())
+            station.leaves()
+            server.answers("total A", total)
+            server.ends(written)
+        head = journal.read_bytes().split(b"\n#\n")[0].splitlines()
+        for site in (b"north", b"south"):
+            order, seconds = b"order " + site + b" moment", b"period " + site + b" 900"
+            if head.count(order) != 1 or head.index(order) < head.index(seconds):
+                raise Differs(f"the journal declares {head}")
+        with restored(program, journal, "restored 3\n") as server:
+            server.ends(written)
+        is_the_boards(program, journal, written)
+        if journal.read_bytes().count(b"\norder ") != 2:
+            raise Differs("orders that were restored are written again")
+
+
 def comment_after_a_cut_line(program: str) -> None:
     """An operator's line that a kill cut in two is no other command, by the comment behind it."""
     with folder() as journal:
@@ -723,6 +754,7 @@ SCENES: tuple[Callable[[str], None], ...] = (
     left_out_lines,
     lost_lines_end_the_server,
     declarations_written_once,
+    orders_written_once,
     comment_after_a_cut_line,
     kill_and_restore,
 )

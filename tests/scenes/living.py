@@ -191,6 +191,7 @@ def faults_of_lines(program: str) -> None:
             ("limits 1 1 1 1", "fault DeclaredLate"),
             ("station north D", "fault DeclaredLate"),
             ("period north 900", "fault DeclaredLate"),
+            ("order north moment", "fault DeclaredLate"),
             ("now 2026-03-01T10:00:00Z", "fault BadLine"),
             ("frob", "fault BadLine"),
             ("Close", "fault BadLine"),
