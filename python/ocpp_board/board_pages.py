@@ -15,6 +15,7 @@ from ocpp_board.page_sections import (
     bar_cell,
     day_of_part,
     figures,
+    order_said,
     problems_of,
     sections_of,
     trouble_of,
@@ -326,7 +327,8 @@ class DayPages:
         site = "".join(text_of(one) for one in parts if one.part.is_site)
 
         def front(paths: list[str]) -> str:
-            return site + stations_of_day(day, stations, paths, has_export)
+            told = order_said(board.site) + site
+            return told + stations_of_day(day, stations, paths, has_export)
 
         series.put_board(board, front, [text_of(one) for one in stations])
 
@@ -478,7 +480,7 @@ class Index:
         )
         has_export = board.has_export
         return (
-            f'<section aria-labelledby="b{board.number}">\n{warning}'
+            f'<section aria-labelledby="b{board.number}">\n{warning}{order_said(board.site)}'
             + "".join(figures(board.site.total, has_export))
             + self.problems(list(problems_of(board.stations)), links)
             + days

@@ -29,7 +29,9 @@ TOTAL = (*COUNTS, *FLOW)
 NUMBER = r"(0|[1-9][0-9]{0,19})"
 FLOWS = " ".join(f"{name}={NUMBER}" for name in FLOW)
 LINES = {
-    "board": re.compile(rf"board ({NAME.pattern}) period=({'|'.join(map(str, PERIODS))})"),
+    "board": re.compile(
+        rf"board ({NAME.pattern}) period=({'|'.join(map(str, PERIODS))})(| order=moment)"
+    ),
     "total": re.compile("total " + " ".join(f"{name}={NUMBER}" for name in COUNTS) + " " + FLOWS),
     "period": re.compile(
         rf"period ([0-9]{{4}}-[0-9]{{2}}-[0-9]{{2}}T[0-9]{{2}}:[0-9]{{2}}:00Z) {FLOWS}"
@@ -116,7 +118,8 @@ class Session:
 
 @dataclass
 class Part:
-    """What a board says of its site, or of one of its stations. `seconds`: the length of its periods."""
+    """What a board says of its site, or of one of its stations. `seconds`: the length of its periods; `is_by_time`:
+    its readings are in the order of their moments, and else by the numbers of their events."""
 
     name: str
     is_site: bool
@@ -126,6 +129,7 @@ class Part:
     evses: list[Evse] = field(default_factory=list)
     periods: list[Period] = field(default_factory=list)
     sessions: list[Session] = field(default_factory=list)
+    is_by_time: bool = False
 
     def add(self, kind: str, values: tuple[str, ...]) -> bool:
         """Takes a line into the part; False where its values can't be."""
@@ -268,7 +272,7 @@ class Reader:
         self.sinks, self.progress, self.marker = sinks, progress, marker
         self.part: Part | None = None
         self.before: str | None = None
-        self.site, self.seconds = "", 0
+        self.site, self.seconds, self.is_by_time = "", 0, False
         self.sessions = Sessions()
         kinds = ("boards", "stations", "periods", "transactions", "outside", "faults", "unread")
         self.counts = dict.fromkeys(kinds, 0)
@@ -309,18 +313,19 @@ class Reader:
         is_of_part = not part.is_site or kind in ("total", "period")
         return is_of_part and kind in NEXT.get(self.before, ())
 
-    def begin_board(self, number: int, site: str, seconds: str) -> None:
-        """A board begins, whose periods have so many seconds."""
+    def begin_board(self, number: int, site: str, seconds: str, order: str) -> None:
+        """A board begins, whose periods have so many seconds. `order`: what is said of readings by moment, if so."""
         self.break_off(number, "another board begins")
         self.counts["boards"] += 1
-        self.site, self.seconds = site, int(seconds)
+        self.site, self.seconds, self.is_by_time = site, int(seconds), bool(order)
         for sink in self.sinks:
             sink.board(self.counts["boards"], site, number)
         self.begin(site, True, "board")
 
     def begin(self, name: str, is_site: bool, kind: str) -> None:
         """A part begins."""
-        self.part, self.before = Part(name, is_site, self.seconds), kind
+        self.part = Part(name, is_site, self.seconds, is_by_time=self.is_by_time)
+        self.before = kind
 
     def leave_part(self, number: int, part: Part) -> None:
         """Hands a part on that ends before this line."""

@@ -10,6 +10,9 @@ are looked for in the line afterwards.
       fault UnknownStation: no station CS_01 is declared
       remedy: the nearest declared name is CS-01
 
+Where a board's periods are wrong since stations list readings again it names the line that mends it, a line
+`order <site> moment`; this is a hint and no mistake, and so is what it tells of a station near its limits.
+
 Between the script's lines that may write nothing it puts lines of its own, which are faults and change nothing,
 to tell the answers apart. Of a kind of mistake the first are told, and the others counted.
 """
@@ -33,13 +36,14 @@ from ocpp_board.line_faults import NAMES, Said, bad_line, words_of
 from ocpp_board.message_faults import REMEDIES, message_fault
 from ocpp_board.near_limits import NearLimits
 from ocpp_board.progress import Progress
+from ocpp_board.repeat_hints import RepeatHints
 from ocpp_board.sources import is_gzip, opened
 from ocpp_board.statuses import Status, ended
 from ocpp_board.words import add_program, parsed, parser_of
 
 ENDING = """\
-Exit status: 0 when there is nothing to tell; 1 when something was told; 2 when the words are wrong, the program is not
-there, or a file can't be read or written."""
+Half a kilobyte of memory is kept of each event. Exit status: 0 when there is nothing to tell; 1 when something was
+told; 2 when the words are wrong, the program is not there, or a file can't be read or written."""
 # Mistakes of a kind that are told one by one, and characters of a line that are shown.
 MOST_TOLD = 10
 SHOWN = 200
@@ -62,7 +66,7 @@ class Plan:
             self.sites.setdefault(words[1], number)
             self.stations[words[2]] = words[1], number
             self.readings += self.limit
-        elif words[0] not in ("now", "period") and self.opened is None:
+        elif words[0] not in ("now", "period", "order") and self.opened is None:
             self.opened = number, " ".join(words[:2])
 
     def over(self, words: list[str]) -> Said:
@@ -115,6 +119,7 @@ class Run:
         self.replay, self.plan = ScriptReplay(program, script), Plan()
         self.messages = Messages()
         self.near = NearLimits(self.messages.limits, self.tell_limit)
+        self.repeats = RepeatHints(self.tell_hint)
         self.progress = Progress(script)
         self.told: dict[str, int] = {}
 
@@ -163,7 +168,7 @@ class Run:
             )
         if name == "UnknownStation":
             return self.unknown_station(words)
-        if name == "UnknownSite" and words[0] == "period":
+        if name == "UnknownSite" and words[0] in ("period", "order"):
             return (
                 f"no station of site {words[1]} is declared yet",
                 "put it behind a `station` line of the site",
@@ -203,14 +208,21 @@ class Run:
         self.progress.end()
         print(f"line {answered.number}: {said}\n  remedy: {remedy}")
 
+    def tell_hint(self, line: Line, said: str, remedy: str) -> None:
+        """Tells what a line's board shows, which is no mistake of the script."""
+        self.progress.end()
+        print(f"line {line.number}: {said}\n  remedy: {remedy}")
+
     def run(self) -> int:
         """Tells all that is wrong, and gives the exit status. Raises OSError."""
         for line, text in self.replay.texts():
             self.progress.tell(line.number, len(line.line) + 1)
             if message := self.messages.take(line, text):
                 self.near.take(message)
+                self.repeats.messages.take(message)
                 if message.is_accepted and self.plan.opened:
                     continue
+            self.repeats.look(line, text)
             self.explain(line, text.partition(b"\n")[0].decode("utf-8", "replace"))
         self.progress.end()
         status, told = self.replay.ended()

@@ -9,6 +9,7 @@ from ocpp_board.limits import (
     FIRST_MOMENT,
     GREATEST_LIMITS,
     GREATEST_SEQ_NO,
+    ORDERS,
     PAST_MOMENTS,
     TRANSACTION,
     is_name,
@@ -19,6 +20,7 @@ FORMS = {
     "limits": "limits <transactions> <events> <readings> <changes>",
     "station": "station <site> <station>",
     "period": "period <site> <seconds>",
+    "order": "order <site> <word>",
     "now": "now <time>",
     "msg": "msg <station> <text>",
     "void": "void <station> <transaction id> <seqNo>",
@@ -66,6 +68,13 @@ def number_fault(what: str, text: str, most: int) -> Said | None:
     return None
 
 
+def order_fault(word: str) -> Said | None:
+    """Why a word is no order of readings."""
+    if word in ORDERS:
+        return None
+    return f"{shown(word)} is no order of readings", " or ".join(ORDERS)
+
+
 def time_fault(text: str) -> str | None:
     """What is wrong with a time; the program takes some that Python doesn't, and decides."""
     try:
@@ -88,6 +97,8 @@ def words_fault(words: list[str]) -> Said | None:
         return name_fault("site's name", rest[0]) or number_fault(
             "number of seconds", rest[1], GREATEST
         )
+    if kind == "order":
+        return name_fault("site's name", rest[0]) or order_fault(rest[1])
     if kind == "limits":
         told = (
             number_fault(f"number of {what}", text, GREATEST)

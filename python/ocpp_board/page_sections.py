@@ -109,6 +109,16 @@ def figures(total: Total | None, has_export: bool) -> Iterator[str]:
     yield "</dl>\n"
 
 
+def order_said(site: Part) -> str:
+    """That a site's readings are taken by time, where they are."""
+    if not site.is_by_time:
+        return ""
+    return (
+        '<p class="soft">Readings by time: those of a session are taken in the order of their own times, so that one '
+        "which is listed again changes nothing.</p>\n"
+    )
+
+
 def bar_cell(mwh: int, most: int) -> str:
     """An energy as a bar, whose number stands in the same row. `most`: what the longest bar stands for."""
     width = 100 * abs(mwh) / most if most else 0

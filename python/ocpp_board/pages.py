@@ -80,7 +80,7 @@ and green; what the export register fell by goes up, striped and green. Each pic
 beside.</p>
 <p>A difference of two readings counts in the period of its later reading: what a meter read at 10:15:00 has risen \
 since the reading before belongs to the period that begins at 10:15. Readings that an Ended event lists again show as \
-down, and again as up.</p>
+down, and again as up, where a page does not say that readings are taken by time.</p>
 """
 
 SESSIONS = """<p>A session is complete when its first event is its start, its last one its end, no number between them \

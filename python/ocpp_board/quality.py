@@ -3,9 +3,10 @@
 from collections.abc import Iterator, Sequence
 from datetime import datetime
 from enum import Enum
+from itertools import pairwise
 from typing import NamedTuple
 
-from ocpp_board.transactions import Event, Reading, Transaction, moment
+from ocpp_board.transactions import Event, Reading, Transaction, moment, readings_in_order
 
 
 # Measurands that are named of a session.
@@ -35,8 +36,8 @@ class Kind(Enum):
     REPEATED = (
         "readings repeated at the end",
         "An event lists readings once more that came before. The session's net energy is right, but its periods are "
-        "not: the fall back to the first of them lies in one period, and the rise again in the others (see "
-        "docs/rules.md, readings repeated at the end).",
+        "not: the fall back to the first of them lies in one period, and the rise again in the others. Of a site that "
+        "is read by time they change nothing (see docs/rules.md, readings repeated at the end).",
     )
     CLOCK_BACK = (
         "clock goes back",
@@ -66,13 +67,15 @@ class Finding(NamedTuple):
 
 
 def findings_of(
-    transaction: Transaction, events: Sequence[Event], is_complete: bool
+    transaction: Transaction, events: Sequence[Event], is_complete: bool, by_sequence: str | None
 ) -> list[Finding]:
-    """The findings of a session by its transaction and by its events that are live, in their order."""
+    """The findings of a session by its transaction and by its events that are live, in their order. `by_sequence`: the
+    site, where its readings are not taken by time."""
     if not events:
         return []
     found = [*energies(events, is_complete), *again(transaction, events)]
-    found += [*registers(events), *clocks(events), *numbers(transaction, events)]
+    found += falls_by_time(events) if by_sequence is None else registers(events, by_sequence)
+    found += [*clocks(events), *numbers(transaction, events)]
     order = list(Kind)
     return sorted(found, key=lambda one: order.index(one.kind))
 
@@ -115,7 +118,21 @@ def again(transaction: Transaction, events: Sequence[Event]) -> Iterator[Finding
     yield from finding(Kind.ID_AGAIN, after)
 
 
-def registers(events: Sequence[Event]) -> Iterator[Finding]:
+def order_line(site: str) -> str:
+    """The line of a script that has a site's readings taken by time."""
+    return f"order {site} moment"
+
+
+def falls_by_time(events: Sequence[Event]) -> Iterator[Finding]:
+    """Where a register falls from one reading to the next, by their own moments: what is listed again is no fall."""
+    falls = list[Event]()
+    for is_export in (False, True):
+        found = readings_in_order(events, is_export, True)
+        falls += [event for (_, had), (event, one) in pairwise(found) if one.mwh < had.mwh]
+    yield from finding(Kind.REGISTER_FALLS, falls)
+
+
+def registers(events: Sequence[Event], site: str) -> Iterator[Finding]:
     """Where a register falls from one reading to the next, and where readings are listed again."""
     seen = set[Reading]()
     before: dict[bool, Reading] = {}
@@ -133,7 +150,7 @@ def registers(events: Sequence[Event]) -> Iterator[Finding]:
             before[one.is_export] = one
         seen.update(event.readings)
     yield from finding(Kind.REGISTER_FALLS, falls)
-    yield from finding(Kind.REPEATED, repeats)
+    yield from finding(Kind.REPEATED, repeats, f"a line `{order_line(site)}` takes them by time")
 
 
 def clocks(events: Sequence[Event]) -> Iterator[Finding]:

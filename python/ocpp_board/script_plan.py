@@ -1,4 +1,4 @@
-"""The stations that a script of a log declares, with their sites, limits and settlement periods."""
+"""The stations that a script of a log declares, with their sites, limits, settlement periods and orders of readings."""
 
 import argparse
 
@@ -9,6 +9,7 @@ from ocpp_board.limits import (
     MOST_READINGS,
     MOST_SITES,
     MOST_STATIONS,
+    ORDERS,
     PERIODS,
     is_name,
 )
@@ -121,12 +122,18 @@ class ScriptPlan:
         seconds = self.words.period.get(site, self.words.period.get(""))
         return f"period {site} {seconds}\n".encode() if seconds else b""
 
+    def order_line(self, site: str) -> bytes:
+        """The order of a site's readings, where one is asked for."""
+        word = self.words.order.get(site, self.words.order.get(""))
+        return f"order {site} {word}\n".encode() if word else b""
+
     def declarations(self, site_of: dict[str, str] | None = None) -> bytes:
         """The lines in front of the first message, of these stations or of all."""
         stations = self.site_of if site_of is None else site_of
         lines = [f"station {site} {station}\n".encode() for station, site in stations.items()]
-        periods = map(self.period_line, dict.fromkeys(stations.values()))
-        return b"".join([self.limits_line(), *lines, *periods])
+        sites = dict.fromkeys(stations.values())
+        of_sites = [line(site) for site in sites for line in (self.period_line, self.order_line)]
+        return b"".join([self.limits_line(), *lines, *of_sites])
 
     def boards(self, site_of: dict[str, str] | None = None) -> bytes:
         """The lines that ask for the board of each site, where they are asked for."""
@@ -134,14 +141,27 @@ class ScriptPlan:
         return b"".join(f"board {site}\n".encode() for site in sites if self.words.boards)
 
 
-def period(text: str) -> tuple[str, int]:
-    """A site and its settlement period in seconds; without a site that of all others."""
-    site, _, seconds = text.rpartition("=")
-    if seconds not in map(str, PERIODS):
-        raise argparse.ArgumentTypeError(f"not 300, 900, 1800 or 3600 seconds: {shown(text)}")
+def of_site(text: str) -> tuple[str, str]:
+    """A site and what is told of it; without a site of all others."""
+    site, _, told = text.rpartition("=")
     if "=" in text and not is_name(site):
         raise argparse.ArgumentTypeError(f"no name of a site: {shown(text)}")
+    return site, told
+
+
+def period(text: str) -> tuple[str, int]:
+    """A site and its settlement period in seconds."""
+    if text.rpartition("=")[2] not in map(str, PERIODS):
+        raise argparse.ArgumentTypeError(f"not 300, 900, 1800 or 3600 seconds: {shown(text)}")
+    site, seconds = of_site(text)
     return site, int(seconds)
+
+
+def order(text: str) -> tuple[str, str]:
+    """A site and the order of its readings."""
+    if text.rpartition("=")[2] not in ORDERS:
+        raise argparse.ArgumentTypeError(f"not {' or '.join(ORDERS)}: {shown(text)}")
+    return of_site(text)
 
 
 def add_plan(parser: argparse.ArgumentParser) -> None:
@@ -163,11 +183,20 @@ def add_plan(parser: argparse.ArgumentParser) -> None:
         help="the settlement period of a site's boards, or of all sites that are not named so: "
         "300, 900, 1800 or 3600 seconds (900 where none is told)",
     )
+    parser.add_argument(
+        "--order",
+        type=order,
+        action="append",
+        default=[],
+        metavar="[SITE=]WORD",
+        help="the order of a site's readings, or of all sites that are not named so: sequence, the numbers of their "
+        "events, or moment, their own times, for stations that list readings again (sequence where none is told)",
+    )
 
 
 def check_plan(parser: argparse.ArgumentParser, words: argparse.Namespace) -> None:
     """Brings these options into their form. Wrong ones end the program with status 2."""
-    words.period = dict(words.period)
+    words.period, words.order = dict(words.period), dict(words.order)
     greatest = GREATEST_LIMITS.values()
     if words.limits and not all(1 <= n <= most for n, most in zip(words.limits, greatest)):
         parser.error("--limits are from 1 to 4096, 65536, 65536 and 9223372036854775808")

@@ -4,7 +4,7 @@ from collections.abc import Sequence
 from datetime import datetime
 from typing import NamedTuple
 
-from ocpp_board.transactions import Event, moment
+from ocpp_board.transactions import Event, moment, readings_in_order
 
 
 class Registers(NamedTuple):
@@ -32,13 +32,13 @@ class SessionTimes(NamedTuple):
         return round((self.end - self.start).total_seconds())
 
 
-def registers_of(events: Sequence[Event], is_export: bool) -> Registers | None:
+def registers_of(events: Sequence[Event], is_export: bool, is_by_time: bool) -> Registers | None:
     """The first and the last counted reading of a register, in the order in which the ledger takes them."""
-    found = [one.mwh for event in events for one in event.readings if one.is_export == is_export]
+    found = [one.mwh for _, one in readings_in_order(events, is_export, is_by_time)]
     return Registers(found[0], found[-1]) if found else None
 
 
-def times_of(events: Sequence[Event]) -> SessionTimes:
+def times_of(events: Sequence[Event], is_by_time: bool = False) -> SessionTimes:
     """What a session's live events tell, by their numbers: its first start, its last end, and the registers."""
     started = next((event for event in events if event.kind == "Started"), None)
     ended = next((event for event in reversed(events) if event.kind == "Ended"), None)
@@ -46,8 +46,8 @@ def times_of(events: Sequence[Event]) -> SessionTimes:
         moment(started.at) if started else None,
         moment(ended.at) if ended else None,
         moment(min((event.at for event in events if event.at is not None), default=None)),
-        registers_of(events, False),
-        registers_of(events, True),
+        registers_of(events, False, is_by_time),
+        registers_of(events, True, is_by_time),
         ended.reason if ended else "",
     )
 

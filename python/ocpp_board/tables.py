@@ -20,9 +20,10 @@ board says; sites may have different ones.
 What `up` and `down` mean for a settlement: a difference of two readings counts in the period of its later
 reading, so what a meter read at 10:15:00 has risen since the reading before belongs to the period that
 begins at 10:15. Readings that an Ended event lists again show as `down`, back to the first of them, and
-again as `up`. `export up` and `export down` are the same of the export register, which vehicles that feed
-back have. The net energy, which the pages show, is what was imported less what was exported: `up` less
-`down`, less `export up` and more `export down`.
+again as `up`, unless the site's readings are taken by time (`order <site> moment` in the script): the
+column `readings` and the pages say so. `export up` and `export down` are the same of the export register,
+which vehicles that feed back have. The net energy, which the pages show, is what was imported less what
+was exported: `up` less `down`, less `export up` and more `export down`.
 
 A board has no times of transactions. With --script the tool replays the script that the text is of, and takes
 from its messages when each session began and ended, what its registers read first and last, and why it stopped:
@@ -139,6 +140,8 @@ class Tables(CsvSink):
         "export up (kWh)",
         "export down (kWh)",
     ]
+    # In which order readings are taken, in the last column of both files.
+    READINGS = "readings"
     PERIODS = ["board", "level", "site", "station", "seconds"]
     TRANSACTIONS = [
         "board",
@@ -173,8 +176,9 @@ class Tables(CsvSink):
         self.periods = csv.writer(periods, lineterminator="\n")
         self.transactions = csv.writer(transactions, lineterminator="\n")
         starts = moment_heads(calendar, "period start")
-        self.periods.writerow([*self.PERIODS, *starts, *self.FLOWS])
-        self.transactions.writerow([*self.TRANSACTIONS, *self.FLOWS, "state", *self.time_heads()])
+        self.periods.writerow([*self.PERIODS, *starts, *self.FLOWS, self.READINGS])
+        heads = [*self.TRANSACTIONS, *self.FLOWS, "state", *self.time_heads()]
+        self.transactions.writerow([*heads, self.READINGS])
 
     def time_heads(self) -> list[str]:
         """The heads of the columns that boards don't tell."""
@@ -194,12 +198,14 @@ class Tables(CsvSink):
     def part(self, part: Part) -> None:
         """The rows of a site or a station."""
         level, station = ("site", "") if part.is_site else ("station", self.cell(part.name))
+        order = "by time" if part.is_by_time else "by sequence"
         for p in self.calendar.shown(part.periods):
             front = [self.number, level, self.site, station, p.seconds]
-            self.periods.writerow([*front, *self.calendar.cells(p.start), *self.flows(p.flow)])
+            cells = [*self.calendar.cells(p.start), *self.flows(p.flow)]
+            self.periods.writerow([*front, *cells, order])
         for t in part.sessions:
             row = [self.number, self.site, station, *self.session(t), *self.times(t)]
-            self.transactions.writerow(row)
+            self.transactions.writerow([*row, order])
 
     def session(self, t: Session) -> list[int | str]:
         """The cells of a session."""

@@ -34,8 +34,10 @@ class Told:
         for session in part.sessions:
             transaction = self.transactions.of(site, part.name, session.tx)
             events = transaction.live(session.first, session.last, session.gaps)
-            session.times = times_of(events)
-            session.findings = findings_of(transaction, events, session.complete)
+            session.times = times_of(events, part.is_by_time)
+            session.findings = findings_of(
+                transaction, events, session.complete, None if part.is_by_time else site
+            )
             session.state = state_of(session, events)
 
     def until(self) -> datetime | None:

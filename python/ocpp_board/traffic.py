@@ -15,13 +15,17 @@ program: 250,000 mWh for each of its events but the first of each session.
 With `troubles` N sessions of each kind of trouble come, each kind from a station of its name: what stations do wrong,
 what the ledger refuses, and what an operator voids. Before each message stands when it was received, as a comment,
 and the script ends with a board.
+
+With `repeats` N sessions of each of four stations come, three of which list readings again in the Ended event: all of
+them, that of the start alone, or all of two registers. The site is read by moment, so its board is that of `sessions`,
+which is the same without what is listed again and without the line `order`.
 """
 
 import argparse
 from collections.abc import Iterator, Sequence
 from datetime import datetime, timedelta, timezone
 
-from ocpp_board import troubles
+from ocpp_board import repeats, troubles
 from ocpp_board.limits import GREATEST_LIMITS, MOMENT, MOST_READINGS, MOST_STATIONS
 from ocpp_board.statuses import Status, ended
 from ocpp_board.words import parsed, parser_of
@@ -29,6 +33,12 @@ from ocpp_board.words import parsed, parser_of
 # Events of a session, seconds from one to the next, and what the register reads first and rises by each time, in Wh.
 SESSION, STEP, START, RISE = 48, 300, 1000, 250
 FIRST = datetime(2026, 3, 1, tzinfo=timezone.utc)
+# How many sessions of each station there may be, by the kinds that have sessions.
+SESSIONS = {
+    "troubles": troubles.MOST_SESSIONS,
+    "repeats": repeats.MOST_SESSIONS,
+    "sessions": repeats.MOST_SESSIONS,
+}
 
 
 def name(station: int) -> str:
@@ -81,14 +91,15 @@ def arguments(argv: Sequence[str], prog: str) -> argparse.Namespace:
         "count",
         type=int,
         metavar="N",
-        help="how many events, messages that change nothing, or sessions of each kind of trouble",
+        help="how many events, messages that change nothing, or sessions of each station",
     )
     parser.add_argument(
         "kind",
         nargs="?",
-        choices=["unchanging", "troubles"],
-        metavar="unchanging|troubles",
-        help="messages that change nothing, or sessions with troubles",
+        choices=["unchanging", *SESSIONS],
+        metavar="unchanging|troubles|repeats|sessions",
+        help="messages that change nothing, sessions with troubles, sessions whose readings are listed again, or the "
+        "same without that",
     )
     parser.add_argument(
         "--stations",
@@ -99,8 +110,8 @@ def arguments(argv: Sequence[str], prog: str) -> argparse.Namespace:
     words = parsed(parser, argv)
     if words.count < 0 or words.kind is None and words.count > MOST_READINGS:
         parser.error(f"N is from 0 to {MOST_READINGS:,}")
-    if words.kind == "troubles" and words.count > troubles.MOST_SESSIONS:
-        parser.error(f"N is from 0 to {troubles.MOST_SESSIONS} with troubles")
+    if words.kind in SESSIONS and words.count > SESSIONS[words.kind]:
+        parser.error(f"N is from 0 to {SESSIONS[words.kind]} with {words.kind}")
     fewest = max(1, -(-words.count // GREATEST_LIMITS["events"]))
     words.stations = fewest if words.stations is None else words.stations
     if words.kind is None and not fewest <= words.stations <= MOST_STATIONS:
@@ -117,6 +128,8 @@ def lines_of(words: argparse.Namespace) -> Iterator[str]:
     """The lines of the script that the words ask for."""
     if words.kind == "troubles":
         return troubles.script(words.count)
+    if words.kind in ("repeats", "sessions"):
+        return repeats.script(words.count, words.kind == "repeats")
     return (
         unchanging(words.count)
         if words.kind == "unchanging"

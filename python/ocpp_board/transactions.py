@@ -6,7 +6,7 @@ About half a kilobyte is kept of each event.
 import json
 import re
 from bisect import bisect_right
-from collections.abc import Iterator
+from collections.abc import Iterable, Iterator
 from dataclasses import dataclass, field
 from datetime import datetime, timezone
 from decimal import Context, Decimal
@@ -53,6 +53,22 @@ class Event(NamedTuple):
     others: tuple[str, ...]
     is_far: bool
     reason: str
+
+
+def readings_in_order(
+    events: Iterable[Event], is_export: bool, is_by_time: bool
+) -> list[tuple[Event, Reading]]:
+    """The counted readings of a register, each with its event, in the order in which the ledger takes them: that of the
+    events, or by time that of their own moments. One whose moment Python can't read is left out then.
+    """
+    found = [
+        (event, one)
+        for event in events
+        for one in event.readings
+        if one.is_export == is_export and not (is_by_time and one.at is None)
+    ]
+    # Readings of one moment keep their order.
+    return sorted(found, key=lambda both: both[1].at or 0) if is_by_time else found
 
 
 @dataclass

@@ -139,6 +139,9 @@ def test_of_a_long_line_the_beginning_is_read() -> None:
     [
         ("board north period=900", "board"),
         ("board north period=901", None),
+        ("board north period=900 order=moment", "board"),
+        ("board north period=900 order=sequence", None),
+        ("board north order=moment period=900", None),
         ("station CS-01", "station"),
         ("station a/b", None),
         ("end", "end"),
@@ -155,6 +158,12 @@ def test_numbers_of_words() -> None:
     assert numbers_of(["events=3", "complete=yes"]) == {"events": 3, "complete": 1}
     with pytest.raises(ValueError):
         numbers_of(["events=x"])
+
+
+def test_each_part_of_a_board_by_moment_is_by_time(tmp_path: Path) -> None:
+    kept, counts = reading(BOARD.replace("=900", "=900 order=moment", 1) + BOARD, tmp_path)
+    assert [part.is_by_time for part in kept.parts] == [True, True, False, False]
+    assert counts["unread"] == 0 and kept.parts[0].seconds == 900
 
 
 def test_a_period_begins_at_a_multiple_of_its_length() -> None:

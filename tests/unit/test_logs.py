@@ -331,6 +331,22 @@ def test_shares_keep_sites_whole_where_they_fit() -> None:
     assert [len(share) for share in shares_of(many, 64)] == [16, 4]
 
 
+def test_sites_have_the_orders_that_are_asked_for(tmp_path: Path) -> None:
+    log = [row(), row(station="B", site="south"), row(station="C", site="a=b")]
+    stations = "station north A\nstation south B\nstation a=b C\n"
+
+    def declared(*words: str) -> str:
+        return script_of(log, tmp_path, *words)[0].partition("now ")[0].removeprefix(stations)
+
+    assert declared() == ""
+    assert declared("--order", "south=moment") == "order south moment\n"
+    every = "".join(f"order {site} moment\n" for site in ("north", "south", "a=b"))
+    assert declared("--order", "moment") == every
+    assert declared("--order", "moment", "--order", "a=b=sequence", "--period", "north=300") == (
+        "period north 300\n" + every.replace("b moment", "b sequence")
+    )
+
+
 def test_a_log_of_many_stations_is_split(tmp_path: Path) -> None:
     log = [row(station=f"N{n}") for n in range(50)]
     log += [row(station=f"S{n}", site="south", time="2026-03-01T09:00:00Z") for n in range(50)]
@@ -357,6 +373,9 @@ def test_a_log_of_many_stations_is_split(tmp_path: Path) -> None:
     [
         ("--period", "600"),
         ("--period", "a/b=300"),
+        ("--order", "time"),
+        ("--order", "north=Moment"),
+        ("--order", "a/b=moment"),
         ("--limits", "1", "1", "65537", "1"),
         ("--limits", "0", "1", "1", "1"),
         ("--site", "a b"),

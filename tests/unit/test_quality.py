@@ -34,10 +34,13 @@ def taken(messages: Messages, answers: dict[int, str] | None = None) -> Transact
 
 
 def findings(
-    messages: Messages, complete: bool = True, answers: dict[int, str] | None = None
+    messages: Messages,
+    complete: bool = True,
+    answers: dict[int, str] | None = None,
+    by_sequence: str | None = "north",
 ) -> list[Finding]:
     transaction = taken(messages, answers)
-    return findings_of(transaction, transaction.live(0, 99, []), complete)
+    return findings_of(transaction, transaction.live(0, 99, []), complete, by_sequence)
 
 
 def kinds(name: str, answers: dict[int, str] | None = None) -> list[tuple[Kind, int]]:
@@ -145,6 +148,56 @@ def test_the_last_reading_once_more_is_no_repetition() -> None:
     assert findings(messages) == []
 
 
+def test_readings_that_are_listed_again_name_the_line_that_mends_it() -> None:
+    (found,) = findings(KINDS["readings-repeated"]("T1", FIRST))
+    assert found.detail == "a line `order north moment` takes them by time"
+
+
+@pytest.mark.parametrize("name", ["readings-repeated", "sound", "feeds-back"])
+def test_by_time_what_is_listed_again_is_no_finding(name: str) -> None:
+    messages = KINDS[name]("T1", FIRST)
+    assert findings(messages, by_sequence=None) == []
+    times = times_of(taken(messages).live(0, 3, []), True)
+    assert Registers(1_000_000, 1_750_000) in (times.imported, times.exported)
+
+
+def test_by_time_a_register_falls_where_it_reads_less_later() -> None:
+    assert [
+        one.kind for one in findings(KINDS["register-falls"]("T1", FIRST), by_sequence=None)
+    ] == [Kind.REGISTER_FALLS]
+    # Two levels of one moment, listed again: a rise, a fall, a rise.
+    both = [reading(FIRST, 1_000), reading(FIRST, 1_200)]
+    messages = [event("T1", n, "Updated", FIRST + n * HOUR) for n in (0, 1)]
+    for one in messages:
+        one.payload["meterValue"] = list(both)
+    (found,) = findings(messages, by_sequence=None)
+    assert (found.kind, found.times) == (Kind.REGISTER_FALLS, 1)
+
+
+def test_by_time_the_first_and_the_last_reading_are_those_of_moments() -> None:
+    values = [1_000, 1_300, 1_200]
+    messages = [event("T1", n, "Updated", FIRST + n * HOUR, wh) for n, wh in enumerate(values)]
+    messages[2].payload["meterValue"][0] = reading(FIRST + HOUR / 2, 1_200)
+    events = taken(messages).live(0, 2, [])
+    assert times_of(events).imported == Registers(1_000_000, 1_200_000)
+    assert times_of(events, True).imported == Registers(1_000_000, 1_300_000)
+    assert [one.kind for one in findings(messages)] == [Kind.REGISTER_FALLS]
+    assert findings(messages, by_sequence=None) == []
+
+
+def test_a_board_by_time_tells_its_sessions_so() -> None:
+    told = Told()
+    for sent in KINDS["readings-repeated"]("T1", FIRST):
+        told.take(answered(sent))
+    one = session(0, 3, 4, True)
+    told.mark("north", Part("CS-01", False, 900, sessions=[one], is_by_time=True))
+    assert one.findings == []
+    told.mark("north", Part("CS-01", False, 900, sessions=[one]))
+    assert [found.detail for found in one.findings] == [
+        "a line `order north moment` takes them by time"
+    ]
+
+
 def test_a_register_falls_once_for_each_fall_and_per_direction() -> None:
     values = [1_000, 900, 800, 1_000]
     messages = [event("T1", n, "Updated", FIRST + n * HOUR, wh) for n, wh in enumerate(values)]
@@ -186,7 +239,7 @@ def test_without_a_receipt_no_clock_is_far() -> None:
     found = Transactions()
     found.take(answered(KINDS["clock-far"]("T1", FIRST)[0])._replace(received=None))
     transaction = found.of("north", "CS-01", "t1")
-    assert findings_of(transaction, transaction.live(0, 9, []), False) == []
+    assert findings_of(transaction, transaction.live(0, 9, []), False, "north") == []
 
 
 def test_times_and_registers_of_a_session() -> None:
@@ -209,7 +262,7 @@ def test_registers_are_the_first_and_the_last_and_not_the_lowest() -> None:
 
 def test_a_first_event_that_is_voided_came_all_the_same() -> None:
     transaction = taken(sound("T1", FIRST))
-    assert findings_of(transaction, transaction.live(1, 3, []), False) == []
+    assert findings_of(transaction, transaction.live(1, 3, []), False, "north") == []
 
 
 def test_two_events_may_have_the_same_time() -> None:

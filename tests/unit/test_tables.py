@@ -57,8 +57,26 @@ def run(folder: Path, *words: str, text: str = BOARD) -> dict[str, str]:
 def test_without_a_script_there_are_no_times_and_no_findings(tmp_path: Path) -> None:
     files = run(tmp_path)
     assert "findings.csv" not in files
-    assert files["transactions.csv"].splitlines()[0].endswith(",state")
+    assert files["transactions.csv"].splitlines()[0].endswith(",state,readings")
     assert "Start and end" not in files["html"] and "Periods up to" in files["html"]
+
+
+def test_tables_and_pages_say_how_readings_are_taken(tmp_path: Path) -> None:
+    other = BOARD.replace("=900", "=900 order=moment", 1).replace("north", "south")
+    for name, text, orders, times in (
+        ("one", BOARD, {"by sequence"}, 0),
+        ("other", other, {"by time"}, 1),
+        ("both", BOARD + other, {"by sequence", "by time"}, 1),
+    ):
+        folder = tmp_path / name
+        folder.mkdir()
+        files = run(folder, text=text)
+        for table in ("periods.csv", "transactions.csv"):
+            rows = list(csv.DictReader(files[table].splitlines()))
+            assert {row["readings"] for row in rows} == orders
+            assert all((row["site"] == "south") == (row["readings"] == "by time") for row in rows)
+        for page in ("html", "2026-03-01.html"):
+            assert files[page].count("Readings by time:") == times
 
 
 def test_with_a_script_sessions_have_times_and_findings(tmp_path: Path, told: list[str]) -> None:

@@ -9,7 +9,8 @@ import pytest
 
 from ocpp_board import cli, statuses
 from ocpp_board.escapes import csv_cell, from_copy, shown
-from ocpp_board.explain import Plan
+from ocpp_board import repeats
+from ocpp_board.explain import Plan, Run
 from ocpp_board.line_faults import bad_line, time_fault
 from ocpp_board.message_faults import message_fault
 from ocpp_board.statuses import Mistaken, Status
@@ -128,9 +129,29 @@ def test_each_trouble_has_its_station_and_each_message_its_receipt() -> None:
     assert arguments([str(MOST_SESSIONS), "troubles"], "traffic").kind == "troubles"
 
 
+def test_sessions_are_those_with_repeats_but_for_what_is_listed_again() -> None:
+    again, plain = (list(repeats.script(2, is_again)) for is_again in (True, False))
+    assert [line for line in again if line not in plain][0] == "order north moment"
+    changed = [line for line in again if line not in plain and line.startswith("msg ")]
+    # Two sessions of each of the stations that list readings again.
+    assert {line.split()[1] for line in changed} == {"all", "begin", "both-registers"}
+    assert len(changed) == 6 and all('"eventType":"Ended"' in line for line in changed)
+    assert len(again) == len(plain) + 1
+    assert arguments(["1000", "repeats"], "traffic").kind == "repeats"
+
+
 @pytest.mark.parametrize(
     "words",
-    [["-1"], ["1048577"], ["200000", "--stations", "3"], ["x"], ["1001", "troubles"], ["1", "x"]],
+    [
+        ["-1"],
+        ["1048577"],
+        ["200000", "--stations", "3"],
+        ["x"],
+        ["1001", "troubles"],
+        ["1001", "repeats"],
+        ["1001", "sessions"],
+        ["1", "x"],
+    ],
 )
 def test_traffic_that_has_no_room(words: list[str]) -> None:
     with pytest.raises(SystemExit):
@@ -152,6 +173,10 @@ def test_traffic_that_has_no_room(words: list[str]) -> None:
         (b"void A T1 2147483648", "is above 2147483647", "a number in range"),
         (b"now 2026-03-01T10:00:00", "has no offset from UTC", "a time such as"),
         (b"station north a/b", "has '/', which no name has", "names have 1 to 48"),
+        (b"order north moments", "'moments' is no order of readings", "sequence or moment"),
+        (b"order north", "2 words, and not 3", "order <site> <word>"),
+        (b"order no/rth moment", "has '/', which no name has", "names have 1 to 48"),
+        (b"Order north moment", "the word 'Order' is not in lower case", "write order"),
     ],
 )
 def test_why_a_line_is_none(line: bytes, cause: str, remedy: str) -> None:
@@ -183,6 +208,74 @@ def test_why_a_time_is_none() -> None:
 )
 def test_why_a_message_is_refused(text: str, told: str, cause: str) -> None:
     assert message_fault(text, told)[0].startswith(cause)
+
+
+def test_an_order_needs_no_ledgers() -> None:
+    plan = Plan()
+    for line in ("station north A", "order north moment", "period north 900"):
+        plan.take(1, line.split())
+    assert plan.opened is None
+
+
+def explained(reference: str, folder: Path, lines: list[str]) -> int:
+    """Explains a script by a replay in plain Python, and gives the status."""
+    (folder / "script").write_text("".join(line + "\n" for line in lines))
+    with open(folder / "script", "rb") as script:
+        return Run(reference, script).run()
+
+
+def test_a_fall_that_a_repeat_made_is_hinted_at_once(
+    reference: str, tmp_path: Path, capsys: pytest.CaptureFixture[str]
+) -> None:
+    lines = [line for line in repeats.script(2, True) if not line.startswith("order ")]
+    assert explained(reference, tmp_path, [*lines, lines[-1]]) == Status.DONE
+    said = capsys.readouterr().out
+    assert said == (
+        f"line {len(lines)}: in 6 sessions of site north, such as t1 of all, readings are listed again, and by "
+        "sequence that is a fall and a second rise: their periods are wrong\n"
+        "  remedy: a line `order north moment` behind the first `station` line of the site takes readings by time\n"
+        f"lines: {len(lines) + 1}, told: 0\n"
+    )
+
+
+@pytest.mark.parametrize("kind", ["sessions", "repeats"])
+def test_where_nothing_falls_nothing_is_hinted_at(
+    kind: str, reference: str, tmp_path: Path, capsys: pytest.CaptureFixture[str]
+) -> None:
+    assert explained(reference, tmp_path, list(repeats.script(2, kind == "repeats"))) == Status.DONE
+    assert "remedy" not in capsys.readouterr().out
+
+
+def test_a_fall_of_the_meter_alone_is_not_hinted_at(
+    reference: str, tmp_path: Path, capsys: pytest.CaptureFixture[str]
+) -> None:
+    """A register that begins anew, and an end that lists the last reading once more."""
+    lines = list(repeats.script(1, False))
+    lines[4] = lines[4].replace('"value":1000', '"value":900000')
+    last = next(line for line in reversed(lines) if line.startswith("msg all"))
+    payload = json.loads(last.split(" ", 2)[2])[3]
+    payload["meterValue"] *= 2
+    text = json.dumps([2, "x", "TransactionEvent", payload])
+    lines[lines.index(last)] = f"msg all {text}"
+    assert explained(reference, tmp_path, lines) == Status.DONE
+    assert "remedy" not in capsys.readouterr().out
+
+
+def test_faults_of_an_order_are_explained(
+    reference: str, tmp_path: Path, capsys: pytest.CaptureFixture[str]
+) -> None:
+    lines = ["station north A", "order north moments", "order south moment", "energy A"]
+    assert explained(reference, tmp_path, [*lines, "order north moment"]) == Status.TOLD
+    assert capsys.readouterr().out == (
+        "line 2: order north moments\n  fault BadLine: 'moments' is no order of readings\n"
+        "  remedy: sequence or moment\n"
+        "line 3: order south moment\n  fault UnknownSite: no station of site south is declared yet\n"
+        "  remedy: put it behind a `station` line of the site\n"
+        "line 5: order north moment\n"
+        "  fault DeclaredLate: line 4 ('energy A') needed the ledgers, and what they keep is fixed from then on\n"
+        "  remedy: put it before line 4\n"
+        "lines: 5, told: 3\n"
+    )
 
 
 def test_why_a_plan_has_no_room() -> None:

@@ -1,0 +1,346 @@
+"""A replay in plain Python, to compare the program with: each board is worked out from scratch, by whole lists.
+
+    tests/one reference < SCRIPT
+
+answers the lines of a script as `ocpp_board replay` does, as far as tests need: declarations, events, the operator's
+commands, questions and boards. It knows no limits and checks no message; one that is no event is answered without a
+payload.
+"""
+
+import json
+import sys
+from collections.abc import Iterable, Iterator
+from dataclasses import dataclass, field
+from datetime import datetime
+from decimal import Decimal
+from typing import Any, NamedTuple
+
+IMPORT, EXPORT = "Energy.Active.Import.Register", "Energy.Active.Export.Register"
+PERIODS, ORDERS = ("300", "900", "1800", "3600"), ("sequence", "moment")
+FLOW = ("up", "down", "export_up", "export_down")
+COUNTS = ("events", "voided", "transactions", "complete", "missing")
+
+
+class Reading(NamedTuple):
+    """A counted reading in milliwatt-hours."""
+
+    at: datetime
+    mwh: int
+    is_export: bool
+
+
+class Event(NamedTuple):
+    """What is compared of an event."""
+
+    kind: str
+    at: datetime
+    evse: int | None
+    readings: tuple[Reading, ...]
+
+
+def readings_of(payload: dict[str, Any]) -> Iterator[Reading]:
+    """The counted readings of an event, in the order sent."""
+    for value in payload.get("meterValue") or ():
+        for one in value["sampledValue"]:
+            measurand = one.get("measurand") or IMPORT
+            is_counted = measurand in (IMPORT, EXPORT) and one.get("phase") is None
+            if is_counted and one.get("location") in (None, "Outlet"):
+                unit = one.get("unitOfMeasure") or {}
+                power = (unit.get("multiplier") or 0) + (6 if unit.get("unit") == "kWh" else 3)
+                level = int(Decimal(one["value"]).scaleb(power))
+                yield Reading(
+                    datetime.fromisoformat(value["timestamp"]), level, measurand == EXPORT
+                )
+
+
+def event_of(payload: dict[str, Any]) -> Event:
+    """The event that a payload tells."""
+    evse = (payload.get("evse") or {}).get("id")
+    at = datetime.fromisoformat(payload["timestamp"])
+    return Event(payload["eventType"], at, evse, tuple(readings_of(payload)))
+
+
+class Pair(NamedTuple):
+    """A reading's difference from the one before it, and when the later one was taken."""
+
+    at: datetime
+    difference: int
+    is_export: bool
+
+
+class Whole(dict[str, int]):
+    """Numbers by name."""
+
+    def add(self, other: dict[str, int]) -> None:
+        for name, number in other.items():
+            self[name] = self.get(name, 0) + number
+
+    def said(self, names: Iterable[str]) -> str:
+        return " ".join(f"{name}={self.get(name, 0)}" for name in names)
+
+
+def energy(pairs: Iterable[Pair]) -> Whole:
+    """What these pairs rise and fall by."""
+    whole = Whole()
+    for pair in pairs:
+        front = "export_" if pair.is_export else ""
+        whole.add({front + ("up" if pair.difference > 0 else "down"): abs(pair.difference)})
+    return whole
+
+
+@dataclass
+class Site:
+    """How a site's boards are made, and its stations."""
+
+    seconds: int = 900
+    is_by_moment: bool = False
+    stations: list[str] = field(default_factory=list)
+
+
+class Station:
+    """What a station has stored: events by transaction and number, and which of them are voided."""
+
+    def __init__(self, site: Site) -> None:
+        self.site = site
+        self.events: dict[str, dict[int, Event]] = {}
+        self.voided = set[tuple[str, int]]()
+        self.changes = 0
+
+    def live(self, tx: str) -> list[tuple[int, Event]]:
+        """The live events of a transaction, by their numbers."""
+        events = sorted(self.events[tx].items())
+        return [(number, event) for number, event in events if (tx, number) not in self.voided]
+
+    def shown(self) -> list[str]:
+        """The transactions with a live event, by their ids' bytes."""
+        return sorted(tx for tx in self.events if self.live(tx))
+
+    def pairs(self, tx: str) -> list[Pair]:
+        """Each reading with the one before it: by their numbers, or these sorted by moment."""
+        found = []
+        for is_export in (False, True):
+            readings = [
+                one
+                for _, event in self.live(tx)
+                for one in event.readings
+                if one.is_export == is_export
+            ]
+            if self.site.is_by_moment:
+                # Python's sort keeps equals in their order.
+                readings.sort(key=lambda one: one.at)
+            found += [
+                Pair(after.at, after.mwh - before.mwh, is_export)
+                for before, after in zip(readings, readings[1:])
+            ]
+        return found
+
+    def all_pairs(self) -> list[Pair]:
+        """The pairs of all transactions."""
+        return [pair for tx in self.shown() for pair in self.pairs(tx)]
+
+    def missing(self, tx: str) -> list[int]:
+        """The numbers between the first and the last that are not live."""
+        numbers = [number for number, _ in self.live(tx)]
+        return [n for n in range(numbers[0], numbers[-1] + 1) if n not in numbers]
+
+    def is_complete(self, tx: str) -> bool:
+        """Whether a transaction has its start, its end and all between."""
+        kinds = [event.kind for _, event in self.live(tx)]
+        inner = {"Started", "Ended"} & set(kinds[1:-1])
+        ends = len(kinds) > 1 and (kinds[0], kinds[-1]) == ("Started", "Ended")
+        return ends and not inner and not self.missing(tx)
+
+    def evse(self, tx: str) -> int:
+        """The EVSE of the first event that names one."""
+        return next((event.evse for _, event in self.live(tx) if event.evse is not None), 0)
+
+    def total(self) -> Whole:
+        """The station's figures."""
+        whole = energy(self.all_pairs())
+        for tx in self.shown():
+            whole.add({"events": len(self.live(tx)), "transactions": 1})
+            whole.add({"complete": int(self.is_complete(tx)), "missing": len(self.missing(tx))})
+        whole.add({"voided": len(self.voided)})
+        return whole
+
+    def periods(self) -> dict[int, Whole]:
+        """The station's energy by the beginnings of periods, in seconds since 1970."""
+        found: dict[int, list[Pair]] = {}
+        for pair in self.all_pairs():
+            second = int(pair.at.timestamp())
+            found.setdefault(second - second % self.site.seconds, []).append(pair)
+        return {start: energy(pairs) for start, pairs in found.items()}
+
+    def lines(self) -> Iterator[str]:
+        """The station's lines of a board."""
+        yield f"total {self.total().said((*COUNTS, *FLOW))}"
+        for number in sorted({self.evse(tx) for tx in self.shown()}):
+            own = [
+                pair for tx in self.shown() if self.evse(tx) == number for pair in self.pairs(tx)
+            ]
+            yield f"evse {number} {energy(own).said(FLOW)}"
+        yield from period_lines(self.periods())
+        for tx in self.shown():
+            numbers, missing = [number for number, _ in self.live(tx)], self.missing(tx)
+            yield (
+                f"tx {tx} evse={self.evse(tx)} events={len(numbers)} first={numbers[0]} last={numbers[-1]} "
+                f"complete={'yes' if self.is_complete(tx) else 'no'} missing={len(missing)} "
+                f"{energy(self.pairs(tx)).said(FLOW)}"
+            )
+            for first in (n for n in missing if n - 1 not in missing):
+                last = next(n for n in range(first, numbers[-1] + 1) if n + 1 not in missing)
+                yield f"gap {first}..{last}"
+
+    def deliver(self, tx: str, number: int, event: Event) -> str | None:
+        """Takes an event, and gives why not."""
+        stored = self.events.setdefault(tx, {})
+        if number in stored:
+            return None if stored[number] == event else "ConflictingEvent"
+        stored[number] = event
+        self.changes += 1
+        return None
+
+    def operate(self, command: str, tx: str, number: int) -> str:
+        """Carries out an operator's command."""
+        key, is_voided = (tx, number), (tx, number) in self.voided
+        if number not in self.events.get(tx, {}):
+            return "refused NoSuchEvent"
+        if is_voided == (command == "void"):
+            return "refused AlreadyVoided" if is_voided else "refused NotVoided"
+        if command == "void":
+            self.voided.add(key)
+        else:
+            self.voided.discard(key)
+        if command == "erase":
+            del self.events[tx][number]
+            if not self.events[tx]:
+                del self.events[tx]
+        self.changes += 1
+        return f"accepted {self.changes}"
+
+
+def period_lines(periods: dict[int, Whole]) -> Iterator[str]:
+    """The lines of periods, rising."""
+    for start in sorted(periods):
+        at = datetime.utcfromtimestamp(start)
+        yield f"period {at:%Y-%m-%dT%H:%M:%SZ} {periods[start].said(FLOW)}"
+
+
+class Replay:
+    """The plan and the stations so far."""
+
+    def __init__(self) -> None:
+        self.sites: dict[str, Site] = {}
+        self.stations: dict[str, Station] = {}
+        self.is_open = False
+
+    def board(self, name: str) -> Iterator[str]:
+        """The lines of a site's board."""
+        site = self.sites[name]
+        order = " order=moment" if site.is_by_moment else ""
+        yield f"board {name} period={site.seconds}{order}"
+        total, periods = Whole(), dict[int, Whole]()
+        for station in (self.stations[one] for one in site.stations):
+            total.add(station.total())
+            for start, numbers in station.periods().items():
+                periods.setdefault(start, Whole()).add(numbers)
+        yield f"total {total.said((*COUNTS, *FLOW))}"
+        yield from period_lines(periods)
+        for one in site.stations:
+            yield f"station {one}"
+            yield from self.stations[one].lines()
+        yield "end"
+
+    def declare(self, kind: str, words: list[str]) -> str | None:
+        """A declaration; its fault, where it is one."""
+        if self.is_open:
+            return "fault DeclaredLate"
+        site = self.sites.get(words[0])
+        if kind == "limits":
+            return "fault PlanLimit" if "0" in words else None
+        if kind == "station":
+            site = self.sites.setdefault(words[0], Site())
+            site.stations.append(words[1])
+            self.stations[words[1]] = Station(site)
+        elif kind == "period" and words[1] not in PERIODS:
+            return "fault PlanLimit"
+        elif kind in ("period", "order") and site is None:
+            return "fault UnknownSite"
+        elif site and kind == "period":
+            site.seconds = int(words[1])
+        elif site:
+            site.is_by_moment = words[1] == "moment"
+        return None
+
+    def answer(self, line: str) -> Iterator[str]:
+        """What a line writes."""
+        kind, *words = line.split(" ", 2) if line.startswith("msg ") else line.split(" ")
+        if not line or line.startswith("#") or kind == "now":
+            return
+        if is_bad(kind, words):
+            yield "fault BadLine"
+        elif kind in ("limits", "station", "period", "order"):
+            if fault := self.declare(kind, words):
+                yield fault
+        else:
+            self.is_open = True
+            yield from self.asked(kind, words)
+
+    def asked(self, kind: str, words: list[str]) -> Iterator[str]:
+        """What a line that needs the ledgers writes."""
+        station = self.stations.get(words[0])
+        if kind == "board":
+            yield from self.board(words[0]) if words[0] in self.sites else ["fault UnknownSite"]
+        elif station is None:
+            yield "fault UnknownStation"
+        elif kind == "msg":
+            yield reply(station, words[1])
+        elif kind in ("void", "restore", "erase"):
+            yield station.operate(kind, words[1].lower(), int(words[2]))
+        elif kind == "total":
+            yield f"total {station.total().said((*COUNTS, *FLOW))}"
+        else:
+            whole, front = station.total(), "export_" if kind == "export" else ""
+            yield f"{kind} up={whole.get(f'{front}up', 0)} down={whole.get(f'{front}down', 0)}"
+
+
+# How many words there are behind the first one of a line.
+WORDS = {"limits": 4, "void": 3, "restore": 3, "erase": 3, "station": 2, "period": 2, "order": 2}
+WORDS |= {"msg": 2, "energy": 1, "export": 1, "total": 1, "board": 1}
+
+
+def is_bad(kind: str, words: list[str]) -> bool:
+    """Whether a line is none, as far as the words of tests go."""
+    if len(words) != WORDS.get(kind):
+        return True
+    return kind == "order" and words[1] not in ORDERS or kind != "msg" and "/" in words[0]
+
+
+def reply(station: Station, text: str) -> str:
+    """The reply to a message."""
+    _, number, action, payload = json.loads(text, parse_float=Decimal)
+    if action != "TransactionEvent":
+        return f'[3,"{number}",{{}}]'
+    tx = payload["transactionInfo"]["transactionId"].lower()
+    if fault := station.deliver(tx, payload["seqNo"], event_of(payload)):
+        return f'[4,"{number}","GenericError","{fault}",{{}}]'
+    token = '{"idTokenInfo":{"status":"Accepted"}}' if payload.get("idToken") else "{}"
+    return f'[3,"{number}",{token}]'
+
+
+def answers(script: Iterable[str]) -> Iterator[str]:
+    """What each line of a script writes."""
+    replay = Replay()
+    for line in script:
+        yield "".join(f"{text}\n" for text in replay.answer(line.rstrip("\n")))
+
+
+def replayed(script: Iterable[str]) -> str:
+    """What a script writes."""
+    return "".join(answers(script))
+
+
+if __name__ == "__main__":
+    for answer in answers(sys.stdin):
+        sys.stdout.write(answer)
+        sys.stdout.flush()
