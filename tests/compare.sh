@@ -85,6 +85,7 @@ with_program() {
     gives 0 explain/nothing.told "$board" explain --program "$program" forms/ocpp.script
     gives 1 explain/mark.told "$board" explain --program "$program" explain/mark.script
     gives 0 explain/near.told "$board" explain --program "$program" explain/near.script
+    gives 1 explain/orders.told "$board" explain --program "$program" explain/orders.script
     gzip -c "$days/day.script" > "$made/day.script.gz"
     gives 1 explain/gzip.told "$board" explain --program "$program" "$made/day.script.gz"
     tells 2 "No such file or directory" "$board" explain --program "$program" nowhere.script
@@ -129,6 +130,23 @@ with_program() {
         --program "$1" --out "$2" "$2.text"' _ "$program" "$made/untaken"
     holds tables/untaken.said
 
+    # A day whose stations list readings again, which are taken by moment, has the periods of the same day without; taken
+    # by sequence it has others.
+    "$board" traffic 3 sessions | "$program" replay | grep '^period' > "$made/once.lines"
+    "$board" traffic 3 repeats | "$program" replay | grep '^period' > "$made/again.lines"
+    "$board" traffic 3 repeats | grep -v '^order' | "$program" replay | grep '^period' > "$made/sequence.lines"
+    if diff "$made/once.lines" "$made/again.lines" && ! cmp -s "$made/once.lines" "$made/sequence.lines"; then
+        echo "a day with readings that are listed again: $(wc -l < "$made/once.lines") periods as without"
+    else
+        differs "a day with readings that are listed again"
+    fi
+    # Its sessions have no finding; by sequence each that lists readings again has one.
+    gives 0 - "$board" tables --script "$days/repeats.script" --program "$program" --written $written --out "$made/repeated" \
+        "$days/repeats.expected"
+    as_stored tables/repeats.findings.csv "$made/repeated.findings.csv"
+    # Commands that are drawn, at a site by moment and at one by sequence, against plain lists.
+    "$one" drawn_orders "$program" || differs drawn_orders
+
     # 50 events of each of two stations: a session of 48 and one of 2, in each of which all but the first rise by 250 Wh.
     gives 0 forms/traffic.text bash -c '"$board" traffic 100 --stations 2 | "$1" replay | grep -v "^.3,"' _ "$program"
 }
@@ -144,6 +162,9 @@ citrineos=(--site north --site-map forms/sites.txt --limits 100 1000 2000 100000
 gives 0 forms/citrineos.script "$board" log-to-script --form citrineos "${citrineos[@]}" forms/citrineos.jsonl
 gives 0 forms/periods.script "$board" log-to-script --form citrineos --site north --site-map forms/sites.txt --period 1800 \
     --period north=300 forms/citrineos.jsonl
+gives 0 forms/orders.script "$board" log-to-script --form citrineos --site north --site-map forms/sites.txt --order moment \
+    --order north=sequence forms/citrineos.jsonl
+gives 0 "$days/repeats.script" "$board" traffic 3 repeats
 gives 0 forms/citrineos.script "$board" log-to-script --form citrineos-csv "${citrineos[@]}" forms/citrineos.csv
 gives 0 forms/arrows.script "$board" log-to-script --form arrows --site north forms/arrows.log
 gives 0 forms/regex.script "$board" log-to-script --received --incoming up \
@@ -168,6 +189,8 @@ tells 2 "has no sites: --site, --site-map or --stations names them" "$board" log
 tells 2 "forms/ocpp.log line 2: not two names" "$board" log-to-script --stations forms/ocpp.log "$days/day.jsonl"
 tells 2 "not 300, 900, 1800 or 3600 seconds: 'north=600'" "$board" log-to-script --period north=600 "$days/day.jsonl"
 tells 2 "no name of a site: 'no/name=300'" "$board" log-to-script --period no/name=300 "$days/day.jsonl"
+tells 2 "not sequence or moment: 'north=time'" "$board" log-to-script --order north=time "$days/day.jsonl"
+tells 2 "no name of a site: 'no/name=moment'" "$board" log-to-script --order no/name=moment "$days/day.jsonl"
 tells 2 "No such file or directory" "$board" log-to-script nowhere.jsonl
 tells 2 "No space left on device" bash -c '"$board" log-to-script "$days/site_day.jsonl" > /dev/full'
 tells 2 "No space left on device" bash -c '"$board" log-to-script --form maeve --stations forms/stations.txt forms/maeve.mqtt > /dev/full'
@@ -229,6 +252,8 @@ for name in berlin.periods berlin.transactions states.transactions exports.perio
 done
 holds tables/berlin.said
 holds tables/exports.said
+made_by "$board" tables --written $written --out "$made/repeats" "$days/repeats.expected"
+holds tables/repeats.said
 made_by "$board" tables --tz Europe/Berlin --day 2026-03-29 --out "$made/one" tables/berlin.text
 grep -E '^board|:00Z,2026-03-29T' tables/berlin.periods.csv > "$made/one.rows"
 diff "$made/one.rows" "$made/one.periods.csv" || differs "a day of tables/berlin.periods.csv"
