@@ -3,7 +3,7 @@
     tests/one drawn_orders PROGRAM [--commands 3000] [--seed 1]
 
 The same commands go to a station of each site: new events, repeats, late and conflicting ones, several readings of
-one moment, clocks that go back, readings that are listed again, imported and exported, voids, restorations and erasures.
+one moment, clocks that go back, readings that are listed again, imported and exported, voids, restorations, erasures.
 Behind each command stands the station's total, and each hundred the boards. The status is 1 where a line differs.
 """
 

@@ -1,10 +1,11 @@
 #!/usr/bin/env bash
 # Installs what is missing and runs demo.py here: a fleet on a database of its own, with faults, and each board compared.
+# Then order_demo.py, of a site whose readings are taken by moment.
 #     tests/fleet/check.sh PROGRAM [WORD..]      such as crates/ocpp_board/out/ocpp_board; further words are demo.py's
 # Status: 0 where all is right, 1 where something is wrong, 2 for wrong words, and 77 where packages are missing and can't
 # be installed, so that nothing was tried. Packages that it installs stay; the database and all processes do not.
 set -u
-[ "${1-}" != --help ] && [ "${1-}" != -h ] || { sed -n '2,5s/^# \?//p' "$0"; exit 0; }
+[ "${1-}" != --help ] && [ "${1-}" != -h ] || { sed -n '2,6s/^# \?//p' "$0"; exit 0; }
 [ $# -ge 1 ] && [ -x "$1" ] && [ -f "$1" ] || { echo "check.sh: the built program is its first word" >&2; exit 2; }
 here=$(cd "$(dirname "$0")" && pwd)
 
@@ -37,4 +38,5 @@ if [ ${#missing[@]} != 0 ]; then
         skip "no ${missing[*]}, and apt-get can't install them: $(grep '^E:' "$told" | head -n 1)"
     leave
 fi
-exec "$here/../one" fleet.demo "$@"
+"$here/../one" fleet.demo "$@" || exit
+exec "$here/../one" fleet.order_demo "$1"

@@ -278,23 +278,43 @@ class Demo(Trial):
             status, text = await ended(load)
             self.check(status == 0, f"plan: stations that were added while all runs: {text}")
         await self.period(self.shards - 1)
+        await self.by_moment(self.shards - 1)
+
+    async def by_moment(self, shard: int) -> None:
+        """Readings by moment for a shard's site; a program that knows no orders is not given the shard."""
+        begin = "update own_site set reading_order = $2 where shard = $1"
+        await self.owner.execute(begin, shard, "moment")
+        if "order" in self.fleet.known:
+            differ = await self.fleet.compared(self.owner, shard)
+            text = await self.owner.fetchval("select text from own_board where shard = $1", shard)
+            head = (text or "").split("\n")[0]
+            self.check(
+                not differ and head.endswith(" order=moment"),
+                f"plan: readings by moment: {head} {differ or ''}",
+            )
+        else:
+            await self.is_told(
+                f"shard {shard}: the program knows no orders of readings", "readings by moment"
+            )
+        await self.owner.execute(begin, shard, "sequence")
+
+    async def is_told(self, fault: str, what: str) -> None:
+        """Whether a worker tells what the program does not know."""
+        log, end = self.fleet.folder / "parts.log", time.monotonic() + 5
+        while fault not in log.read_text() and time.monotonic() < end:
+            await asyncio.sleep(0.1)
+        self.check(
+            fault in log.read_text(),
+            f"plan: {what}, of which this program knows nothing, is told: {fault}",
+        )
 
     async def period(self, shard: int) -> None:
         """Another settlement period for a shard's site; a program that knows none is not given the shard."""
         begin = "update own_site set period = $2 where shard = $1"
         await self.owner.execute(begin, shard, 300)
-        if not self.fleet.with_period:
-            log, fault = (
-                self.fleet.folder / "parts.log",
-                f"shard {shard}: the program knows no periods",
-            )
-            end = time.monotonic() + 5
-            while fault not in log.read_text() and time.monotonic() < end:
-                await asyncio.sleep(0.1)
-            self.check(
-                fault in log.read_text(),
-                f"plan: a period of 300 seconds, of which this program knows none, is told: {fault}",
-            )
+        if "period" not in self.fleet.known:
+            fault = f"shard {shard}: the program knows no settlement periods"
+            await self.is_told(fault, "a period of 300 seconds")
             await self.owner.execute(begin, shard, 900)
             return
         differ = await self.fleet.compared(self.owner, shard)

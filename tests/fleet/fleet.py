@@ -22,7 +22,7 @@ from ocpp_board.energies import FLOW, Flow, flow_of
 from ocpp_board.fleet.figures import Figures, added, figures, periods
 from ocpp_board.fleet.database import Fault, connect
 from ocpp_board.fleet.lines import COMMANDS, transaction_of
-from ocpp_board.fleet.plans import Plan, knows_period
+from ocpp_board.fleet.plans import Plan, known_lines
 
 TOP = Path(__file__).resolve().parent.parent.parent
 SCHEMA = TOP / "python/ocpp_board/fleet/schema.sql"
@@ -197,7 +197,7 @@ NUMBERS = {
 
 def is_of(line: str, kept: set[tuple[str, str]]) -> bool:
     """Whether a line of an archive declares, or is of one of these transactions."""
-    return line.startswith(("limits ", "station ", "period ")) or (
+    return line.startswith(("limits ", "station ", "period ", "order ")) or (
         line.startswith(COMMANDS) and transaction_of(line) in kept
     )
 
@@ -213,7 +213,7 @@ class Fleet:
         self.program, self.folder = os.path.abspath(program), Path(
             tempfile.mkdtemp(prefix="ocpp-fleet.")
         )
-        self.with_period = knows_period(self.program)
+        self.known = known_lines(self.program)
         self.processes: list[subprocess.Popen[bytes]] = []
         self.databases: list[Database] = []
         self.password = secrets.token_hex(12)
@@ -353,7 +353,7 @@ class Fleet:
             if (home := shards.get(line.split(" ", 2)[1])) is not None:
                 texts.setdefault(home, []).append(line)
         for number in sorted(number for number in set(shards.values()) if number >= shard):
-            plan = await Plan.of(owner.fetch, number, self.with_period)
+            plan = await Plan.of(owner.fetch, number, self.known)
             lines = [*texts.get(number, ()), *(f"board {site}" for site in plan.sites)]
             script = plan.lines + "".join(line + "\n" for line in lines).encode()
             made = subprocess.run(
@@ -406,7 +406,7 @@ class Fleet:
 
     async def whole(self, owner: Any, shard: int, site: str, lines: list[str]) -> Figures:
         """The figures of a site's stations in a shard by a replay from scratch of what came."""
-        plan = await Plan.of(owner.fetch, shard, self.with_period)
+        plan = await Plan.of(owner.fetch, shard, self.known)
         return self.replayed(plan.lines, lines, site)
 
     def replayed(self, declared: bytes, lines: list[str], site: str) -> Figures:

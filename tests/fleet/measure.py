@@ -22,7 +22,7 @@ from pathlib import Path
 from typing import Any
 
 from ocpp_board.fleet.database import Fault, said
-from ocpp_board.fleet.plans import Plan
+from ocpp_board.fleet.plans import Plan, Reckoning
 from ocpp_board.fleet.replays import Replay
 from tests.fleet.fleet import FILL, Fleet, children, ended
 from tests.fleet.trials import FAULTS, MISTAKEN, messages, parsed, parser_of
@@ -153,8 +153,8 @@ async def memory(fleet: Fleet, words: argparse.Namespace) -> int:
         }
         plan = Plan(
             [row | {"station": f"CS-{number:02}"} for number in range(64)],
-            {"north": 900},
-            fleet.with_period,
+            {"north": Reckoning()},
+            fleet.known,
         )
         replay = await Replay.start(fleet.program)
         await replay.open(plan)

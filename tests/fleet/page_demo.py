@@ -28,6 +28,7 @@ import asyncpg
 
 from ocpp_board.fleet.database import Fault
 from ocpp_board.fleet.figures import joined
+from ocpp_board.fleet.plans import Reckoning
 from tests.fleet.fleet import tool
 from tests.fleet.trials import Trial, event, parsed, parser_of, skipped, tried
 
@@ -261,8 +262,9 @@ class Demo(Trial):
 
     async def joins(self) -> None:
         """A board that is joined of one text is that text."""
-        for row in await self.owner.fetch("select site, text from own_board"):
-            if joined(row["site"], 900, [row["text"]], {}, {}) != row["text"]:
+        query = "select b.site, text, period, reading_order from own_board b join own_site using (shard, site)"
+        for row in await self.owner.fetch(query):
+            if joined(row["site"], Reckoning.of(row), [row["text"]], {}, {}) != row["text"]:
                 self.check(False, f"a board joined of the one of {row['site']} is another")
         self.check(True, "a board joined of one board is that one")
 

@@ -65,7 +65,7 @@ class Waits(Trial):
 
     async def loaded(self, shard: int, lines: list[str]) -> bool:
         """Whether the board of a shard comes to be that of a replay of these lines, within two minutes."""
-        plan = await Plan.of(self.owner.fetch, shard, self.fleet.with_period)
+        plan = await Plan.of(self.owner.fetch, shard, self.fleet.known)
         texts = [*lines, f"board site-{shard}"]
         script = plan.lines + "".join(f"{text}\n" for text in texts).encode()
         command = [self.fleet.program, "replay"]

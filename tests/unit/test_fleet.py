@@ -3,6 +3,7 @@
 import asyncio
 import json
 from datetime import datetime, timezone
+from pathlib import Path
 
 import pytest
 
@@ -57,7 +58,7 @@ from ocpp_board.fleet.page_texts import (  # noqa: E402
     question_page,
     with_links,
 )
-from ocpp_board.fleet.plans import Plan  # noqa: E402
+from ocpp_board.fleet.plans import Plan, Reckoning, known_lines  # noqa: E402
 from ocpp_board.fleet.worker import payloads_of  # noqa: E402
 from ocpp_board.messages import Refused  # noqa: E402
 
@@ -127,14 +128,42 @@ def test_what_a_fault_says() -> None:
 
 def test_a_plan_declares_limits_where_they_change() -> None:
     rows = [station("A"), station("B"), station("C", "south", 5)]
-    plan = Plan(rows, {"north": 900, "south": 300}, True)
+    sites = {"north": Reckoning(), "south": Reckoning(300), "west": Reckoning(600, "moment")}
+    plan = Plan(rows, sites, frozenset(["period"]))
     assert plan.sites == ["north", "south"] and plan.stations == ["A", "B", "C"]
     assert plan.lines == (
         b"limits 1 2 4 9\nstation north A\nstation north B\nlimits 1 2 5 9\nstation south C\n"
         b"period south 300\n"
     )
-    with pytest.raises(Fault, match="knows no periods"):
-        Plan(rows, {"north": 900, "south": 300}, False)
+    with pytest.raises(
+        Fault, match="knows no settlement periods, and site south has periods of 300"
+    ):
+        Plan(rows, sites, frozenset(["order"]))
+
+
+def test_a_plan_declares_the_order_of_a_site_by_moment_alone() -> None:
+    rows, known = [station("A"), station("C", "south")], frozenset(["period", "order"])
+    sites = {"north": Reckoning(900, "moment"), "south": Reckoning()}
+    front = b"limits 1 2 4 9\nstation north A\nstation south C\n"
+    assert Plan(rows, sites, known).lines == front + b"order north moment\n"
+    sites["south"] = Reckoning(300, "moment")
+    both = b"order north moment\nperiod south 300\norder south moment\n"
+    assert Plan(rows, sites, known).lines == front + both
+    with pytest.raises(Fault, match="knows no orders of readings, and site north has .* by moment"):
+        Plan(rows, sites, frozenset(["period"]))
+
+
+def test_a_program_tells_which_lines_it_knows(tmp_path: Path) -> None:
+    program = tmp_path / "program"
+    program.write_text("#!/bin/sh\necho '  period <site> <seconds>   ..'\n")
+    program.chmod(0o700)
+    assert known_lines(str(program)) == {"period"}
+    program.write_text(
+        "#!/bin/sh\necho '  period <site> <seconds>'; echo '  order <site> <word>'\n"
+    )
+    assert known_lines(str(program)) == {"period", "order"}
+    with pytest.raises(Fault, match="No such file"):
+        known_lines(str(tmp_path / "nowhere"))
 
 
 def test_figures_of_a_board() -> None:
@@ -161,12 +190,16 @@ def test_figures_of_two_logs_are_added() -> None:
 
 
 def test_a_board_joined_of_one_is_that_one() -> None:
-    assert joined("north", 900, [BOARD], {}, {}) == BOARD
+    assert joined("north", Reckoning(), [BOARD], {}, {}) == BOARD
+    by_moment = BOARD.replace("=900", "=900 order=moment", 1)
+    assert joined("north", Reckoning(900, "moment"), [by_moment], {}, {}) == by_moment
 
 
 def test_a_board_joined_with_archives_has_their_energy() -> None:
     archived = {("A", "period", "2026-03-01T10:15:00Z"): {"up": 4}}
-    text = joined("north", 900, [BOARD], {"A": {"transactions": 1, "complete": 1}}, archived)
+    text = joined(
+        "north", Reckoning(), [BOARD], {"A": {"transactions": 1, "complete": 1}}, archived
+    )
     assert f"period 2026-03-01T10:15:00Z {FLOW.replace('up=1', 'up=5', 1)}" in text
     assert "transactions=2 complete=2" in text
 

@@ -15,7 +15,7 @@ from ocpp_board.fleet.lines import (
     station_of,
     transaction_of,
 )
-from ocpp_board.fleet.plans import DEFAULT_PERIOD, Plan
+from ocpp_board.fleet.plans import Plan, Reckoning
 from ocpp_board.fleet.replays import Replay
 from ocpp_board.limits import GREATEST_LIMITS
 
@@ -67,7 +67,7 @@ async def answers_behind(
     wide = widened(row, known + lines)
     replay = await Replay.start(program)
     try:
-        await replay.open(Plan([wide], {row["site"]: DEFAULT_PERIOD}, False))
+        await replay.open(Plan([wide], {row["site"]: Reckoning()}, frozenset()))
         replay.write("".join(line + "\n" for line in known + lines).encode())
         answers = (await replay.answers(len(known) + len(lines)))[len(known) :]
     finally:

@@ -44,7 +44,7 @@ from ocpp_board.fleet.lines import (
     station_of,
     transaction_of,
 )
-from ocpp_board.fleet.plans import Plan, knows_period
+from ocpp_board.fleet.plans import Plan, Reckoning, known_lines
 from ocpp_board.words import add_program, parser_of
 
 log = logging.getLogger(__name__)
@@ -55,7 +55,7 @@ REMOVE = "delete from own_log where shard = $1 and place = any($2::bigint[])"
 REPLAN = "update own_shard set plan = plan + 1 where shard = $1 and plan = $2 and moving_to is null"
 # The same where lines came to be known: it tells the worker.
 ANEW = "with one as (update own_shard set plan = plan + 1 where shard = $1) select pg_notify('plan', $1::text)"
-BEFORE = "select day, period from own_closing where shard = $1 and site = $2 order by closing"
+BEFORE = "select day, period, reading_order from own_closing where shard = $1 and site = $2 order by closing"
 # What an earlier version archived, whose lines are in its files alone.
 UNPACKED = """
 select t.station, t.transaction, t.site, t.closing, c.archive
@@ -76,8 +76,8 @@ select station, starts, sum(up)::bigint as up, sum(down)::bigint as down, sum(ex
 where shard = $1 and station = any($2) group by station, starts
 """
 CLOSING = """
-insert into own_closing (shard, site, closing, day, period, place, archive, plan)
-values ($1, $2, $3, $4, $5, $6, $7, $8)
+insert into own_closing (shard, site, closing, day, period, reading_order, place, archive, plan)
+values ($1, $2, $3, $4, $5, $6, $7, $8, $9)
 """
 CLOSED = """
 insert into own_closed_period (shard, site, closing, station, starts, day, up, down, export_up, export_down)
@@ -171,7 +171,7 @@ class Closing:
             site["shard"],
             site["site"],
         )
-        self.zone, self.period = zone_of(site), site["period"]
+        self.zone, self.reckoning = zone_of(site), Reckoning.of(site)
         self.stations: list[dict[str, Any]] = []
 
     async def fetch(self, query: str, *values: Any) -> Any:
@@ -204,7 +204,7 @@ class Closing:
         for line in lines:
             own.setdefault(station_of(line), []).append(line)
         rows = [widened(row, own.get(row["station"], [])) for row in self.stations]
-        return Plan(rows, {self.site: self.period}, self.words.with_period)
+        return Plan(rows, {self.site: self.reckoning}, self.words.known)
 
     async def replayed(self, lines: list[str]) -> Figures:
         """The figures of the site's stations after these lines."""
@@ -345,10 +345,10 @@ class Closing:
         await self.pack()
         plan, place, rows = await self.read()
         before = await self.fetch(BEFORE, self.site)
-        if before and before[-1]["period"] != self.period:
+        if before and (had := Reckoning.of(before[-1])) != self.reckoning:
             raise Fault(
-                f"site {self.site} was closed by periods of {before[-1]['period']} seconds, and its plan has "
-                f"{self.period}: give its stations to a site of another name"
+                f"site {self.site} was closed by {had.told()}, and its plan has {self.reckoning.told()}: give its "
+                "stations to a site of another name"
             )
         day = max([day, *(row["day"] for row in before)])
         log_lines = await self.sorted_all(rows, day)
@@ -364,7 +364,7 @@ class Closing:
             return (
                 f"{self.site}, shard {self.shard}: {day} is closed already, and nothing came since"
             )
-        values = (day, self.period, place, name, plan + 1)
+        values = (day, *self.reckoning, place, name, plan + 1)
         async with self.session.transaction():
             await self.session.execute(CLOSING, *head, *values)
             await self.session.executemany(CLOSED, [(*head, *row) for row in settled])
@@ -491,12 +491,13 @@ def transactions(part: Figures) -> list[tuple[Any, ...]]:
 
 async def run(words: argparse.Namespace) -> None:
     """Closes the day in each shard that has stations of the site. Raises Fault where that can't be."""
-    words.with_period = knows_period(words.program)
+    words.known = known_lines(words.program)
     if not words.archive.is_dir():
         raise Fault(f"{words.archive}: no folder for archives")
     session = await connect(words.db, application_name=NAME)
     sites = await session.fetch(
-        "select shard, site, period, zone from own_site where site = $1 order by 1", words.site
+        "select shard, site, period, reading_order, zone from own_site where site = $1 order by 1",
+        words.site,
     )
     if not sites:
         raise Fault(f"no site {words.site} in this cell")

@@ -17,7 +17,7 @@ from ocpp_board.fleet import parts
 from ocpp_board.fleet.archives import Late
 from ocpp_board.fleet.database import Fault, connect
 from ocpp_board.fleet.lines import is_repeat, station_of
-from ocpp_board.fleet.plans import Plan, knows_period
+from ocpp_board.fleet.plans import Plan, known_lines
 from ocpp_board.fleet.replays import Replay
 from ocpp_board.limits import LONGEST_SCRIPT
 from ocpp_board.words import add_program, parser_of
@@ -108,14 +108,14 @@ async def replayed(program: str, plan: Plan, lines: list[str]) -> Replayed:
 
 async def compact(words: argparse.Namespace) -> None:
     """Removes the repeats of a shard's log. Raises Fault where that would change a board."""
-    with_period = knows_period(words.program)
+    known = known_lines(words.program)
     session = await connect(words.db, application_name=NAME)
     if not await session.fetchval("select reserve_shard($1)", words.shard):
         raise Fault(f"shard {words.shard} is being moved or compacted by another program")
     number = await session.fetchval("select plan from own_shard where shard = $1", words.shard)
     if number is None:
         raise Fault(f"no shard {words.shard} in this cell")
-    plan = await Plan.of(session.fetch, words.shard, with_period)
+    plan = await Plan.of(session.fetch, words.shard, known)
     rows = await session.fetch(READ, words.shard)
     late = await Late(words.shard, plan.rows, True).places(
         session.fetch, [row["line"] for row in rows]

@@ -6,6 +6,7 @@ from typing import Any
 
 from ocpp_board.boards import TOTAL, Numbers, numbers_of
 from ocpp_board.energies import FLOW, Flow, flow_of
+from ocpp_board.fleet.plans import Reckoning
 
 # A station's line: its station, its kind (total, evse, period, tx or gap), and which one of that kind.
 Key = tuple[str, str, str]
@@ -125,7 +126,11 @@ def summed(parts: Iterable[Mapping[str, int]]) -> Numbers:
 
 
 def joined(
-    site: str, seconds: int, texts: Iterable[str], totals: Mapping[str, Numbers], flows: Figures
+    site: str,
+    reckoning: Reckoning,
+    texts: Iterable[str],
+    totals: Mapping[str, Numbers],
+    flows: Figures,
 ) -> str:
     """One board of a site's stations that several shards have, with what archives have of them besides: numbers of a
     station's total line by `totals`, and periods by `flows`."""
@@ -156,6 +161,6 @@ def joined(
         lines += [f"station {station}", f"total {words_of(TOTAL, whole[-1])}", *kinds["evse"]]
         lines += [f"period {start} {words_of(FLOW, periods[start])}" for start in sorted(periods)]
         lines += [line.replace(" gap ", "\ngap ") for line in kinds["tx"]]
-    front = [f"board {site} period={seconds}", f"total {words_of(TOTAL, summed(whole))}"]
+    front = [f"board {site} {reckoning.said()}", f"total {words_of(TOTAL, summed(whole))}"]
     front += [f"period {start} {words_of(FLOW, sums[start])}" for start in sorted(sums)]
     return "\n".join([*front, *lines, "end\n"])

@@ -40,7 +40,7 @@ from ocpp_board.fleet.database import (
 )
 from ocpp_board.fleet.own_replay import OwnReplay
 from ocpp_board.fleet.passwords import Given, Passwords, Stored, Verdict
-from ocpp_board.fleet.plans import knows_period
+from ocpp_board.fleet.plans import known_lines
 from ocpp_board.fleet.websocket import MOST, SUBPROTOCOL, Link
 from ocpp_board.limits import LONGEST_MESSAGE, is_name
 from ocpp_board.messages import HEAD, one_line, parsed
@@ -745,7 +745,7 @@ def main(argv: Sequence[str], prog: str) -> int:
     words = parts.parsed(parser, argv)
 
     async def run() -> None:
-        knows_period(words.program)  # A program that is not there is told before anything begins.
+        known_lines(words.program)  # A program that is not there is told before anything begins.
         await Gateway(words).run()
 
     parts.use_uvloop()

@@ -49,7 +49,7 @@ select p.* from station_password p join own_station using (station) where shard 
 SET = "insert into station_password (station, hash, salt, set_at, seen_at) values ($1, $2, $3, $4, $5)"
 # What goes with a shard, in an order in which it can be written.
 PARTS = (
-    ("own_site", "site, period, zone", "site"),
+    ("own_site", "site, period, reading_order, zone", "site"),
     ("own_station", "site, station, transactions, events, readings, changes, retired", "place"),
     ("own_board", "site, text, at, plan, place", "site"),
     *(
@@ -64,7 +64,11 @@ PARTS = (
             ("gap", "transaction, first, last"),
         )
     ),
-    ("own_closing", "site, closing, day, period, at, archive, plan, place", "closing"),
+    (
+        "own_closing",
+        "site, closing, day, period, reading_order, at, archive, plan, place",
+        "closing",
+    ),
     (
         "own_closed_period",
         "site, closing, station, starts, day, up, down, export_up, export_down",

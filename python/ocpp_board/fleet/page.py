@@ -46,6 +46,7 @@ from ocpp_board.energies import FLOW
 from ocpp_board.fleet import parts
 from ocpp_board.fleet.database import LOST, Fault, Unreachable, connect, said, within
 from ocpp_board.fleet.figures import Figures, joined
+from ocpp_board.fleet.plans import Reckoning
 from ocpp_board.fleet.page_texts import (
     SiteFigures,
     Words,
@@ -67,7 +68,7 @@ log = logging.getLogger(__name__)
 
 # A site's figures, of its stations in this cell and a shard: what is in the log, and what archives have.
 SITES = """
-select p.shard, p.site, p.zone, p.period, b.*, a.*,
+select p.shard, p.site, p.zone, p.reading_order, b.*, a.*,
        (select count(*) from own_station t
         where t.shard = p.shard and t.site = p.site and t.retired is null) as stations
 from own_site p
@@ -91,7 +92,7 @@ order by p.site, p.shard
 """
 # Up to which closing the board knows what archives have: it is written anew some seconds after one.
 BOARD = """
-select p.shard, p.period, p.zone, b.text, b.place, b.at,
+select p.shard, p.period, p.reading_order, p.zone, b.text, b.place, b.at,
        (select max(closing) from own_closing c
         where c.shard = p.shard and c.site = p.site and c.plan <= b.plan) as closing
 from own_site p left join own_board b using (shard, site) where p.site = $1 order by p.shard
@@ -273,10 +274,11 @@ class Ledger:
         return rows, faults
 
     async def text(self, name: str, rows: list[tuple[Cell, Any]]) -> tuple[str, int]:
-        """The site's board for each length of period, with what archives have, and how many sessions these are."""
+        """The site's board for each way in which it is reckoned, with what archives have, and how many sessions these
+        are."""
         boards, count = list[str](), 0
-        for period in dict.fromkeys(row["period"] for _, row in rows):
-            same = [(cell, row) for cell, row in rows if row["period"] == period]
+        for reckoning in dict.fromkeys(Reckoning.of(row) for _, row in rows):
+            same = [(cell, row) for cell, row in rows if Reckoning.of(row) == reckoning]
             totals: dict[str, Numbers] = {}
             flows: Figures = {}
             for cell, row in same:
@@ -291,9 +293,8 @@ class Ledger:
                 for one in await cell.ask(FLOWS, *place):
                     key = (one["station"], "period", one["starts"].strftime(MOMENT))
                     flows[key] = {name: one[name] for name in FLOW}
-            boards.append(
-                joined(name, period, (row["text"] for _, row in same if row["text"]), totals, flows)
-            )
+            texts = (row["text"] for _, row in same if row["text"])
+            boards.append(joined(name, reckoning, texts, totals, flows))
         return "".join(boards), count
 
     # Questions and what is carried out --------------------------------------------------------------------------------
@@ -540,7 +541,7 @@ class Handler(BaseHTTPRequestHandler):
         if not FILE.fullmatch(file):
             raise Wrong(HTTPStatus.NOT_FOUND, f"a site has no page {file!r}")
         rows, faults = self.server.wait(self.server.ledger.site(name))
-        keys = ("shard", "period", "zone", "place", "at", "closing")
+        keys = ("shard", "period", "reading_order", "zone", "place", "at", "closing")
         mark = [(cell.dsn, *(row[key] for key in keys)) for cell, row in rows]
         pages = self.server.pages.get(name, mark)
         if pages is None:

@@ -13,6 +13,7 @@ from ocpp_board.boards import Numbers
 from ocpp_board.energies import FLOW, kwh
 from ocpp_board.fleet.archives import LATER
 from ocpp_board.fleet.figures import summed
+from ocpp_board.fleet.plans import DEFAULT_ORDER
 from ocpp_board.limits import GREATEST_SEQ_NO, TRANSACTION, is_name
 from ocpp_board.pages import FOOT, MARK, head, table
 
@@ -84,12 +85,14 @@ class SiteFigures:
 
     def __init__(self, name: str) -> None:
         self.name, self.zone = name, "UTC"
+        self.is_by_time = False
         self.numbers: Numbers = {}
         self.at: datetime | None = None
 
     def add(self, row: Any) -> None:
         """Adds what a shard has of the site."""
         self.zone = row["zone"]
+        self.is_by_time |= row["reading_order"] != DEFAULT_ORDER
         for name in ("stations", "events", "voided"):
             self.numbers[name] = self.numbers.get(name, 0) + row[name]
         for name, more in (
@@ -175,6 +178,7 @@ def sites_page(sites: list[SiteFigures], faults: list[str]) -> bytes:
             numbers["complete"] < numbers["transactions"] or numbers["missing"] or numbers["voided"]
         )
         name = f'<a href="/site/{quote(site.name, safe="")}/">{escape(site.name)}</a>'
+        name += "<br>readings by time" if site.is_by_time else ""
         rows.append(
             (
                 MARK if marked else "",

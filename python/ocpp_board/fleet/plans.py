@@ -1,17 +1,47 @@
-"""The plan of a shard: its stations with their limits, its sites with their periods, as lines of a script."""
+"""The plan of a shard: its stations with their limits, how its sites are reckoned, as lines of a script."""
 
 import subprocess
-from collections.abc import Awaitable, Callable, Iterable
-from typing import Any
+from collections.abc import Awaitable, Callable, Iterable, Mapping
+from typing import Any, NamedTuple
 
 from ocpp_board.fleet.database import Fault
 
-# The settlement period, in seconds, of a site that has no line `period`.
-DEFAULT_PERIOD = 900
+# What a site has that has no line `period` or `order`.
+DEFAULT_PERIOD, DEFAULT_ORDER = 900, "sequence"
+# What the columns and lines of a site mean, for who is told that a program has no such line.
+MEANINGS = {"period": "settlement periods", "order": "orders of readings"}
 
 
-def knows_period(program: str) -> bool:
-    """Whether the program's scripts have `period <site> <seconds>`, which its --help then lists.
+class Reckoning(NamedTuple):
+    """How a site's boards are reckoned: its settlement period in seconds, and the order of its readings."""
+
+    period: int = DEFAULT_PERIOD
+    order: str = DEFAULT_ORDER
+
+    @classmethod
+    def of(cls, row: Mapping[str, Any]) -> "Reckoning":
+        """That of a row of own_site or own_closing."""
+        return cls(row["period"], row["reading_order"])
+
+    def said(self) -> str:
+        """As the first line of a board says it."""
+        order = "" if self.order == DEFAULT_ORDER else f" order={self.order}"
+        return f"period={self.period}{order}"
+
+    def told(self) -> str:
+        """As people are told."""
+        return f"periods of {self.period} seconds and readings by {self.order}"
+
+    def lines(self) -> dict[str, object]:
+        """What is not as where nothing is declared, by the lines that declare it."""
+        both = {"period": self.period, "order": self.order}
+        return {
+            name: one for name, one in both.items() if one not in (DEFAULT_PERIOD, DEFAULT_ORDER)
+        }
+
+
+def known_lines(program: str) -> frozenset[str]:
+    """Which lines on sites the program's scripts have, such as `period <site> <seconds>`: its --help lists them.
 
     Raises Fault where it can't be started.
     """
@@ -19,14 +49,16 @@ def knows_period(program: str) -> bool:
         text = subprocess.run([program, "--help"], stdout=subprocess.PIPE, check=False).stdout
     except OSError as fault:
         raise Fault(f"{program}: {fault.strerror}") from None
-    return b"period <site>" in text
+    return frozenset(name for name in MEANINGS if f"{name} <site>".encode() in text)
 
 
-def declarations(stations: Iterable[Any], periods: dict[str, int], with_period: bool) -> bytes:
-    """The lines that declare a shard, from rows of station in their order and the seconds of each site.
+def declarations(
+    stations: Iterable[Any], sites: Mapping[str, Reckoning], known: frozenset[str]
+) -> bytes:
+    """The lines that declare a shard, from rows of station in their order and how each site is reckoned.
 
-    This is the one place that writes them. A site that counts by other periods than quarters of an hour has a line
-    `period`; where the program knows none (`with_period`), such a site is a fault.
+    This is the one place that writes them. A site that is reckoned as where nothing is declared has no further line;
+    where the program does not know a line that another one needs, that site is a fault.
     """
     lines, limits = [], ""
     for row in stations:
@@ -34,33 +66,34 @@ def declarations(stations: Iterable[Any], periods: dict[str, int], with_period: 
         lines += [own] if own != limits else []
         limits = own
         lines.append(f"station {row['site']} {row['station']}")
-    for site, seconds in periods.items():
-        if seconds == DEFAULT_PERIOD:
-            continue
-        if not with_period:
-            raise Fault(
-                f"the program knows no periods, and site {site} has one of {seconds} seconds"
-            )
-        lines.append(f"period {site} {seconds}")
+    for site, reckoning in sites.items():
+        for name, one in reckoning.lines().items():
+            if name not in known:
+                raise Fault(
+                    f"the program knows no {MEANINGS[name]}, and site {site} has {reckoning.told()}"
+                )
+            lines.append(f"{name} {site} {one}")
     return "".join(line + "\n" for line in lines).encode()
 
 
 class Plan:
     """What a shard's replay is begun with: its sites and stations in their order, and the lines that declare them."""
 
-    def __init__(self, stations: list[Any], periods: dict[str, int], with_period: bool) -> None:
+    def __init__(
+        self, stations: list[Any], sites: Mapping[str, Reckoning], known: frozenset[str]
+    ) -> None:
         self.sites = list(dict.fromkeys(row["site"] for row in stations))
         self.stations = [row["station"] for row in stations]
         self.rows = {row["station"]: row for row in stations}
-        self.lines = declarations(
-            stations, {site: periods[site] for site in self.sites}, with_period
-        )
+        self.lines = declarations(stations, {site: sites[site] for site in self.sites}, known)
 
     @classmethod
     async def of(
-        cls, fetch: Callable[..., Awaitable[Any]], shard: int, with_period: bool
+        cls, fetch: Callable[..., Awaitable[Any]], shard: int, known: frozenset[str]
     ) -> "Plan":
         """The plan of a shard as the database that `fetch` asks has it."""
         stations = await fetch("select * from own_station where shard = $1 order by place", shard)
-        rows = await fetch("select site, period from own_site where shard = $1", shard)
-        return cls(stations, {row["site"]: row["period"] for row in rows}, with_period)
+        rows = await fetch(
+            "select site, period, reading_order from own_site where shard = $1", shard
+        )
+        return cls(stations, {row["site"]: Reckoning.of(row) for row in rows}, known)

@@ -125,6 +125,17 @@ create table if not exists own_site partition of site (
     constraint "a zone is one that PostgreSQL knows" check (timestamp '2000-01-01' at time zone zone is not null)
 ) for values in (:cell);
 
+-- In which order the readings of a session are taken: by the numbers of their events, or by their own moments.
+alter table site add column if not exists reading_order text not null default 'sequence';
+do $$
+begin
+    if not exists (select from pg_constraint where conrelid = 'own_site'::regclass
+            and conname = 'an order of readings is sequence or moment') then
+        alter table own_site add constraint "an order of readings is sequence or moment"
+            check (reading_order in ('sequence', 'moment'));
+    end if;
+end $$;
+
 -- PostgreSQL reads more as a zone than tools do: abbreviations, offsets, names in other letters.
 create or replace function check_zone() returns trigger language plpgsql as $$
 begin
@@ -190,7 +201,7 @@ begin
 end $$;
 create or replace trigger plan_changed after insert or update or delete on own_station
     for each row execute function plan_changed();
-create or replace trigger plan_changed after update of period on own_site
+create or replace trigger plan_changed after update of period, reading_order on own_site
     for each row execute function plan_changed();
 
 -- What a station sent belongs to its shard and its name. So one that sent something is retired, and neither removed nor
@@ -737,6 +748,7 @@ create table if not exists own_closing partition of closing (
 -- The plan that the closing made: boards of earlier plans still have what it archived.
 alter table closing add column if not exists plan bigint not null default 0;
 alter table closing add column if not exists place bigint not null default 0;
+alter table closing add column if not exists reading_order text not null default 'sequence';
 
 -- The energy in mWh of a station's period as it was settled, and behind that what later closings found it to differ.
 create table if not exists closed_period (

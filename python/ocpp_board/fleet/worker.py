@@ -56,7 +56,7 @@ from ocpp_board.fleet.orders import (
     UNTOLD,
     WAITS,
 )
-from ocpp_board.fleet.plans import Plan, knows_period
+from ocpp_board.fleet.plans import Plan, known_lines
 from ocpp_board.fleet.replays import Replay, ReplayEnded
 from ocpp_board.limits import LONGEST_SCRIPT
 from ocpp_board.processes import run_tool
@@ -304,7 +304,7 @@ class Session:
         try:
             if state is None:
                 raise Fault("is no longer in the plan")
-            plan = await Plan.of(self.ask, number, self.words.with_period)
+            plan = await Plan.of(self.ask, number, self.words.known)
             replay = await Replay.start(self.words.program)
             await asyncio.wait_for(replay.open(plan), OPENING_TIME)
             late = Late(number, plan.rows, bool(await self.ask(HAS_ARCHIVED, number)))
@@ -660,7 +660,7 @@ def main(argv: Sequence[str], prog: str) -> int:
 def run(words: argparse.Namespace) -> int:
     """Works until a signal comes."""
     words.name = f"worker_{secrets.token_hex(4)}"
-    words.with_period = knows_period(words.program)
+    words.known = known_lines(words.program)
     parts.use_uvloop()
     try:
         asyncio.run(work(words))
