@@ -138,10 +138,14 @@ class Station:
         """The pairs of all transactions."""
         return [pair for tx in self.shown() for pair in self.pairs(tx)]
 
-    def missing(self, tx: str) -> list[int]:
-        """The numbers between the first and the last that are not live."""
+    def gaps(self, tx: str) -> list[tuple[int, int]]:
+        """The ranges of numbers between the first and the last that are not live."""
         numbers = [number for number, _ in self.live(tx)]
-        return [n for n in range(numbers[0], numbers[-1] + 1) if n not in numbers]
+        return [(a + 1, b - 1) for a, b in zip(numbers, numbers[1:]) if a + 1 < b]
+
+    def missing(self, tx: str) -> int:
+        """How many numbers between the first and the last are not live."""
+        return sum(last - first + 1 for first, last in self.gaps(tx))
 
     def is_complete(self, tx: str) -> bool:
         """Whether a transaction has its start, its end and all between."""
@@ -159,7 +163,7 @@ class Station:
         whole = energy(self.all_pairs())
         for tx in self.shown():
             whole.add({"events": len(self.live(tx)), "transactions": 1})
-            whole.add({"complete": int(self.is_complete(tx)), "missing": len(self.missing(tx))})
+            whole.add({"complete": int(self.is_complete(tx)), "missing": self.missing(tx)})
         whole.add({"voided": len(self.voided)})
         return whole
 
@@ -181,14 +185,13 @@ class Station:
             yield f"evse {number} {energy(own).said(FLOW)}"
         yield from period_lines(self.periods())
         for tx in self.shown():
-            numbers, missing = [number for number, _ in self.live(tx)], self.missing(tx)
+            numbers = [number for number, _ in self.live(tx)]
             yield (
                 f"tx {tx} evse={self.evse(tx)} events={len(numbers)} first={numbers[0]} last={numbers[-1]} "
-                f"complete={'yes' if self.is_complete(tx) else 'no'} missing={len(missing)} "
+                f"complete={'yes' if self.is_complete(tx) else 'no'} missing={self.missing(tx)} "
                 f"{energy(self.pairs(tx)).said(FLOW)}"
             )
-            for first in (n for n in missing if n - 1 not in missing):
-                last = next(n for n in range(first, numbers[-1] + 1) if n + 1 not in missing)
+            for first, last in self.gaps(tx):
                 yield f"gap {first}..{last}"
 
     def deliver(self, tx: str, number: int, event: Event) -> str | None:

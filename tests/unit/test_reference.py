@@ -23,6 +23,7 @@ ROWS = (
     "ties_and_clocks",
     "two_sites",
     "void_and_restore",
+    "widest_gap",
 )
 
 
