@@ -13,7 +13,7 @@ pytest.importorskip("websockets")
 from ocpp_board.energies import Flow  # noqa: E402
 from ocpp_board.fleet.archives import LATER, Late, packed, unpacked, widened  # noqa: E402
 from ocpp_board.fleet.close_day import differences  # noqa: E402
-from ocpp_board.fleet import database  # noqa: E402
+from ocpp_board.fleet import database, watched as watching  # noqa: E402
 from ocpp_board.fleet.board_writer import Board, chunks  # noqa: E402
 from ocpp_board.fleet.database import (  # noqa: E402
     Fault,
@@ -366,6 +366,37 @@ def test_integers_of_a_line_may_have_any_length() -> None:
     text = (EVENT % "2026-03-01T23:59:59Z").replace("{", '{"customData":%s,' % (5_000 * "7"), 1)
     assert transaction_of(f"msg A {text}") == ("A", "t1")
     assert is_before(f"msg A {text}", datetime(2026, 3, 2, tzinfo=timezone.utc))
+
+
+def watched(standing: list[int]) -> watching.Watched:
+    return watching.Watched(1, {"A": station("A")}, standing, set())
+
+
+def test_what_is_watched_of_a_shard(monkeypatch: pytest.MonkeyPatch) -> None:
+    one = watched([7])
+    one.take(5, "msg A no JSON", '[4,"-1","RpcFrameworkError","NotJson",{}]')
+    one.take(6, 'msg A [2,"1","Authorize",{}]', '[4,"1","NotImplemented","UnknownAction",{}]')
+    one.take(7, 'msg A [2,"1","TransactionEvent",{}]', '[3,"1",{}]')
+    one.take(8, 'msg A [2,"1","TransactionEvent",{}]', "")
+    one.take(9, "void A T1 3", "refused NoSuchEvent")
+    assert [row[:5] for row in one.refused] == [(5, "A", "", "", "NotJson")] and one.taken == [7]
+    monkeypatch.setattr(watching, "MOST_ROWS", 2)
+    odd = '[4,"1","OccurrenceConstraintViolation","Missing",{}]'
+    one.take(10, 'msg A [2,"1","TransactionEvent",{"transactionInfo":{"transactionId":"T"}}]', odd)
+    assert one.refused[1][1:6] == ("A", "", "", "Missing", "one of many")
+    asked = list[tuple[object, ...]]()
+
+    async def ask(*values: object) -> None:
+        asked.append(values)
+
+    asyncio.run(one.write(ask))
+    asyncio.run(one.write(ask))
+    assert [values[1] for values in asked] == [1, 1] and asked[0][2] == [5, 10]
+    assert asked[1][2] == [7]
+
+
+def test_texts_of_rows_are_what_a_database_takes() -> None:
+    assert watching.text_of("a\0\ud800b") == "a?b" and len(watching.text_of("x" * 999)) == 400
 
 
 def test_differences_of_periods() -> None:

@@ -65,6 +65,11 @@ PARTS = (
         )
     ),
     (
+        "own_refusal",
+        "station, transaction, number, cause, what, advice, times, first, last, place",
+        "place",
+    ),
+    (
         "own_closing",
         "site, closing, day, period, reading_order, at, archive, plan, place",
         "closing",

@@ -32,7 +32,8 @@ select w.shard, r.*
 from unnest($1::int[], $2::bigint[], $3::bigint[], $4::bigint[]) as w (shard, place, last, told)
 cross join lateral (
     select count(*) as rows, count(*) filter (where l.place <= w.told) as silent, max(l.place) as place,
-           string_agg(line, E'\\n') as text, array_agg(gateway) as gateways, array_agg(token) as tokens
+           string_agg(line, E'\\n') as text, array_agg(gateway) as gateways, array_agg(token) as tokens,
+           array_agg(l.place) as places
     from (select m.*, sum(octet_length(m.line)) over (order by m.place) - octet_length(m.line) as front
           from (select place, gateway, token, line from own_log
                 where shard = w.shard and place > w.place and place <= w.last
@@ -65,7 +66,8 @@ appended as (
     select shard, place, at, gateway, token, line from numbered)
 select shard, count(*) as rows, 0 as silent, max(place) as place, max(id) as id,
        string_agg(line, E'\\n' order by place) as text, array_agg(gateway order by place) as gateways,
-       array_agg(token order by place) as tokens, set_config('synchronous_commit', 'on', true),
+       array_agg(token order by place) as tokens, array_agg(place order by place) as places,
+       set_config('synchronous_commit', 'on', true),
        1 / ((select count(*) from held) = (select count(*) from w))::int
 from numbered group by shard
 """

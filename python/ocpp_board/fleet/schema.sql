@@ -728,6 +728,31 @@ begin
     return array(select unnest(named) except select unnest(shown));
 end $$;
 
+-- What was refused ---------------------------------------------------------------------------------------------------
+
+-- The messages of stations that the ledger refused, the same again in one row: how often, first and last, why and what to
+-- do. The worker that holds a shard writes it; `place` is that of the last of them in the log, so what is read again
+-- counts once. A row goes where its message is taken later, since there is room by then.
+create table if not exists refusal (
+    cell smallint not null default :cell,
+    shard integer not null,
+    station text not null,
+    transaction text not null,             -- this and the number are empty where they can't be read
+    number text not null,
+    cause text not null,                   -- the fault or the refusal by its name
+    what text not null,
+    advice text not null,
+    times bigint not null,
+    first timestamptz not null,
+    last timestamptz not null,
+    place bigint not null
+) partition by list (cell);
+create table if not exists own_refusal partition of refusal (
+    primary key (shard, station, cause, transaction, number, what),
+    foreign key (shard) references own_shard on delete cascade
+) for values in (:cell);
+create index if not exists own_refusal_place_idx on own_refusal (shard, place);
+
 -- Closed days --------------------------------------------------------------------------------------------------------
 
 -- What close_day.py did to a shard's stations of a site: up to which day it settled, and up to which place of the log.
@@ -956,12 +981,12 @@ grant select on own_log, own_closing, own_archived_transaction, own_archived_lin
 -- It compacts a shard whose log is nearly full.
 grant execute on function remove_repeats(integer, bigint, bigint[]) to ledger_worker;
 grant select, insert, update, delete on own_board, own_board_station, own_board_period, own_board_transaction,
-    own_board_gap, worker to ledger_worker;
+    own_board_gap, own_refusal, worker to ledger_worker;
 
 grant select on shard, site, station, station_twice, log, board, own_log, own_board,
     board_station, board_period, board_transaction, board_gap, energy, lacking, moved_shard,
     own_board_station, own_board_period, own_board_transaction, own_board_gap,
-    closing, closed_period, archived_period, archived_transaction, settled_period,
+    refusal, own_refusal, closing, closed_period, archived_period, archived_transaction, settled_period,
     own_closing, own_closed_period, own_archived_period, own_archived_transaction, numbering, fed, stray to ledger_reader;
 
 -- Other cells --------------------------------------------------------------------------------------------------------
@@ -981,7 +1006,7 @@ begin
     execute format('create user mapping for public server cell_%s options (user %L, password %L)',
         other, 'ledger_reader', reader_password);
     foreach name in array array['shard', 'site', 'station', 'log', 'board',
-                                'board_station', 'board_period', 'board_transaction', 'board_gap',
+                                'board_station', 'board_period', 'board_transaction', 'board_gap', 'refusal',
                                 'closing', 'closed_period', 'archived_period', 'archived_transaction'] loop
         execute format('create foreign table %s_%s partition of %s for values in (%s) server cell_%s options (table_name %L)',
             name, other, name, other, other, 'own_' || name);

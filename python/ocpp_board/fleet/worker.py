@@ -58,6 +58,7 @@ from ocpp_board.fleet.orders import (
 )
 from ocpp_board.fleet.plans import Plan, known_lines
 from ocpp_board.fleet.replays import Replay, ReplayEnded
+from ocpp_board.fleet.watched import STANDING, Watched
 from ocpp_board.limits import LONGEST_SCRIPT
 from ocpp_board.processes import run_tool
 from ocpp_board.words import add_program, parser_of
@@ -98,14 +99,16 @@ TAKEN, OPENING_TIME = 16, 60
 class Shard:
     """A shard that this worker holds."""
 
-    def __init__(self, row: Any, replay: Replay, sites: list[str], late: Late) -> None:
+    def __init__(
+        self, row: Any, replay: Replay, sites: list[str], late: Late, watched: Watched
+    ) -> None:
         self.number, self.plan, self.taken = row["shard"], row["plan"], row["taken"]
         # Places of the log: its last one, up to where the replay has it, and up to where answers were told and noted.
         self.last, self.read = row["last"], 0
         self.told = self.noted = row["told"]
         # Which line of its inbox is the oldest that may have come unseen, and which was the next at the last look.
         self.oldest = self.next = 0
-        self.replay, self.sites, self.late = replay, sites, late
+        self.replay, self.sites, self.late, self.watched = replay, sites, late, watched
         self.shown: dict[str, Shown] = {}
         self.began = asyncio.get_running_loop().time()
         self.lines = self.bytes = 0
@@ -308,6 +311,8 @@ class Session:
             replay = await Replay.start(self.words.program)
             await asyncio.wait_for(replay.open(plan), OPENING_TIME)
             late = Late(number, plan.rows, bool(await self.ask(HAS_ARCHIVED, number)))
+            standing = [row["place"] for row in await self.ask(STANDING, number)]
+            watched = Watched(number, plan.rows, standing, self.words.told)
         except Fault as fault:
             log.error("shard %d: %s; it is left alone until its plan changes", number, fault)
             self.refused[number] = state["plan"] if state else -1
@@ -319,7 +324,7 @@ class Session:
             await asyncio.sleep(0.5)
             await self.let_go(number)
             return
-        self.shards[number] = Shard(state, replay, plan.sites, late)
+        self.shards[number] = Shard(state, replay, plan.sites, late, watched)
         self.opening.discard(number)
         self.behind.add(number)
         self.waking.set()
@@ -460,6 +465,8 @@ class Session:
             return None
         shard.read, shard.changed = row["place"], shard.changed or is_live
         shard.lines += row["rows"]
+        for place, text, answer in zip(row["places"], row["text"].split("\n"), answers):
+            shard.watched.take(place, text, answer.decode("utf-8", "replace"))
         self.weigh(shard, len(row["text"].encode()) + 1)
         front = row["silent"]
         parts = zip(row["gateways"][front:], row["tokens"][front:], answers[front:])
@@ -537,9 +544,11 @@ class Session:
                 await self.notify([channel], [payload])
 
     async def note(self) -> None:
-        """Notes again and again up to which places answers were told."""
+        """Notes again and again up to which places answers were told, and what was refused."""
         while True:
             await asyncio.sleep(NOTING)
+            for shard in list(self.shards.values()):
+                await shard.watched.write(self.boards.ask)
             new = [(one, one.told) for one in self.shards.values() if one.told != one.noted]
             if new:
                 columns = zip(*((shard.number, told, shard.bytes) for shard, told in new))
@@ -661,6 +670,8 @@ def run(words: argparse.Namespace) -> int:
     """Works until a signal comes."""
     words.name = f"worker_{secrets.token_hex(4)}"
     words.known = known_lines(words.program)
+    # What was told once of stations near their limits.
+    words.told = set[str]()
     parts.use_uvloop()
     try:
         asyncio.run(work(words))
