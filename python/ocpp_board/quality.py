@@ -69,8 +69,8 @@ class Finding(NamedTuple):
 def findings_of(
     transaction: Transaction, events: Sequence[Event], is_complete: bool, by_sequence: str | None
 ) -> list[Finding]:
-    """The findings of a session by its transaction and by its events that are live, in their order. `by_sequence`: the
-    site, where its readings are not taken by time."""
+    """The findings of a session by its transaction and by its events that are live, in their order. `by_sequence`: what
+    would have its site's readings taken by time, where they are not."""
     if not events:
         return []
     found = [*energies(events, is_complete), *again(transaction, events)]
@@ -120,7 +120,7 @@ def again(transaction: Transaction, events: Sequence[Event]) -> Iterator[Finding
 
 def order_line(site: str) -> str:
     """The line of a script that has a site's readings taken by time."""
-    return f"order {site} moment"
+    return f"a line `order {site} moment`"
 
 
 def falls_by_time(events: Sequence[Event]) -> Iterator[Finding]:
@@ -132,7 +132,7 @@ def falls_by_time(events: Sequence[Event]) -> Iterator[Finding]:
     yield from finding(Kind.REGISTER_FALLS, falls)
 
 
-def registers(events: Sequence[Event], site: str) -> Iterator[Finding]:
+def registers(events: Sequence[Event], remedy: str) -> Iterator[Finding]:
     """Where a register falls from one reading to the next, and where readings are listed again."""
     seen = set[Reading]()
     before: dict[bool, Reading] = {}
@@ -150,7 +150,7 @@ def registers(events: Sequence[Event], site: str) -> Iterator[Finding]:
             before[one.is_export] = one
         seen.update(event.readings)
     yield from finding(Kind.REGISTER_FALLS, falls)
-    yield from finding(Kind.REPEATED, repeats, f"a line `{order_line(site)}` takes them by time")
+    yield from finding(Kind.REPEATED, repeats, f"{remedy} takes them by time")
 
 
 def clocks(events: Sequence[Event]) -> Iterator[Finding]:

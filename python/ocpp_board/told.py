@@ -4,7 +4,7 @@ from datetime import datetime
 
 from ocpp_board.answered import Answered
 from ocpp_board.boards import Part, Session
-from ocpp_board.quality import findings_of
+from ocpp_board.quality import findings_of, order_line
 from ocpp_board.session_times import times_of
 from ocpp_board.transactions import Event, Transactions
 
@@ -36,7 +36,7 @@ class Told:
             events = transaction.live(session.first, session.last, session.gaps)
             session.times = times_of(events, part.is_by_time)
             session.findings = findings_of(
-                transaction, events, session.complete, None if part.is_by_time else site
+                transaction, events, session.complete, None if part.is_by_time else order_line(site)
             )
             session.state = state_of(session, events)
 

@@ -18,6 +18,7 @@ import asyncpg
 
 from ocpp_board.fleet.database import connect
 from ocpp_board.fleet.figures import joined
+from ocpp_board.fleet.findings import REMEDY
 from ocpp_board.fleet.plans import Reckoning
 from tests.fleet.closings import ClosingTrial, local, session
 from tests.fleet.fleet import ended, tool
@@ -134,6 +135,32 @@ class Demo(ClosingTrial):
         await self.closed("and all of it archived", "2026-03-03", "2 transactions archived")
         await self.everywhere("all of it archived")
 
+    async def findings(self) -> None:
+        """What is doubtful in sessions: that readings are listed again, where these are taken by sequence."""
+        query = (
+            "select station, transaction, finding, times, detail from own_finding where finding not like 'clock far%' "
+            "order by 1, 2"
+        )
+        for day in ("2026-03-01", "2026-03-03"):
+            status, said = await self.close_day(day, site="south")
+            told = ("readings repeated at the end", 4, f"{REMEDY} takes them by time")
+            wanted = [("C", tx, *told) for tx in ("tx-1", "tx-2")]
+            found = [tuple(row) for row in await self.owner.fetch(query)]
+            self.check(
+                status == 0 and found == wanted, f"what is doubtful, of {day}: {said} {found}"
+            )
+        await self.came("void C TX-1 4")
+        status, said = await self.close_day("2026-03-03", site="south")
+        found = [tuple(row) for row in await self.owner.fetch(query)]
+        self.check(
+            status == 0 and found == wanted[1:],
+            f"an archived session without its end: {said} {found}",
+        )
+        far = await self.owner.fetchval(
+            "select count(*) from own_finding where finding = 'clock far from receipt' and station = 'A'"
+        )
+        self.check(far == 2, f"sessions of A whose clock lies far from their receipt: {far}")
+
     async def another_order(self) -> None:
         """Words that are none, and a closing by another order than before."""
         begin = "update own_site set reading_order = $1 where site = 'north'"
@@ -189,6 +216,8 @@ class Demo(ClosingTrial):
             len(rows) >= 3 and {row[0] for row in rows} == {"moment"},
             f"the plan and the closings are there as they were: {[row[0] for row in rows]}",
         )
+        count = await second.fetchval("select count(*) from own_finding where station = 'D'")
+        self.check(count > 0, f"what is doubtful goes along: {count} rows")
         order = await self.owner.fetchval("select reading_order from site where cell = 2")
         self.check(order == "moment", f"the first cell sees it there: {order}")
         self.fleet.worker("--boards", 0.2, dsn=self.fleet.dsn("ledger_worker", database="second"))
@@ -217,6 +246,7 @@ class Demo(ClosingTrial):
         await self.boards()
         await self.compaction()
         await self.closings()
+        await self.findings()
         await self.another_order()
         await self.moving()
         await self.owner.close()

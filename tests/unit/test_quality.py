@@ -37,7 +37,7 @@ def findings(
     messages: Messages,
     complete: bool = True,
     answers: dict[int, str] | None = None,
-    by_sequence: str | None = "north",
+    by_sequence: str | None = "a line `order north moment`",
 ) -> list[Finding]:
     transaction = taken(messages, answers)
     return findings_of(transaction, transaction.live(0, 99, []), complete, by_sequence)

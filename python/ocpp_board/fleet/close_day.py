@@ -30,10 +30,11 @@ from typing import Any, NamedTuple
 from zoneinfo import ZoneInfo
 
 from ocpp_board.energies import Flow, flow_of
+from ocpp_board.fleet import compact, findings, parts
 from ocpp_board.fleet.archives import ARCHIVED, packed, unpacked, widened
-from ocpp_board.fleet import compact, parts
 from ocpp_board.fleet.database import Fault, connect, said
 from ocpp_board.fleet.figures import Figures, Flows, added, figures, periods
+from ocpp_board.fleet.findings import Findings
 from ocpp_board.fleet.lines import (
     COMMANDS,
     Transaction,
@@ -371,6 +372,7 @@ class Closing:
             await self.session.executemany(
                 ARCHIVED_PERIOD, [(*head, *key, *flow) for key, flow in moved.items()]
             )
+            await self.write_findings(log_lines)
             await self.write_transactions(head, in_file, leaving)
             await self.take_out(plan, removed)
         # Behind the commit: to be told, others would wait for it.
@@ -400,6 +402,18 @@ class Closing:
         await self.session.executemany(
             PACKED, [(*head, *one, packed(lines)) for one, lines in leaving.items()]
         )
+
+    async def write_findings(self, log_lines: Sorted) -> None:
+        """Writes what is doubtful in the sessions of the log, and in those that come to be archived again."""
+        found = Findings(self.site, self.reckoning)
+        for lines in log_lines.known.values():
+            found.archived(lines)
+        for line in log_lines.live + log_lines.late:
+            found.take(line.text, line.answer.decode(), line.row)
+        known = ([one[part] for one in log_lines.known] for part in (0, 1))
+        await self.session.execute(findings.GONE, self.shard, self.names(), *known, findings.FAR)
+        rows = [*found.rows(log_lines.whole), *found.rows(log_lines.now)]
+        await self.session.executemany(findings.WRITE, [(self.shard, *row) for row in rows])
 
     async def take_out(self, plan: int, removed: list[Any]) -> None:
         """Takes rows out of the log. Raises Fault where that or the plan was changed meanwhile."""

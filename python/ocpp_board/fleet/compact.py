@@ -24,7 +24,7 @@ from ocpp_board.words import add_program, parser_of
 
 NAME = "ocpp-board compact"
 # Lines come behind these alone, whatever is open elsewhere.
-READ = "select place, at, line from own_log where shard = $1 order by place"
+READ = "select place, at, gateway, line from own_log where shard = $1 order by place"
 # Not under limits other than those that they were found under.
 REMOVE = "select remove_repeats($1, $2, $3)"
 # Bytes of a log that are handed to one replay, which reads three times as many with totals and what came before; and

@@ -70,6 +70,11 @@ PARTS = (
         "place",
     ),
     (
+        "own_finding",
+        "site, station, transaction, finding, times, first, detail, meaning",
+        "station",
+    ),
+    (
         "own_closing",
         "site, closing, day, period, reading_order, at, archive, plan, place",
         "closing",

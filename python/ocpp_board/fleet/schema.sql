@@ -844,6 +844,24 @@ create table if not exists own_archived_lines (
     foreign key (shard, site, closing) references own_closing on delete cascade
 );
 
+-- What is doubtful in the data of sessions, as the closing found it that saw them last; archived ones keep their rows.
+create table if not exists finding (
+    cell smallint not null default :cell,
+    shard integer not null,
+    site text not null,
+    station text not null,
+    transaction text not null,
+    finding text not null,
+    times bigint not null,
+    first timestamptz,
+    detail text not null,
+    meaning text not null
+) partition by list (cell);
+create table if not exists own_finding partition of finding (
+    primary key (shard, station, transaction, finding),
+    foreign key (shard) references own_shard on delete cascade
+) for values in (:cell);
+
 -- What counts --------------------------------------------------------------------------------------------------------
 
 -- Shards of which another cell has all by now: a move that has not ended yet left rows of theirs here.
@@ -986,7 +1004,7 @@ grant select, insert, update, delete on own_board, own_board_station, own_board_
 grant select on shard, site, station, station_twice, log, board, own_log, own_board,
     board_station, board_period, board_transaction, board_gap, energy, lacking, moved_shard,
     own_board_station, own_board_period, own_board_transaction, own_board_gap,
-    refusal, own_refusal, closing, closed_period, archived_period, archived_transaction, settled_period,
+    refusal, own_refusal, finding, own_finding, closing, closed_period, archived_period, archived_transaction, settled_period,
     own_closing, own_closed_period, own_archived_period, own_archived_transaction, numbering, fed, stray to ledger_reader;
 
 -- Other cells --------------------------------------------------------------------------------------------------------
@@ -1006,7 +1024,7 @@ begin
     execute format('create user mapping for public server cell_%s options (user %L, password %L)',
         other, 'ledger_reader', reader_password);
     foreach name in array array['shard', 'site', 'station', 'log', 'board',
-                                'board_station', 'board_period', 'board_transaction', 'board_gap', 'refusal',
+                                'board_station', 'board_period', 'board_transaction', 'board_gap', 'refusal', 'finding',
                                 'closing', 'closed_period', 'archived_period', 'archived_transaction'] loop
         execute format('create foreign table %s_%s partition of %s for values in (%s) server cell_%s options (table_name %L)',
             name, other, name, other, other, 'own_' || name);

@@ -1,0 +1,71 @@
+"""What is doubtful in the data of the sessions that a closing sees, as rows."""
+
+from collections.abc import Iterable, Iterator
+from contextlib import suppress
+from typing import Any
+
+from ocpp_board.answered import Answered
+from ocpp_board.fleet.figures import Figures
+from ocpp_board.fleet.lines import ODD, Transaction
+from ocpp_board.fleet.plans import DEFAULT_ORDER, Reckoning
+from ocpp_board.quality import Kind, findings_of
+from ocpp_board.transactions import Transactions
+
+# Of sessions in the log, and of those that this closing archives again. Rows of other archived sessions stay, and so do
+# those of a clock that is far: when archived lines were heard is not known any more, and what came since is added.
+GONE = """
+delete from own_finding f where shard = $1 and (
+    station = any($2) and not exists (select from own_archived_lines l
+        where (l.shard, l.station, l.transaction) = (f.shard, f.station, f.transaction))
+    or finding <> $5 and (station, transaction) in (select * from unnest($3::text[], $4::text[])))
+"""
+WRITE = """
+insert into own_finding as f (shard, site, station, transaction, finding, times, first, detail, meaning)
+values ($1, $2, $3, $4, $5, $6, $7, $8, $9)
+on conflict (shard, station, transaction, finding) do update set times = f.times + excluded.times
+"""
+# What has a site's readings taken by time.
+REMEDY = "reading_order = 'moment' of own_site"
+TAKEN = '[3,"",{}]'
+FAR = Kind.CLOCK_FAR.label
+
+
+class Findings:
+    """The messages of a site's stations with their answers, and what they tell of each session."""
+
+    def __init__(self, site: str, reckoning: Reckoning) -> None:
+        self.site = site
+        self.by_sequence = REMEDY if reckoning.order == DEFAULT_ORDER else None
+        self.messages = Transactions()
+
+    def take(self, line: str, answer: str, row: Any = None) -> None:
+        """Takes a line with its answer. `row`: of the log, which tells when a gateway heard it."""
+        if line.startswith("msg "):
+            _, station, message = line.split(" ", 2)
+            received = row["at"] if row and row["gateway"] else None
+            # What Python can't read tells nothing, and holds up no closing.
+            with suppress(*ODD):
+                self.messages.take(Answered(0, self.site, station, received, message, answer))
+
+    def archived(self, lines: Iterable[str]) -> None:
+        """Takes lines that were taken before."""
+        for line in lines:
+            self.take(line, TAKEN)
+
+    def rows(self, figures: Figures) -> Iterator[tuple[Any, ...]]:
+        """The rows of the sessions that these figures of boards have."""
+        gaps = dict[Transaction, list[tuple[int, int]]]()
+        for station, kind, name in figures:
+            if kind == "gap":
+                tx, _, ends = name.rpartition(" ")
+                first, last = map(int, ends.split(".."))
+                gaps.setdefault((station, tx), []).append((first, last))
+        for (station, kind, tx), numbers in figures.items():
+            if kind != "tx":
+                continue
+            whole = self.messages.of(self.site, station, tx)
+            missing = sorted(gaps.get((station, tx), ()))
+            events = whole.live(numbers["first"], numbers["last"], missing)
+            for one in findings_of(whole, events, bool(numbers["complete"]), self.by_sequence):
+                told = (one.kind.label, one.times, one.first, one.detail, one.kind.meaning)
+                yield (self.site, station, tx, *told)
