@@ -122,6 +122,13 @@ def test_payloads_of_wakes_fit() -> None:
     assert list(wakes({})) == []
 
 
+def test_tokens_are_not_counted_and_what_is_no_answer_is_left() -> None:
+    tokens = {database.new_token(()) for _ in range(100)}
+    assert len(tokens) == 100 and max(tokens) > 2**40 and all(0 < one < 2**63 for one in tokens)
+    payload = '7 [3,"1",{}]\nno token\n\n-3 x\n\u0661 x\n' + 30 * "9" + " x\n8 refused NotVoided"
+    assert list(database.answers_in(payload)) == [(7, '[3,"1",{}]'), (8, "refused NotVoided")]
+
+
 def test_what_a_fault_says() -> None:
     assert said(OSError("no file")) == "no file" and said(TimeoutError()) == "TimeoutError"
 

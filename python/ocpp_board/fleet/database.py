@@ -2,7 +2,8 @@
 
 import asyncio
 import os
-from collections.abc import Iterator, Mapping
+import secrets
+from collections.abc import Container, Iterator, Mapping
 from typing import Any
 from urllib.parse import unquote, urlsplit
 
@@ -174,6 +175,22 @@ async def connect(dsn: str, **settings: str) -> Any:
         raise Unreachable("; ".join([*reasons, *map(str, faults)]))
     LET_IN.add(dsn)
     return session
+
+
+def new_token(waiting: Container[int]) -> int:
+    """A token that nobody can guess, by which an answer is told, other than those of what waits. Who may notify and
+    does not know it can tell no answer."""
+    while (token := 1 + secrets.randbits(62)) in waiting:
+        pass
+    return token
+
+
+def answers_in(payload: str) -> Iterator[tuple[int, str]]:
+    """The answers of a notification by their tokens. Anybody may notify, so what is none is left."""
+    for line in payload.split("\n"):
+        token, _, answer = line.partition(" ")
+        if token.isascii() and token.isdigit() and len(token) < 20:
+            yield int(token), answer
 
 
 def said(fault: BaseException) -> str:

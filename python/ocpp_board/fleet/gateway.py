@@ -34,7 +34,9 @@ from ocpp_board.fleet.database import (
     FORMER,
     LOST,
     Unreachable,
+    answers_in,
     connect,
+    new_token,
     said,
     within,
 )
@@ -583,7 +585,6 @@ class Gateway:
         self.served: dict[str, StationLink] = {}
         self.let_in = 0
         self.jobs: set[asyncio.Task[None]] = set()
-        self.token = 0
 
     def spawn(self, job: Any) -> None:
         """Begins a job that nobody waits for."""
@@ -620,9 +621,9 @@ class Gateway:
 
     def keep(self, link: StationLink, text: str) -> None:
         """Takes an event, which waits for its answer."""
-        self.token += 1
-        self.waiting[self.token] = Wait(link, text, time.monotonic())
-        self.queue(self.token)
+        token = new_token(self.waiting)
+        self.waiting[token] = Wait(link, text, time.monotonic())
+        self.queue(token)
 
     def queue(self, token: int) -> None:
         """Has what waits under this token appended."""
@@ -666,9 +667,8 @@ class Gateway:
 
     def answered(self, _session: Any, _pid: int, _channel: str, payload: str) -> None:
         """A worker told answers."""
-        for line in payload.split("\n"):
-            token, _, answer = line.partition(" ")
-            if wait := self.waiting.pop(int(token), None):
+        for token, answer in answers_in(payload):
+            if wait := self.waiting.pop(token, None):
                 wait.link.accepted(wait.text, answer.encode())
 
     async def give_up(self) -> None:

@@ -44,7 +44,16 @@ import asyncpg
 from ocpp_board.boards import Numbers
 from ocpp_board.energies import FLOW
 from ocpp_board.fleet import parts
-from ocpp_board.fleet.database import LOST, Fault, Unreachable, connect, said, within
+from ocpp_board.fleet.database import (
+    LOST,
+    Fault,
+    Unreachable,
+    answers_in,
+    connect,
+    new_token,
+    said,
+    within,
+)
 from ocpp_board.fleet.figures import Figures, joined
 from ocpp_board.fleet.plans import Reckoning
 from ocpp_board.fleet.page_texts import (
@@ -156,7 +165,6 @@ class Cell:
         self.using = asyncio.Lock()
         # By their tokens; whoever no longer waits is gone from here.
         self.waiting: WeakValueDictionary[int, asyncio.Future[str]] = WeakValueDictionary()
-        self.token = 0
 
     async def ask(self, query: str, *values: Any) -> Any:
         """The rows of a query, which is asked once more where its session turns out to have ended."""
@@ -191,9 +199,8 @@ class Cell:
 
     def answered(self, _session: Any, _pid: int, _channel: str, payload: str) -> None:
         """A worker told answers."""
-        for line in payload.split("\n"):
-            token, _, answer = line.partition(" ")
-            wait = self.waiting.get(int(token))
+        for token, answer in answers_in(payload):
+            wait = self.waiting.get(token)
             if wait and not wait.done():
                 wait.set_result(answer)
 
@@ -203,8 +210,7 @@ class Cell:
             if self.session is None or self.session.is_closed():
                 self.session = None
                 await self.fetch("select 1")
-            self.token += 1
-            token = self.token
+            token = new_token(self.waiting)
             wait = self.waiting[token] = asyncio.get_running_loop().create_future()
             values = (
                 words.command,

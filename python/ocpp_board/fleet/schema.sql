@@ -1001,7 +1001,10 @@ grant execute on function remove_repeats(integer, bigint, bigint[]) to ledger_wo
 grant select, insert, update, delete on own_board, own_board_station, own_board_period, own_board_transaction,
     own_board_gap, own_refusal, worker to ledger_worker;
 
-grant select on shard, site, station, station_twice, log, board, own_log, own_board,
+-- Who reads does not see by which tokens answers are told: with these it could tell others.
+revoke select on log, own_log from ledger_reader;
+grant select (cell, shard, at, line, place) on log, own_log to ledger_reader;
+grant select on shard, site, station, station_twice, board, own_board,
     board_station, board_period, board_transaction, board_gap, energy, lacking, moved_shard,
     own_board_station, own_board_period, own_board_transaction, own_board_gap,
     refusal, own_refusal, finding, own_finding, closing, closed_period, archived_period, archived_transaction, settled_period,
