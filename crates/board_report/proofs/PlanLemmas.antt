@@ -3,12 +3,13 @@ use Rattle.std.proofs.Common.{◌≡◌, ℕ, ◌+◌, ◌*◌, ◌<◌, ◌≤�
 use Rattle.std.specs.List.{sum_by, filter}
 use Rattle.std.proofs.lemmas.Bool.{cases_eq}
 use Rattle.std.proofs.lemmas.List.Sums.{sum_by-cons}
+use Rattle.ledger_model.specs.declared.order.Order.{Order}
 use Rattle.ledger_model.specs.declared.reading.Direction.{Direction}
 use Rattle.ledger_model.specs.declared.reading.Direction.TheVariants.{Import, Export}
-use Rattle.ledger_model.specs.Board.{Board, Flowed, board, flows_under}
+use Rattle.ledger_model.specs.Board.{Board, Flowed, board_by, flows_under}
 use Rattle.ledger_model.specs.BoardLaws.{AreRising, IsIn}
 use Rattle.ledger_model.specs.Content.{Entry}
-use Rattle.ledger_model.specs.Energy.{Flows, flows_in, Pair, difference, pairs, quarter_of, quarters, energy, energy_in}
+use Rattle.ledger_model.specs.Energy.{Flows, flows_in_by, Pair, difference, all_pairs_by, quarter_of, quarters_by, energy_by, energy_in_by}
 use Rattle.ledger_model.specs.Limits.{Bounds}
 use Rattle.ledger_model.specs.Ranges.{most_plan_readings, greatest_reading}
 use Rattle.ledger_model.proofs.Callers.{sum_by-filter_cons, rising-AreRising}
@@ -53,15 +54,16 @@ sum-filter f p (x ∷ xs) = omega (arith, sum_by-filter_cons f p x xs, sum_by-co
     part true n = omega arith
     part false n = omega arith
 
-in_quarter_up : (d : Direction) (period q : ℕ) (es : List Entry) → (energy_in d period q es).up ≤ (energy d es).up
-in_quarter_up d period q es = sum-filter (λ p. (difference p).up) (λ p. eqb (quarter_of period p) q) (pairs d es)
+in_quarter_up : (order : Order) (d : Direction) (period q : ℕ) (es : List Entry) → (energy_in_by order d period q es).up ≤ (energy_by order d es).up
+in_quarter_up order d period q es = sum-filter (λ p. (difference p).up) (λ p. eqb (quarter_of period p) q) (all_pairs_by order d es)
 
-in_quarter_down : (d : Direction) (period q : ℕ) (es : List Entry) → (energy_in d period q es).down ≤ (energy d es).down
-in_quarter_down d period q es = sum-filter (λ p. (difference p).down) (λ p. eqb (quarter_of period p) q) (pairs d es)
+in_quarter_down : (order : Order) (d : Direction) (period q : ℕ) (es : List Entry) → (energy_in_by order d period q es).down ≤ (energy_by order d es).down
+in_quarter_down order d period q es = sum-filter (λ p. (difference p).down) (λ p. eqb (quarter_of period p) q) (all_pairs_by order d es)
 
 -- a board shows no more for a quarter than the quarter's pairs add up to
-under-board : (p : Part) (period q : ℕ) (es : List Entry) → p.measure (flows_under q (board period es).quarters) ≤ p.measure (flows_in period q es)
-under-board p period q es = under-rising p (λ quarter. flows_in period quarter es) q (quarters period es) (rising-AreRising (map (quarter_of period) (pairs Import es ++ pairs Export es)))
+under-board : (p : Part) (order : Order) (period q : ℕ) (es : List Entry) → p.measure (flows_under q (board_by order period es).quarters) ≤ p.measure (flows_in_by order period q es)
+under-board p order period q es =
+    under-rising p (λ quarter. flows_in_by order period quarter es) q (quarters_by order period es) (rising-AreRising (map (quarter_of period) (all_pairs_by order Import es ++ all_pairs_by order Export es)))
 
 -- in each direction, up and down
 record EachPart (P : Part → Type 0) : Type 0 where
@@ -79,10 +81,10 @@ under-limits q limits b h =
     let es = h.entries in
     let same = ap (λ (c : Board). flows_under q c.quarters) h.is in
     let figures = ap (λ (c : Board). c.figures) h.is in record {
-      of_up = omega (arith, ap (λ (f : Flows). f.flow.up) same, under-board up b.period q es, in_quarter_up Import b.period q es, ap {B = ℕ} (λ f. f.up) figures, h.within.up);
-      of_down = omega (arith, ap (λ (f : Flows). f.flow.down) same, under-board down b.period q es, in_quarter_down Import b.period q es, ap {B = ℕ} (λ f. f.down) figures, h.within.down);
-      of_export_up = omega (arith, ap (λ (f : Flows). f.export.up) same, under-board export_up b.period q es, in_quarter_up Export b.period q es, ap {B = ℕ} (λ f. f.export_up) figures, h.within.export_up);
-      of_export_down = omega (arith, ap (λ (f : Flows). f.export.down) same, under-board export_down b.period q es, in_quarter_down Export b.period q es, ap {B = ℕ} (λ f. f.export_down) figures, h.within.export_down);
+      of_up = omega (arith, ap (λ (f : Flows). f.flow.up) same, under-board up h.order b.period q es, in_quarter_up h.order Import b.period q es, ap {B = ℕ} (λ f. f.up) figures, h.within.up);
+      of_down = omega (arith, ap (λ (f : Flows). f.flow.down) same, under-board down h.order b.period q es, in_quarter_down h.order Import b.period q es, ap {B = ℕ} (λ f. f.down) figures, h.within.down);
+      of_export_up = omega (arith, ap (λ (f : Flows). f.export.up) same, under-board export_up h.order b.period q es, in_quarter_up h.order Export b.period q es, ap {B = ℕ} (λ f. f.export_up) figures, h.within.export_up);
+      of_export_down = omega (arith, ap (λ (f : Flows). f.export.down) same, under-board export_down h.order b.period q es, in_quarter_down h.order Export b.period q es, ap {B = ℕ} (λ f. f.export_down) figures, h.within.export_down);
     }
 
 -- the energy of a quarter over two lists

@@ -1,16 +1,18 @@
 -- The boards of one plan: what their quarters add up to.
 use Rattle.std.specs.Prelude.{◌≡◌, ◌≤◌, ℕ, List, [], ◌∷◌, sum_by}
-use Rattle.ledger_model.specs.Board.{Board, board}
+use Rattle.ledger_model.specs.declared.order.Order.{Order}
+use Rattle.ledger_model.specs.Board.{Board, board_by}
 use Rattle.ledger_model.specs.Content.{Entry}
 use Rattle.ledger_model.specs.Figures.{AreWithin}
 use Rattle.ledger_model.specs.Limits.{Bounds}
 use Rattle.ledger_model.specs.Ranges.{most_plan_readings}
 use Rattle.board_report.specs.Sums.{station_quarters, QuartersFit}
 
--- A board is that of a station's events, by its own settlement period, and its figures are such as the station's limits allow.
+-- A board is that of a station's events, by its own settlement period and in one of the orders of readings, and its figures are such as the station's limits allow.
 pub record IsBoardWithin (limits : Bounds) (shown : Board) : Type 0 where
   pub entries : List Entry
-  pub is : shown ≡ board shown.period entries
+  pub order : Order
+  pub is : shown ≡ board_by order shown.period entries
   pub within : AreWithin limits shown.figures
 
 -- As many boards as limits, each within those in its place.

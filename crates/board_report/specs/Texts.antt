@@ -4,6 +4,8 @@ use Rattle.std.specs.List.{flat_map}
 use Rattle.std.specs.Fmt.{decimal}
 use Rattle.energy_flow.specs.Flow.{Energy}
 use Rattle.ledger_model.specs.declared.figures.Figures.{Figures}
+use Rattle.ledger_model.specs.declared.order.Order.{Order}
+use Rattle.ledger_model.specs.declared.order.Order.TheVariants.{Sequence, Moment}
 use Rattle.ledger_model.specs.Board.{Board, Flowed, Shown}
 use Rattle.ledger_model.specs.Gaps.{Gap}
 use Rattle.reading_decimal.specs.MomentText.{text_of}
@@ -87,12 +89,17 @@ station_text s =
     line (codes "station " ++ s.0) ++ (line (total_text s.1.figures) ++ (flat_map evse_line s.1.evses
     ++ (flat_map (quarter_line s.1.period) s.1.quarters ++ flat_map transaction_text s.1.transactions)))
 
--- `board <name> period=<seconds>`
-unfoldable pub heading : List ℕ → ℕ → List ℕ
-heading name period = line (codes "board " ++ (name ++ field (codes " period=") period))
+-- Nothing for readings by sequence, ` order=moment` for readings by moment.
+abbrev pub order_field : Order → List ℕ
+order_field Sequence = []
+order_field Moment = codes " order=moment"
 
--- The text of a site's board: its name with its settlement period, its total, its quarters, its stations, and `end`.
+-- `board <name> period=<seconds>`, and the order of readings where it is not by sequence
+unfoldable pub heading : List ℕ → ℕ → Order → List ℕ
+heading name period order = line (codes "board " ++ (name ++ (field (codes " period=") period ++ order_field order)))
+
+-- The text of a site's board: its name with its settlement period and order of readings, its total, its quarters, its stations, and `end`.
 abbrev pub board_text : NamedBoard → List ℕ
 board_text b =
-    heading b.name b.period ++ (line (total_text b.figures) ++ (flat_map (quarter_line b.period) b.quarters
+    heading b.name b.period b.order ++ (line (total_text b.figures) ++ (flat_map (quarter_line b.period) b.quarters
     ++ (flat_map station_text b.stations ++ line (codes "end"))))

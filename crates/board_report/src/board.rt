@@ -3,17 +3,18 @@ ghost use Rattle.ledger_model.specs.Board.{site_board as site_board_of};
 ghost use Rattle.board_report.specs.Sums.{station_quarters, AreOfPeriod, AreQuartersOf, QuartersFit};
 
 use crate::sums::site_quarters;
-use ledger_model::{Figures, Listed, Name, Period};
+use ledger_model::{Figures, Listed, Name, Order, Period};
 use station_ledger::{QuarterLine, StationBoard};
 use std::alloc::{AllocError, Global};
 use std::marker::Model;
 
-/// The board of a site: its name, its settlement period, its figures, its quarters with their energies, rising, and its
-/// stations' boards by name, in the order of declaration.
+/// The board of a site: its name, its settlement period, the order of its readings, its figures, its quarters with
+/// their energies, rising, and its stations' boards by name, in the order of declaration.
 #[derive(Debug, Drop)]
 pub struct SiteBoard {
     pub(crate) name: Name,
     pub(crate) period: Period,
+    pub(crate) order: Order,
     pub(crate) figures: Figures,
     pub(crate) quarters: Listed<QuarterLine>,
     pub(crate) stations: Listed<(Name, StationBoard)>,
@@ -25,7 +26,7 @@ impl Model for SiteBoard {
 
     ghost Value = { NamedBoard };
 
-    ghost view = { λ b. record { name = b.name; period = b.period; figures = b.figures; quarters = b.quarters; stations = b.stations } };
+    ghost view = { λ b. record { name = b.name; period = b.period; order = b.order; figures = b.figures; quarters = b.quarters; stations = b.stations } };
 
     ghost invariant = { λ b. AreQuartersOf b.period b.quarters };
 }
@@ -43,6 +44,13 @@ impl SiteBoard {
         ensures { result ≡ self.now.period }
     {
         self.period
+    }
+
+    /// The order in which its stations take the readings of a transaction.
+    pub fn order(&self) -> Order
+        ensures { result ≡ self.now.order }
+    {
+        self.order
     }
 
     /// The nine figures of the site.
@@ -77,13 +85,14 @@ impl SiteBoard {
     }
 }
 
-/// The board of a site of this name and settlement period, with these figures and these stations'
-/// boards: it adds up the stations' energies quarter by quarter, in milliwatt-hours. The boards have to
+/// The board of a site of this name, settlement period and order of readings, with these figures and these
+/// stations' boards: it adds up the stations' energies quarter by quarter, in milliwatt-hours. The boards have to
 /// be by that period ([`StationBoard::period`] tells), and the sums of each quarter to stay below 2^64.
 pub fn site_board(
     alloc: Global,
     name: &Name,
     period: Period,
+    order: Order,
     figures: Figures,
     stations: Vec<(Name, StationBoard)>,
 ) -> Result<SiteBoard, AllocError>
@@ -91,6 +100,7 @@ pub fn site_board(
     requires fit { QuartersFit (station_quarters stations.items) }
     ensures name { IfOk result (λ board. board.name ≡ name.now) }
     ensures period { IfOk result (λ board. board.period ≡ period) }
+    ensures order { IfOk result (λ board. board.order ≡ order) }
     ensures figures { IfOk result (λ board. board.figures ≡ figures) }
     ensures quarters { IfOk result (λ board. board.quarters ≡ (site_board_of period stations.items).quarters) }
     ensures stations { IfOk result (λ board. board.stations ≡ stations.items) }
@@ -99,6 +109,7 @@ pub fn site_board(
     Ok(SiteBoard {
         name: name.copied(),
         period,
+        order,
         figures,
         quarters: Listed::of(quarters),
         stations: Listed::of(stations),

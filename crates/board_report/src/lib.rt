@@ -14,7 +14,7 @@
 //! do ([`plans_fit`]). `site_board` and `write_board` alone can run out of memory, and say so.
 //!
 //! ```text
-//! let board = site_board(alloc, &name, period, figures, stations)?;
+//! let board = site_board(alloc, &name, period, order, figures, stations)?;
 //! write_board(alloc, &board)?   // board north period=900
 //!                               // total events=2 voided=0 transactions=1 complete=0 ..
 //!                               // period 2026-03-01T10:30:00Z up=600000 down=0 export_up=0 export_down=0

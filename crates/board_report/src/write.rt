@@ -3,14 +3,14 @@ ghost use Rattle.std.specs.Prelude.{◌≡◌, ◌++◌, OnOk, IfOk};
 ghost use Rattle.std.specs.List.{flat_map};
 ghost use Rattle.ledger_model.specs.Quarter.{IsQuarterOf};
 ghost use Rattle.board_report.specs.Sums.{AreQuartersOf};
-ghost use Rattle.board_report.specs.Texts.{field, line, flows_fields, start_text, events_fields, completeness_fields, total_text as total_text_of, quarter_line, evse_line, yes_or_no, transaction_line, gap_line, transaction_text, station_text, heading, board_text};
+ghost use Rattle.board_report.specs.Texts.{field, line, flows_fields, start_text, events_fields, completeness_fields, total_text as total_text_of, quarter_line, evse_line, yes_or_no, transaction_line, gap_line, transaction_text, station_text, heading, order_field, board_text};
 
 use crate::board::SiteBoard;
 use crate::fixed::total_text;
 use arrayvec::ArrayString;
 use energy_flow::Flow;
 use itoa::Buffer;
-use ledger_model::{Figures, Name, Period, Quarter};
+use ledger_model::{Figures, Name, Order, Period, Quarter};
 use reading_decimal::{moment_text, quarter_start};
 use station_ledger::{EvseLine, QuarterLine, StationBoard, TxLine};
 use std::alloc::{AllocError, Global};
@@ -220,21 +220,32 @@ fn put_stations(text: &mut Vec<u8>, stations: &[(Name, StationBoard)]) -> Result
     Ok(())
 }
 
-// Appends the name of a site and its settlement period.
+// Nothing for readings by sequence, ` order=moment` for readings by moment.
+fn order_field(order: Order) -> &'static str
+    ensures { result.now ≡ order_field order }
+{
+    match order {
+        Order::Sequence => "",
+        Order::Moment => " order=moment",
+    }
+}
+
+// Appends the name of a site, its settlement period, and the order of its readings where that is by moment.
 #[tactic(auto, unfolding(crate::specs::Texts::heading))]
 fn put_heading(text: &mut Vec<u8>, board: &SiteBoard) -> Result<(), AllocError>
-    ensures { OnOk result (text.new.items ≡ text.old.items ++ heading board.now.name board.now.period) }
+    ensures { OnOk result (text.new.items ≡ text.old.items ++ heading board.now.name board.now.period board.now.order) }
 {
     text.extend_from_slice(b"board ")?;
     text.extend_from_slice(board.name().text().as_bytes())?;
     put_field(text, " period=", u64::from(board.period().seconds()))?;
+    text.extend_from_slice(order_field(board.order()).as_bytes())?;
     text.push(b'\n')?;
     Ok(())
 }
 
-/// The text of a site's board: its name with its settlement period, its total and its quarters, then each station with its name,
-/// its total, its EVSEs, its quarters and its transactions, each of these with its gaps, and `end`.
-/// Each line ends with a line feed.
+/// The text of a site's board: its name with its settlement period and order of readings, its total and its
+/// quarters, then each station with its name, its total, its EVSEs, its quarters and its transactions, each of
+/// these with its gaps, and `end`. Each line ends with a line feed.
 pub fn write_board(alloc: Global, board: &SiteBoard) -> Result<Vec<u8>, AllocError>
     ensures { IfOk result (λ text. text.items ≡ board_text board.now) }
 {

@@ -1,8 +1,9 @@
 -- The figures of a closed desk's site, over its cells and over its stations' boards.
-use Rattle.std.proofs.Common.{◌≡◌, ℕ, zero, suc, Bool, true, false, cond, eqb, List, [], ◌∷◌, Some, ◌<◌, length, map, get_or, refl, subst, ap, sym, ◌∙◌, arith}
+use Rattle.std.proofs.Common.{◌≡◌, ℕ, zero, suc, Bool, true, false, cond, eqb, eqb-true, List, [], ◌∷◌, Some, ◌<◌, length, map, get_or, refl, subst, sym, ◌∙◌, arith}
 use Rattle.std.specs.Prelude.{filter, slice_get, IfOk, Result, Err, Ok}
 use Rattle.ledger_model.specs.declared.figures.Figures.{Figures}
-use Rattle.ledger_model.specs.Board.{Board, board, figures, site_board}
+use Rattle.ledger_model.specs.declared.order.Order.{Order}
+use Rattle.ledger_model.specs.Board.{Board, board_by, figures_by, site_board}
 use Rattle.ledger_model.specs.Content.{entries}
 use Rattle.site_desk.specs.declared.plan.SitePlan.{SitePlan}
 use Rattle.site_desk.specs.declared.plan.StationPlan.{StationPlan}
@@ -16,22 +17,28 @@ use Rattle.desk_report.specs.Boards.{boards_at, site_named}
 use Rattle.desk_report.proofs.SiteBoards.{some_same}
 use Rattle.desk_report.specs.Closed.{AreBoards, IsClosedOf, boards_text}
 
-pub figures_alike : (period : ℕ) (xs : List StationPlan) (cells : List Cell) (site : ℕ) → length cells ≡ length xs
+pub figures_alike : (order : Order) (period : ℕ) (xs : List StationPlan) (cells : List Cell) (site : ℕ) → length cells ≡ length xs
     → ((k : ℕ) (s : StationPlan) (c : Cell) → slice_get xs k ≡ Some s → slice_get cells k ≡ Some c → c.site ≡ s.site)
-    → map (λ (c : Cell). figures (entries c.content)) (filter (λ (c : Cell). eqb c.site site) cells) ≡ map (λ (s : List ℕ × Board). s.1.figures) (boards_at period xs cells site)
-figures_alike period [] [] site count sites = refl
-figures_alike period [] (c ∷ cells) site count sites = absurd (omega (arith, count))
-figures_alike period (x ∷ xs) [] site count sites = absurd (omega (arith, count))
-figures_alike period (x ∷ xs) (c ∷ cells) site count sites =
+    → ((k : ℕ) (s : StationPlan) (c : Cell) → slice_get xs k ≡ Some s → slice_get cells k ≡ Some c → s.site ≡ site → c.order ≡ order)
+    → map (λ (c : Cell). figures_by c.order (entries c.content)) (filter (λ (c : Cell). eqb c.site site) cells) ≡ map (λ (s : List ℕ × Board). s.1.figures) (boards_at order period xs cells site)
+figures_alike order period [] [] site count sites orders = refl
+figures_alike order period [] (c ∷ cells) site count sites orders = absurd (omega (arith, count))
+figures_alike order period (x ∷ xs) [] site count sites orders = absurd (omega (arith, count))
+figures_alike order period (x ∷ xs) (c ∷ cells) site count sites orders =
     let same : c.site ≡ x.site = sites zero x c refl refl in
-    (λ i. map (λ (d : Cell). figures (entries d.content)) (cond (eqb (same i) site) (c ∷ filter (λ (d : Cell). eqb d.site site) cells) (filter (λ (d : Cell). eqb d.site site) cells)))
-    ∙ one (eqb x.site site) (figures_alike period xs cells site (omega (arith, count)) (λ k s d at is. sites (suc k) s d at is))
+    (λ i. map shown (cond (eqb (same i) site) (c ∷ others) others))
+    ∙ one (eqb x.site site) refl (figures_alike order period xs cells site (omega (arith, count)) (λ k s d at is. sites (suc k) s d at is) (λ k s d at is. orders (suc k) s d at is))
   where
-    one : (t : Bool) → map (λ (d : Cell). figures (entries d.content)) (filter (λ (d : Cell). eqb d.site site) cells) ≡ map (λ (s : List ℕ × Board). s.1.figures) (boards_at period xs cells site)
-        → map (λ (d : Cell). figures (entries d.content)) (cond t (c ∷ filter (λ (d : Cell). eqb d.site site) cells) (filter (λ (d : Cell). eqb d.site site) cells))
-        ≡ map (λ (s : List ℕ × Board). s.1.figures) (cond t ((x.name, board period (entries c.content)) ∷ boards_at period xs cells site) (boards_at period xs cells site))
-    one true e = ap (λ l. figures (entries c.content) ∷ l) e
-    one false e = e
+    shown : Cell → Figures
+    shown d = figures_by d.order (entries d.content)
+
+    others : List Cell
+    others = filter (λ (d : Cell). eqb d.site site) cells
+
+    one : (t : Bool) → eqb x.site site ≡ t → map shown others ≡ map (λ (s : List ℕ × Board). s.1.figures) (boards_at order period xs cells site)
+        → map shown (cond t (c ∷ others) others) ≡ map (λ (s : List ℕ × Board). s.1.figures) (cond t ((x.name, board_by order period (entries c.content)) ∷ boards_at order period xs cells site) (boards_at order period xs cells site))
+    one true here e = λ i. figures_by (orders zero x c refl refl (eqb-true x.site site here) i) (entries c.content) ∷ e i
+    one false here e = e
 
 -- the name of a site of the plan
 pub name_at : (sites : List SitePlan) (site : ℕ) (other : SitePlan) → site < length sites → (get_or sites site other).name ≡ get_or (map (λ (p : SitePlan). p.name) sites) site []
@@ -40,9 +47,9 @@ name_at (p ∷ sites) zero other less = refl
 name_at (p ∷ sites) (suc site) other less = name_at sites site other (omega (arith, less))
 
 -- a board under the same name and totals is the same board
-pub named_alike : (name other : List ℕ) (period : ℕ) (totals all : Figures) (boards : List (List ℕ × Board)) → name ≡ other → totals ≡ all → all ≡ (site_board period boards).figures
-    → site_named name period totals boards ≡ record { name = other; period = period; figures = (site_board period boards).figures; quarters = (site_board period boards).quarters; stations = (site_board period boards).stations }
-named_alike name other period totals all boards n t e = λ i. record { name = n i; period = period; figures = (t ∙ e) i; quarters = (site_board period boards).quarters; stations = boards }
+pub named_alike : (name other : List ℕ) (period : ℕ) (order : Order) (totals all : Figures) (boards : List (List ℕ × Board)) → name ≡ other → totals ≡ all → all ≡ (site_board period boards).figures
+    → site_named name period order totals boards ≡ record { name = other; period = period; order = order; figures = (site_board period boards).figures; quarters = (site_board period boards).quarters; stations = (site_board period boards).stations }
+named_alike name other period order totals all boards n t e = λ i. record { name = n i; period = period; order = order; figures = (t ∙ e) i; quarters = (site_board period boards).quarters; stations = boards }
 
 -- what is told of a value
 pub value_told : {T E : Type 0} (r : Result T E) (P Q : T → Type 0) → ((x : T) → P x → Q x) → IfOk r P → IfOk r Q
@@ -59,7 +66,7 @@ closed_of sites xs desk closed passes viewers planned new count books whole =
     subst (λ p. StandsAt k p c) (some_same placed.place (new_place sites xs k s) (sym placed.there ∙ new.each k s at)) placed.stands in
     record {
       books = books ∙ planned;
-      cells = record { count = count ∙ new.count; limits = λ k s c at is. (stands k s c at is).limits; periods = λ k s c at is. (stands k s c at is).period };
+      cells = record { count = count ∙ new.count; limits = λ k s c at is. (stands k s c at is).limits; periods = λ k s c at is. (stands k s c at is).period; orders = λ k s c at is. (stands k s c at is).order };
       at_sites = λ k s c at is. (stands k s c at is).site;
       summed = whole.summed;
     }

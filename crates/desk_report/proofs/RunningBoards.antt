@@ -58,7 +58,8 @@ module _ (sites : List SitePlan) (site : ℕ) where
       taken others (b ∷ bs) h = (
         record {
           entries = entries h.0.board.content;
-          is = by_own b.1 p.period (entries h.0.board.content) h.0.board.shown;
+          order = p.order;
+          is = by_own b.1 p.order p.period (entries h.0.board.content) h.0.board.shown;
           within = subst (λ l. AreWithin l b.1.figures) like.0.limits h.0.within;
         },
         others bs h.1,

@@ -6,13 +6,13 @@ use Rattle.board_report.specs.Texts.{board_text}
 use Rattle.site_desk.specs.declared.plan.SitePlan.{SitePlan}
 use Rattle.site_desk.specs.declared.roster.StationPlace.{StationPlace}
 use Rattle.site_desk.specs.Operator.{AreBoardsAt}
-use Rattle.site_desk.specs.Plan.{period_at}
+use Rattle.site_desk.specs.Plan.{order_at, period_at}
 
--- The board of a site over these stations' boards, by the site's name and settlement period: the sums of their figures, and of their quarters.
+-- The board of a site over these stations' boards, by the site's name, settlement period and order of readings: the sums of their figures, and of their quarters.
 abbrev pub running_site : List SitePlan → ℕ → List (List ℕ × Board) → NamedBoard
 running_site sites site boards =
     let b = site_board (period_at sites site) boards in
-    record { name = get_or (map (λ s. s.name) sites) site []; period = b.period; figures = b.figures; quarters = b.quarters; stations = b.stations }
+    record { name = get_or (map (λ s. s.name) sites) site []; period = b.period; order = order_at sites site; figures = b.figures; quarters = b.quarters; stations = b.stations }
 
 -- The text is that of the board over boards of the site's stations, each once and in the plan's order, of which each is made by a content that accepted commands leave.
 pub record IsRunningBoard (sites : List SitePlan) (places : List StationPlace) (site : ℕ) (text : List ℕ) : Type 0 where

@@ -3,8 +3,7 @@ ghost use Rattle.ledger_model.specs.Ranges.{most_plan_readings};
 ghost use Rattle.board_report.specs.Plans.{AreBoardsWithin};
 ghost use Rattle.board_report.specs.Texts.{board_text};
 ghost use Rattle.site_desk.specs.Parts.{limits_at};
-ghost use Rattle.site_desk.specs.Plan.{period_at};
-ghost use Rattle.desk_report.specs.Boards.{AreOpenedFor, boards_at, site_named};
+ghost use Rattle.desk_report.specs.Boards.{AreOpenedFor, site_boards, site_under};
 
 use board_report::{site_board, write_board};
 use ledger_model::{Figures, Name};
@@ -13,10 +12,10 @@ use station_ledger::StationBoard;
 use std::alloc::{AllocError, Global};
 
 /// The text of the board of the site of this number, under this name, by the site's settlement period and
-/// with these totals, over the cells of its stations.
+/// order of readings and with these totals, over the cells of its stations.
 ///
 /// Condition: the plan has the site, each of its stations has its cell, opened with its limits and by its
-/// site's period, and the limits allow no more than 1,048,576 readings in all, as in a desk's plan.
+/// site's period and order, and the limits allow no more than 1,048,576 readings in all, as in a desk's plan.
 pub fn site_text(
     alloc: Global,
     plan: &Plan,
@@ -28,11 +27,12 @@ pub fn site_text(
     requires planned { site < length plan.now.sites.items }
     requires cells { AreOpenedFor plan.now.sites.items plan.now.stations.items cells.now }
     requires readings { sum_by (λ s. s.limits.readings) plan.now.stations.items ≤ most_plan_readings }
-    ensures { IfOk result (λ text. text.items ≡ board_text (site_named name.now (period_at plan.now.sites.items site) totals (boards_at (period_at plan.now.sites.items site) plan.now.stations.items cells.now site))) }
+    ensures { IfOk result (λ text. text.items ≡ board_text (site_under plan.now.sites.items plan.now.stations.items cells.now site name.now totals)) }
 {
     let period = plan.period(site);
+    let order = plan.order(site);
     let boards = boards_of(alloc, plan, cells, site)?;
-    let board = site_board(alloc, name, period, totals, boards)?;
+    let board = site_board(alloc, name, period, order, totals, boards)?;
     write_board(alloc, &board)
 }
 
@@ -44,7 +44,7 @@ fn boards_of(
     site: usize,
 ) -> Result<Vec<(Name, StationBoard)>, AllocError>
     requires { AreOpenedFor plan.now.sites.items plan.now.stations.items cells.now }
-    ensures boards { IfOk result (λ boards. boards.items ≡ boards_at (period_at plan.now.sites.items site) plan.now.stations.items cells.now site) }
+    ensures boards { IfOk result (λ boards. boards.items ≡ site_boards plan.now.sites.items plan.now.stations.items cells.now site) }
     ensures within { IfOk result (λ boards. AreBoardsWithin (limits_at plan.now.stations.items site) boards.items) }
 {
     let mut boards = Vec::new(alloc);
@@ -65,9 +65,9 @@ fn add_board(
 ) -> Result<(), AllocError>
     requires there { number < length plan.now.stations.items }
     requires cells { AreOpenedFor plan.now.sites.items plan.now.stations.items cells.now }
-    requires boards { boards.old.items ≡ boards_at (period_at plan.now.sites.items site) (take number plan.now.stations.items) cells.now site }
+    requires boards { boards.old.items ≡ site_boards plan.now.sites.items (take number plan.now.stations.items) cells.now site }
     requires within { AreBoardsWithin (limits_at (take number plan.now.stations.items) site) boards.old.items }
-    ensures boards { OnOk result (boards.new.items ≡ boards_at (period_at plan.now.sites.items site) (take (number + 1) plan.now.stations.items) cells.now site) }
+    ensures boards { OnOk result (boards.new.items ≡ site_boards plan.now.sites.items (take (number + 1) plan.now.stations.items) cells.now site) }
     ensures within { OnOk result (AreBoardsWithin (limits_at (take (number + 1) plan.now.stations.items) site) boards.new.items) }
 {
     let stations = plan.stations.as_slice();

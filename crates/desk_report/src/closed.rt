@@ -27,7 +27,7 @@ impl From<AllocError> for BoardsFault {
 }
 
 /// The text of the board of the site of this number: the one from scratch, by the site's settlement
-/// period, from the contents of its stations' ledgers, with the sums over them as its totals.
+/// period and order of readings, from the contents of its stations' ledgers, with the sums over them as its totals.
 ///
 /// Condition: the desk that was closed was opened for this plan, and the site is one of its sites.
 pub fn closed_board<J: Naming>(

@@ -34,7 +34,9 @@ pub fn running_board<J: Naming, C: HasCell, R: Wait>(
         Err(fault) => return Err(fault),
     };
     let name = plan.sites.as_slice()[number].name.copied();
-    let board = match site_board(alloc, &name, plan.period(number), totals, boards) {
+    let period = plan.period(number);
+    let order = plan.order(number);
+    let board = match site_board(alloc, &name, period, order, totals, boards) {
         Ok(board) => board,
         Err(_) => return Err(BoardFault::OutOfMemory),
     };

@@ -108,7 +108,12 @@ texts_whole [] = inl refl
 texts_whole (e ∷ log) = both_whole (line_text e.line) (text_of log) (inr (e.line, refl)) (texts_whole log)
 
 shows_same : (s t : Script) (sites : List SitePlan) (stations : List StationPlan) (cells : List Cell) → Stays s t → Shows s sites stations cells → Shows t sites stations cells
-shows_same s t sites stations cells stays shows = record { sites_are = stays.1.0 ∙ shows.sites_are; periods_are = stays.1.1 ∙ shows.periods_are; world_is = stays.0 ∙ shows.world_is }
+shows_same s t sites stations cells stays shows = record {
+  sites_are = stays.1.sites ∙ shows.sites_are;
+  periods_are = stays.1.periods ∙ shows.periods_are;
+  orders_are = stays.1.orders ∙ shows.orders_are;
+  world_is = stays.0 ∙ shows.world_is;
+}
 
 pub cuts_are_scripts : CutsAreScripts
 cuts_are_scripts read sites stations firsts log front rest mark whole once shows all is marked =

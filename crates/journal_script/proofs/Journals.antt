@@ -39,7 +39,8 @@ journals_are_scripts read sites stations firsts cells log whole once shows all l
     let has = λ (k : ℕ) (less : k < length stations). subst (λ w. Has w (station_name stations k)) (sym shows.world_is) (has_all sites stations firsts left.count_first k less) in
     let took = takes_lines stations s log all has in
     record {
-      sites_are = ap (λ (t : Script). t.sites) after ∙ took.1.0 ∙ shows.sites_are;
-      periods_are = ap (λ (t : Script). t.periods) after ∙ took.1.1 ∙ shows.periods_are;
+      sites_are = ap (λ (t : Script). t.sites) after ∙ took.1.sites ∙ shows.sites_are;
+      periods_are = ap (λ (t : Script). t.periods) after ∙ took.1.periods ∙ shows.periods_are;
+      orders_are = ap (λ (t : Script). t.orders) after ∙ took.1.orders ∙ shows.orders_are;
       world_is = ap (λ (t : Script). t.world) after ∙ took.0 ∙ ap (λ w. run w (asked_in stations log)) shows.world_is ∙ all_left sites stations firsts cells log once.stations_once all left;
     }

@@ -6,10 +6,12 @@ use Rattle.std.specs.Io.BufRead.{strip_last}
 use Rattle.std.specs.List.{list_all, position_or_len, before_first, after_first}
 use Rattle.std.specs.Str.{is_utf8}
 use Rattle.std.specs.Str.Parse.{digits_value}
-use Rattle.std.proofs.lemmas.Bool.{true≢false, false≢true, eqb-true, and_parts}
+use Rattle.std.proofs.lemmas.Bool.{true≢false, false≢true, eq-eqb, eqb-true, and_parts}
 use Rattle.std.proofs.lemmas.Bool.Decides.{nat_tests}
 use Rattle.std.proofs.lemmas.List.Sums.{passes_at_first, split_at_first}
 use Rattle.std.proofs.lemmas.Slice.Eq.{bytes_eq-Decides}
+use Rattle.ledger_model.specs.declared.order.Order.{Order}
+use Rattle.ledger_model.specs.declared.order.Order.TheVariants.{Sequence, Moment}
 use Rattle.ledger_model.specs.Name.{is_name, is_name_character}
 use Rattle.ledger_model.specs.Ranges.{most_name_characters}
 use Rattle.ledger_model.specs.World.{Station}
@@ -20,10 +22,10 @@ use Rattle.reading_decimal.specs.Moment.{moment_reading}
 use Rattle.script_lines.specs.declared.script_line.LineFault.TheVariants.{BadLine, DeclaredLate, PlanLimit}
 use Rattle.script_lines.specs.declared.script_line.Operation.{Operation}
 use Rattle.script_lines.specs.declared.script_line.Operation.TheVariants as operation
-use Rattle.script_lines.specs.LineMeaning.{LineMeaning, nothing, fails, sets_limits, declares, sets_period, tells, sends, commands, asks_energy, asks_export, asks_total, asks_board, is_space, parted, is_number, number, four_numbers, limited, limited_next, limited_last, declared_names, declared_period, period_of, told, told_moment, sent, operated, operated_last, operated_at, operated_key, asked, by_first_word, by_other_word, by_words, by_bytes, line_meaning}
+use Rattle.script_lines.specs.LineMeaning.{LineMeaning, nothing, fails, sets_limits, declares, sets_period, sets_order, tells, sends, commands, asks_energy, asks_export, asks_total, asks_board, is_space, parted, is_number, number, four_numbers, limited, limited_next, limited_last, declared_names, declared_order, declared_period, order_of, order_word, period_of, told, told_moment, sent, operated, operated_last, operated_at, operated_key, asked, by_first_word, by_other_word, by_words, by_bytes, line_meaning}
 use Rattle.script_lines.specs.Lines.{ended}
 use Rattle.script_lines.specs.Texts.{fault_line}
-use Rattle.script_ledgers.specs.Script.{Script, are_limits, by_meaning, limited_to, line_step, sent_to, station_named, step_by}
+use Rattle.script_ledgers.specs.Script.{KeepsSites, Script, are_limits, by_meaning, limited_to, line_step, sent_to, station_named, step_by}
 use Rattle.transaction_event.specs.Message.{Meaning, Ready, message}
 use Rattle.journal_script.proofs.LastByte.{keeps_last, last, last_apart, last_behind}
 use Rattle.journal_script.proofs.NotJson.{hash_not_read, s_not_read}
@@ -92,13 +94,14 @@ all_last p x (y ∷ xs) first rest = let both = and_parts (p y) (list_all p xs) 
 
 -- ---- what such a line may mean
 
--- a line of this meaning leaves the sites, their periods and the stations
+-- a line of this meaning leaves the sites, their periods, their orders and the stations
 abbrev Idle : LineMeaning → Type 0
 Idle nothing = ⊤
 Idle (fails _) = ⊤
 Idle (sets_limits _ _ _ _) = ⊤
 Idle (declares _ _) = ⊥
 Idle (sets_period _ _) = ⊥
+Idle (sets_order _ _) = ⊥
 Idle (tells _) = ⊤
 Idle (sends _ text) = IsAnswered text
 Idle (commands _ _) = ⊥
@@ -148,7 +151,7 @@ idle_declared words none = idle_if (is_name words.0 && is_name words.1) (declare
     refuse both (inl never) = absurd (true≢false (sym (and_parts (is_name words.0) (is_name words.1) both).0 ∙ never))
     refuse both (inr never) = absurd (true≢false (sym (and_parts (is_name words.0) (is_name words.1) both).1 ∙ never))
 
-module _ (c : ℕ) (no_space : (32 == c) ≡ false) (no_digit : is_ascii_digit c ≡ false) (no_text : (front : List ℕ) → (fault : JsonFault) × (marked_reading (front ++ c ∷ []) ≡ Err fault)) where
+module _ (c : ℕ) (no_space : (32 == c) ≡ false) (no_digit : is_ascii_digit c ≡ false) (no_e : (101 == c) ≡ false) (no_t : (116 == c) ≡ false) (no_text : (front : List ℕ) → (fault : JsonFault) × (marked_reading (front ++ c ∷ []) ≡ Err fault)) where
   not_empty : {P : Type 0} → 32 ≡ c → P
   not_empty e = absurd (true≢false (ap (λ x. 32 == x) e ∙ no_space))
 
@@ -159,6 +162,19 @@ module _ (c : ℕ) (no_space : (32 == c) ≡ false) (no_digit : is_ascii_digit c
       none : (b : Bool) → list_all is_ascii_digit (x ∷ xs) ≡ b → is_number (x ∷ xs) ≡ false
       none true e = let both = and_parts (is_ascii_digit x) (list_all is_ascii_digit xs) e in absurd (true≢false (sym (all_last is_ascii_digit x xs both.0 both.1) ∙ ap is_ascii_digit h ∙ no_digit))
       none false e = second_false (ltb 0 (length (x ∷ xs))) (list_all is_ascii_digit (x ∷ xs) && (not (slice_index (x ∷ xs) 0 == 48) || (length (x ∷ xs) == 1))) (ap (λ b. b && (not (slice_index (x ∷ xs) 0 == 48) || (length (x ∷ xs) == 1))) e)
+
+  -- no word of another last letter than `e` and `t` names an order
+  no_order : (text : List ℕ) → last 32 text ≡ c → order_word text ≡ None
+  no_order text h =
+      ap (λ b. cond b (Some Sequence) moment) (other (codes "sequence") no_e (bytes_eq text (codes "sequence")) refl)
+      ∙ ap (λ b. cond b (Some Moment) None) (other (codes "moment") no_t (bytes_eq text (codes "moment")) refl)
+    where
+      moment : Option Order
+      moment = cond (bytes_eq text (codes "moment")) (Some Moment) None
+
+      other : (word : List ℕ) → (last 32 word == c) ≡ false → (b : Bool) → bytes_eq text word ≡ b → b ≡ false
+      other word none true is = absurd (true≢false (sym (eq-eqb (last 32 word) c (ap (last 32) (sym ((bytes_eq-Decides text word).0 is)) ∙ h)) ∙ none))
+      other word none false is = refl
 
   last_part : (text : List ℕ) (words : List ℕ × List ℕ) → last 32 text ≡ c → parted text ≡ Some words → last 32 words.1 ≡ c
   last_part text words h e = sym (last_behind 32 words.0 32 words.1) ∙ ap (last 32) (sym (parted_is text words e)) ∙ h
@@ -181,6 +197,10 @@ module _ (c : ℕ) (no_space : (32 == c) ≡ false) (no_digit : is_ascii_digit c
   idle_period : (text : List ℕ) (o : Option (List ℕ × List ℕ)) → last 32 text ≡ c → parted text ≡ o → Idle (declared_period o)
   idle_period text None h e = tt
   idle_period text (Some words) h e = subst (λ n. Idle (period_of words.0 n)) (sym (no_number words.1 (last_part text words h e))) tt
+
+  idle_order : (text : List ℕ) (o : Option (List ℕ × List ℕ)) → last 32 text ≡ c → parted text ≡ o → Idle (declared_order o)
+  idle_order text None h e = tt
+  idle_order text (Some words) h e = subst (λ o. Idle (order_of words.0 o)) (sym (no_order words.1 (last_part text words h e))) tt
 
   idle_operated_last : (what : Operation) (name text : List ℕ) (o : Option (List ℕ × List ℕ)) → last 32 text ≡ c → parted text ≡ o → Idle (operated_last what name o)
   idle_operated_last what name text None h e = tt
@@ -218,14 +238,16 @@ module _ (c : ℕ) (no_space : (32 == c) ≡ false) (no_digit : is_ascii_digit c
       let more = last_part text words h e in
       let there = marked_part words.0 rest (ap is_marked (sym (parted_is text words e)) ∙ m) in
       let now = cond (bytes_eq words.0 (codes "now")) (told rest (parted rest)) (by_other_word words.0 rest) in
-      let period = cond (bytes_eq words.0 (codes "period")) (declared_period (parted rest)) now in
+      let order = cond (bytes_eq words.0 (codes "order")) (declared_order (parted rest)) now in
+      let period = cond (bytes_eq words.0 (codes "period")) (declared_period (parted rest)) order in
       let limits = cond (bytes_eq words.0 (codes "limits")) (limited (parted rest)) period in
       let station = cond (bytes_eq words.0 (codes "station")) (declared_names (parted rest)) limits in
       idle_if (bytes_eq words.0 (codes "msg")) (sent (parted rest)) station (λ _. idle_sent rest (parted rest) more refl)
       (λ _. idle_if (bytes_eq words.0 (codes "station")) (declared_names (parted rest)) limits (λ is. idle_names rest (parted rest) (behind_station words is there) refl)
       (λ _. idle_if (bytes_eq words.0 (codes "limits")) (limited (parted rest)) period (λ _. idle_limited (parted rest))
-      (λ _. idle_if (bytes_eq words.0 (codes "period")) (declared_period (parted rest)) now (λ _. idle_period rest (parted rest) more refl)
-      (λ _. idle_if (bytes_eq words.0 (codes "now")) (told rest (parted rest)) (by_other_word words.0 rest) (λ _. idle_told rest (parted rest)) (λ _. idle_other words.0 rest more)))))
+      (λ _. idle_if (bytes_eq words.0 (codes "period")) (declared_period (parted rest)) order (λ _. idle_period rest (parted rest) more refl)
+      (λ _. idle_if (bytes_eq words.0 (codes "order")) (declared_order (parted rest)) now (λ _. idle_order rest (parted rest) more refl)
+      (λ _. idle_if (bytes_eq words.0 (codes "now")) (told rest (parted rest)) (by_other_word words.0 rest) (λ _. idle_told rest (parted rest)) (λ _. idle_other words.0 rest more))))))
 
   idle_bytes : (text : List ℕ) → last 32 text ≡ c → is_marked text ≡ true → Idle (by_bytes text)
   idle_bytes [] h m = tt
@@ -243,41 +265,42 @@ module _ (c : ℕ) (no_space : (32 == c) ≡ false) (no_digit : is_ascii_digit c
 
 -- ---- what an idle line leaves
 
--- the sites, their periods and the stations stay
+-- the sites, their periods, their orders and the stations stay
 abbrev pub Stays : Script → Script → Type 0
-Stays s t = (t.world ≡ s.world) × ((t.sites ≡ s.sites) × (t.periods ≡ s.periods))
+Stays s t = (t.world ≡ s.world) × KeepsSites s t
 
 stays_if : (s : Script) (b : Bool) (p q : Script × List ℕ) → Stays s p.0 → Stays s q.0 → Stays s (cond b p q).0
 stays_if s true p q f g = f
 stays_if s false p q f g = g
 
 stays_answered : (s : Script) (station : Station) (meaning : Meaning) (reply : List ℕ) → meaning ≡ Ready reply → Stays s (by_meaning meaning station s).0
-stays_answered s station meaning reply e = subst (λ m. Stays s (by_meaning m station s).0) (sym e) (refl, (refl, refl))
+stays_answered s station meaning reply e = subst (λ m. Stays s (by_meaning m station s).0) (sym e) (refl, record { sites = refl; periods = refl; orders = refl })
 
 stays_sent : (s : Script) (o : Option Station) (text : List ℕ) → IsAnswered text → Stays s (sent_to o s text).0
-stays_sent s None text answered = (refl, (refl, refl))
+stays_sent s None text answered = (refl, record { sites = refl; periods = refl; orders = refl })
 stays_sent s (Some station) text answered = stays_answered s station (message text s.moment) answered.0 (answered.1 s.moment)
 
 stays_step : (s : Script) (m : LineMeaning) → Idle m → Stays s (step_by s m).0
-stays_step s nothing idle = (refl, (refl, refl))
-stays_step s (fails _) idle = (refl, (refl, refl))
+stays_step s nothing idle = (refl, record { sites = refl; periods = refl; orders = refl })
+stays_step s (fails _) idle = (refl, record { sites = refl; periods = refl; orders = refl })
 stays_step s (sets_limits transactions events readings changes) idle =
     let set = record s { limits = record { transactions = transactions; events = events; readings = readings; changes = changes } } in
-    stays_if s s.opened (s, fault_line DeclaredLate) (limited_to s transactions events readings changes) (refl, (refl, refl))
-    (stays_if s (are_limits transactions events readings changes) (set, []) (s, fault_line PlanLimit) (refl, (refl, refl)) (refl, (refl, refl)))
+    stays_if s s.opened (s, fault_line DeclaredLate) (limited_to s transactions events readings changes) (refl, record { sites = refl; periods = refl; orders = refl })
+    (stays_if s (are_limits transactions events readings changes) (set, []) (s, fault_line PlanLimit) (refl, record { sites = refl; periods = refl; orders = refl }) (refl, record { sites = refl; periods = refl; orders = refl }))
 stays_step s (declares _ _) idle = absurd idle
 stays_step s (sets_period _ _) idle = absurd idle
-stays_step s (tells _) idle = (refl, (refl, refl))
+stays_step s (sets_order _ _) idle = absurd idle
+stays_step s (tells _) idle = (refl, record { sites = refl; periods = refl; orders = refl })
 stays_step s (sends name text) idle = stays_sent s (station_named name s.world) text idle
 stays_step s (commands _ _) idle = absurd idle
-stays_step s (asks_energy _) idle = (refl, (refl, refl))
-stays_step s (asks_export _) idle = (refl, (refl, refl))
-stays_step s (asks_total _) idle = (refl, (refl, refl))
-stays_step s (asks_board _) idle = (refl, (refl, refl))
+stays_step s (asks_energy _) idle = (refl, record { sites = refl; periods = refl; orders = refl })
+stays_step s (asks_export _) idle = (refl, record { sites = refl; periods = refl; orders = refl })
+stays_step s (asks_total _) idle = (refl, record { sites = refl; periods = refl; orders = refl })
+stays_step s (asks_board _) idle = (refl, record { sites = refl; periods = refl; orders = refl })
 
 -- a line in which a `#` stands, and which ends with it or with the run's comment, changes nothing that is shown
 pub spoiled : (s : Script) (most : ℕ) (front back : List ℕ) → (last 35 back ≡ 35) ⊎ (last 35 back ≡ 115) → Stays s (line_step s (ended most (front ++ 35 ∷ back))).0
 spoiled s most front back (inl hash) =
-    stays_step s (line_meaning (ended most (front ++ 35 ∷ back))) (idle_line 35 refl refl hash_not_read most (front ++ 35 ∷ back) refl (last_behind 32 front 35 back ∙ hash) (marked_behind front back))
+    stays_step s (line_meaning (ended most (front ++ 35 ∷ back))) (idle_line 35 refl refl refl refl hash_not_read most (front ++ 35 ∷ back) refl (last_behind 32 front 35 back ∙ hash) (marked_behind front back))
 spoiled s most front back (inr letter) =
-    stays_step s (line_meaning (ended most (front ++ 35 ∷ back))) (idle_line 115 refl refl s_not_read most (front ++ 35 ∷ back) refl (last_behind 32 front 35 back ∙ letter) (marked_behind front back))
+    stays_step s (line_meaning (ended most (front ++ 35 ∷ back))) (idle_line 115 refl refl refl refl s_not_read most (front ++ 35 ∷ back) refl (last_behind 32 front 35 back ∙ letter) (marked_behind front back))

@@ -9,11 +9,11 @@ use Rattle.kept_desk.specs.Entries.{text_of}
 use Rattle.ledger_model.specs.declared.command.Command.{Command}
 use Rattle.ledger_model.specs.World.{Station, World, Happens, run, station_after, world_after}
 use Rattle.transaction_event.specs.Message.{Meaning, Event, message}
-use Rattle.script_lines.specs.LineMeaning.{LineMeaning, nothing, fails, sets_limits, declares, sets_period, tells, sends, commands, asks_energy, asks_export, asks_total, asks_board, line_meaning}
+use Rattle.script_lines.specs.LineMeaning.{LineMeaning, nothing, fails, sets_limits, declares, sets_period, sets_order, tells, sends, commands, asks_energy, asks_export, asks_total, asks_board, line_meaning}
 use Rattle.script_lines.specs.Lines.{ended, lines_of, unended}
 use Rattle.script_lines.specs.Ranges.{longest_line}
 use Rattle.script_lines.proofs.Cuts.{cut-ended}
-use Rattle.script_ledgers.specs.Script.{Script, by_meaning, commanded_to, line_step, sent_to, station_named, step_by, script_after}
+use Rattle.script_ledgers.specs.Script.{KeepsSites, Script, by_meaning, commanded_to, line_step, sent_to, station_named, step_by, script_after}
 use Rattle.site_desk.specs.declared.plan.StationPlan.{StationPlan}
 use Rattle.journal_script.specs.Speaking.{AsksFor, Says, Speaks}
 use Rattle.journal_script.specs.Journals.{IsSpoken, station_name}
@@ -59,13 +59,13 @@ named (x ∷ w) name s e = at (bytes_eq name x.name) refl e (λ f. named w name 
 
 -- a line takes the step of this command, and the plan stays
 abbrev pub Takes : Script → Script → List ℕ → Command → Type 0
-Takes s t name command = (t.world ≡ world_after s.world (name, command)) × ((t.sites ≡ s.sites) × (t.periods ≡ s.periods))
+Takes s t name command = (t.world ≡ world_after s.world (name, command)) × KeepsSites s t
 
 takes_meaning : (meaning : Meaning) (station : Station) (s : Script) (id : List ℕ) (command : Command) (text : List ℕ) (asks : AsksFor text command) → meaning ≡ Event asks.id asks.request
     → Takes s (by_meaning meaning station s).0 station.name command
 takes_meaning meaning station s id command text asks is =
     subst (λ m. Takes s (by_meaning m station s).0 station.name command) (sym is)
-    (ap (λ c. world_after s.world (station.name, c)) (sym asks.delivers), (refl, refl))
+    (ap (λ c. world_after s.world (station.name, c)) (sym asks.delivers), record { sites = refl; periods = refl; orders = refl })
 
 takes_sent : (o : Option Station) (s : Script) (text : List ℕ) (command : Command) (station : Station) → o ≡ Some station → AsksFor text command → Takes s (sent_to o s text).0 station.name command
 takes_sent o s text command station found asks =
@@ -73,7 +73,7 @@ takes_sent o s text command station found asks =
 
 takes_commanded : (o : Option Station) (s : Script) (asked command : Command) (station : Station) → o ≡ Some station → asked ≡ command → Takes s (commanded_to o s asked).0 station.name command
 takes_commanded o s asked command station found is =
-    subst (λ p. Takes s (commanded_to p s asked).0 station.name command) (sym found) (ap (λ c. world_after s.world (station.name, c)) is, (refl, refl))
+    subst (λ p. Takes s (commanded_to p s asked).0 station.name command) (sym found) (ap (λ c. world_after s.world (station.name, c)) is, record { sites = refl; periods = refl; orders = refl })
 
 takes_step : (s : Script) (meaning : LineMeaning) (name : List ℕ) (command : Command) (station : Station) → Says meaning name command → station_named name s.world ≡ Some station → Takes s (step_by s meaning).0 station.name command
 takes_step s nothing name command station says found = absurd says
@@ -81,6 +81,7 @@ takes_step s (fails _) name command station says found = absurd says
 takes_step s (sets_limits _ _ _ _) name command station says found = absurd says
 takes_step s (declares _ _) name command station says found = absurd says
 takes_step s (sets_period _ _) name command station says found = absurd says
+takes_step s (sets_order _ _) name command station says found = absurd says
 takes_step s (tells _) name command station says found = absurd says
 takes_step s (sends at text) name command station says found = takes_sent (station_named at s.world) s text command station (ap (λ n. station_named n s.world) says.0 ∙ found) says.1
 takes_step s (commands at asked) name command station says found = takes_commanded (station_named at s.world) s asked command station (ap (λ n. station_named n s.world) says.0 ∙ found) says.1
@@ -115,13 +116,15 @@ module _ (stations : List StationPlan) where
       ∙ (λ i. cut_entry (station_name stations e.station) e.line e.command spoken.speaks i ∷ cut_entries log (All-tail (IsSpoken stations) e log all) i)
 
   pub takes_lines : (s : Script) (log : List (Entry Command)) → All (IsSpoken stations) log → ((k : ℕ) → k < length stations → Has s.world (station_name stations k))
-      → let t = script_after s (map (λ e. Some e.line) log) in (t.world ≡ run s.world (asked_in stations log)) × ((t.sites ≡ s.sites) × (t.periods ≡ s.periods))
-  takes_lines s [] all has = (refl, (refl, refl))
+      → let t = script_after s (map (λ e. Some e.line) log) in (t.world ≡ run s.world (asked_in stations log)) × KeepsSites s t
+  takes_lines s [] all has = (refl, record { sites = refl; periods = refl; orders = refl })
   takes_lines s (e ∷ log) all has =
       let spoken = All-head (IsSpoken stations) e log all in
       let name = station_name stations e.station in
       let step = takes_line s name e.line e.command spoken.speaks (has e.station spoken.there) in
       let next = (line_step s (Some e.line)).0 in
       let rest = takes_lines next log (All-tail (IsSpoken stations) e log all)
-      (λ k less. subst (λ w. Has w (station_name stations k)) (sym step.0) (has_after s.world (name, e.command) (station_name stations k) (has k less))) in
-      (rest.0 ∙ ap (λ w. run w (asked_in stations log)) step.0, (rest.1.0 ∙ step.1.0, rest.1.1 ∙ step.1.1))
+      (λ k less. subst (λ w. Has w (station_name stations k)) (sym step.0) (has_after s.world (name, e.command) (station_name stations k) (has k less))) in (
+        rest.0 ∙ ap (λ w. run w (asked_in stations log)) step.0,
+        record { sites = rest.1.sites ∙ step.1.sites; periods = rest.1.periods ∙ step.1.periods; orders = rest.1.orders ∙ step.1.orders },
+      )

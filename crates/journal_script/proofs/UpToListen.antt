@@ -26,7 +26,7 @@ pub left_running : (d : Drafted) (cells : List Cell) (r : Restored) (told : Left
 left_running d cells r told draft same lost = record {
   shows =
       subst (λ (e : Drafted). Shows (running d cells) e.sites e.stations r.cells.items) (sym draft)
-      (subst (λ l. Shows (running d cells) d.sites d.stations l) (sym same) (record { sites_are = refl; periods_are = refl; world_is = refl }));
+      (subst (λ l. Shows (running d cells) d.sites d.stations l) (sym same) (record { sites_are = refl; periods_are = refl; orders_are = refl; world_is = refl }));
   loses = lost;
   ends = refl;
 }
@@ -36,7 +36,7 @@ left_opened : (s : Script) (source : Source) (p : Place) (r : Restored) (marked 
 left_opened s source p r marked is left =
     let own = subst (λ (q : Place). IsLeft q.standing r marked) is left in
     record {
-      shows = record { sites_are = own.shows.sites_are; periods_are = own.shows.periods_are; world_is = own.shows.world_is };
+      shows = record { sites_are = own.shows.sites_are; periods_are = own.shows.periods_are; orders_are = own.shows.orders_are; world_is = own.shows.world_is };
       loses = own.loses;
       ends = own.ends;
     }

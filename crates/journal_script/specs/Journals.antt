@@ -45,6 +45,7 @@ pub record HasOnce (sites : List SitePlan) (stations : List StationPlan) : Type 
 pub record Shows (s : Script) (sites : List SitePlan) (stations : List StationPlan) (cells : List Cell) : Type 0 where
   pub sites_are : s.sites ≡ map (λ x. x.name) sites
   pub periods_are : s.periods ≡ map (λ x. x.period) sites
+  pub orders_are : s.orders ≡ map (λ x. x.order) sites
   pub world_is : s.world ≡ filled (planned_world sites stations) cells
 
 -- Each station's content is what the commands of its own entries, one after the other, leave of what it was first.

@@ -50,6 +50,7 @@ pub record AreAnswers (s : Script) (sites : List SitePlan) (boards : List ℕ) :
 pub record Declares (sites read : List SitePlan) (cells : List Cell) : Type 0 where
   pub names : map (λ s. s.name) read ≡ map (λ s. s.name) sites
   pub periods : map (λ s. s.period) read ≡ map (λ s. s.period) sites
+  pub orders : map (λ s. s.order) read ≡ map (λ s. s.order) sites
   pub unchanged : All (λ c. c.content ≡ empty_content) cells
 
 -- Each station's content is what the commands of its own lines, each accepted under the station's limits and counted, leave of what it was first.

@@ -4,7 +4,7 @@ ghost use Rattle.journal_script.specs.Cuts.{run_begins};
 
 use itoa::Buffer;
 use journal_script::RUN_LINE;
-use ledger_model::{Limits, Name};
+use ledger_model::{Limits, Name, Order};
 use site_desk::{Plan, SitePlan, StationPlan};
 use std::alloc::{AllocError, Global};
 
@@ -30,6 +30,7 @@ pub(crate) fn journal_head(alloc: Global, plan: &Plan) -> Result<Vec<u8>, AllocE
     }
     for site in plan.sites.as_slice() {
         put_period(&mut head, site)?;
+        put_order(&mut head, site)?;
     }
     head.extend_from_slice(MARK)?;
     Ok(head)
@@ -80,5 +81,15 @@ fn put_period(head: &mut Vec<u8>, site: &SitePlan) -> Result<(), AllocError> {
     put_name(head, &site.name)?;
     put_number(head, u64::from(site.period.seconds()))?;
     head.push(b'\n')?;
+    Ok(())
+}
+
+// The line of a site's order of readings, where it is not the one that a script takes for undeclared ones.
+fn put_order(head: &mut Vec<u8>, site: &SitePlan) -> Result<(), AllocError> {
+    if site.order == Order::Moment {
+        head.extend_from_slice(b"order")?;
+        put_name(head, &site.name)?;
+        head.extend_from_slice(b" moment\n")?;
+    }
     Ok(())
 }

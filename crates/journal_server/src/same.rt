@@ -5,8 +5,8 @@ ghost use Rattle.journal_server.specs.Served.{Declares};
 
 use site_desk::{Plan, SitePlan, StationCell, StationPlan};
 
-// Tells whether a plan that was read, with the cells of its stations, is one that declares the plan: the names and
-// settlement periods of its sites, and its stations, none of which has changed.
+// Tells whether a plan that was read, with the cells of its stations, is one that declares the plan: the names,
+// settlement periods and orders of readings of its sites, and its stations, none of which has changed.
 pub(crate) fn is_declared(plan: &Plan, read: &Plan, cells: &[StationCell]) -> bool
     ensures sites { IsTrue result → Declares plan.now.sites.items read.now.sites.items cells.now }
     ensures stations { IsTrue result → read.now.stations.items ≡ plan.now.stations.items }
@@ -16,10 +16,11 @@ pub(crate) fn is_declared(plan: &Plan, read: &Plan, cells: &[StationCell]) -> bo
         && are_unchanged(cells)
 }
 
-// Tells whether these sites have the same names and settlement periods, in one order.
+// Tells whether these sites have the same names, settlement periods and orders of readings, one after the other.
 fn are_same_sites(sites: &[SitePlan], read: &[SitePlan]) -> bool
     ensures names { IsTrue result → map (λ s. s.name) read.now ≡ map (λ s. s.name) sites.now }
     ensures periods { IsTrue result → map (λ s. s.period) read.now ≡ map (λ s. s.period) sites.now }
+    ensures orders { IsTrue result → map (λ s. s.order) read.now ≡ map (λ s. s.order) sites.now }
 {
     let [site, rest @ ..] = sites else {
         return read.is_empty();
@@ -30,12 +31,13 @@ fn are_same_sites(sites: &[SitePlan], read: &[SitePlan]) -> bool
     is_same_site(site, other) && are_same_sites(rest, others)
 }
 
-// Tells whether these sites have one name and one settlement period.
+// Tells whether these sites have one name, one settlement period and one order of readings.
 fn is_same_site(site: &SitePlan, other: &SitePlan) -> bool
     ensures name { IsTrue result → other.now.name ≡ site.now.name }
     ensures period { IsTrue result → other.now.period ≡ site.now.period }
+    ensures order { IsTrue result → other.now.order ≡ site.now.order }
 {
-    other.name == site.name && other.period == site.period
+    other.name == site.name && other.period == site.period && other.order == site.order
 }
 
 // Tells whether these are the same stations, in one order.

@@ -1,5 +1,5 @@
 -- The figures of a reached content are within its limits.
-use Rattle.std.proofs.Common.{◌≡◌, ℕ, suc, ◌+◌, ◌*◌, ◌<◌, ◌≤◌, Bool, true, false, not, ◌&&◌, cond, List, [], ◌∷◌, ◌++◌, length, map, refl, sym, ap, ◌∙◌, arith, bytes_eq}
+use Rattle.std.proofs.Common.{◌≡◌, ℕ, suc, ◌+◌, ◌*◌, ◌<◌, ◌≤◌, Bool, true, false, not, ◌&&◌, cond, nat_lt, List, [], ◌∷◌, ◌++◌, length, map, refl, sym, ap, ◌∙◌, arith, bytes_eq}
 use Rattle.std.specs.Prelude.{sum_by, count_by}
 use Rattle.std.specs.List.{All, filter, flat_map}
 use Rattle.std.specs.FinMap.{entries_sorted}
@@ -13,16 +13,21 @@ use Rattle.ledger_model.specs.declared.reading.Direction.TheVariants.{Import, Ex
 use Rattle.ledger_model.specs.Event.{MeterReading, IsMeterReading, same_direction, toward}
 use Rattle.ledger_model.specs.Limits.{Bounds}
 use Rattle.ledger_model.specs.Content.{Content, Entry, entries, live, live_of, distinct, transactions_of}
-use Rattle.ledger_model.specs.Energy.{difference, followed, pairs, pairs_of, readings_of}
+use Rattle.ledger_model.specs.declared.order.Order.{Order}
+use Rattle.ledger_model.specs.declared.order.Order.TheVariants.{Sequence, Moment}
+use Rattle.ledger_model.specs.Energy.{all_pairs_by, difference, followed, pairs_by, readings_by, readings_of}
 use Rattle.ledger_model.specs.Gaps.{numbers_of, missing}
 use Rattle.ledger_model.specs.Complete.{is_complete}
-use Rattle.ledger_model.specs.Board.{figures, last_or_none}
+use Rattle.ledger_model.specs.InTime.{in_order, in_time, put_in_time}
+use Rattle.ledger_model.specs.ReadingOrder.{taken_when}
+use Rattle.ledger_model.specs.Board.{figures, figures_by, last_or_none}
 use Rattle.ledger_model.specs.BoardLaws.{AreRising}
 use Rattle.ledger_model.specs.Entries.{IsRising}
 use Rattle.ledger_model.specs.Figures.{AreWithin}
 use Rattle.ledger_model.specs.Step.{Reached, readings_stored}
 use Rattle.ledger_model.proofs.GapLemmas.{missing-fills}
 use Rattle.ledger_model.proofs.NumberLemmas.{rising_from_sorted}
+use Rattle.ledger_model.proofs.InTimeLemmas.{in_time-sum}
 use Rattle.ledger_model.proofs.SumLemmas.{sum_by-flat_map}
 use Rattle.ledger_model.proofs.Stored.{transactions-filter}
 use Rattle.ledger_model.proofs.Transactions.{filter_twice, all_pass}
@@ -132,6 +137,29 @@ low-entries d [] h = tt
 low-entries d (e ∷ es) h =
     low-append (toward d e.1.event.readings) (flat_map (λ f. toward d f.1.event.readings) es) (low-some d e.1.event.readings (low-all e.1.event.readings h.0.event.readings)) (low-entries d es h.1)
 
+low-put : (r : MeterReading) (rs : List MeterReading) → r.mwh ≤ greatest_reading → AreLow rs → AreLow (put_in_time taken_when r rs)
+low-put r [] low h = (low, tt)
+low-put r (s ∷ rs) low h =
+    let rest = low-put r rs low h.1 in
+    elim (nat_lt s.moment r.moment) as (λ b. AreLow (cond b (s ∷ put_in_time taken_when r rs) (r ∷ s ∷ rs))) [ true ↦ (h.0, rest) | false ↦ (low, h) ]
+
+low-in_time : (rs : List MeterReading) → AreLow rs → AreLow (in_time taken_when rs)
+low-in_time [] h = tt
+low-in_time (r ∷ rs) h = low-put r (in_time taken_when rs) h.0 (low-in_time rs h.1)
+
+-- in either order the readings are as low, and as many
+low-in_order : (order : Order) (rs : List MeterReading) → AreLow rs → AreLow (in_order order taken_when rs)
+low-in_order Sequence rs h = h
+low-in_order Moment rs h = low-in_time rs h
+
+ones : (rs : List MeterReading) → sum_by (λ r. 1) rs ≡ length rs
+ones [] = refl
+ones (r ∷ rs) = omega (arith, sum_by-cons (λ (s : MeterReading). 1) r rs, ones rs)
+
+pub length-in_order : (order : Order) (rs : List MeterReading) → length (in_order order taken_when rs) ≡ length rs
+length-in_order Sequence rs = refl
+length-in_order Moment rs = sym (ones (in_time taken_when rs)) ∙ in_time-sum taken_when (λ r. 1) rs ∙ ones rs
+
 -- readings that follow one another rise and fall by no more than each can show
 rises : (rs : List MeterReading) → AreLow rs → sum_by (λ p. (difference p).up) (followed rs) ≤ greatest_reading * length rs
 rises [] h = omega arith
@@ -176,15 +204,15 @@ sum_by-times m g (t ∷ ts) =
     spread m a b = omega arith
 
 -- what each transaction has at most, all have at most
-energy_bound : (d : Direction) (f : MeterReading × MeterReading → ℕ) (es : List Entry) → ((rs : List MeterReading) → AreLow rs → sum_by f (followed rs) ≤ greatest_reading * length rs) → AreEntries es → sum_by f (pairs d es) ≤ greatest_reading * readings_stored es
-energy_bound d f es each range =
+energy_bound : (order : Order) (d : Direction) (f : MeterReading × MeterReading → ℕ) (es : List Entry) → ((rs : List MeterReading) → AreLow rs → sum_by f (followed rs) ≤ greatest_reading * length rs) → AreEntries es → sum_by f (all_pairs_by order d es) ≤ greatest_reading * readings_stored es
+energy_bound order d f es each range =
     let ts = transactions_of (live es) in
     let size : Entry → ℕ = λ e. length e.1.event.readings in
     let live_range : AreEntries (live es) = AreEntries-filter (λ e. not e.1.voided) es range in
-    let one : (t : List ℕ) → sum_by f (pairs_of d t es) ≤ greatest_reading * sum_by size (of_one t (live es)) =
-    λ t. omega (arith, each (readings_of d t es) (low-entries d (live_of t es) (AreEntries-filter (λ e. bytes_eq t e.0.tx) (live es) live_range)), few_readings d (live_of t es)) in
-    let bound : sum_by (λ t. sum_by f (pairs_of d t es)) ts ≤ sum_by (λ t. greatest_reading * sum_by size (of_one t (live es))) ts = sum_by-le-sum_by (λ t. sum_by f (pairs_of d t es)) (λ t. greatest_reading * sum_by size (of_one t (live es))) ts one in
-    omega (arith, sum_by-flat_map f (λ t. pairs_of d t es) ts, bound, sum_by-times greatest_reading (λ t. sum_by size (of_one t (live es))) ts, sum_by_transactions size (live es), readings-filter (λ e. not e.1.voided) es)
+    let one : (t : List ℕ) → sum_by f (pairs_by order d t es) ≤ greatest_reading * sum_by size (of_one t (live es)) =
+    λ t. omega (arith, each (readings_by order d t es) (low-in_order order (readings_of d t es) (low-entries d (live_of t es) (AreEntries-filter (λ e. bytes_eq t e.0.tx) (live es) live_range))), length-in_order order (readings_of d t es), few_readings d (live_of t es)) in
+    let bound : sum_by (λ t. sum_by f (pairs_by order d t es)) ts ≤ sum_by (λ t. greatest_reading * sum_by size (of_one t (live es))) ts = sum_by-le-sum_by (λ t. sum_by f (pairs_by order d t es)) (λ t. greatest_reading * sum_by size (of_one t (live es))) ts one in
+    omega (arith, sum_by-flat_map f (λ t. pairs_by order d t es) ts, bound, sum_by-times greatest_reading (λ t. sum_by size (of_one t (live es))) ts, sum_by_transactions size (live es), readings-filter (λ e. not e.1.voided) es)
 
 -- numbers below the end of sequence numbers
 abbrev AreBelow : List ℕ → Type 0
@@ -242,8 +270,8 @@ missing_by_entries es rising range =
     omega (arith, few_missing es rising range, mul-le-mul_left sequence_end (transactions_by_entries es))
 
 -- the figures of a reached content are such as its limits allow
-pub figures_within : (limits : Bounds) (n : ℕ) (c : Content) → Reached limits n c → AreWithin limits (figures (entries c))
-figures_within limits n c reached =
+pub figures_within : (order : Order) (limits : Bounds) (n : ℕ) (c : Content) → Reached limits n c → AreWithin limits (figures_by order (entries c))
+figures_within order limits n c reached =
     let es = entries c in
     let kept = AreKept-reached limits n c reached in
     let ts = transactions_of (live es) in
@@ -253,8 +281,8 @@ figures_within limits n c reached =
       transactions = few;
       complete = omega (arith, count_by-le-length (λ t. is_complete t es) ts);
       missing = omega (arith, few_missing es (entries_sorted c.events) kept.in_range, mul-le-mul_left sequence_end few);
-      up = omega (arith, energy_bound Import (λ p. (difference p).up) es rises kept.in_range, mul-le-mul_left greatest_reading kept.readings);
-      down = omega (arith, energy_bound Import (λ p. (difference p).down) es falls kept.in_range, mul-le-mul_left greatest_reading kept.readings);
-      export_up = omega (arith, energy_bound Export (λ p. (difference p).up) es rises kept.in_range, mul-le-mul_left greatest_reading kept.readings);
-      export_down = omega (arith, energy_bound Export (λ p. (difference p).down) es falls kept.in_range, mul-le-mul_left greatest_reading kept.readings);
+      up = omega (arith, energy_bound order Import (λ p. (difference p).up) es rises kept.in_range, mul-le-mul_left greatest_reading kept.readings);
+      down = omega (arith, energy_bound order Import (λ p. (difference p).down) es falls kept.in_range, mul-le-mul_left greatest_reading kept.readings);
+      export_up = omega (arith, energy_bound order Export (λ p. (difference p).up) es rises kept.in_range, mul-le-mul_left greatest_reading kept.readings);
+      export_down = omega (arith, energy_bound order Export (λ p. (difference p).down) es falls kept.in_range, mul-le-mul_left greatest_reading kept.readings);
     }

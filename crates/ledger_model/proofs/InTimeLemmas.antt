@@ -23,7 +23,7 @@ module _ {X : Type 0} (when : X → ℕ) where
   AreUpTo n [] = Unit {0}
   AreUpTo n (x ∷ xs) = (when x ≤ n) × AreUpTo n xs
 
-  later_from : (m n : ℕ) (xs : List X) → m ≤ n → AreFrom n xs → AreFrom m xs
+  pub later_from : (m n : ℕ) (xs : List X) → m ≤ n → AreFrom n xs → AreFrom m xs
   later_from m n [] le h = tt
   later_from m n (x ∷ xs) le h = (let a : n ≤ when x = h.0 in omega (arith, a, le), later_from m n xs le h.1)
 
@@ -47,7 +47,7 @@ module _ {X : Type 0} (when : X → ℕ) where
       (λ (ge : when x ≤ when y). subst (AreFrom n) (sym (put-front x y ys ge)) (le, from))
       (cases_lt (when y) (when x))
 
-  put_rises : (x : X) (ys : List X) → AreInTime when ys → AreInTime when (put_in_time when x ys)
+  pub put_rises : (x : X) (ys : List X) → AreInTime when ys → AreInTime when (put_in_time when x ys)
   put_rises x [] up = tt
   put_rises x (y ∷ ys) up = ⊎_elim
       (λ (lt : when y < when x). subst (AreInTime when) (sym (put-behind x y ys lt))
@@ -61,7 +61,7 @@ module _ {X : Type 0} (when : X → ℕ) where
   in_time-rises (x ∷ xs) = put_rises x (in_time when xs) (in_time-rises xs)
 
   -- An element in front of all that are not earlier stays there.
-  put-first : (x : X) (ys : List X) → AreFrom (when x) ys → put_in_time when x ys ≡ x ∷ ys
+  pub put-first : (x : X) (ys : List X) → AreFrom (when x) ys → put_in_time when x ys ≡ x ∷ ys
   put-first x [] from = refl
   put-first x (y ∷ ys) from = put-front x y ys from.0
 
@@ -70,7 +70,7 @@ module _ {X : Type 0} (when : X → ℕ) where
   in_time-same [] up = refl
   in_time-same (x ∷ xs) up = ap (put_in_time when x) (in_time-same xs (tail_rises x xs up)) ∙ put-first x xs (rest_from x xs up)
 
-  put-sum : (f : X → ℕ) (x : X) (ys : List X) → sum_by f (put_in_time when x ys) ≡ f x + sum_by f ys
+  pub put-sum : (f : X → ℕ) (x : X) (ys : List X) → sum_by f (put_in_time when x ys) ≡ f x + sum_by f ys
   put-sum f x [] = sum_by-cons f x []
   put-sum f x (y ∷ ys) = ⊎_elim
       (λ (lt : when y < when x).
@@ -92,7 +92,7 @@ module _ {X : Type 0} (when : X → ℕ) where
   from_passed p n [] from = tt
   from_passed p n (y ∷ ys) from = (elim (p y) as (λ b. AreFrom n (cond b (y ∷ filter p ys) (filter p ys))) [ true ↦ (from.0, from_passed p n ys from.1) | false ↦ from_passed p n ys from.1 ])
 
-  put-passed : (p : X → Bool) (x : X) (ys : List X) → AreInTime when ys → filter p (put_in_time when x ys) ≡ cond (p x) (put_in_time when x (filter p ys)) (filter p ys)
+  pub put-passed : (p : X → Bool) (x : X) (ys : List X) → AreInTime when ys → filter p (put_in_time when x ys) ≡ cond (p x) (put_in_time when x (filter p ys)) (filter p ys)
   put-passed p x [] up = refl
   put-passed p x (y ∷ ys) up = ⊎_elim
       (λ (lt : when y < when x).

@@ -205,23 +205,9 @@ passed_sum measure p (x ∷ xs) =
     let rest : sum_by measure (filter p xs) ≡ sum_by (λ y. taken (p y) (measure y)) xs = passed_sum measure p xs in
     sum_by-filter_cons measure p x xs ∙ ap (λ n. taken (p x) (measure x) + n) rest ∙ sym (sum_by-cons (λ y. taken (p y) (measure y)) x xs)
 
-nothing_taken : (b : Bool) → taken b 0 ≡ 0
+pub nothing_taken : (b : Bool) → taken b 0 ≡ 0
 nothing_taken true = refl
 nothing_taken false = refl
-
--- A sum over the pairs of an EVSE: the transaction's are taken from where it was and brought to where it is.
-pub evse_sums : (d : Direction) (f : Pair → ℕ) (evse : ℕ) (es more front : List Entry) (e : Entry) (back : List Entry) → IsOneMore es more front e back
-    → sum_by f (flat_map (λ u. pairs_of d u more) (transactions_at evse more)) + taken (evse_of e.0.tx es == evse) (sum_by f (pairs_of d e.0.tx es))
-    ≡ sum_by f (flat_map (λ u. pairs_of d u es) (transactions_at evse es)) + taken (evse_of e.0.tx more == evse) (sum_by f (pairs_of d e.0.tx more))
-evse_sums d f evse es more front e back one =
-    let g = λ (u : List ℕ). taken (evse_of u es == evse) (sum_by f (pairs_of d u es)) in let h = λ (u : List ℕ). taken (evse_of u more == evse) (sum_by f (pairs_of d u more)) in
-    let all = by_transaction_sums g h es more front e back one
-    (λ u apart. ap (λ n. taken (n == evse) (sum_by f (pairs_of d u more))) (evse_else es more front e back u one apart) ∙ ap (λ ps. taken (evse_of u es == evse) (sum_by f ps)) (pairs_else d es more front e back u one apart))
-    (λ none. ap (λ l. taken (evse_of e.0.tx es == evse) (sum_by f (followed (readings_among d l)))) none ∙ nothing_taken (evse_of e.0.tx es == evse))
-    (λ none. ap (λ l. taken (evse_of e.0.tx more == evse) (sum_by f (followed (readings_among d l)))) none ∙ nothing_taken (evse_of e.0.tx more == evse)) in
-    let less = sum_by-flat_map f (λ u. pairs_of d u es) (transactions_at evse es) ∙ passed_sum (λ u. sum_by f (pairs_of d u es)) (λ u. evse_of u es == evse) (transactions_of (live es)) in
-    let many = sum_by-flat_map f (λ u. pairs_of d u more) (transactions_at evse more) ∙ passed_sum (λ u. sum_by f (pairs_of d u more)) (λ u. evse_of u more == evse) (transactions_of (live more)) in
-    omega (arith, all, less, many)
 
 -- The event's transaction has a live event with it.
 now_live : (e : Entry) (front back : List Entry) → has_transaction e.0.tx (front ++ e ∷ back) ≡ true

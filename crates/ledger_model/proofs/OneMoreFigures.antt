@@ -13,8 +13,9 @@ use Rattle.ledger_model.specs.Event.{EventContent}
 use Rattle.ledger_model.specs.Key.{KeyName, key_cmp}
 use Rattle.ledger_model.specs.Content.{Entry, Stored, live, transactions_of, has_transaction}
 use Rattle.ledger_model.specs.Entries.{IsRising, entries_after, entries_without, entries_marked_at}
-use Rattle.ledger_model.specs.Energy.{Pair, difference, energy, energy_in, energy_of, energy_over, pairs, quarter_of}
-use Rattle.ledger_model.specs.Evse.{evse_of, energy_at}
+use Rattle.ledger_model.specs.declared.order.Order.{Order}
+use Rattle.ledger_model.specs.Energy.{Pair, difference, energy, energy_in, energy_of, energy_of_by, energy_over, pairs, quarter_of}
+use Rattle.ledger_model.specs.Evse.{evse_of, energy_at_by}
 use Rattle.ledger_model.specs.Gaps.{missing, numbers_of}
 use Rattle.ledger_model.specs.Complete.{is_complete, starts_and_ends}
 use Rattle.ledger_model.specs.Deltas.{IsOneMore, came_by, flow_if, gone_by}
@@ -22,7 +23,8 @@ use Rattle.ledger_model.proofs.Keys.{key_total, exact_keys}
 use Rattle.ledger_model.proofs.Rising.{first, second, below_less, find_below}
 use Rattle.ledger_model.proofs.Transactions.{transactions_added}
 use Rattle.ledger_model.proofs.FigureBounds.{live_and_voided}
-use Rattle.ledger_model.proofs.OneMore.{live_else, by_transaction_sums, station_moved, transaction_moved, evse_sums, passed_sum, taken}
+use Rattle.ledger_model.proofs.OneMore.{live_else, by_transaction_sums, station_moved, transaction_moved, passed_sum, taken}
+use Rattle.ledger_model.proofs.OrderLemmas.{evse_sums}
 use Rattle.ledger_model.proofs.OneMoreByCommand.{delivered_more, restored_more, voided_less, erased_same, kept_below}
 
 -- One event more is live.
@@ -99,13 +101,13 @@ if_down true flow = refl
 if_down false flow = refl
 
 -- The energy of an EVSE: the transaction's is taken from where it was and brought to where it is.
-pub energy_at_more : (d : Direction) (evse : ℕ) (es more front : List Entry) (e : Entry) (back : List Entry) → IsOneMore es more front e back
-    → plus (energy_at d evse more) (flow_if (evse_of e.0.tx es == evse) (energy_of d e.0.tx es)) ≡ plus (energy_at d evse es) (flow_if (evse_of e.0.tx more == evse) (energy_of d e.0.tx more))
-energy_at_more d evse es more front e back one =
+pub energy_at_more : (order : Order) (d : Direction) (evse : ℕ) (es more front : List Entry) (e : Entry) (back : List Entry) → IsOneMore es more front e back
+    → plus (energy_at_by order d evse more) (flow_if (evse_of e.0.tx es == evse) (energy_of_by order d e.0.tx es)) ≡ plus (energy_at_by order d evse es) (flow_if (evse_of e.0.tx more == evse) (energy_of_by order d e.0.tx more))
+energy_at_more order d evse es more front e back one =
     let was = evse_of e.0.tx es == evse in let is = evse_of e.0.tx more == evse in
-    same_energy (plus (energy_at d evse more) (flow_if was (energy_of d e.0.tx es))) (plus (energy_at d evse es) (flow_if is (energy_of d e.0.tx more)))
-    (ap (λ n. (energy_at d evse more).up + n) (if_up was (energy_of d e.0.tx es)) ∙ evse_sums d (λ p. (difference p).up) evse es more front e back one ∙ ap (λ n. (energy_at d evse es).up + n) (sym (if_up is (energy_of d e.0.tx more))))
-    (ap (λ n. (energy_at d evse more).down + n) (if_down was (energy_of d e.0.tx es)) ∙ evse_sums d (λ p. (difference p).down) evse es more front e back one ∙ ap (λ n. (energy_at d evse es).down + n) (sym (if_down is (energy_of d e.0.tx more))))
+    same_energy (plus (energy_at_by order d evse more) (flow_if was (energy_of_by order d e.0.tx es))) (plus (energy_at_by order d evse es) (flow_if is (energy_of_by order d e.0.tx more)))
+    (ap (λ n. (energy_at_by order d evse more).up + n) (if_up was (energy_of_by order d e.0.tx es)) ∙ evse_sums order d (λ p. (difference p).up) evse es more front e back one ∙ ap (λ n. (energy_at_by order d evse es).up + n) (sym (if_up is (energy_of_by order d e.0.tx more))))
+    (ap (λ n. (energy_at_by order d evse more).down + n) (if_down was (energy_of_by order d e.0.tx es)) ∙ evse_sums order d (λ p. (difference p).down) evse es more front e back one ∙ ap (λ n. (energy_at_by order d evse es).down + n) (sym (if_down is (energy_of_by order d e.0.tx more))))
 
 -- As many events are stored after a mark.
 marked_length : (es : List Entry) (key : KeyName) (voided : Bool) (s : Stored) → IsRising es → find key_cmp key es ≡ Some s → length (entries_marked_at es key voided (find key_cmp key es)) ≡ length es

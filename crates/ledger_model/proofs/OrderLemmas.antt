@@ -23,7 +23,7 @@ use Rattle.ledger_model.specs.Key.{KeyName}
 use Rattle.ledger_model.specs.ReadingOrder.{Numbered, bare, is_own, numbered, numbered_by, pairs_across, pairs_with, runs_of, taken_when}
 use Rattle.ledger_model.proofs.InTimeLemmas.{in_time-map, in_time-passed, in_time-same, in_time-sum}
 use Rattle.ledger_model.proofs.KeysByNumber.{own_before_key, own_behind_key}
-use Rattle.ledger_model.proofs.OneMore.{by_transaction_sums, live_else, live_with, live_without}
+use Rattle.ledger_model.proofs.OneMore.{by_transaction_sums, evse_else, live_else, live_with, live_without, nothing_taken, passed_sum, taken}
 use Rattle.ledger_model.proofs.RunLemmas.{AreForeign, AreOwn, few_by_runs, foreign_passed, one_run, own_passed, runs_sums}
 use Rattle.ledger_model.proofs.SumLemmas.{sum_by-flat_map, sum_by-map}
 
@@ -215,3 +215,17 @@ station_moves d es more e one order f =
     let own = transaction_moves d es more e one order f in
     let less = sum_by-flat_map f (λ u. pairs_by order d u es) (transactions_of (live es)) in let many = sum_by-flat_map f (λ u. pairs_by order d u more) (transactions_of (live more)) in
     omega (arith, all, own, less, many)
+
+-- A sum over the pairs of an EVSE: the transaction's are taken from where it was and brought to where it is.
+pub evse_sums : (order : Order) (d : Direction) (f : Pair → ℕ) (evse : ℕ) (es more front : List Entry) (e : Entry) (back : List Entry) → IsOneMore es more front e back
+    → sum_by f (flat_map (λ u. pairs_by order d u more) (transactions_at evse more)) + taken (eqb (evse_of e.0.tx es) evse) (sum_by f (pairs_by order d e.0.tx es))
+    ≡ sum_by f (flat_map (λ u. pairs_by order d u es) (transactions_at evse es)) + taken (eqb (evse_of e.0.tx more) evse) (sum_by f (pairs_by order d e.0.tx more))
+evse_sums order d f evse es more front e back one =
+    let g = λ (u : List ℕ). taken (eqb (evse_of u es) evse) (sum_by f (pairs_by order d u es)) in let h = λ (u : List ℕ). taken (eqb (evse_of u more) evse) (sum_by f (pairs_by order d u more)) in
+    let all = by_transaction_sums g h es more front e back one
+    (λ u apart. ap (λ n. taken (eqb n evse) (sum_by f (pairs_by order d u more))) (evse_else es more front e back u one apart) ∙ ap (λ ps. taken (eqb (evse_of u es) evse) (sum_by f ps)) (others_stay order d es more front e back u one apart))
+    (λ none. ap (taken (eqb (evse_of e.0.tx es) evse)) (no_pairs order f (readings_of d e.0.tx es) (ap (flat_map (λ (x : Entry). toward d x.1.event.readings)) none)) ∙ nothing_taken (eqb (evse_of e.0.tx es) evse))
+    (λ none. ap (taken (eqb (evse_of e.0.tx more) evse)) (no_pairs order f (readings_of d e.0.tx more) (ap (flat_map (λ (x : Entry). toward d x.1.event.readings)) none)) ∙ nothing_taken (eqb (evse_of e.0.tx more) evse)) in
+    let less = sum_by-flat_map f (λ u. pairs_by order d u es) (transactions_at evse es) ∙ passed_sum (λ u. sum_by f (pairs_by order d u es)) (λ u. eqb (evse_of u es) evse) (transactions_of (live es)) in
+    let many = sum_by-flat_map f (λ u. pairs_by order d u more) (transactions_at evse more) ∙ passed_sum (λ u. sum_by f (pairs_by order d u more)) (λ u. eqb (evse_of u more) evse) (transactions_of (live more)) in
+    omega (arith, all, less, many)

@@ -124,10 +124,10 @@ module _ {X : Type 0} (own : X → Bool) where
   count_foreign : (x : X) (xs : List X) → own x ≡ false → count (x ∷ xs) ≡ count xs
   count_foreign x xs is = ap (λ b. length (cond b (x ∷ filter own xs) (filter own xs))) is
 
-  runs_own : (front : Bool) (x : X) (xs : List X) → own x ≡ true → runs_behind front own (x ∷ xs) ≡ cond (not front) 1 0 + runs_behind true own xs
+  pub runs_own : (front : Bool) (x : X) (xs : List X) → own x ≡ true → runs_behind front own (x ∷ xs) ≡ cond (not front) 1 0 + runs_behind true own xs
   runs_own front x xs is = (λ i. cond (is i && not front) 1 0 + runs_behind (is i) own xs)
 
-  runs_foreign : (front : Bool) (x : X) (xs : List X) → own x ≡ false → runs_behind front own (x ∷ xs) ≡ runs_behind false own xs
+  pub runs_foreign : (front : Bool) (x : X) (xs : List X) → own x ≡ false → runs_behind front own (x ∷ xs) ≡ runs_behind false own xs
   runs_foreign front x xs is = let here : runs_behind front own (x ∷ xs) ≡ 0 + runs_behind false own xs = (λ i. cond (is i && not front) 1 0 + runs_behind (is i) own xs) in omega (arith, here)
 
   cut_length : (front : Option X) (x : X) (xs : List X) → length (filter either (pairs_behind front (x ∷ xs))) ≡ length (filter either (joined front x)) + length (filter either (pairs_behind (Some x) xs))
@@ -191,7 +191,7 @@ module _ {X : Type 0} (own : X → Bool) where
       let rest = foreign_passed xs all.1 in
       ((λ i. cond (all.0 i) (x ∷ filter own xs) (filter own xs)) ∙ rest.0, others_foreign x xs all.0 ∙ ap (λ ys. x ∷ ys) rest.1)
 
-  no_runs : (front : Bool) (xs : List X) → AreForeign xs → runs_behind front own xs ≡ 0
+  pub no_runs : (front : Bool) (xs : List X) → AreForeign xs → runs_behind front own xs ≡ 0
   no_runs front [] all = refl
   no_runs front (x ∷ xs) all = runs_foreign front x xs all.0 ∙ no_runs false xs all.1
 

@@ -26,7 +26,7 @@ use Rattle.transaction_event.specs.Message.{Meaning, Event, Ready, Silence, mess
 use Rattle.transaction_event.specs.Reply.{event_reply_bytes}
 use Rattle.live_server.specs.declared.operator.Asked.{Asked}
 use Rattle.live_server.specs.declared.operator.Asked.TheVariants.{Figures, Import, Export}
-use Rattle.live_server.specs.Replied.{IsCommandLine, IsCommanded, IsExhausted, IsMessageLine, IsOf, IsSent, IsStationOf, IsTotals, asked_answer, totals_line}
+use Rattle.live_server.specs.Replied.{AreTotals, IsCommandLine, IsCommanded, IsExhausted, IsMessageLine, IsSent, IsStationOf, IsTotals, totals_line}
 
 -- a station of a name with this content
 abbrev with_content : List ℕ → Bounds → Content → Station
@@ -61,7 +61,8 @@ stepped at p command (Refused AlreadyVoided) p' told h = inl (step_of at p comma
 stepped at p command (Refused NotVoided) p' told h = inl (step_of at p command (Refused NotVoided) p' told h)
 
 -- totals of a station are those that a replay tells
-pub totals_told : (asked : Asked) (places : List StationPlace) (name : List ℕ) (f : figures.Figures) (e x : Energy) → AreTotalsOfName places name f e x → IsOf places name (asked_answer asked) (totals_line asked f e x)
+pub totals_told : (asked : Asked) (places : List StationPlace) (name : List ℕ) (f : figures.Figures) (e x : Energy) → AreTotalsOfName places name f e x → AreTotals places name asked (totals_line asked f e x)
+unfolding stands_with
 totals_told Figures places name f e x h =
     record {
       station = Some (with_content name h.named.place.limits h.totals.content);
@@ -142,6 +143,6 @@ submitted_line (Err _) places roster p p' command a told before now same empty s
 
 -- the line of the totals that are asked for
 pub totals_line_told : {T E : Type 0} (r : Result T E) (asked : Asked) (places : List StationPlace) (name : List ℕ) (f : figures.Figures) (e x : Energy) (now : List ℕ) → AreTotalsOfName places name f e x
-    → OnOk r (now ≡ totals_line asked f e x) → OnOk r (IsTotals places name (asked_answer asked) now)
-totals_line_told (Ok _) asked places name f e x now totals put = inl (subst (IsOf places name (asked_answer asked)) (sym put) (totals_told asked places name f e x totals))
+    → OnOk r (now ≡ totals_line asked f e x) → OnOk r (IsTotals places name asked now)
+totals_line_told (Ok _) asked places name f e x now totals put = inl (subst (AreTotals places name asked) (sym put) (totals_told asked places name f e x totals))
 totals_line_told (Err _) asked places name f e x now totals put = put

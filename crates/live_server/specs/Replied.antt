@@ -7,6 +7,8 @@ use Rattle.ledger_model.specs.declared.answer.Answer.TheVariants.{Refused}
 use Rattle.ledger_model.specs.declared.answer.Refusal.TheVariants.{ChangesExhausted}
 use Rattle.ledger_model.specs.declared.command.Command.{Command}
 use Rattle.ledger_model.specs.declared.figures.Figures as figures
+use Rattle.ledger_model.specs.declared.order.Order.{Order}
+use Rattle.ledger_model.specs.declared.order.Order.TheVariants.{Sequence}
 use Rattle.ledger_model.specs.Step.{Reached}
 use Rattle.ledger_model.specs.World.{Station}
 use Rattle.board_report.specs.Texts.{total_text}
@@ -17,7 +19,7 @@ use Rattle.live_server.specs.declared.operator.Asked.TheVariants.{Figures, Impor
 use Rattle.ocppj_frame.specs.Frame.{frame}
 use Rattle.script_ledgers.specs.Script.{commanded_to, energy_answer, energy_line, export_answer, export_line, sent_to, start, total_answer}
 use Rattle.script_lines.specs.declared.script_line.LineFault.TheVariants.{BadLine, DeclaredLate, UnknownSite}
-use Rattle.script_lines.specs.LineMeaning.{LineMeaning, nothing, fails, sets_limits, declares, sets_period, tells, sends, commands, asks_energy, asks_export, asks_total, asks_board}
+use Rattle.script_lines.specs.LineMeaning.{LineMeaning, nothing, fails, sets_limits, declares, sets_period, sets_order, tells, sends, commands, asks_energy, asks_export, asks_total, asks_board}
 use Rattle.script_lines.specs.Texts.{answer_text, ended_line, fault_line}
 use Rattle.site_book.specs.Book.{Known}
 use Rattle.site_desk.specs.declared.plan.SitePlan.{SitePlan}
@@ -54,11 +56,22 @@ pub record IsOf (places : List StationPlace) (name : List ℕ) (answer : Option 
 abbrev pub torn : List ℕ
 torn = ended_line (codes "fault Torn")
 
--- The totals of a station that a line asks for.
-abbrev pub asked_answer : Asked → Option Station → List ℕ
-asked_answer Figures station = total_answer station
-asked_answer Import station = energy_answer station
-asked_answer Export station = export_answer station
+-- The totals of a station that a line asks for, with its readings in this order.
+abbrev pub asked_answer : Asked → Order → Option Station → List ℕ
+asked_answer Figures order station = total_answer (λ _. order) station
+asked_answer Import order station = energy_answer (λ _. order) station
+asked_answer Export order station = export_answer (λ _. order) station
+
+-- The order of readings of what a replay may have under the name: that of the station's place, and by sequence where there is no station.
+abbrev pub order_under : (places : List StationPlace) (name : List ℕ) (station : Option Station) → MayStand places name station → Order
+order_under places name None none = Sequence
+order_under places name (Some s) stands = stands.named.place.order
+
+-- The text is a replay's answer to a question for the totals of the station of this name, by the order of its place.
+pub record AreTotals (places : List StationPlace) (name : List ℕ) (asked : Asked) (text : List ℕ) : Type 0 where
+  pub station : Option Station
+  pub stands : MayStand places name station
+  pub is : text ≡ asked_answer asked (order_under places name station stands) station
 
 -- The line of the totals that are asked for, of these figures and energies, imported and exported.
 abbrev pub totals_line : Asked → figures.Figures → Energy → Energy → List ℕ
@@ -67,8 +80,8 @@ totals_line Import f e x = energy_line e
 totals_line Export f e x = export_line x
 
 -- The answer to a question for a station's totals.
-abbrev pub IsTotals : List StationPlace → List ℕ → (Option Station → List ℕ) → List ℕ → Type 0
-IsTotals places name answer text = IsOf places name answer text ⊎ (text ≡ torn)
+abbrev pub IsTotals : List StationPlace → List ℕ → Asked → List ℕ → Type 0
+IsTotals places name asked text = AreTotals places name asked text ⊎ (text ≡ torn)
 
 -- The answer to a question for the board of the site of this number, if there is one.
 abbrev pub IsBoard : List SitePlan → List StationPlace → Option ℕ → List ℕ → Type 0
@@ -104,12 +117,13 @@ IsReply sites places (fails fault) text = text ≡ fault_line fault
 IsReply sites places (sets_limits transactions events readings changes) text = text ≡ fault_line DeclaredLate
 IsReply sites places (declares site name) text = text ≡ fault_line DeclaredLate
 IsReply sites places (sets_period site seconds) text = text ≡ fault_line DeclaredLate
+IsReply sites places (sets_order site order) text = text ≡ fault_line DeclaredLate
 IsReply sites places (tells nanos) text = text ≡ fault_line BadLine
 IsReply sites places (sends name words) text = (moment : ℕ) × IsSent places name words moment text
 IsReply sites places (commands name command) text = IsCommanded places name command text
-IsReply sites places (asks_energy name) text = IsTotals places name energy_answer text
-IsReply sites places (asks_export name) text = IsTotals places name export_answer text
-IsReply sites places (asks_total name) text = IsTotals places name total_answer text
+IsReply sites places (asks_energy name) text = IsTotals places name Import text
+IsReply sites places (asks_export name) text = IsTotals places name Export text
+IsReply sites places (asks_total name) text = IsTotals places name Figures text
 IsReply sites places (asks_board name) text = IsBoard sites places (position (λ s. bytes_eq name s.name) sites) text
 
 -- An operator's line is answered so, or by `fault OutOfMemory`.

@@ -11,7 +11,7 @@ ghost use Rattle.script_lines.specs.Texts.{fault_line};
 ghost use Rattle.site_desk.specs.declared.roster.StationPlace.{StationPlace};
 ghost use Rattle.site_desk.specs.Roster.{IsNamed};
 ghost use Rattle.live_server.specs.declared.shelf_desk.PassFault.{PassFault};
-ghost use Rattle.live_server.specs.Replied.{IsBoard, IsCommandLine, IsCommanded, IsMessageLine, IsReply, IsReplyOrMemory, IsSent, IsTotals, asked_answer, totals_line};
+ghost use Rattle.live_server.specs.Replied.{IsBoard, IsCommandLine, IsCommanded, IsMessageLine, IsReply, IsReplyOrMemory, IsSent, IsTotals, totals_line};
 ghost use Rattle.live_server.specs.Told.{AddsReplies};
 
 use crate::orders::{Came, Orders};
@@ -158,7 +158,8 @@ fn answer_said<J: Naming, C: HasCell, S: Serves<J, C>, R: Threads + Wait + Clock
         ScriptLine::Fails(fault) => put_fault(reply, fault),
         ScriptLine::Limits(_, _, _, _)
         | ScriptLine::Declares(_, _)
-        | ScriptLine::SetsPeriod(_, _) => put_fault(reply, LineFault::DeclaredLate),
+        | ScriptLine::SetsPeriod(_, _)
+        | ScriptLine::SetsOrder(_, _) => put_fault(reply, LineFault::DeclaredLate),
         ScriptLine::Tells(_) => put_fault(reply, LineFault::BadLine),
         ScriptLine::Sends(name, text) => receive(rt, alloc, running, &name, text, reply),
         ScriptLine::Commands(name, what) => put_command(rt, running, &name, what, line, reply),
@@ -283,7 +284,7 @@ fn put_totals<J: Naming, C: HasCell, S: Serves<J, C>, R: Wait>(
     reply: &mut Vec<u8>,
 ) -> Result<(), AllocError>
     requires { reply.old.items ≡ [] }
-    ensures { OnOk result (IsTotals running.now.desk.desk.now.stations name.now (asked_answer asked) reply.new.items) }
+    ensures { OnOk result (IsTotals running.now.desk.desk.now.stations name.now asked reply.new.items) }
 {
     match running.desk.desk.station_totals(rt, name) {
         Ok(totals) => put_total(reply, asked, totals),

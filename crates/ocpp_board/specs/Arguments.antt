@@ -1,7 +1,7 @@
 -- What the program can be asked to do, and what its words ask for.
 use Rattle.std.specs.Prelude.{◌≡◌, ◌≢◌, ℕ, ◌<◌, ◌≤◌, ◌^◌, ⊤, Bool, true, false, List, [], Option, None, Some, codes, nat_lt, if◌then◌else◌, option_map, unwrap_or}
 use Rattle.core.specs.Str.Parse.{IsNumeral, digits_value, without_leading_plus}
-use Rattle.clap.specs.Matches.{matched_of, one_text, raw_values}
+use Rattle.clap.specs.Matches.{first_value, matched_of, one_text, raw_values}
 use Rattle.clap.specs.declared.parser.matches.Found.{Found}
 use Rattle.std.specs.declared.result.Result.{Result}
 use Rattle.std.specs.declared.result.Result.TheVariants.{Err}
@@ -9,8 +9,11 @@ use Rattle.site_desk.specs.declared.plan.Plan.{Plan}
 use Rattle.ocpp_board.specs.declared.asked.Asked.{Asked}
 use Rattle.ocpp_board.specs.declared.asked.Asked.TheVariants.{Replay, Serve, ServeLive, ServeJournalled, ServeRestored, Simulate}
 use Rattle.live_server.specs.declared.service.Live.{Live}
+use Rattle.ledger_model.specs.declared.order.Order.{Order}
+use Rattle.ledger_model.specs.declared.order.Order.TheVariants.{Sequence}
 use Rattle.ledger_model.specs.Quarter.{IsPeriod, default_period}
 use Rattle.ledger_model.specs.Limits.{Bounds}
+use Rattle.script_lines.specs.LineMeaning.{order_word}
 use Rattle.ocpp_board.specs.LimitWords.{AsksLimits}
 use Rattle.ocpp_board.specs.StationWords.{AnswersWords}
 use Rattle.ocpp_board.specs.declared.station_words.WordFault.{WordFault}
@@ -79,6 +82,15 @@ pub record AsksPeriod (found : Found) (period : ℕ) : Type 0 where
   pub gives : Gives found (codes "period") 16 default_period given
   pub within : IsPeriod given → period ≡ given
 
+-- The order of readings that a word asks for: the one that it names, and by sequence where it names none or there is no word.
+abbrev pub asked_order : Option (List ℕ) → Order
+asked_order None = Sequence
+asked_order (Some word) = unwrap_or (order_word word) Sequence
+
+-- The order of readings of all sites of a server: that of its option's word.
+abbrev pub AsksOrder : Found → Order → Type 0
+AsksOrder found order = order ≡ asked_order (first_value found (codes "order"))
+
 -- The words of an option, where it is used.
 abbrev pub option_words : Found → List ℕ → Option (List (List ℕ))
 option_words found option = option_map raw_values (matched_of found option)
@@ -87,10 +99,10 @@ option_words found option = option_map raw_values (matched_of found option)
 abbrev pub station_words : Found → List (List ℕ)
 station_words found = unwrap_or (option_words found (codes "stations")) []
 
--- The plan under these limits is that of the words, in which each site has the settlement period that is asked for, and a viewer where its totals are watched; where words state no limits, that is told.
+-- The plan under these limits is that of the words, in which each site has the settlement period and the order of readings that are asked for, and a viewer where its totals are watched; where words state no limits, that is told.
 abbrev pub AsksStations : Found → ℕ → Option Bounds → Result Plan WordFault → Type 0
 AsksStations found glances None plan = plan ≡ Err BadLimits
-AsksStations found glances (Some limits) plan = (period : ℕ) × (AsksPeriod found period × AnswersWords plan (if nat_lt 0 glances then 1 else 0) period limits (station_words found))
+AsksStations found glances (Some limits) plan = (period : ℕ) × (AsksPeriod found period × ((order : Order) × (AsksOrder found order × AnswersWords plan (if nat_lt 0 glances then 1 else 0) period order limits (station_words found))))
 
 -- The plan of a server is that of its words, under the limits that are asked for.
 abbrev pub AsksPlan : Found → ℕ → Result Plan WordFault → Type 0

@@ -15,6 +15,9 @@ const MAX_GLANCES: i64 = 600;
 // The seconds that a settlement period may have.
 const PERIODS: [&str; 4] = ["300", "900", "1800", "3600"];
 
+// The orders of readings that a site may have.
+const ORDERS: [&str; 2] = ["sequence", "moment"];
+
 // What help calls the four limits.
 const LIMITS: [&str; 4] = ["TRANSACTIONS", "EVENTS", "READINGS", "CHANGES"];
 
@@ -32,6 +35,9 @@ A script has one line for each step, and each answer is one line, or a board:
   station <site> <station>   declares a station; writes nothing
   period <site> <seconds>    the settlement period of the site's boards: 300, 900, 1800 or
                              3600 seconds, 900 where none is told; writes nothing
+  order <site> <word>        how the site takes a transaction's readings: `sequence`, by the
+                             numbers of their events, or `moment`, by their own moments;
+                             `sequence` where none is told; writes nothing
   now <time>                 sets the moment, as 2026-03-01T10:00:00Z; writes nothing
   msg <station> <text>       an OCPP-J message of the station; writes the reply, or `silent`
   void, restore or erase, with <station> <transaction id> <seqNo>
@@ -147,6 +153,7 @@ fn with_numbers<'a>(alloc: Global, command: Command<'a>) -> Result<Command<'a>, 
         .arg(connections_option(alloc))?
         .arg(watch_option(alloc))?
         .arg(period_option(alloc))?
+        .arg(order_option(alloc))?
         .arg(limits_option(alloc))
 }
 
@@ -200,6 +207,12 @@ fn period_option<'a>(alloc: Global) -> Arg<'a> {
     option(alloc, "period", "SECONDS", "900", help).value_parser(PERIODS.as_slice())
 }
 
+fn order_option<'a>(alloc: Global) -> Arg<'a> {
+    let help =
+        "How all sites take a transaction's readings: by the numbers of their events, or by their own moments";
+    option(alloc, "order", "WORD", "sequence", help).value_parser(ORDERS.as_slice())
+}
+
 fn limits_option<'a>(alloc: Global) -> Arg<'a> {
     Arg::new(alloc, "limits")
         .long("limits")
@@ -236,6 +249,7 @@ fn restore_option<'a>(alloc: Global) -> Result<Arg<'a>, AllocError> {
         .help("With --live, begin with the script on standard input up to its line `listen`")
         .conflicts_with("stations")?
         .conflicts_with("period")?
+        .conflicts_with("order")?
         .conflicts_with("limits")?
         .requires_arg("live")
 }

@@ -1,14 +1,15 @@
 //! What the options of a command ask for.
-ghost use Rattle.std.specs.Prelude.{◌≡◌, ◌≤◌, codes, true};
+ghost use Rattle.std.specs.Prelude.{◌≡◌, ◌≤◌, codes, option_map, true};
 ghost use Rattle.clap.specs.Matches.{found_of};
-ghost use Rattle.ocpp_board.specs.Arguments.{AsksLive, AsksPeriod, AsksPlan, AsksServe, AsksService, AsksSimulate, IsAskable, IsFlag, is_live};
+ghost use Rattle.ocpp_board.specs.Arguments.{AsksLive, AsksOrder, AsksPeriod, AsksPlan, AsksServe, AsksService, AsksSimulate, IsAskable, IsFlag, asked_order, is_live};
 
 use crate::limit_words::limits_of;
 use crate::station_words::{WordFault, plan_of};
 use clap::ArgMatches;
 use journal_server::Restoring;
-use ledger_model::{MAX_STATIONS, Period};
+use ledger_model::{MAX_STATIONS, Order, Period};
 use live_server::Live;
+use script_lines::order_of;
 use site_desk::Plan;
 use site_server::{MAX_CONNECTIONS, MAX_SIMULATED_EVENTS, Service};
 
@@ -76,7 +77,13 @@ fn plan_asked<'a>(matches: &ArgMatches<'a>, glances: u16) -> Result<Plan, WordFa
     };
     let words = matches.get_strs("stations").unwrap_or(&[]);
     let viewers = if glances > 0 { 1 } else { 0 };
-    plan_of(words, viewers, period_of(matches), limits)
+    plan_of(
+        words,
+        viewers,
+        period_of(matches),
+        order_asked(matches),
+        limits,
+    )
 }
 
 /// What the options of `serve --live` ask for.
@@ -120,6 +127,23 @@ pub fn period_of(matches: &ArgMatches<'_>) -> Period
             None => Period::default(),
         },
         None => Period::default(),
+    }
+}
+
+/// The order in which all sites take the readings of a transaction.
+pub fn order_asked(matches: &ArgMatches<'_>) -> Order
+    ensures { AsksOrder (found_of matches.now) result }
+{
+    order_of_word(matches.get_str("order"))
+}
+
+// The order of readings that a word asks for.
+fn order_of_word(word: Option<&str>) -> Order
+    ensures { result ≡ asked_order (option_map (λ w. w.now) word.entry) }
+{
+    match word {
+        Some(word) => order_of(word).unwrap_or(Order::Sequence),
+        None => Order::Sequence,
     }
 }
 

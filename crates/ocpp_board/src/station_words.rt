@@ -2,7 +2,7 @@
 ghost use Rattle.std.specs.Prelude.{◌≡◌, None, map, option_map};
 ghost use Rattle.ocpp_board.specs.StationWords.{declared_by, first_bad, station_word, AnswersWords};
 
-use ledger_model::{Limits, Name, Period};
+use ledger_model::{Limits, Name, Order, Period};
 use site_desk::Plan;
 use std::fmt;
 use std::fmt::{Display, Formatter};
@@ -29,20 +29,21 @@ impl Display for WordFault<'_> {
 }
 
 /// The plan of the stations that these words name, in their order, under these limits. A site begins at its first mention,
-/// and has so many viewers and this settlement period. Names of stations that stand twice are left to the desk to refuse.
+/// and has so many viewers, this settlement period and this order of readings. Names of stations that stand twice are left to the desk to refuse.
 pub fn plan_of<'a>(
     words: &[&'a str],
     viewers: u16,
     period: Period,
+    order: Order,
     limits: Limits,
 ) -> Result<Plan, WordFault<'a>>
-    ensures { AnswersWords result viewers period limits (map (λ w. w.now) words.now) }
+    ensures { AnswersWords result viewers period order limits (map (λ w. w.now) words.now) }
 {
     if let Some(word) = first_bad(words) {
         return Err(WordFault::BadStation(word));
     }
     let mut plan = Plan::new();
-    match declare_words(&mut plan, words, viewers, period, limits) {
+    match declare_words(&mut plan, words, viewers, period, order, limits) {
         Some(word) => Err(WordFault::PlanLimit(word)),
         None => Ok(plan),
     }
@@ -67,10 +68,11 @@ fn declare_words<'a>(
     words: &[&'a str],
     viewers: u16,
     period: Period,
+    order: Order,
     limits: Limits,
 ) -> Option<&'a str>
     requires good { first_bad (map (λ w. w.now) words.now) ≡ None }
-    ensures { declared_by viewers period limits (map (λ w. w.now) words.now) plan.old.sites.items plan.old.stations.items ≡ (option_map (λ w. w.now) result, (plan.new.sites.items, plan.new.stations.items)) }
+    ensures { declared_by viewers period order limits (map (λ w. w.now) words.now) plan.old.sites.items plan.old.stations.items ≡ (option_map (λ w. w.now) result, (plan.new.sites.items, plan.new.stations.items)) }
 {
     let [word, rest @ ..] = words else {
         return None;
@@ -81,8 +83,8 @@ fn declare_words<'a>(
     if plan.is_past(&site, &limits) {
         return Some(word);
     }
-    plan.declare(site, viewers, period, station, limits);
-    declare_words(plan, rest, viewers, period, limits)
+    plan.declare(site, viewers, period, order, station, limits);
+    declare_words(plan, rest, viewers, period, order, limits)
 }
 
 /// The site and the station of a word `SITE/STATION`.

@@ -29,6 +29,9 @@ A script has one line for each step, and each answer is one line, or a board:
   station <site> <station>   declares a station; writes nothing
   period <site> <seconds>    the settlement period of the site's boards: 300, 900, 1800 or
                              3600 seconds, 900 where none is told; writes nothing
+  order <site> <word>        how the site takes a transaction's readings: `sequence`, by the
+                             numbers of their events, or `moment`, by their own moments;
+                             `sequence` where none is told; writes nothing
   now <time>                 sets the moment, as 2026-03-01T10:00:00Z; writes nothing
   msg <station> <text>       an OCPP-J message of the station; writes the reply, or `silent`
   void, restore or erase, with <station> <transaction id> <seqNo>

@@ -58,6 +58,13 @@ impl MomentKey {
         self.joined / (1 << 10) / (1 << 31) / (1 << 62)
     }
 
+    /// Tells whether a key stands in front of another.
+    pub fn is_in_front(self, other: Self) -> bool
+        ensures { result ≡ nat_lt self other }
+    {
+        self.joined < other.joined
+    }
+
     /// The sequence number of the reading's event.
     pub fn number(self) -> u32
         ensures { result ≡ number_of self }

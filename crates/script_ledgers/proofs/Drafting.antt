@@ -7,6 +7,7 @@ use Rattle.std.proofs.lemmas.Bool.Decides.{nat_tests}
 use Rattle.std.proofs.lemmas.List.{length-append, length-map, map-append}
 use Rattle.std.proofs.lemmas.List.Elements.{All-append, All-cons, All-nil}
 use Rattle.std.proofs.lemmas.List.Sums.{sum_by-append, sum_by-cons}
+use Rattle.ledger_model.specs.declared.order.Order.TheVariants.{Sequence}
 use Rattle.ledger_model.specs.Limits.{Bounds}
 use Rattle.ledger_model.specs.Quarter.{default_period}
 use Rattle.ledger_model.specs.Ranges.{most_sites, most_stations, most_plan_readings}
@@ -18,7 +19,7 @@ use Rattle.site_desk.specs.Plan as plan
 use Rattle.script_ledgers.specs.Drafts.{Drafted, IsPlan, planned, planned_world, site_name}
 use Rattle.script_lines.specs.declared.script_line.LineFault.TheVariants.{PlanLimit, StationTwice}
 use Rattle.script_lines.specs.Texts.{fault_line}
-use Rattle.script_ledgers.specs.Script.{declared_to, is_among, is_past_plan, joined_by, new_station, periods_with, sites_with, station_named}
+use Rattle.script_ledgers.specs.Script.{declared_to, is_among, is_past_plan, joined_by, new_station, orders_with, periods_with, sites_with, station_named}
 use Rattle.script_ledgers.proofs.Places.{AreAlike, is_station, neither, none_placed, once_behind, some_placed, unnamed}
 
 -- ---- the worlds of plans
@@ -66,9 +67,9 @@ past_drafted v d site is kept = sym (past_plan v site (position (λ s. bytes_eq 
 -- ---- one site more
 
 site_kept : (sites : List SitePlan) (stations : List StationPlan) (name : List ℕ) → IsPlan sites stations → length sites < most_sites → position (λ s. bytes_eq name s.name) sites ≡ None
-    → IsPlan (sites ++ record { name = name; viewers = 0; period = default_period } ∷ []) stations
+    → IsPlan (sites ++ record { name = name; viewers = 0; period = default_period; order = Sequence } ∷ []) stations
 site_kept sites stations name kept room none =
-    let new : SitePlan = record { name = name; viewers = 0; period = default_period } in
+    let new : SitePlan = record { name = name; viewers = 0; period = default_period; order = Sequence } in
     let more : length (sites ++ new ∷ []) ≡ length sites + 1 = length-append sites (new ∷ []) in
     record {
       few_sites = omega (arith, more, room);
@@ -82,9 +83,9 @@ site_kept sites stations name kept room none =
 
 -- the sites once a new one is mentioned, and one that stands already
 sites_more : (name : List ℕ) (sites : List SitePlan) → position (λ s. bytes_eq name s.name) sites ≡ None
-    → map (λ s. s.name) (sites ++ record { name = name; viewers = 0; period = default_period } ∷ []) ≡ sites_with name (map (λ s. s.name) sites)
+    → map (λ s. s.name) (sites ++ record { name = name; viewers = 0; period = default_period; order = Sequence } ∷ []) ≡ sites_with name (map (λ s. s.name) sites)
 sites_more name sites none =
-    map-append (λ (s : SitePlan). s.name) sites (record { name = name; viewers = 0; period = default_period } ∷ [])
+    map-append (λ (s : SitePlan). s.name) sites (record { name = name; viewers = 0; period = default_period; order = Sequence } ∷ [])
     ∙ ap (λ b. cond b (map (λ (s : SitePlan). s.name) sites) (map (λ (s : SitePlan). s.name) sites ++ name ∷ [])) (sym (none_placed {X = SitePlan} (λ s. s.name) name sites none))
 
 sites_same : (name : List ℕ) (sites : List SitePlan) (n : ℕ) → position (λ s. bytes_eq name s.name) sites ≡ Some n → map (λ s. s.name) sites ≡ sites_with name (map (λ s. s.name) sites)
@@ -93,14 +94,25 @@ sites_same name sites n e =
 
 -- their settlement periods
 periods_more : (name : List ℕ) (sites : List SitePlan) → position (λ s. bytes_eq name s.name) sites ≡ None
-    → map (λ s. s.period) (sites ++ record { name = name; viewers = 0; period = default_period } ∷ []) ≡ periods_with name (map (λ s. s.name) sites) (map (λ s. s.period) sites)
+    → map (λ s. s.period) (sites ++ record { name = name; viewers = 0; period = default_period; order = Sequence } ∷ []) ≡ periods_with name (map (λ s. s.name) sites) (map (λ s. s.period) sites)
 periods_more name sites none =
-    map-append (λ (s : SitePlan). s.period) sites (record { name = name; viewers = 0; period = default_period } ∷ [])
+    map-append (λ (s : SitePlan). s.period) sites (record { name = name; viewers = 0; period = default_period; order = Sequence } ∷ [])
     ∙ ap (λ b. cond b (map (λ (s : SitePlan). s.period) sites) (map (λ (s : SitePlan). s.period) sites ++ default_period ∷ [])) (sym (none_placed {X = SitePlan} (λ s. s.name) name sites none))
 
 periods_same : (name : List ℕ) (sites : List SitePlan) (n : ℕ) → position (λ s. bytes_eq name s.name) sites ≡ Some n → map (λ s. s.period) sites ≡ periods_with name (map (λ s. s.name) sites) (map (λ s. s.period) sites)
 periods_same name sites n e =
     ap (λ b. cond b (map (λ (s : SitePlan). s.period) sites) (map (λ (s : SitePlan). s.period) sites ++ default_period ∷ [])) (sym (some_placed {X = SitePlan} (λ s. s.name) name sites n e).among)
+
+-- their orders of readings
+orders_more : (name : List ℕ) (sites : List SitePlan) → position (λ s. bytes_eq name s.name) sites ≡ None
+    → map (λ s. s.order) (sites ++ record { name = name; viewers = 0; period = default_period; order = Sequence } ∷ []) ≡ orders_with name (map (λ s. s.name) sites) (map (λ s. s.order) sites)
+orders_more name sites none =
+    map-append (λ (s : SitePlan). s.order) sites (record { name = name; viewers = 0; period = default_period; order = Sequence } ∷ [])
+    ∙ ap (λ b. cond b (map (λ (s : SitePlan). s.order) sites) (map (λ (s : SitePlan). s.order) sites ++ Sequence ∷ [])) (sym (none_placed {X = SitePlan} (λ s. s.name) name sites none))
+
+orders_same : (name : List ℕ) (sites : List SitePlan) (n : ℕ) → position (λ s. bytes_eq name s.name) sites ≡ Some n → map (λ s. s.order) sites ≡ orders_with name (map (λ s. s.name) sites) (map (λ s. s.order) sites)
+orders_same name sites n e =
+    ap (λ b. cond b (map (λ (s : SitePlan). s.order) sites) (map (λ (s : SitePlan). s.order) sites ++ Sequence ∷ [])) (sym (some_placed {X = SitePlan} (λ s. s.name) name sites n e).among)
 
 site_there : (name : List ℕ) (sites : List SitePlan) (n : ℕ) → position (λ s. bytes_eq name s.name) sites ≡ Some n → site_name sites n ≡ name
 site_there name sites n e = (some_placed {X = SitePlan} (λ s. s.name) name sites n e).named
@@ -171,10 +183,10 @@ has_room o sites stations limits none =
 -- a plan that one station more keeps, and the script that it is seen as
 pub joins : (d : Drafted) (o : Option ℕ) (site name : List ℕ) → o ≡ position (λ s. bytes_eq site s.name) d.sites → IsPlan d.sites d.stations → is_past o d.sites d.stations d.limits ≡ false
     → position (λ s. bytes_eq name s.name) d.stations ≡ None
-    → IsPlan (plan.sites_with o site 0 default_period d.sites) (d.stations ++ record { site = site_number o d.sites; name = name; limits = d.limits } ∷ [])
-    × (planned (record d { sites = plan.sites_with o site 0 default_period d.sites; stations = d.stations ++ record { site = site_number o d.sites; name = name; limits = d.limits } ∷ [] }) ≡ (joined_by None (planned d) site name).0)
+    → IsPlan (plan.sites_with o site 0 default_period Sequence d.sites) (d.stations ++ record { site = site_number o d.sites; name = name; limits = d.limits } ∷ [])
+    × (planned (record d { sites = plan.sites_with o site 0 default_period Sequence d.sites; stations = d.stations ++ record { site = site_number o d.sites; name = name; limits = d.limits } ∷ [] }) ≡ (joined_by None (planned d) site name).0)
 joins d None site name e kept room none =
-    let new : SitePlan = record { name = site; viewers = 0; period = default_period } in
+    let new : SitePlan = record { name = site; viewers = 0; period = default_period; order = Sequence } in
     let station : StationPlan = record { site = length d.sites; name = name; limits = d.limits } in
     let r = has_room None d.sites d.stations d.limits room in
     let more : length (d.sites ++ new ∷ []) ≡ length d.sites + 1 = length-append d.sites (new ∷ []) in
@@ -184,7 +196,7 @@ joins d None site name e kept room none =
     ∙ ap (λ w. w ++ new_station d.limits (site_name (d.sites ++ new ∷ []) (length d.sites)) name ∷ []) (same_worlds d.sites new d.stations kept.placed)
     ∙ ap (λ n. planned_world d.sites d.stations ++ new_station d.limits n name ∷ []) (last_named d.sites new) in (
       station_kept (d.sites ++ new ∷ []) d.stations (length d.sites) name d.limits begun (omega (arith, more)) r.few r.fit none,
-      (λ i. record { limits = d.limits; sites = sites_more site d.sites (sym e) i; periods = periods_more site d.sites (sym e) i; world = world i; opened = false; moment = d.moment }),
+      (λ i. record { limits = d.limits; sites = sites_more site d.sites (sym e) i; periods = periods_more site d.sites (sym e) i; orders = orders_more site d.sites (sym e) i; world = world i; opened = false; moment = d.moment }),
     )
 joins d (Some n) site name e kept room none =
     let station : StationPlan = record { site = n; name = name; limits = d.limits } in
@@ -194,7 +206,7 @@ joins d (Some n) site name e kept room none =
     map-append (λ (s : StationPlan). new_station s.limits (site_name d.sites s.site) s.name) d.stations (station ∷ [])
     ∙ ap (λ x. planned_world d.sites d.stations ++ new_station d.limits x name ∷ []) (site_there site d.sites n (sym e)) in (
       station_kept d.sites d.stations n name d.limits kept there.less r.few r.fit none,
-      (λ i. record { limits = d.limits; sites = sites_same site d.sites n (sym e) i; periods = periods_same site d.sites n (sym e) i; world = world i; opened = false; moment = d.moment }),
+      (λ i. record { limits = d.limits; sites = sites_same site d.sites n (sym e) i; periods = periods_same site d.sites n (sym e) i; orders = orders_same site d.sites n (sym e) i; world = world i; opened = false; moment = d.moment }),
     )
 
 -- ---- declarations

@@ -19,9 +19,11 @@ use Rattle.script_ledgers.specs.Drafts.{Drafted, planned_world, site_name}
 use Rattle.script_ledgers.specs.Received.{TakesMessage}
 use Rattle.script_ledgers.specs.Running.{IsRunning, Settles, filled, running}
 use Rattle.script_lines.specs.Texts.{answer_text, ended_line}
-use Rattle.script_ledgers.specs.Script.{Script, by_meaning, commanded_to, new_station, sent_to, station_named}
+use Rattle.script_ledgers.specs.Script.{Script, by_meaning, commanded_to, new_station, order_named, sent_to, station_named}
+use Rattle.script_ledgers.proofs.Boards.{at_site}
 use Rattle.script_ledgers.proofs.Places.{is_station, unnamed}
-use Rattle.script_ledgers.proofs.Settling.{alike_running, planned_at, station_at}
+use Rattle.script_ledgers.proofs.SettledBy.{order_found}
+use Rattle.script_ledgers.proofs.Settling.{alike_running, planned_at, site_within, station_at}
 
 -- what follows of a value from what is told of it
 pub some_told : {X : Type 0} (o : Option X) (P Q : X → Type 0) → ((x : X) → P x → Q x) → IfSome o P → IfSome o Q
@@ -40,12 +42,14 @@ module _ (d : Drafted) (cells : List Cell) (books : List Book) (passes : List He
     pub is_cell : slice_get cells k ≡ Some cell
     pub content : station.content ≡ cell.content
     pub limits : station.limits ≡ cell.limits
+    pub order : order_named (running d cells) station.site ≡ cell.order
 
   pub is_at : (k : ℕ) → k < length d.stations → IsAt k
   is_at k less =
       let s = stands d.stations k less in
       let c = stands cells k (omega (arith, less, r.all_cells)) in
       let mine : Station = new_station s.0.limits (site_name d.sites s.0.site) s.0.name in
+      let site = at_site d.sites s.0.site r.plan.sites_once (site_within d.sites d.stations cells books passes r k s.0 s.1) in
       record {
         station = record mine { content = c.0.content };
         there = station_at (planned_world d.sites d.stations) cells k mine c.0 (planned_at d.sites d.stations k s.0 s.1) c.1;
@@ -53,6 +57,7 @@ module _ (d : Drafted) (cells : List Cell) (books : List Book) (passes : List He
         is_cell = c.1;
         content = refl;
         limits = sym (r.placed k s.0 c.0 s.1 c.1).limits;
+        order = order_found mine.site d.sites s.0.site site ∙ sym (r.placed k s.0 c.0 s.1 c.1).order;
       }
 
   length_filled : (stations : List StationPlan) (cs : List Cell) → length cs ≡ length stations → length (filled (planned_world d.sites stations) cs) ≡ length stations

@@ -7,7 +7,7 @@ use Rattle.transaction_event.specs.Message.{Meaning, Event, Ready, Silence, mess
 use Rattle.script_lines.specs.Lines.{Line, text_by}
 use Rattle.script_ledgers.specs.Script.{Script, by_meaning, commanded_to, sent_to, step_by, line_step, script_text, station_named, opening}
 use Rattle.script_ledgers.specs.Answering.{AgreeFrom}
-use Rattle.script_lines.specs.LineMeaning.{LineMeaning, nothing, fails, sets_limits, declares, sets_period, tells, sends, commands, asks_energy, asks_export, asks_total, asks_board, line_meaning}
+use Rattle.script_lines.specs.LineMeaning.{LineMeaning, nothing, fails, sets_limits, declares, sets_period, sets_order, tells, sends, commands, asks_energy, asks_export, asks_total, asks_board, line_meaning}
 
 -- the script with its ledgers opened
 abbrev pub opened_script : Script → Script
@@ -31,6 +31,7 @@ same_step s nothing e = absurd (false≢true e)
 same_step s (fails _) e = absurd (false≢true e)
 same_step s (declares _ _) e = absurd (false≢true e)
 same_step s (sets_period _ _) e = absurd (false≢true e)
+same_step s (sets_order _ _) e = absurd (false≢true e)
 same_step s (tells _) e = absurd (false≢true e)
 same_step s (sets_limits _ _ _ _) e = absurd (false≢true e)
 same_step s (sends name text) e = same_message (station_named name s.world) s text

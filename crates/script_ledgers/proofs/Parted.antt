@@ -32,5 +32,5 @@ cells_of sites stations cells books passes r = record {
   count = r.all_cells;
   each = λ k s c planned at.
       let place = r.placed k s c planned at in
-      record { station = place.station; site = place.site; row = place.row; limits = place.limits; period = place.period };
+      record { station = place.station; site = place.site; row = place.row; limits = place.limits; period = place.period; order = place.order };
 }

@@ -1,15 +1,17 @@
--- Another settlement period for a site of a plan, and the script that it is seen as.
+-- Another settlement period, or another order of readings, for a site of a plan, and the script that it is seen as.
 use Rattle.std.proofs.Common.{◌≡◌, ℕ, zero, suc, ◌+◌, true, cond, List, [], ◌∷◌, None, Some, All, length, map, get_or, slice_set, refl, ap, sym, ◌∙◌, bytes_eq, arith}
 use Rattle.std.specs.List.{position, position_from}
 use Rattle.std.proofs.lemmas.Iterator.Adapters.{position_from-zero}
+use Rattle.ledger_model.specs.declared.order.Order.{Order}
+use Rattle.ledger_model.specs.declared.order.Order.TheVariants.{Sequence}
 use Rattle.ledger_model.specs.Quarter.{default_period}
 use Rattle.site_desk.specs.declared.plan.SitePlan.{SitePlan}
 use Rattle.site_desk.specs.declared.plan.StationPlan.{StationPlan}
-use Rattle.site_desk.specs.Plan.{has_twice, period_at, sites_by}
+use Rattle.site_desk.specs.Plan.{has_twice, order_at, period_at, sites_by, sites_changed, sites_in}
 use Rattle.script_lines.specs.declared.script_line.LineFault.TheVariants.{PlanLimit, UnknownSite}
 use Rattle.script_lines.specs.Texts.{fault_line}
 use Rattle.script_ledgers.specs.Drafts.{Drafted, IsPlan, planned}
-use Rattle.script_ledgers.specs.Script.{is_period, new_station, period_of, period_to, settled_by, site_number}
+use Rattle.script_ledgers.specs.Script.{is_period, new_station, order_of, order_to, ordered_by, period_of, period_to, settled_by, site_number}
 
 -- a site stands at one place in the plan and in the list of names
 from_alike : (name : List ℕ) (i : ℕ) (sites : List SitePlan) → position_from (bytes_eq name) i (map (λ s. s.name) sites) ≡ position_from (λ (s : SitePlan). bytes_eq name s.name) i sites
@@ -29,53 +31,80 @@ pub period_found : (name : List ℕ) (sites : List SitePlan) (n : ℕ) → posit
     → period_of (site_number name (map (λ s. s.name) sites)) (map (λ s. s.period) sites) ≡ period_at sites n
 period_found name sites n e = ap (λ o. period_of o (map (λ (s : SitePlan). s.period) sites)) (number_alike name sites ∙ e) ∙ period_there sites n
 
--- what another period keeps, and what it changes
-by_names : (n period : ℕ) (sites : List SitePlan) → map (λ s. s.name) (sites_by n period sites) ≡ map (λ s. s.name) sites
-by_names n period [] = refl
-by_names zero period (s ∷ sites) = refl
-by_names (suc n) period (s ∷ sites) = ap (λ l. s.name ∷ l) (by_names n period sites)
+-- its order of readings is that of its number
+order_there : (sites : List SitePlan) (n : ℕ) → get_or (map (λ s. s.order) sites) n Sequence ≡ order_at sites n
+order_there [] n = refl
+order_there (s ∷ sites) zero = refl
+order_there (s ∷ sites) (suc n) = order_there sites n
 
-by_periods : (n period : ℕ) (sites : List SitePlan) → map (λ s. s.period) (sites_by n period sites) ≡ slice_set (map (λ s. s.period) sites) n period
-by_periods n period [] = refl
-by_periods zero period (s ∷ sites) = refl
-by_periods (suc n) period (s ∷ sites) = ap (λ l. s.period ∷ l) (by_periods n period sites)
+pub order_found : (name : List ℕ) (sites : List SitePlan) (n : ℕ) → position (λ (s : SitePlan). bytes_eq name s.name) sites ≡ Some n
+    → order_of (site_number name (map (λ s. s.name) sites)) (map (λ s. s.order) sites) ≡ order_at sites n
+order_found name sites n e = ap (λ o. order_of o (map (λ (s : SitePlan). s.order) sites)) (number_alike name sites ∙ e) ∙ order_there sites n
 
-by_length : (n period : ℕ) (sites : List SitePlan) → length (sites_by n period sites) ≡ length sites
-by_length n period [] = refl
-by_length zero period (s ∷ sites) = refl
-by_length (suc n) period (s ∷ sites) = ap suc (by_length n period sites)
+-- what a change of one site keeps, and what it sets
+kept_of : {X : Type 0} (f : SitePlan → X) (change : SitePlan → SitePlan) → ((s : SitePlan) → f (change s) ≡ f s) → (n : ℕ) (sites : List SitePlan) → map f (sites_changed change n sites) ≡ map f sites
+kept_of f change same n [] = refl
+kept_of f change same zero (s ∷ sites) = ap (λ x. x ∷ map f sites) (same s)
+kept_of f change same (suc n) (s ∷ sites) = ap (λ l. f s ∷ l) (kept_of f change same n sites)
 
-by_unviewed : (n period : ℕ) (sites : List SitePlan) → All (λ s. s.viewers ≡ 0) sites → All (λ s. s.viewers ≡ 0) (sites_by n period sites)
-by_unviewed n period [] all = all
-by_unviewed zero period (s ∷ sites) all = again
-  where
-    again : All (λ (x : SitePlan). x.viewers ≡ 0) (record s { period = period } ∷ sites)
-    again zero d lt = all zero s (omega arith)
-    again (suc k) d lt = all (suc k) d lt
-by_unviewed (suc n) period (s ∷ sites) all = later (by_unviewed n period sites (λ k d lt. all (suc k) d (omega (arith, lt))))
-  where
-    later : All (λ (x : SitePlan). x.viewers ≡ 0) (sites_by n period sites) → All (λ (x : SitePlan). x.viewers ≡ 0) (s ∷ sites_by n period sites)
-    later rest zero d lt = all zero s (omega arith)
-    later rest (suc k) d lt = rest k d (omega (arith, lt))
+set_of : {X : Type 0} (f : SitePlan → X) (change : SitePlan → SitePlan) (x : X) → ((s : SitePlan) → f (change s) ≡ x) → (n : ℕ) (sites : List SitePlan) → map f (sites_changed change n sites) ≡ slice_set (map f sites) n x
+set_of f change x is n [] = refl
+set_of f change x is zero (s ∷ sites) = ap (λ y. y ∷ map f sites) (is s)
+set_of f change x is (suc n) (s ∷ sites) = ap (λ l. f s ∷ l) (set_of f change x is n sites)
+
+length_kept : (change : SitePlan → SitePlan) (n : ℕ) (sites : List SitePlan) → length (sites_changed change n sites) ≡ length sites
+length_kept change n [] = refl
+length_kept change zero (s ∷ sites) = refl
+length_kept change (suc n) (s ∷ sites) = ap suc (length_kept change n sites)
+
+-- a change of one site that keeps names and viewers
+module _ (change : SitePlan → SitePlan) (named : (s : SitePlan) → (change s).name ≡ s.name) (viewed : (s : SitePlan) → (change s).viewers ≡ s.viewers) where
+  unviewed_kept : (n : ℕ) (sites : List SitePlan) → All (λ s. s.viewers ≡ 0) sites → All (λ s. s.viewers ≡ 0) (sites_changed change n sites)
+  unviewed_kept n [] all = all
+  unviewed_kept zero (s ∷ sites) all = again
+    where
+      again : All (λ (x : SitePlan). x.viewers ≡ 0) (change s ∷ sites)
+      again zero d lt = viewed s ∙ all zero s (omega arith)
+      again (suc k) d lt = all (suc k) d lt
+  unviewed_kept (suc n) (s ∷ sites) all = later (unviewed_kept n sites (λ k d lt. all (suc k) d (omega (arith, lt))))
+    where
+      later : All (λ (x : SitePlan). x.viewers ≡ 0) (sites_changed change n sites) → All (λ (x : SitePlan). x.viewers ≡ 0) (s ∷ sites_changed change n sites)
+      later rest zero d lt = all zero s (omega arith)
+      later rest (suc k) d lt = rest k d (omega (arith, lt))
+
+  plan_kept : (n : ℕ) (sites : List SitePlan) (stations : List StationPlan) → IsPlan sites stations → IsPlan (sites_changed change n sites) stations
+  plan_kept n sites stations kept = record {
+    few_sites = omega (arith, length_kept change n sites, kept.few_sites);
+    few_stations = kept.few_stations;
+    few_readings = kept.few_readings;
+    sites_once = ap has_twice (kept_of (λ (s : SitePlan). s.name) change named n sites) ∙ kept.sites_once;
+    stations_once = kept.stations_once;
+    placed = λ k d lt. let p = kept.placed k d lt in omega (arith, p, length_kept change n sites);
+    unviewed = unviewed_kept n sites kept.unviewed;
+  }
+
+  -- the script is another in its periods and orders alone
+  planned_with : (d : Drafted) (n : ℕ) → let sites = sites_changed change n d.sites in
+      planned (record d { sites = sites }) ≡ record (planned d) { periods = map (λ (s : SitePlan). s.period) sites; orders = map (λ (s : SitePlan). s.order) sites }
+  planned_with d n =
+      let names = kept_of (λ (s : SitePlan). s.name) change named n d.sites in
+      λ i. record (planned (record d { sites = sites_changed change n d.sites })) { sites = names i; world = map (λ (s : StationPlan). new_station s.limits (get_or (names i) s.site []) s.name) d.stations }
+
+-- ---- another settlement period
 
 pub settled_kept : (n period : ℕ) (sites : List SitePlan) (stations : List StationPlan) → IsPlan sites stations → IsPlan (sites_by n period sites) stations
-settled_kept n period sites stations kept = record {
-  few_sites = omega (arith, by_length n period sites, kept.few_sites);
-  few_stations = kept.few_stations;
-  few_readings = kept.few_readings;
-  sites_once = ap has_twice (by_names n period sites) ∙ kept.sites_once;
-  stations_once = kept.stations_once;
-  placed = λ k d lt. let p = kept.placed k d lt in omega (arith, p, by_length n period sites);
-  unviewed = by_unviewed n period sites kept.unviewed;
-}
+settled_kept n period sites stations kept = plan_kept (λ (s : SitePlan). record s { period = period }) (λ s. refl) (λ s. refl) n sites stations kept
 
 -- the script once a site has another period
 pub settled_planned : (d : Drafted) (name : List ℕ) (n period : ℕ) → position (λ (s : SitePlan). bytes_eq name s.name) d.sites ≡ Some n
     → settled_by (site_number name (planned d).sites) (planned d) period ≡ (planned (record d { sites = sites_by n period d.sites }), [])
 settled_planned d name n period e =
-    let names = by_names n period d.sites in
+    let change : SitePlan → SitePlan = λ s. record s { period = period } in
+    let periods = set_of (λ (s : SitePlan). s.period) change period (λ s. refl) n d.sites in
+    let orders = kept_of (λ (s : SitePlan). s.order) change (λ s. refl) n d.sites in
     ap (λ o. settled_by o (planned d) period) (number_alike name d.sites ∙ e)
-    ∙ (λ i. (record (planned d) { sites = sym names i; periods = sym (by_periods n period d.sites) i; world = map (λ (s : StationPlan). new_station s.limits (get_or (sym names i) s.site []) s.name) d.stations }, []))
+    ∙ (λ i. (record (planned d) { periods = sym periods i; orders = sym orders i }, []))
+    ∙ ap (λ s. (s, [])) (sym (planned_with change (λ s. refl) (λ s. refl) d n))
 
 pub settled_unknown : (d : Drafted) (name : List ℕ) (period : ℕ) → position (λ (s : SitePlan). bytes_eq name s.name) d.sites ≡ None
     → settled_by (site_number name (planned d).sites) (planned d) period ≡ settled_by None (planned d) period
@@ -92,3 +121,22 @@ pub period_known : (d : Drafted) (name : List ℕ) (seconds n period : ℕ) → 
 period_known d name seconds n period is same e =
     ap (λ b. cond b (settled_by (site_number name (planned d).sites) (planned d) seconds) (planned d, fault_line PlanLimit)) is
     ∙ settled_planned d name n seconds e ∙ ap (λ p. (planned (record d { sites = sites_by n p d.sites }), [])) (sym same)
+
+-- ---- another order of readings
+
+pub ordered_kept : (n : ℕ) (order : Order) (sites : List SitePlan) (stations : List StationPlan) → IsPlan sites stations → IsPlan (sites_in n order sites) stations
+ordered_kept n order sites stations kept = plan_kept (λ (s : SitePlan). record s { order = order }) (λ s. refl) (λ s. refl) n sites stations kept
+
+-- what an `order` line is answered
+pub order_unknown : (d : Drafted) (name : List ℕ) (order : Order) → position (λ (s : SitePlan). bytes_eq name s.name) d.sites ≡ None → order_to (planned d) name order ≡ (planned d, fault_line UnknownSite)
+order_unknown d name order e = ap (λ o. ordered_by o (planned d) order) (number_alike name d.sites ∙ e)
+
+pub order_known : (d : Drafted) (name : List ℕ) (n : ℕ) (order : Order) → position (λ (s : SitePlan). bytes_eq name s.name) d.sites ≡ Some n
+    → order_to (planned d) name order ≡ (planned (record d { sites = sites_in n order d.sites }), [])
+order_known d name n order e =
+    let change : SitePlan → SitePlan = λ s. record s { order = order } in
+    let periods = kept_of (λ (s : SitePlan). s.period) change (λ s. refl) n d.sites in
+    let orders = set_of (λ (s : SitePlan). s.order) change order (λ s. refl) n d.sites in
+    ap (λ o. ordered_by o (planned d) order) (number_alike name d.sites ∙ e)
+    ∙ (λ i. (record (planned d) { periods = sym periods i; orders = sym orders i }, []))
+    ∙ ap (λ s. (s, [])) (sym (planned_with change (λ s. refl) (λ s. refl) d n))

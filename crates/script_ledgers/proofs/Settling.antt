@@ -10,7 +10,7 @@ use Rattle.std.proofs.lemmas.Slice.Eq.{bytes_eq-Decides}
 use Rattle.ledger_model.specs.declared.answer.Answer.{Answer}
 use Rattle.ledger_model.specs.declared.answer.Answer.TheVariants.{Accepted, Repeat, Refused}
 use Rattle.ledger_model.specs.declared.command.Command.{Command}
-use Rattle.ledger_model.specs.Board.{figures}
+use Rattle.ledger_model.specs.Board.{figures_by}
 use Rattle.ledger_model.specs.Content.{Content, entries}
 use Rattle.ledger_model.specs.Step.{answer, step}
 use Rattle.ledger_model.specs.World.{Station, World, station_after, world_after}
@@ -43,7 +43,8 @@ module _ (sites : List SitePlan) (stations : List StationPlan) (cells : List Cel
     pub book : Book
     pub is_book : slice_get books cell.site ≡ Some book
 
-  site_within : (k : ℕ) (s : StationPlan) → slice_get stations k ≡ Some s → s.site < length sites
+  -- its site is one of the plan's
+  pub site_within : (k : ℕ) (s : StationPlan) → slice_get stations k ≡ Some s → s.site < length sites
   site_within k s at =
       let less = slice_get_within stations k s at in
       subst (λ (x : StationPlan). x.site < length sites) (get_or_from_slice_get stations k s s at) (r.plan.placed k s less)
@@ -92,6 +93,7 @@ module _ (sites : List SitePlan) (stations : List StationPlan) (cells : List Cel
       row = ap (λ (x : Cell). x.row) cell_is ∙ place.row;
       limits = ap (λ (x : Cell). x.limits) cell_is ∙ place.limits;
       period = ap (λ (x : Cell). x.period) cell_is ∙ place.period;
+      order = ap (λ (x : Cell). x.order) cell_is ∙ place.order;
     }
 
     placed_then : (j : ℕ) (s : StationPlan) (d : Cell) → slice_get stations j ≡ Some s → slice_get (set cells k c') j ≡ Some d → IsPlaced sites stations j s d
@@ -147,7 +149,7 @@ one_post_more books site b b' c' a at is =
     omega (arith, more, sum_by-set (λ (y : Book). length y.posts) books site b' b less, ap (λ (y : Book). length y.posts) (get_or_from_slice_get books site b b at))
   where
     one : (x : Answer) → length (posts_after b.posts c' x) ≤ length b.posts + 1
-    one (Accepted n) = omega (arith, length-append b.posts ((c'.row, figures (entries c'.content)) ∷ []))
+    one (Accepted n) = omega (arith, length-append b.posts ((c'.row, figures_by c'.order (entries c'.content)) ∷ []))
     one Repeat = omega arith
     one (Refused why) = omega arith
 

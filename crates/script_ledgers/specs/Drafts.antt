@@ -29,7 +29,7 @@ planned_world sites stations = map (λ s. new_station s.limits (site_name sites 
 
 -- A script whose ledgers are not opened.
 abbrev pub planned : Drafted → Script
-planned d = record { limits = d.limits; sites = map (λ s. s.name) d.sites; periods = map (λ s. s.period) d.sites; world = planned_world d.sites d.stations; opened = false; moment = d.moment }
+planned d = record { limits = d.limits; sites = map (λ s. s.name) d.sites; periods = map (λ s. s.period) d.sites; orders = map (λ s. s.order) d.sites; world = planned_world d.sites d.stations; opened = false; moment = d.moment }
 
 -- What holds of the plan of any declarations: it keeps within what a plan may have, names stand once, each station is at one of its sites, and no site has a viewer.
 pub record IsPlan (sites : List SitePlan) (stations : List StationPlan) : Type 0 where

@@ -9,7 +9,7 @@ use Rattle.site_desk.specs.declared.plan.SitePlan.{SitePlan}
 use Rattle.site_desk.specs.declared.plan.StationPlan.{StationPlan}
 use Rattle.station_cell.specs.Cell.{Cell, Held, Knows}
 use Rattle.site_desk.specs.Parts.{AreApart, limits_at, row_at}
-use Rattle.site_desk.specs.Plan.{period_at}
+use Rattle.site_desk.specs.Plan.{order_at, period_at}
 use Rattle.station_cell.specs.Settle.{Holds, Tied}
 use Rattle.script_ledgers.specs.Drafts.{Drafted, IsPlan, planned_world}
 use Rattle.script_ledgers.specs.Script.{Script}
@@ -22,19 +22,20 @@ filled (s ∷ ss) (c ∷ cells) = record s { content = c.content } ∷ filled ss
 
 -- A script whose ledgers are opened.
 abbrev pub running : Drafted → List Cell → Script
-running d cells = record { limits = d.limits; sites = map (λ s. s.name) d.sites; periods = map (λ s. s.period) d.sites; world = filled (planned_world d.sites d.stations) cells; opened = true; moment = d.moment }
+running d cells = record { limits = d.limits; sites = map (λ s. s.name) d.sites; periods = map (λ s. s.period) d.sites; orders = map (λ s. s.order) d.sites; world = filled (planned_world d.sites d.stations) cells; opened = true; moment = d.moment }
 
 -- How many posts were made in all.
 abbrev pub posts_in : List Book → ℕ
 posts_in books = sum_by (λ b. length b.posts) books
 
--- A cell is that of the station of this number, by its site's settlement period.
+-- A cell is that of the station of this number, by its site's settlement period and order.
 pub record IsPlaced (sites : List SitePlan) (stations : List StationPlan) (number : ℕ) (s : StationPlan) (c : Cell) : Type 0 where
   pub station : c.station ≡ number
   pub site : c.site ≡ s.site
   pub row : c.row ≡ row_at stations s.site number
   pub limits : c.limits ≡ s.limits
   pub period : c.period ≡ period_at sites s.site
+  pub order : c.order ≡ order_at sites s.site
 
 -- A cell's row stands in its site's book, and shows the figures of its content.
 pub record IsShown (c : Cell) (b : Book) : Type 0 where

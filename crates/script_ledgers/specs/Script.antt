@@ -1,13 +1,15 @@
 -- The text of a script: a fold over its lines (this product's profile).
-use Rattle.std.specs.Prelude.{ℕ, Bool, true, false, ◌&&◌, ◌||◌, ◌+◌, ◌==◌, nat_le, nat_lt, List, [], ◌∷◌, ◌++◌, codes, filter, get_or, slice_set, length, map, sum_by, if◌then◌else◌, Option, None, Some}
+use Rattle.std.specs.Prelude.{◌≡◌, ℕ, Bool, true, false, ◌&&◌, ◌||◌, ◌+◌, ◌==◌, nat_le, nat_lt, List, [], ◌∷◌, ◌++◌, codes, filter, get_or, slice_set, length, map, sum_by, if◌then◌else◌, Option, None, Some}
 use Rattle.std.specs.List.{list_any, position}
 use Rattle.std.specs.Str.{bytes_eq}
 use Rattle.energy_flow.specs.Flow.{Energy}
 use Rattle.ledger_model.specs.declared.command.Command.{Command}
 use Rattle.ledger_model.specs.declared.command.Command.TheVariants.{Deliver}
-use Rattle.ledger_model.specs.Board.{Board, board, figures, site_board}
+use Rattle.ledger_model.specs.declared.order.Order.{Order}
+use Rattle.ledger_model.specs.declared.order.Order.TheVariants.{Sequence}
+use Rattle.ledger_model.specs.Board.{Board, board_by, figures_by, site_board}
 use Rattle.ledger_model.specs.Content.{empty_content, entries}
-use Rattle.ledger_model.specs.Energy.{energy}
+use Rattle.ledger_model.specs.Energy.{energy_by}
 use Rattle.ledger_model.specs.declared.reading.Direction.TheVariants.{Import, Export}
 use Rattle.ledger_model.specs.Limits.{Bounds, default_limits}
 use Rattle.ledger_model.specs.Moment.{first_moment}
@@ -21,21 +23,28 @@ use Rattle.transaction_event.specs.Message.{Meaning, Event, Ready, Silence, mess
 use Rattle.transaction_event.specs.Reply.{event_reply_bytes}
 use Rattle.script_lines.specs.declared.script_line.LineFault.TheVariants.{DeclaredLate, PlanLimit, StationTwice, UnknownStation, UnknownSite}
 use Rattle.script_lines.specs.Lines.{Line, text_by}
-use Rattle.script_lines.specs.LineMeaning.{LineMeaning, nothing, fails, sets_limits, declares, sets_period, tells, sends, commands, asks_energy, asks_export, asks_total, asks_board, line_meaning}
+use Rattle.script_lines.specs.LineMeaning.{LineMeaning, nothing, fails, sets_limits, declares, sets_period, sets_order, tells, sends, commands, asks_energy, asks_export, asks_total, asks_board, line_meaning}
 use Rattle.script_lines.specs.Texts.{ended_line, fault_line, answer_text}
 
--- where a script stands: the limits of the stations that are declared next; the sites of the plan so far in the order of their first mention, and the settlement period of each in seconds; the world, whose stations are those of the plan and have empty contents until the ledgers are opened; whether they are; and the moment
+-- where a script stands: the limits of the stations that are declared next; the sites of the plan so far in the order of their first mention, the settlement period of each in seconds and the order of its readings; the world, whose stations are those of the plan and have empty contents until the ledgers are opened; whether they are; and the moment
 pub record Script : Type 0 where
   pub limits : Bounds
   pub sites : List (List ℕ)
   pub periods : List ℕ
+  pub orders : List Order
   pub world : World
   pub opened : Bool
   pub moment : ℕ
 
+-- the sites of a script stay, with their settlement periods and their orders of readings
+pub record KeepsSites (old new : Script) : Type 0 where
+  pub sites : new.sites ≡ old.sites
+  pub periods : new.periods ≡ old.periods
+  pub orders : new.orders ≡ old.orders
+
 -- default limits, no station, ledgers not opened, 2000-01-01T00:00:00Z
 abbrev pub start : Script
-start = record { limits = default_limits; sites = []; periods = []; world = []; opened = false; moment = first_moment }
+start = record { limits = default_limits; sites = []; periods = []; orders = []; world = []; opened = false; moment = first_moment }
 
 -- a station as it is declared
 abbrev pub new_station : Bounds → List ℕ → List ℕ → Station
@@ -85,6 +94,10 @@ sites_with site sites = if is_among site sites then sites else sites ++ site ∷
 abbrev pub periods_with : List ℕ → List (List ℕ) → List ℕ → List ℕ
 periods_with site sites periods = if is_among site sites then periods else periods ++ default_period ∷ []
 
+-- the orders of readings of these sites, one for each, once this one is mentioned: one that begins goes by sequence
+abbrev pub orders_with : List ℕ → List (List ℕ) → List Order → List Order
+orders_with site sites orders = if is_among site sites then orders else orders ++ Sequence ∷ []
+
 -- one of the four settlement periods
 abbrev pub is_period : ℕ → Bool
 is_period seconds = (seconds == 300) || ((seconds == 900) || ((seconds == 1_800) || (seconds == 3_600)))
@@ -107,6 +120,20 @@ settled_by (Some number) s seconds = (record s { periods = slice_set s.periods n
 abbrev pub period_to : Script → List ℕ → ℕ → Script × List ℕ
 period_to s site seconds = if is_period seconds then settled_by (site_number site s.sites) s seconds else (s, fault_line PlanLimit)
 
+-- the order of readings of the site of this number
+abbrev pub order_of : Option ℕ → List Order → Order
+order_of None orders = Sequence
+order_of (Some number) orders = get_or orders number Sequence
+
+-- another order of readings for the site of this number, where there is one
+abbrev pub ordered_by : Option ℕ → Script → Order → Script × List ℕ
+ordered_by None s order = (s, fault_line UnknownSite)
+ordered_by (Some number) s order = (record s { orders = slice_set s.orders number order }, [])
+
+-- an order of readings before the ledgers are opened: it holds for all stations of the site, declared or not
+abbrev pub order_to : Script → List ℕ → Order → Script × List ℕ
+order_to s site order = ordered_by (site_number site s.sites) s order
+
 -- one station more, of this site, would be more than a plan may have: of stations, of readings, or of sites
 abbrev pub is_past_plan : Script → List ℕ → Bool
 is_past_plan s site =
@@ -116,7 +143,7 @@ is_past_plan s site =
 
 -- one station more, where no other has its name
 abbrev pub joined_by : Option Station → Script → List ℕ → List ℕ → Script × List ℕ
-joined_by None s site name = (record s { sites = sites_with site s.sites; periods = periods_with site s.sites s.periods; world = s.world ++ new_station s.limits site name ∷ [] }, [])
+joined_by None s site name = (record s { sites = sites_with site s.sites; periods = periods_with site s.sites s.periods; orders = orders_with site s.sites s.orders; world = s.world ++ new_station s.limits site name ∷ [] }, [])
 joined_by (Some _) s site name = (s, fault_line StationTwice)
 
 -- a declaration before the ledgers are opened
@@ -129,38 +156,42 @@ commanded_to None s command = (record s { opened = true }, fault_line UnknownSta
 commanded_to (Some station) s command =
     (record s { opened = true; world = world_after s.world (station.name, command) }, ended_line (answer_text (answer station.limits station.content command)))
 
--- the energy that a station imported, computed from all its events
-abbrev pub energy_answer : Option Station → List ℕ
-energy_answer None = fault_line UnknownStation
-energy_answer (Some station) = energy_line (energy Import (entries station.content))
+-- the energy that a station imported, computed from all its events; each site, by its name, has an order of readings
+abbrev pub energy_answer : (List ℕ → Order) → Option Station → List ℕ
+energy_answer order None = fault_line UnknownStation
+energy_answer order (Some station) = energy_line (energy_by (order station.site) Import (entries station.content))
 
 -- the energy that a station exported, computed from all its events
-abbrev pub export_answer : Option Station → List ℕ
-export_answer None = fault_line UnknownStation
-export_answer (Some station) = export_line (energy Export (entries station.content))
+abbrev pub export_answer : (List ℕ → Order) → Option Station → List ℕ
+export_answer order None = fault_line UnknownStation
+export_answer order (Some station) = export_line (energy_by (order station.site) Export (entries station.content))
 
 -- the figures of a station, computed from all its events
-abbrev pub total_answer : Option Station → List ℕ
-total_answer None = fault_line UnknownStation
-total_answer (Some station) = ended_line (total_text (figures (entries station.content)))
+abbrev pub total_answer : (List ℕ → Order) → Option Station → List ℕ
+total_answer order None = fault_line UnknownStation
+total_answer order (Some station) = ended_line (total_text (figures_by (order station.site) (entries station.content)))
 
--- the board of a station under its name by a settlement period, computed from all its events
-abbrev pub shown_station : ℕ → Station → List ℕ × Board
-shown_station period station = (station.name, board period (entries station.content))
+-- the board of a station under its name by an order of readings and a settlement period, computed from all its events
+abbrev pub shown_station : Order → ℕ → Station → List ℕ × Board
+shown_station order period station = (station.name, board_by order period (entries station.content))
 
--- the board of a site by its settlement period over these stations: the sums of their figures and of their quarters, and their boards
-abbrev pub shown_site : List ℕ → ℕ → World → NamedBoard
-shown_site site period stations =
-    let b = site_board period (map (shown_station period) stations) in
-    record { name = site; period = b.period; figures = b.figures; quarters = b.quarters; stations = b.stations }
+-- the board of a site by its order and its settlement period over these stations: the sums of their figures and of their quarters, and their boards
+abbrev pub shown_site : List ℕ → Order → ℕ → World → NamedBoard
+shown_site site order period stations =
+    let b = site_board period (map (shown_station order period) stations) in
+    record { name = site; period = b.period; order = order; figures = b.figures; quarters = b.quarters; stations = b.stations }
 
 -- the settlement period of the site of this name
 abbrev pub period_named : Script → List ℕ → ℕ
 period_named s site = period_of (site_number site s.sites) s.periods
 
--- the board of a site by its settlement period, computed from all events of its stations
+-- the order of readings of the site of this name
+abbrev pub order_named : Script → List ℕ → Order
+order_named s site = order_of (site_number site s.sites) s.orders
+
+-- the board of a site by its order and its settlement period, computed from all events of its stations
 abbrev pub board_answer : Script → List ℕ → List ℕ
-board_answer s site = if is_among site s.sites then board_text (shown_site site (period_named s site) (stations_of site s.world)) else fault_line UnknownSite
+board_answer s site = if is_among site s.sites then board_text (shown_site site (order_named s site) (period_named s site) (stations_of site s.world)) else fault_line UnknownSite
 
 -- a message of a station: an event is delivered, and all else is answered as it stands
 abbrev pub by_meaning : Meaning → Station → Script → Script × List ℕ
@@ -182,12 +213,13 @@ step_by s (fails fault) = (s, fault_line fault)
 step_by s (sets_limits transactions events readings changes) = if s.opened then (s, fault_line DeclaredLate) else limited_to s transactions events readings changes
 step_by s (declares site name) = if s.opened then (s, fault_line DeclaredLate) else declared_to s site name
 step_by s (sets_period site seconds) = if s.opened then (s, fault_line DeclaredLate) else period_to s site seconds
+step_by s (sets_order site order) = if s.opened then (s, fault_line DeclaredLate) else order_to s site order
 step_by s (tells nanos) = (record s { moment = nanos }, [])
 step_by s (sends name text) = sent_to (station_named name s.world) s text
 step_by s (commands name command) = commanded_to (station_named name s.world) s command
-step_by s (asks_energy name) = (record s { opened = true }, energy_answer (station_named name s.world))
-step_by s (asks_export name) = (record s { opened = true }, export_answer (station_named name s.world))
-step_by s (asks_total name) = (record s { opened = true }, total_answer (station_named name s.world))
+step_by s (asks_energy name) = (record s { opened = true }, energy_answer (order_named s) (station_named name s.world))
+step_by s (asks_export name) = (record s { opened = true }, export_answer (order_named s) (station_named name s.world))
+step_by s (asks_total name) = (record s { opened = true }, total_answer (order_named s) (station_named name s.world))
 step_by s (asks_board site) = (record s { opened = true }, board_answer s site)
 
 -- the same for a line's bytes
@@ -210,6 +242,7 @@ opening (fails _) = false
 opening (sets_limits _ _ _ _) = false
 opening (declares _ _) = false
 opening (sets_period _ _) = false
+opening (sets_order _ _) = false
 opening (tells _) = false
 opening (sends _ _) = true
 opening (commands _ _) = true

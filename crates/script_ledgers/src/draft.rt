@@ -1,14 +1,14 @@
 ghost use Rattle.std.specs.Prelude.{◌≡◌, ◌<◌, false, None, [], length, IfOk, IfSome, OnOk};
-ghost use Rattle.site_desk.specs.Plan.{sites_by};
+ghost use Rattle.site_desk.specs.Plan.{sites_by, sites_in};
 ghost use Rattle.std.specs.Option.{is_some};
 ghost use Rattle.std.specs.List.{position};
 ghost use Rattle.std.specs.Str.{bytes_eq};
 ghost use Rattle.script_lines.specs.Lines.{line_bytes};
 ghost use Rattle.script_ledgers.specs.Drafts.{planned, DraftAnswers, IsPlan};
-ghost use Rattle.script_ledgers.specs.Script.{start, declared_to, is_past_plan, is_period, joined_by, limited_to, period_to};
+ghost use Rattle.script_ledgers.specs.Script.{start, declared_to, is_past_plan, is_period, joined_by, limited_to, order_to, period_to};
 
 use crate::machine::LineOutcome;
-use ledger_model::{Limits, Moment, Name, Period};
+use ledger_model::{Limits, Moment, Name, Order, Period};
 use script_lines::{LineFault, ScriptLine, put_fault, read_line};
 use site_desk::Plan;
 use std::alloc::AllocError;
@@ -98,6 +98,7 @@ impl Draft {
             }
             ScriptLine::Declares(site, name) => self.declare(site, name, reply)?,
             ScriptLine::SetsPeriod(site, seconds) => self.settle_by(&site, seconds, reply)?,
+            ScriptLine::SetsOrder(site, order) => self.order_by(&site, order, reply)?,
             ScriptLine::Tells(moment) => self.tell(moment),
             ScriptLine::Sends(_, _)
             | ScriptLine::Commands(_, _)
@@ -161,6 +162,26 @@ impl Draft {
         self.plan.set_period(site, period);
     }
 
+    // Gives a site another order of readings, or puts the fault that there is no such site into the reply.
+    fn order_by(&mut self, site: &Name, order: Order, reply: &mut Vec<u8>) -> Result<(), AllocError>
+        requires { reply.old.items ≡ [] }
+        ensures { OnOk result (order_to (planned self.old) site.now order ≡ (planned self.new, reply.new.items)) }
+    {
+        let Some(number) = self.site(site) else {
+            return put_fault(reply, LineFault::UnknownSite);
+        };
+        self.set_order(number, order);
+        Ok(())
+    }
+
+    // Gives the site of this number another order of readings.
+    fn set_order(&mut self, site: usize, order: Order)
+        requires { site < length self.old.sites }
+        ensures { self.new ≡ record self.old { sites = sites_in site order self.old.sites } }
+    {
+        self.plan.set_order(site, order);
+    }
+
     // Adds a station, or puts the fault that keeps it out into the reply.
     fn declare(&mut self, site: Name, name: Name, reply: &mut Vec<u8>) -> Result<(), AllocError>
         requires { reply.old.items ≡ [] }
@@ -189,8 +210,14 @@ impl Draft {
         requires new { position (λ s. bytes_eq name s.name) self.old.stations ≡ None }
         ensures { planned self.new ≡ (joined_by None (planned self.old) site name).0 }
     {
-        self.plan
-            .declare(site, 0, Period::default(), name, self.limits);
+        self.plan.declare(
+            site,
+            0,
+            Period::default(),
+            Order::default(),
+            name,
+            self.limits,
+        );
     }
 }
 

@@ -11,7 +11,7 @@ ghost use Rattle.script_ledgers.specs.Drafts.{planned};
 ghost use Rattle.script_lines.specs.Lines.{line_bytes};
 ghost use Rattle.script_ledgers.specs.Received.{ReceivesText, TakesMessage};
 ghost use Rattle.script_ledgers.specs.Running.{running, posts_in, IsRunning, Settles};
-ghost use Rattle.script_ledgers.specs.Script.{board_answer, commanded_to, energy_answer, export_answer, line_step, period_named, script_text, sent_to, shown_site, station_named, stations_of, total_answer};
+ghost use Rattle.script_ledgers.specs.Script.{board_answer, commanded_to, energy_answer, export_answer, line_step, order_named, period_named, script_text, sent_to, shown_site, station_named, stations_of, total_answer};
 ghost use Rattle.transaction_event.specs.MessageMeaning.{HasShortId, asking, with_reply};
 
 use crate::draft::Draft;
@@ -138,6 +138,7 @@ impl<J: Naming> Ledgers<J> {
             ScriptLine::Fails(fault) => put_fault(reply, fault),
             ScriptLine::Limits(_, _, _, _)
             | ScriptLine::Declares(_, _)
+            | ScriptLine::SetsOrder(_, _)
             | ScriptLine::SetsPeriod(_, _) => put_fault(reply, LineFault::DeclaredLate),
             ScriptLine::Tells(moment) => {
                 self.draft.tell(moment);
@@ -277,7 +278,7 @@ impl<J: Naming> Ledgers<J> {
 
     // Puts the energy that a station imported into the reply.
     fn put_energy(&self, name: &Name, reply: &mut Vec<u8>) -> Result<(), AllocError>
-        ensures { OnOk result (reply.new.items ≡ reply.old.items ++ energy_answer (station_named name.now (running self.now.draft self.now.cells.items).world)) }
+        ensures { OnOk result (reply.new.items ≡ reply.old.items ++ energy_answer (order_named (running self.now.draft self.now.cells.items)) (station_named name.now (running self.now.draft self.now.cells.items).world)) }
     {
         match self.draft.station(name) {
             Some(number) => {
@@ -290,7 +291,7 @@ impl<J: Naming> Ledgers<J> {
 
     // Puts the energy that a station exported into the reply.
     fn put_export(&self, name: &Name, reply: &mut Vec<u8>) -> Result<(), AllocError>
-        ensures { OnOk result (reply.new.items ≡ reply.old.items ++ export_answer (station_named name.now (running self.now.draft self.now.cells.items).world)) }
+        ensures { OnOk result (reply.new.items ≡ reply.old.items ++ export_answer (order_named (running self.now.draft self.now.cells.items)) (station_named name.now (running self.now.draft self.now.cells.items).world)) }
     {
         match self.draft.station(name) {
             Some(number) => {
@@ -303,7 +304,7 @@ impl<J: Naming> Ledgers<J> {
 
     // Puts the figures of a station into the reply.
     fn put_total(&self, name: &Name, reply: &mut Vec<u8>) -> Result<(), AllocError>
-        ensures { OnOk result (reply.new.items ≡ reply.old.items ++ total_answer (station_named name.now (running self.now.draft self.now.cells.items).world)) }
+        ensures { OnOk result (reply.new.items ≡ reply.old.items ++ total_answer (order_named (running self.now.draft self.now.cells.items)) (station_named name.now (running self.now.draft self.now.cells.items).world)) }
     {
         match self.draft.station(name) {
             Some(number) => {
@@ -331,7 +332,7 @@ impl<J: Naming> Ledgers<J> {
     // The text of the board of the site of this name and number. Its totals are the book's.
     fn board_text(&self, name: &Name, site: usize) -> Result<Vec<u8>, AllocError>
         requires { position (λ s. bytes_eq name.now s.name) self.now.draft.sites ≡ Some site }
-        ensures { IfOk result (λ text. text.items ≡ board_text (shown_site name.now (period_named (running self.now.draft self.now.cells.items) name.now) (stations_of name.now (running self.now.draft self.now.cells.items).world))) }
+        ensures { IfOk result (λ text. text.items ≡ board_text (shown_site name.now (order_named (running self.now.draft self.now.cells.items) name.now) (period_named (running self.now.draft self.now.cells.items) name.now) (stations_of name.now (running self.now.draft self.now.cells.items).world))) }
     {
         let totals = self.books[site].totals();
         site_text(

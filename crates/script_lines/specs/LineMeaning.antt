@@ -6,6 +6,8 @@ use Rattle.std.specs.Str.{bytes_eq, is_utf8}
 use Rattle.std.specs.Str.Parse.{digits_value}
 use Rattle.ledger_model.specs.declared.command.Command.{Command}
 use Rattle.ledger_model.specs.declared.command.Command.TheVariants.{Void, Restore, Erase}
+use Rattle.ledger_model.specs.declared.order.Order.{Order}
+use Rattle.ledger_model.specs.declared.order.Order.TheVariants.{Sequence, Moment}
 use Rattle.ledger_model.specs.Key.{KeyName}
 use Rattle.ledger_model.specs.Name.{is_name}
 use Rattle.ledger_model.specs.Ranges.{sequence_end}
@@ -18,13 +20,14 @@ use Rattle.script_lines.specs.declared.script_line.Operation.{Operation}
 use Rattle.script_lines.specs.declared.script_line.Operation.TheVariants as operation
 use Rattle.script_lines.specs.Lines.{Line}
 
--- what a line says: nothing, a fault, the limits of the stations that follow, a station's declaration, the settlement period of a site, a moment, a message of a station, a command on a station, or a question for a station's imported or exported energy or its figures or for a site's board
+-- what a line says: nothing, a fault, the limits of the stations that follow, a station's declaration, the settlement period of a site, the order of its readings, a moment, a message of a station, a command on a station, or a question for a station's imported or exported energy or its figures or for a site's board
 pub data LineMeaning : Type 0 where
   nothing : LineMeaning
   fails : LineFault → LineMeaning
   sets_limits : ℕ → ℕ → ℕ → ℕ → LineMeaning
   declares : List ℕ → List ℕ → LineMeaning
   sets_period : List ℕ → ℕ → LineMeaning
+  sets_order : List ℕ → Order → LineMeaning
   tells : ℕ → LineMeaning
   sends : List ℕ → List ℕ → LineMeaning
   commands : List ℕ → Command → LineMeaning
@@ -83,6 +86,23 @@ period_of site (Some seconds) = if is_name site then sets_period site seconds el
 abbrev pub declared_period : Option (List ℕ × List ℕ) → LineMeaning
 declared_period None = fails BadLine
 declared_period (Some words) = period_of words.0 (number words.1)
+
+-- the order of readings that a word names
+abbrev pub order_word : List ℕ → Option Order
+order_word word =
+    if bytes_eq word (codes "sequence") then Some Sequence
+    else (if bytes_eq word (codes "moment") then Some Moment
+    else None)
+
+-- an order of readings for a site
+abbrev pub order_of : List ℕ → Option Order → LineMeaning
+order_of site None = fails BadLine
+order_of site (Some order) = if is_name site then sets_order site order else fails BadLine
+
+-- `<site> <word>`
+abbrev pub declared_order : Option (List ℕ × List ℕ) → LineMeaning
+declared_order None = fails BadLine
+declared_order (Some words) = order_of words.0 (order_word words.1)
 
 -- `<time>`, read as one word
 abbrev pub told_moment : Result ℕ MomentFault → LineMeaning
@@ -149,8 +169,9 @@ by_first_word (Some words) =
     else (if bytes_eq words.0 (codes "station") then declared_names (parted words.1)
     else (if bytes_eq words.0 (codes "limits") then limited (parted words.1)
     else (if bytes_eq words.0 (codes "period") then declared_period (parted words.1)
+    else (if bytes_eq words.0 (codes "order") then declared_order (parted words.1)
     else (if bytes_eq words.0 (codes "now") then told words.1 (parted words.1)
-    else by_other_word words.0 words.1))))
+    else by_other_word words.0 words.1)))))
 
 -- the words of a line that is no comment
 abbrev pub by_words : List ℕ → LineMeaning

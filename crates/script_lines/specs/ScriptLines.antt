@@ -1,7 +1,7 @@
 -- What a line that was read says.
 use Rattle.script_lines.specs.declared.script_line.ScriptLine.{ScriptLine}
-use Rattle.script_lines.specs.declared.script_line.ScriptLine.TheVariants.{Nothing, Fails, Limits, Declares, SetsPeriod, Tells, Sends, Commands, AsksEnergy, AsksExport, AsksTotal, AsksBoard}
-use Rattle.script_lines.specs.LineMeaning.{LineMeaning, nothing, fails, sets_limits, declares, sets_period, tells, sends, commands, asks_energy, asks_export, asks_total, asks_board}
+use Rattle.script_lines.specs.declared.script_line.ScriptLine.TheVariants.{Nothing, Fails, Limits, Declares, SetsPeriod, SetsOrder, Tells, Sends, Commands, AsksEnergy, AsksExport, AsksTotal, AsksBoard}
+use Rattle.script_lines.specs.LineMeaning.{LineMeaning, nothing, fails, sets_limits, declares, sets_period, sets_order, tells, sends, commands, asks_energy, asks_export, asks_total, asks_board}
 
 -- The meaning of a line that was read.
 abbrev pub meaning_of : ScriptLine → LineMeaning
@@ -10,6 +10,7 @@ meaning_of (Fails fault) = fails fault
 meaning_of (Limits transactions events readings changes) = sets_limits transactions events readings changes
 meaning_of (Declares site name) = declares site name
 meaning_of (SetsPeriod site seconds) = sets_period site seconds
+meaning_of (SetsOrder site order) = sets_order site order
 meaning_of (Tells moment) = tells moment
 meaning_of (Sends name text) = sends name text.now
 meaning_of (Commands name command) = commands name command

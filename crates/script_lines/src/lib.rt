@@ -21,5 +21,5 @@ mod text;
 
 pub use fault::ReplayFault;
 pub use line_reader::{LineEnd, LineReader, MAX_LINE_BYTES, without_return};
-pub use script_line::{LineFault, Operation, ScriptLine, read_line};
+pub use script_line::{LineFault, Operation, ScriptLine, order_of, read_line};
 pub use text::{put_answer, put_fault, put_line};

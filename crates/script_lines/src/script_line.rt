@@ -5,7 +5,7 @@ ghost use Rattle.script_lines.specs.Lines.{line_bytes};
 ghost use Rattle.script_lines.specs.ScriptLines.{meaning_of};
 ghost use Rattle.script_lines.specs.LineMeaning as spec;
 
-use ledger_model::{Command, Key, Moment, Name, TxId};
+use ledger_model::{Command, Key, Moment, Name, Order, TxId};
 use reading_decimal::moment_of;
 
 /// Why a line of a script changes no plan, content or moment; the first that applies, in this order.
@@ -83,6 +83,8 @@ pub enum ScriptLine<'a> {
     Declares(Name, Name),
     /// `period <site> <seconds>`: the settlement period of a site's boards.
     SetsPeriod(Name, u64),
+    /// `order <site> <word>`: the order in which a site takes the readings of a transaction.
+    SetsOrder(Name, Order),
     /// `now <time>`: the moment from here on.
     Tells(Moment),
     /// `msg <station> <text>`: a message of a station.
@@ -134,6 +136,8 @@ fn by_first_word(text: &str) -> ScriptLine<'_>
         limited(rest)
     } else if word == "period" {
         declared_period(rest)
+    } else if word == "order" {
+        declared_order(rest)
     } else if word == "now" {
         told(rest)
     } else {
@@ -258,6 +262,29 @@ fn declared_period(rest: &str) -> ScriptLine<'_>
     match (Name::new(site), number(seconds)) {
         (Some(site), Some(seconds)) => ScriptLine::SetsPeriod(site, seconds),
         _ => ScriptLine::Fails(LineFault::BadLine),
+    }
+}
+
+fn declared_order(rest: &str) -> ScriptLine<'_>
+    ensures { meaning_of result ≡ spec.declared_order (spec.parted rest.now) }
+{
+    let Some((site, word)) = parted(rest) else {
+        return ScriptLine::Fails(LineFault::BadLine);
+    };
+    match (Name::new(site), order_of(word)) {
+        (Some(site), Some(order)) => ScriptLine::SetsOrder(site, order),
+        _ => ScriptLine::Fails(LineFault::BadLine),
+    }
+}
+
+/// The order of readings that a word names: `sequence` or `moment`.
+pub fn order_of(word: &str) -> Option<Order>
+    ensures { result ≡ spec.order_word word.now }
+{
+    match word {
+        "sequence" => Some(Order::Sequence),
+        "moment" => Some(Order::Moment),
+        _ => None,
     }
 }
 

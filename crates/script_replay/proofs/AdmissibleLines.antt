@@ -3,6 +3,7 @@ use Rattle.std.proofs.Common.{◌≡◌, ℕ, Bool, true, false, cond, List, [],
 use Rattle.std.specs.Prelude.{◌&&◌, ◌==◌, nat_lt, codes}
 use Rattle.std.specs.Str.{bytes_eq, is_utf8}
 use Rattle.std.proofs.lemmas.Bool.{and_parts}
+use Rattle.ledger_model.specs.declared.order.Order.{Order}
 use Rattle.ledger_model.specs.Admissible.{IsAdmissible}
 use Rattle.ledger_model.specs.Key.{KeyName, IsKeyName}
 use Rattle.ledger_model.specs.Name.{is_name}
@@ -15,7 +16,7 @@ use Rattle.script_lines.specs.declared.script_line.LineFault.TheVariants.{BadLin
 use Rattle.script_lines.specs.declared.script_line.Operation.{Operation}
 use Rattle.script_lines.specs.declared.script_line.Operation.TheVariants as operation
 use Rattle.script_lines.specs.Lines.{Line}
-use Rattle.script_lines.specs.LineMeaning.{LineMeaning, nothing, fails, sets_limits, declares, sets_period, tells, sends, commands, asks_energy, asks_export, asks_total, asks_board, by_bytes, by_first_word, by_other_word, by_words, command_of, declared_names, declared_period, period_of, four_numbers, limited, limited_last, limited_next, line_meaning, number, operated, operated_at, operated_key, operated_last, parted, sent, told, told_moment}
+use Rattle.script_lines.specs.LineMeaning.{LineMeaning, nothing, fails, sets_limits, declares, sets_period, sets_order, tells, sends, commands, asks_energy, asks_export, asks_total, asks_board, by_bytes, by_first_word, by_other_word, by_words, command_of, declared_names, declared_order, declared_period, order_of, order_word, period_of, four_numbers, limited, limited_last, limited_next, line_meaning, number, operated, operated_at, operated_key, operated_last, parted, sent, told, told_moment}
 
 -- a command that the line asks is admissible
 abbrev pub IsFine : LineMeaning → Type 0
@@ -24,6 +25,7 @@ IsFine (fails _) = Unit {0}
 IsFine (sets_limits _ _ _ _) = Unit {0}
 IsFine (declares _ _) = Unit {0}
 IsFine (sets_period _ _) = Unit {0}
+IsFine (sets_order _ _) = Unit {0}
 IsFine (tells _) = Unit {0}
 IsFine (sends _ _) = Unit {0}
 IsFine (commands name command) = IsAdmissible command
@@ -66,6 +68,14 @@ fine_seconds site (Some seconds) = either (is_name site) (sets_period site secon
 fine_period : (words : Option (List ℕ × List ℕ)) → IsFine (declared_period words)
 fine_period None = tt
 fine_period (Some words) = fine_seconds words.0 (number words.1)
+
+fine_order_of : (site : List ℕ) (order : Option Order) → IsFine (order_of site order)
+fine_order_of site None = tt
+fine_order_of site (Some order) = either (is_name site) (sets_order site order) (fails BadLine) tt tt
+
+fine_order : (words : Option (List ℕ × List ℕ)) → IsFine (declared_order words)
+fine_order None = tt
+fine_order (Some words) = fine_order_of words.0 (order_word words.1)
 
 fine_moment : (r : Result ℕ MomentFault) → IsFine (told_moment r)
 fine_moment (Ok _) = tt
@@ -120,7 +130,8 @@ fine_words (Some words) =
     (either (bytes_eq words.0 (codes "station")) _ _ (fine_declared (parted words.1))
     (either (bytes_eq words.0 (codes "limits")) _ _ (fine_limited (parted words.1))
     (either (bytes_eq words.0 (codes "period")) _ _ (fine_period (parted words.1))
-    (either (bytes_eq words.0 (codes "now")) _ _ (fine_told words.1 (parted words.1)) (fine_other words.0 words.1)))))
+    (either (bytes_eq words.0 (codes "order")) _ _ (fine_order (parted words.1))
+    (either (bytes_eq words.0 (codes "now")) _ _ (fine_told words.1 (parted words.1)) (fine_other words.0 words.1))))))
 
 fine_bytes : (bytes : List ℕ) → IsFine (by_bytes bytes)
 fine_bytes [] = tt

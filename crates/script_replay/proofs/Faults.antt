@@ -3,6 +3,7 @@ use Rattle.std.proofs.Common.{◌≡◌, ℕ, Bool, true, false, cond, List, [],
 use Rattle.ledger_model.specs.declared.answer.Answer.{Answer}
 use Rattle.ledger_model.specs.declared.answer.Answer.TheVariants.{Accepted, Repeat, Refused}
 use Rattle.ledger_model.specs.declared.command.Command.{Command}
+use Rattle.ledger_model.specs.declared.order.Order.{Order}
 use Rattle.ledger_model.specs.World.{Station}
 use Rattle.transaction_event.specs.Message.{Meaning, Event, Ready, Silence, message}
 use Rattle.transaction_event.specs.Reply.{event_reply_bytes}
@@ -10,8 +11,8 @@ use Rattle.script_lines.specs.declared.script_line.LineFault.{LineFault}
 use Rattle.script_lines.specs.declared.script_line.LineFault.TheVariants.{DeclaredLate, PlanLimit}
 use Rattle.script_replay.specs.Laws.{FaultsChangeNothing}
 use Rattle.script_lines.specs.Texts.{answer_text, ended_line, fault_line}
-use Rattle.script_ledgers.specs.Script.{Script, are_limits, by_meaning, commanded_to, declared_to, is_past_plan, is_period, joined_by, limited_to, period_to, sent_to, settled_by, site_number, station_named, step_by}
-use Rattle.script_lines.specs.LineMeaning.{LineMeaning, nothing, fails, sets_limits, declares, sets_period, tells, sends, commands, asks_energy, asks_export, asks_total, asks_board, line_meaning}
+use Rattle.script_ledgers.specs.Script.{Script, are_limits, by_meaning, commanded_to, declared_to, is_past_plan, is_period, joined_by, limited_to, order_to, ordered_by, period_to, sent_to, settled_by, site_number, station_named, step_by}
+use Rattle.script_lines.specs.LineMeaning.{LineMeaning, nothing, fails, sets_limits, declares, sets_period, sets_order, tells, sends, commands, asks_energy, asks_export, asks_total, asks_board, line_meaning}
 
 -- nothing has changed but whether the ledgers are opened
 abbrev Same : Script → Script × List ℕ → Type 0
@@ -58,6 +59,10 @@ by_period : (is : Bool) (s : Script) (o : Option ℕ) (seconds : ℕ) → Holds 
 by_period true s o seconds fault e = settled o s seconds fault e
 by_period false s o seconds fault e = refl
 
+ordered : (o : Option ℕ) (s : Script) (order : Order) → Holds s (ordered_by o s order)
+ordered None s order fault e = refl
+ordered (Some number) s order fault e = absurd (some_text fault e)
+
 -- no answer to a command is a fault's text
 some_answer : (answer : Answer) (fault : LineFault) → ended_line (answer_text answer) ≡ fault_line fault → ⊥
 some_answer (Accepted n) fault e = let same : 97 ≡ 102 = not_one_head 97 _ _ e in omega (arith, same)
@@ -89,6 +94,7 @@ steps s (fails _) fault e = refl
 steps s (sets_limits t n r c) fault e = late s.opened s (limited_to s t n r c) (limited (are_limits t n r c) s t n r c) fault e
 steps s (declares site name) fault e = late s.opened s (declared_to s site name) (declared (is_past_plan s site) s site name) fault e
 steps s (sets_period site seconds) fault e = late s.opened s (period_to s site seconds) (by_period (is_period seconds) s (site_number site s.sites) seconds) fault e
+steps s (sets_order site order) fault e = late s.opened s (order_to s site order) (ordered (site_number site s.sites) s order) fault e
 steps s (tells nanos) fault e = absurd (some_text fault e)
 steps s (sends name text) fault e = sent_by (station_named name s.world) s text fault e
 steps s (commands name command) fault e = commanded (station_named name s.world) s command fault e

@@ -6,6 +6,7 @@ use Rattle.ledger_model.specs.declared.answer.Answer.{Answer}
 use Rattle.ledger_model.specs.declared.answer.Answer.TheVariants.{Accepted, Repeat, Refused}
 use Rattle.ledger_model.specs.declared.command.Command.{Command}
 use Rattle.ledger_model.specs.declared.command.Command.TheVariants.{Deliver}
+use Rattle.ledger_model.specs.declared.order.Order.{Order}
 use Rattle.ledger_model.specs.Admissible.{IsAdmissible}
 use Rattle.ledger_model.specs.Content.{Content}
 use Rattle.ledger_model.specs.Laws.{IsAccepted}
@@ -19,9 +20,9 @@ use Rattle.transaction_event.proofs.AdmissibleRequests.{each_delivery_is_admissi
 use Rattle.script_replay.specs.Laws.{StationsAreReached, EnergyIsFromScratch, ExportIsFromScratch, TotalsAreFromScratch, BoardsAreFromScratch}
 use Rattle.script_lines.specs.Lines.{Line}
 use Rattle.script_lines.specs.Texts.{fault_line}
-use Rattle.script_ledgers.specs.Script.{Script, are_limits, by_meaning, commanded_to, declared_to, energy_answer, export_answer, is_among, is_past_plan, is_period, joined_by, limited_to, line_step, new_station, period_named, period_to, sent_to, settled_by, shown_site, site_number, start, station_named, stations_of, step_by, total_answer, script_after}
+use Rattle.script_ledgers.specs.Script.{Script, are_limits, by_meaning, commanded_to, declared_to, energy_answer, export_answer, is_among, is_past_plan, is_period, joined_by, limited_to, line_step, new_station, order_named, order_to, ordered_by, period_named, period_to, sent_to, settled_by, shown_site, site_number, start, station_named, stations_of, step_by, total_answer, script_after}
 use Rattle.board_report.specs.Texts.{board_text}
-use Rattle.script_lines.specs.LineMeaning.{LineMeaning, nothing, fails, sets_limits, declares, sets_period, tells, sends, commands, asks_energy, asks_export, asks_total, asks_board, line_meaning}
+use Rattle.script_lines.specs.LineMeaning.{LineMeaning, nothing, fails, sets_limits, declares, sets_period, sets_order, tells, sends, commands, asks_energy, asks_export, asks_total, asks_board, line_meaning}
 use Rattle.script_lines.specs.declared.script_line.LineFault.TheVariants.{DeclaredLate, PlanLimit, UnknownSite}
 use Rattle.script_replay.proofs.AdmissibleLines.{IsFine, fine_line}
 
@@ -157,6 +158,10 @@ kept_period : (is : Bool) (s : Script) (o : Option ℕ) (seconds : ℕ) → Kept
 kept_period true s o seconds kept = kept_settled o s seconds kept
 kept_period false s o seconds kept = kept
 
+kept_ordered : (o : Option ℕ) (s : Script) (order : Order) → Kept s.world → Kept (ordered_by o s order).0.world
+kept_ordered None s order kept = kept
+kept_ordered (Some number) s order kept = kept
+
 kept_meaning : (meaning : Meaning) (station : Station) (s : Script) → ((id : List ℕ) (request : Request) → meaning ≡ Event id request → IsAdmissible (Deliver request.key request.event))
     → Kept s.world → Kept (by_meaning meaning station s).0.world
 kept_meaning (Event id request) station s is kept = kept_world s.world station.name (Deliver request.key request.event) (is id request refl) kept
@@ -177,6 +182,7 @@ kept_step s (fails _) fine kept = kept
 kept_step s (sets_limits t e r c) fine kept = kept_late s.opened s (limited_to s t e r c) kept (kept_limited (are_limits t e r c) s t e r c kept)
 kept_step s (declares site name) fine kept = kept_late s.opened s (declared_to s site name) kept (kept_declared (is_past_plan s site) s site name kept)
 kept_step s (sets_period site seconds) fine kept = kept_late s.opened s (period_to s site seconds) kept (kept_period (is_period seconds) s (site_number site s.sites) seconds kept)
+kept_step s (sets_order site order) fine kept = kept_late s.opened s (order_to s site order) kept (kept_ordered (site_number site s.sites) s order kept)
 kept_step s (tells _) fine kept = kept
 kept_step s (sends name text) fine kept = kept_sent (station_named name s.world) s text kept
 kept_step s (commands name command) fine kept = kept_commanded (station_named name s.world) s command fine kept
@@ -200,25 +206,27 @@ stations_are_reached lines name station e = named_is_reached (script_after start
 pub energy_is_from_scratch : EnergyIsFromScratch
 energy_is_from_scratch lines line name station says e =
     let s = script_after start lines in
-    ap (λ meaning. (step_by s meaning).1) says ∙ ap energy_answer e
+    ap (λ meaning. (step_by s meaning).1) says ∙ ap (energy_answer (order_named s)) e
 
 pub export_is_from_scratch : ExportIsFromScratch
 export_is_from_scratch lines line name station says e =
     let s = script_after start lines in
-    ap (λ meaning. (step_by s meaning).1) says ∙ ap export_answer e
+    ap (λ meaning. (step_by s meaning).1) says ∙ ap (export_answer (order_named s)) e
 
 pub totals_are_from_scratch : TotalsAreFromScratch
 totals_are_from_scratch lines line name station says e =
     let s = script_after start lines in
-    ap (λ meaning. (step_by s meaning).1) says ∙ ap total_answer e
+    ap (λ meaning. (step_by s meaning).1) says ∙ ap (total_answer (order_named s)) e
 
 pub boards_are_from_scratch : BoardsAreFromScratch
 boards_are_from_scratch lines line site says there =
     let s = script_after start lines in
     ap (λ meaning. (step_by s meaning).1) says ∙ shown (is_among site s.sites) there
   where
-    shown : (b : Bool) → b ≡ true
-        → cond b (board_text (shown_site site (period_named (script_after start lines) site) (stations_of site (script_after start lines).world))) (fault_line UnknownSite) ≡ board_text (shown_site site (period_named (script_after start lines) site) (stations_of site (script_after start lines).world))
+    text : List ℕ
+    text = board_text (shown_site site (order_named (script_after start lines) site) (period_named (script_after start lines) site) (stations_of site (script_after start lines).world))
+
+    shown : (b : Bool) → b ≡ true → cond b text (fault_line UnknownSite) ≡ text
     shown true is = refl
     shown false is = cc is
 

@@ -5,6 +5,7 @@ use Rattle.std.proofs.lemmas.List.{map-append}
 use Rattle.std.proofs.lemmas.List.Elements.{All-append, All-cons, All-nil}
 use Rattle.ledger_model.specs.declared.command.Command.{Command}
 use Rattle.ledger_model.specs.declared.command.Command.TheVariants.{Deliver}
+use Rattle.ledger_model.specs.declared.order.Order.{Order}
 use Rattle.ledger_model.specs.Content.{empty_content}
 use Rattle.ledger_model.specs.World.{Station, World, Happens, run, station_after, world_after}
 use Rattle.ledger_model.specs.WorldLaws.{AreReordered, IsDelivery}
@@ -13,9 +14,9 @@ use Rattle.transaction_event.specs.Message.{Meaning, Event, Ready, Silence, mess
 use Rattle.script_lines.specs.declared.script_line.LineFault.TheVariants.{DeclaredLate, PlanLimit}
 use Rattle.script_replay.specs.Laws.{asked_by, asked_of, commanded_by, emptied, happened, sent_by, IsNoOperation, OrderChangesNoBoard, UnacceptedChangesNothing, WorldsAreRuns}
 use Rattle.script_lines.specs.Lines.{Line}
-use Rattle.script_lines.specs.LineMeaning.{LineMeaning, nothing, fails, sets_limits, declares, sets_period, tells, sends, commands, asks_energy, asks_export, asks_total, asks_board, line_meaning}
+use Rattle.script_lines.specs.LineMeaning.{LineMeaning, nothing, fails, sets_limits, declares, sets_period, sets_order, tells, sends, commands, asks_energy, asks_export, asks_total, asks_board, line_meaning}
 use Rattle.script_lines.specs.Texts.{fault_line}
-use Rattle.script_ledgers.specs.Script.{Script, start, are_limits, board_answer, by_meaning, commanded_to, declared_to, is_past_plan, is_period, joined_by, limited_to, line_step, period_to, sent_to, settled_by, site_number, station_named, step_by, script_after}
+use Rattle.script_ledgers.specs.Script.{KeepsSites, Script, start, are_limits, board_answer, by_meaning, commanded_to, declared_to, is_past_plan, is_period, joined_by, limited_to, line_step, order_to, ordered_by, period_to, sent_to, settled_by, site_number, station_named, step_by, script_after}
 use Rattle.script_replay.proofs.ReachedStations.{kept_from_start, same_world}
 
 -- ---- stations without events
@@ -76,6 +77,10 @@ run_period : (is : Bool) (s : Script) (o : Option ℕ) (seconds : ℕ) (hs : Lis
 run_period true s o seconds hs ran = run_settled o s seconds hs ran
 run_period false s o seconds hs ran = still s s hs refl (λ f. f) ran
 
+run_ordered : (o : Option ℕ) (s : Script) (order : Order) (hs : List Happens) → IsRun s hs → IsRun (ordered_by o s order).0 (hs ++ [])
+run_ordered None s order hs ran = still s s hs refl (λ f. f) ran
+run_ordered (Some number) s order hs ran = still s (ordered_by (Some number) s order).0 hs refl (λ f. f) ran
+
 run_late : (late : Bool) (s : Script) (after : Script × List ℕ) (hs : List Happens) → s.opened ≡ late → IsRun s hs → (s.opened ≡ false → IsRun after.0 (hs ++ [])) → IsRun (cond late (s, fault_line DeclaredLate) after).0 (hs ++ [])
 run_late true s after hs e ran then = still s s hs refl (λ f. f) ran
 run_late false s after hs e ran then = then e
@@ -99,6 +104,7 @@ run_step s (fails _) hs ran = still s s hs refl (λ f. f) ran
 run_step s (sets_limits t e r c) hs ran = run_late s.opened s (limited_to s t e r c) hs refl ran (λ f. run_limited (are_limits t e r c) s t e r c hs ran)
 run_step s (declares site name) hs ran = run_late s.opened s (declared_to s site name) hs refl ran (λ f. run_declared (is_past_plan s site) s site name hs f ran)
 run_step s (sets_period site seconds) hs ran = run_late s.opened s (period_to s site seconds) hs refl ran (λ f. run_period (is_period seconds) s (site_number site s.sites) seconds hs ran)
+run_step s (sets_order site order) hs ran = run_late s.opened s (order_to s site order) hs refl ran (λ f. run_ordered (site_number site s.sites) s order hs ran)
 run_step s (tells nanos) hs ran = still s (record s { moment = nanos }) hs refl (λ f. f) ran
 run_step s (sends name text) hs ran = run_sent (station_named name s.world) s text hs ran
 run_step s (commands name command) hs ran = run_commanded (station_named name s.world) s command hs ran
@@ -120,13 +126,13 @@ worlds_are_runs lines = (run_lines start lines [] (refl, λ f. refl)).0
 
 -- a line that asks a command takes the step of just that
 abbrev Asks : Script → Script → List ℕ → Command → Type 0
-Asks s t name command = (t.world ≡ world_after s.world (name, command)) × ((t.sites ≡ s.sites) × (t.periods ≡ s.periods))
+Asks s t name command = (t.world ≡ world_after s.world (name, command)) × KeepsSites s t
 
-one_asked : (s : Script) (t : Script) (a b : Happens) → a ∷ [] ≡ b ∷ [] → t.world ≡ world_after s.world a → t.sites ≡ s.sites → t.periods ≡ s.periods → Asks s t b.0 b.1
-one_asked s t a b e world sites periods = let same : a ≡ b = cc e in (world ∙ ap (world_after s.world) same, (sites, periods))
+one_asked : (s : Script) (t : Script) (a b : Happens) → a ∷ [] ≡ b ∷ [] → t.world ≡ world_after s.world a → KeepsSites s t → Asks s t b.0 b.1
+one_asked s t a b e world kept = let same : a ≡ b = cc e in (world ∙ ap (world_after s.world) same, kept)
 
 asks_meaning : (meaning : Meaning) (station : Station) (s : Script) (name : List ℕ) (command : Command) → asked_by meaning station ≡ (name, command) ∷ [] → Asks s (by_meaning meaning station s).0 name command
-asks_meaning (Event id request) station s name command e = one_asked s (by_meaning (Event id request) station s).0 (station.name, Deliver request.key request.event) (name, command) e refl refl refl
+asks_meaning (Event id request) station s name command e = one_asked s (by_meaning (Event id request) station s).0 (station.name, Deliver request.key request.event) (name, command) e refl (record { sites = refl; periods = refl; orders = refl })
 asks_meaning (Ready reply) station s name command e = cc e
 asks_meaning Silence station s name command e = cc e
 
@@ -136,7 +142,7 @@ asks_sent (Some station) s text name command e = asks_meaning (message text s.mo
 
 asks_commanded : (station : Option Station) (s : Script) (asked : Command) (name : List ℕ) (command : Command) → commanded_by station asked ≡ (name, command) ∷ [] → Asks s (commanded_to station s asked).0 name command
 asks_commanded None s asked name command e = cc e
-asks_commanded (Some station) s asked name command e = one_asked s (commanded_to (Some station) s asked).0 (station.name, asked) (name, command) e refl refl refl
+asks_commanded (Some station) s asked name command e = one_asked s (commanded_to (Some station) s asked).0 (station.name, asked) (name, command) e refl (record { sites = refl; periods = refl; orders = refl })
 
 asks_step : (s : Script) (meaning : LineMeaning) (name : List ℕ) (command : Command) → asked_of s meaning ≡ (name, command) ∷ [] → Asks s (step_by s meaning).0 name command
 asks_step s nothing name command e = cc e
@@ -144,6 +150,7 @@ asks_step s (fails _) name command e = cc e
 asks_step s (sets_limits _ _ _ _) name command e = cc e
 asks_step s (declares _ _) name command e = cc e
 asks_step s (sets_period _ _) name command e = cc e
+asks_step s (sets_order _ _) name command e = cc e
 asks_step s (tells _) name command e = cc e
 asks_step s (sends at text) name command e = asks_sent (station_named at s.world) s text name command e
 asks_step s (commands at asked) name command e = asks_commanded (station_named at s.world) s asked name command e
@@ -175,6 +182,7 @@ delivers_line s (fails _) is = All-nil (λ h. IsDelivery h.1)
 delivers_line s (sets_limits _ _ _ _) is = All-nil (λ h. IsDelivery h.1)
 delivers_line s (declares _ _) is = All-nil (λ h. IsDelivery h.1)
 delivers_line s (sets_period _ _) is = All-nil (λ h. IsDelivery h.1)
+delivers_line s (sets_order _ _) is = All-nil (λ h. IsDelivery h.1)
 delivers_line s (tells _) is = All-nil (λ h. IsDelivery h.1)
 delivers_line s (sends name text) is = delivers_sent (station_named name s.world) text s.moment
 delivers_line s (commands _ _) is = absurd is
@@ -196,9 +204,9 @@ order_changes_no_board one other same line site says =
     let reordered : AreReordered (emptied a.world) (happened start one) (happened start other) = record {
       one_delivers = delivers_lines start one same.one_delivers;
       other_delivers = delivers_lines start other same.other_delivers;
-      orders = same.orders;
+      orders = same.deliveries;
     } in
     let world : a.world ≡ b.world =
     worlds_are_runs one ∙ reordered_runs (emptied a.world) (happened start one) (happened start other) reordered
     ∙ ap (λ w. run w (happened start other)) same.stations ∙ sym (worlds_are_runs other) in
-    ap (λ m. (step_by a m).1) says ∙ (λ i. board_answer (record a { sites = same.sites i; periods = same.periods i; world = world i }) site) ∙ sym (ap (λ m. (step_by b m).1) says)
+    ap (λ m. (step_by a m).1) says ∙ (λ i. board_answer (record a { sites = same.sites i; periods = same.periods i; orders = same.orders i; world = world i }) site) ∙ sym (ap (λ m. (step_by b m).1) says)

@@ -2,11 +2,12 @@
 use Rattle.std.specs.Prelude.{◌≡◌, ℕ, true, List, [], ◌∷◌, ◌++◌, ⊤, All, map, Option, None, Some, IsPermutation}
 use Rattle.ledger_model.specs.declared.command.Command.{Command}
 use Rattle.ledger_model.specs.declared.command.Command.TheVariants.{Deliver}
-use Rattle.ledger_model.specs.Board.{figures}
+use Rattle.ledger_model.specs.declared.order.Order.{Order}
+use Rattle.ledger_model.specs.Board.{figures_by}
 use Rattle.ledger_model.specs.BoardLaws.{AreSums, sum_of_energies}
 use Rattle.ledger_model.specs.Content.{empty_content, entries}
 use Rattle.ledger_model.specs.declared.reading.Direction.TheVariants.{Import, Export}
-use Rattle.ledger_model.specs.Energy.{Flows, energy, energy_in}
+use Rattle.ledger_model.specs.Energy.{Flows, energy_by, energy_in_by}
 use Rattle.ledger_model.specs.Laws.{IsAccepted}
 use Rattle.ledger_model.specs.Step.{Reached, answer}
 use Rattle.ledger_model.specs.World.{Station, World, Happens, run}
@@ -16,8 +17,8 @@ use Rattle.transaction_event.specs.Message.{Meaning, Event, Ready, Silence, mess
 use Rattle.script_lines.specs.declared.script_line.LineFault.{LineFault}
 use Rattle.script_lines.specs.Lines.{Line, lines_of}
 use Rattle.script_lines.specs.Texts.{ended_line, fault_line}
-use Rattle.script_ledgers.specs.Script.{Script, start, line_step, script_text, script_after, station_named, stations_of, is_among, energy_line, export_line, period_named, shown_site}
-use Rattle.script_lines.specs.LineMeaning.{LineMeaning, nothing, fails, sets_limits, declares, sets_period, tells, sends, commands, asks_energy, asks_export, asks_total, asks_board, line_meaning}
+use Rattle.script_ledgers.specs.Script.{KeepsSites, Script, start, line_step, script_text, script_after, station_named, stations_of, is_among, energy_line, export_line, order_named, period_named, shown_site}
+use Rattle.script_lines.specs.LineMeaning.{LineMeaning, nothing, fails, sets_limits, declares, sets_period, sets_order, tells, sends, commands, asks_energy, asks_export, asks_total, asks_board, line_meaning}
 
 -- the text of no bytes is empty
 abbrev pub AnEmptyScriptWritesNothing : Type 0
@@ -33,45 +34,45 @@ abbrev pub StationsAreReached : Type 0
 StationsAreReached = (lines : List Line) (name : List ℕ) (station : Station) → station_named name (script_after start lines).world ≡ Some station
     → Reached station.limits station.content.changes station.content
 
--- after any lines, the answer to a question for a station's energy is the imported energy of its events that are accepted and not voided, computed from all of them
+-- after any lines, the answer to a question for a station's energy is the imported energy of its events that are accepted and not voided, computed from all of them in its site's order of readings
 abbrev pub EnergyIsFromScratch : Type 0
 EnergyIsFromScratch = (lines : List Line) (line : Line) (name : List ℕ) (station : Station) → line_meaning line ≡ asks_energy name
     → station_named name (script_after start lines).world ≡ Some station
-    → (line_step (script_after start lines) line).1 ≡ energy_line (energy Import (entries station.content))
+    → (line_step (script_after start lines) line).1 ≡ energy_line (energy_by (order_named (script_after start lines) station.site) Import (entries station.content))
 
--- and the answer to a question for what a station exported is the exported energy of these events
+-- and the answer to a question for what a station exported is the exported energy of these events in that order
 abbrev pub ExportIsFromScratch : Type 0
 ExportIsFromScratch = (lines : List Line) (line : Line) (name : List ℕ) (station : Station) → line_meaning line ≡ asks_export name
     → station_named name (script_after start lines).world ≡ Some station
-    → (line_step (script_after start lines) line).1 ≡ export_line (energy Export (entries station.content))
+    → (line_step (script_after start lines) line).1 ≡ export_line (energy_by (order_named (script_after start lines) station.site) Export (entries station.content))
 
--- after any lines, the answer to a question for a station's total is its figures, computed from all its events
+-- after any lines, the answer to a question for a station's total is its figures, computed from all its events in its site's order of readings
 abbrev pub TotalsAreFromScratch : Type 0
 TotalsAreFromScratch = (lines : List Line) (line : Line) (name : List ℕ) (station : Station) → line_meaning line ≡ asks_total name
     → station_named name (script_after start lines).world ≡ Some station
-    → (line_step (script_after start lines) line).1 ≡ ended_line (total_text (figures (entries station.content)))
+    → (line_step (script_after start lines) line).1 ≡ ended_line (total_text (figures_by (order_named (script_after start lines) station.site) (entries station.content)))
 
--- after any lines, the answer to a question for a site's board is the board of its stations by its settlement period, each computed from all its events
+-- after any lines, the answer to a question for a site's board is the board of its stations by its order of readings and its settlement period, each computed from all its events
 abbrev pub BoardsAreFromScratch : Type 0
 BoardsAreFromScratch = (lines : List Line) (line : Line) (site : List ℕ) → line_meaning line ≡ asks_board site
     → is_among site (script_after start lines).sites ≡ true
-    → (line_step (script_after start lines) line).1 ≡ board_text (shown_site site (period_named (script_after start lines) site) (stations_of site (script_after start lines).world))
+    → (line_step (script_after start lines) line).1 ≡ board_text (shown_site site (order_named (script_after start lines) site) (period_named (script_after start lines) site) (stations_of site (script_after start lines).world))
 
--- what stations imported and exported in a quarter, added up
-abbrev pub sums_in : ℕ → ℕ → World → Flows
-sums_in period quarter stations = record {
-  flow = sum_of_energies (map (λ s. energy_in Import period quarter (entries s.content)) stations);
-  export = sum_of_energies (map (λ s. energy_in Export period quarter (entries s.content)) stations);
+-- what stations imported and exported in a quarter in an order of readings, added up
+abbrev pub sums_in : Order → ℕ → ℕ → World → Flows
+sums_in order period quarter stations = record {
+  flow = sum_of_energies (map (λ s. energy_in_by order Import period quarter (entries s.content)) stations);
+  export = sum_of_energies (map (λ s. energy_in_by order Export period quarter (entries s.content)) stations);
 }
 
--- the figures of a site are the sums over these stations, and so, whatever the settlement period, are the energies of each quarter that it shows
-pub record AreSitesSums (site : List ℕ) (period : ℕ) (stations : World) : Type 0 where
-  pub figures_are : AreSums (shown_site site period stations).figures (map (λ s. figures (entries s.content)) stations)
-  pub quarters_are : All (λ line. line.1 ≡ sums_in period line.0 stations) (shown_site site period stations).quarters
+-- the figures of a site are the sums over these stations, and so, whatever the order of readings and the settlement period, are the energies of each quarter that it shows
+pub record AreSitesSums (site : List ℕ) (order : Order) (period : ℕ) (stations : World) : Type 0 where
+  pub figures_are : AreSums (shown_site site order period stations).figures (map (λ s. figures_by order (entries s.content)) stations)
+  pub quarters_are : All (λ line. line.1 ≡ sums_in order period line.0 stations) (shown_site site order period stations).quarters
 
 -- the board of each site shows the sums over its stations
 abbrev pub SitesAreSums : Type 0
-SitesAreSums = (site : List ℕ) (period : ℕ) (stations : World) → AreSitesSums site period stations
+SitesAreSums = (site : List ℕ) (order : Order) (period : ℕ) (stations : World) → AreSitesSums site order period stations
 
 -- the command that a message of this meaning asks of the station
 abbrev pub asked_by : Meaning → Station → List Happens
@@ -96,6 +97,7 @@ asked_of s (fails _) = []
 asked_of s (sets_limits _ _ _ _) = []
 asked_of s (declares _ _) = []
 asked_of s (sets_period _ _) = []
+asked_of s (sets_order _ _) = []
 asked_of s (tells _) = []
 asked_of s (sends name text) = sent_by (station_named name s.world) text s.moment
 asked_of s (commands name command) = commanded_by (station_named name s.world) command
@@ -122,7 +124,7 @@ abbrev pub UnacceptedChangesNothing : Type 0
 UnacceptedChangesNothing = (lines : List Line) (line : Line) (name : List ℕ) (station : Station) (command : Command)
     → asked_of (script_after start lines) (line_meaning line) ≡ (name, command) ∷ []
     → station_named name (script_after start lines).world ≡ Some station → ¬ (IsAccepted (answer station.limits station.content command))
-    → ((line_step (script_after start lines) line).0.world ≡ (script_after start lines).world) × (((line_step (script_after start lines) line).0.sites ≡ (script_after start lines).sites) × ((line_step (script_after start lines) line).0.periods ≡ (script_after start lines).periods))
+    → ((line_step (script_after start lines) line).0.world ≡ (script_after start lines).world) × KeepsSites (script_after start lines) (line_step (script_after start lines) line).0
 
 -- no line voids, restores or erases
 abbrev pub IsNoOperation : LineMeaning → Type 0
@@ -133,10 +135,11 @@ IsNoOperation _ = ⊤
 pub record AreSameDeliveries (one other : List Line) : Type 0 where
   pub sites : (script_after start one).sites ≡ (script_after start other).sites
   pub periods : (script_after start one).periods ≡ (script_after start other).periods
+  pub orders : (script_after start one).orders ≡ (script_after start other).orders
   pub stations : emptied (script_after start one).world ≡ emptied (script_after start other).world
   pub one_delivers : All (λ line. IsNoOperation (line_meaning line)) one
   pub other_delivers : All (λ line. IsNoOperation (line_meaning line)) other
-  pub orders : All (λ s. IsPermutation (accepted_deliveries s.limits s.content (commands_on s.name (happened start one))) (accepted_deliveries s.limits s.content (commands_on s.name (happened start other)))) (emptied (script_after start one).world)
+  pub deliveries : All (λ s. IsPermutation (accepted_deliveries s.limits s.content (commands_on s.name (happened start one))) (accepted_deliveries s.limits s.content (commands_on s.name (happened start other)))) (emptied (script_after start one).world)
 
 -- such scripts have the same boards
 abbrev pub OrderChangesNoBoard : Type 0

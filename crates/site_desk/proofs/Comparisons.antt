@@ -6,7 +6,8 @@ use Rattle.std.proofs.lemmas.Bool.{cases_eq, eq-eqb}
 use Rattle.std.proofs.lemmas.List.{drop_more}
 use Rattle.std.proofs.lemmas.Option.{slice_get_within, get_or_from_slice_get}
 use Rattle.ledger_model.specs.declared.figures.Figures.{Figures}
-use Rattle.ledger_model.specs.Board.{figures, plus_figures, sum_of_figures}
+use Rattle.ledger_model.specs.declared.order.Order.{Order}
+use Rattle.ledger_model.specs.Board.{figures_by, plus_figures, sum_of_figures}
 use Rattle.ledger_model.specs.Content.{Content, entries}
 use Rattle.station_cell.specs.Cell.{Cell}
 use Rattle.site_desk.specs.Close.{figures_at, figures_with}
@@ -37,7 +38,7 @@ cell_at cell xs k x d at is =
 -- the sums with one station more in front
 figures_cons : (c : Cell) (cells : List Cell) (site : ℕ) → figures_at (c ∷ cells) site ≡ figures_with c site (figures_at cells site)
 figures_cons c cells site =
-    let shown : Cell → Figures = λ d. figures (entries d.content) in
+    let shown : Cell → Figures = λ d. figures_by d.order (entries d.content) in
     let tail = filter (λ (d : Cell). eqb d.site site) cells in
     elim (eqb c.site site) as (λ b. sum_of_figures (map shown (cond b (c ∷ tail) tail)) ≡ cond b (plus_figures (shown c) (sum_of_figures (map shown tail))) (sum_of_figures (map shown tail))) [
       | true ↦ refl
@@ -57,9 +58,9 @@ figures_more cells site done d sum now less is here_is step =
     ∙ ap (λ n. figures_at (drop n cells) site) here
 
 -- the sums with the figures of a station of the site
-pub plus_told : (r : Option Figures) (c : Cell) (site : ℕ) (sum shown : Figures) (content : Content) → c.site ≡ site → content ≡ c.content → shown ≡ figures (entries content)
+pub plus_told : (r : Option Figures) (c : Cell) (site : ℕ) (sum shown : Figures) (order : Order) (content : Content) → c.site ≡ site → order ≡ c.order → content ≡ c.content → shown ≡ figures_by order (entries content)
     → IfSome r (λ f. f ≡ plus_figures shown sum) → IfSome r (λ f. f ≡ figures_with c site sum)
-plus_told None c site sum shown content e is figured told = tt
-plus_told (Some f) c site sum shown content e is figured told =
-    told ∙ ap (λ g. plus_figures g sum) (figured ∙ ap (λ d. figures (entries d)) is)
-    ∙ ap (λ b. cond b (plus_figures (figures (entries c.content)) sum) sum) (sym (eq-eqb c.site site e))
+plus_told None c site sum shown order content e ordered is figured told = tt
+plus_told (Some f) c site sum shown order content e ordered is figured told =
+    told ∙ ap (λ g. plus_figures g sum) (figured ∙ (λ i. figures_by (ordered i) (entries (is i))))
+    ∙ ap (λ b. cond b (plus_figures (figures_by c.order (entries c.content)) sum) sum) (sym (eq-eqb c.site site e))

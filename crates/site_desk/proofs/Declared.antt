@@ -6,7 +6,7 @@ use Rattle.ledger_model.specs.Limits.{Bounds}
 use Rattle.ledger_model.specs.Ranges.{most_sites, most_stations, most_plan_readings}
 use Rattle.site_desk.specs.declared.plan.SitePlan.{SitePlan}
 use Rattle.site_desk.specs.declared.plan.StationPlan.{StationPlan}
-use Rattle.site_desk.specs.Plan.{is_past, sites_by}
+use Rattle.site_desk.specs.Plan.{is_past, sites_changed}
 
 second : (a b : Bool) → (a || b) ≡ false → b ≡ false
 second true b e = cc e
@@ -22,17 +22,17 @@ begins None sites stations limits e none =
     (second (nat_le most_stations (length stations)) (nat_lt most_plan_readings (sum_by (λ s. s.limits.readings) stations + limits.readings) || nat_le most_sites (length sites)) none))
 begins (Some n) sites stations limits e none = cc e
 
--- one site of another period: each element is written back where it stood
-by_length : (site period : ℕ) (sites : List SitePlan) → length (sites_by site period sites) ≡ length sites
-by_length site period [] = refl
-by_length zero period (s ∷ sites) = refl
-by_length (suc site) period (s ∷ sites) = ap suc (by_length site period sites)
+-- one site that is changed: each element is written back where it stood
+changed_length : (change : SitePlan → SitePlan) (site : ℕ) (sites : List SitePlan) → length (sites_changed change site sites) ≡ length sites
+changed_length change site [] = refl
+changed_length change zero (s ∷ sites) = refl
+changed_length change (suc site) (s ∷ sites) = ap suc (changed_length change site sites)
 
-by_set : (site period : ℕ) (d : SitePlan) (sites : List SitePlan) → site < length sites
-    → slice_set sites site (record { name = (slice_index_or sites site d).name; viewers = (slice_index_or sites site d).viewers; period = period }) ≡ sites_by site period sites
-by_set site period d [] less = absurd (omega arith)
-by_set zero period d (s ∷ sites) less = refl
-by_set (suc site) period d (s ∷ sites) less = ap (λ ss. s ∷ ss) (by_set site period d sites (omega arith))
+changed_set : (change : SitePlan → SitePlan) (site : ℕ) (d : SitePlan) (sites : List SitePlan) → site < length sites
+    → slice_set sites site (change (slice_index_or sites site d)) ≡ sites_changed change site sites
+changed_set change site d [] less = absurd (omega arith)
+changed_set change zero d (s ∷ sites) less = refl
+changed_set change (suc site) d (s ∷ sites) less = ap (λ ss. s ∷ ss) (changed_set change site d sites (omega arith))
 
 all_back : (xs ws : List SitePlan) → length ws ≡ length xs → take (length xs) (ws ++ drop (length ws) xs) ≡ ws
 all_back [] [] same = refl
@@ -40,8 +40,8 @@ all_back [] (w ∷ ws) same = absurd (omega (arith, same))
 all_back (x ∷ xs) [] same = absurd (omega (arith, same))
 all_back (x ∷ xs) (w ∷ ws) same = ap (λ vs. w ∷ vs) (all_back xs ws (omega (arith, same)))
 
-pub period_set : (site period : ℕ) (d : SitePlan) (sites : List SitePlan) → site < length sites
-    → take (length sites) (slice_set sites site (record { name = (slice_index_or sites site d).name; viewers = (slice_index_or sites site d).viewers; period = period }) ++ drop (length (slice_set sites site (record { name = (slice_index_or sites site d).name; viewers = (slice_index_or sites site d).viewers; period = period }))) sites) ≡ sites_by site period sites
-period_set site period d sites less =
-    let set = by_set site period d sites less in
-    (λ i. take (length sites) (set i ++ drop (length (set i)) sites)) ∙ all_back sites (sites_by site period sites) (by_length site period sites)
+pub site_set : (change : SitePlan → SitePlan) (site : ℕ) (d : SitePlan) (sites : List SitePlan) → site < length sites
+    → take (length sites) (slice_set sites site (change (slice_index_or sites site d)) ++ drop (length (slice_set sites site (change (slice_index_or sites site d)))) sites) ≡ sites_changed change site sites
+site_set change site d sites less =
+    let set = changed_set change site d sites less in
+    (λ i. take (length sites) (set i ++ drop (length (set i)) sites)) ∙ all_back sites (sites_changed change site sites) (changed_length change site sites)

@@ -14,7 +14,7 @@ use Rattle.site_desk.specs.declared.plan.StationPlan.{StationPlan}
 use Rattle.site_desk.specs.declared.fault.DeskFault.{DeskFault}
 use Rattle.site_desk.specs.declared.fault.DeskFault.TheVariants.{PlanLimit, StationTwice}
 use Rattle.station_cell.specs.Cell.{Cell, new_cell}
-use Rattle.site_desk.specs.Plan.{has_twice, is_within_limits, period_at, plan_fault, most_viewers}
+use Rattle.site_desk.specs.Plan.{has_twice, is_within_limits, order_at, period_at, plan_fault, most_viewers}
 use Rattle.site_desk.specs.Parts.{AreNewBooks, AreNewCells, limits_at, new_book, new_viewers, row_at, viewed_by}
 
 -- an element of a list with one more is one of the list's, or the last
@@ -34,33 +34,33 @@ length_take (suc k) (x ∷ xs) le = ap suc (length_take k xs (omega arith))
 
 -- one cell more
 cells_push : (sites : List SitePlan) (xs : List StationPlan) (cells : List Cell) (s : StationPlan) → AreNewCells sites xs cells
-    → AreNewCells sites (xs ++ s ∷ []) (cells ++ new_cell (length xs) s.site (row_at xs s.site (length xs)) s.limits (period_at sites s.site) ∷ [])
+    → AreNewCells sites (xs ++ s ∷ []) (cells ++ new_cell (length xs) s.site (row_at xs s.site (length xs)) s.limits (period_at sites s.site) (order_at sites s.site) ∷ [])
 cells_push sites xs cells s new =
-    let last = new_cell (length xs) s.site (row_at xs s.site (length xs)) s.limits (period_at sites s.site) in
+    let last = new_cell (length xs) s.site (row_at xs s.site (length xs)) s.limits (period_at sites s.site) (order_at sites s.site) in
     record {
       count = length_push cells last ∙ ap (λ n. n + 1) new.count ∙ sym (length_push xs s);
       each = λ k t at. ⊎_elim
           (λ (l : (slice_get xs k ≡ Some t) × (k < length xs)).
           get_front cells k _ last (new.each k t l.0)
-          ∙ ap (λ ys. Some (new_cell k t.site (count_by (λ u. eqb u.site t.site) ys) t.limits (period_at sites t.site))) (sym (take-append-le k xs (s ∷ []) (let less = l.1 in omega arith))))
+          ∙ ap (λ ys. Some (new_cell k t.site (count_by (λ u. eqb u.site t.site) ys) t.limits (period_at sites t.site) (order_at sites t.site))) (sym (take-append-le k xs (s ∷ []) (let less = l.1 in omega arith))))
           (λ (r : (k ≡ length xs) × (s ≡ t)).
-          let Is : ℕ → StationPlan → Type 0 = λ n u. slice_get (cells ++ last ∷ []) n ≡ Some (new_cell n u.site (row_at (xs ++ s ∷ []) u.site n) u.limits (period_at sites u.site)) in
+          let Is : ℕ → StationPlan → Type 0 = λ n u. slice_get (cells ++ last ∷ []) n ≡ Some (new_cell n u.site (row_at (xs ++ s ∷ []) u.site n) u.limits (period_at sites u.site) (order_at sites u.site)) in
           let here : Is (length xs) s = ap (slice_get (cells ++ last ∷ [])) (sym new.count) ∙ get_last cells last
-          ∙ ap (λ ys. Some (new_cell (length xs) s.site (count_by (λ u. eqb u.site s.site) ys) s.limits (period_at sites s.site))) (sym (take-append-le (length xs) xs (s ∷ []) (omega arith))) in
+          ∙ ap (λ ys. Some (new_cell (length xs) s.site (count_by (λ u. eqb u.site s.site) ys) s.limits (period_at sites s.site) (order_at sites s.site))) (sym (take-append-le (length xs) xs (s ∷ []) (omega arith))) in
           subst (λ u. Is k u) r.1 (subst (λ n. Is n s) (sym r.0) here))
           (get_push xs s t k at);
     }
 
 -- the step of a loop over stations
 pub cells_more : (sites : List SitePlan) (stations : List StationPlan) (cells : List Cell) (k : ℕ) (s : StationPlan) → k < length stations → s ≡ get_or stations k s → AreNewCells sites (take k stations) cells
-    → AreNewCells sites (take (k + 1) stations) (cells ++ new_cell k s.site (row_at stations s.site k) s.limits (period_at sites s.site) ∷ [])
+    → AreNewCells sites (take (k + 1) stations) (cells ++ new_cell k s.site (row_at stations s.site k) s.limits (period_at sites s.site) (order_at sites s.site) ∷ [])
 cells_more sites stations cells k s less is new =
     let next : take (k + 1) stations ≡ take k stations ++ s ∷ [] = take_more stations k s less ∙ ap (λ z. take k stations ++ z ∷ []) (sym is) in
     let number : length (take k stations) ≡ k = length_take k stations (omega arith) in
     let row : row_at (take k stations) s.site (length (take k stations)) ≡ row_at stations s.site k = ap (count_by (λ u. eqb u.site s.site)) (take_all (length (take k stations)) (take k stations) (omega arith)) in
-    subst (λ ys. AreNewCells sites ys (cells ++ new_cell k s.site (row_at stations s.site k) s.limits (period_at sites s.site) ∷ [])) (sym next)
-    (subst (λ n. AreNewCells sites (take k stations ++ s ∷ []) (cells ++ new_cell n s.site (row_at stations s.site k) s.limits (period_at sites s.site) ∷ [])) number
-    (subst (λ r. AreNewCells sites (take k stations ++ s ∷ []) (cells ++ new_cell (length (take k stations)) s.site r s.limits (period_at sites s.site) ∷ [])) row (cells_push sites (take k stations) cells s new)))
+    subst (λ ys. AreNewCells sites ys (cells ++ new_cell k s.site (row_at stations s.site k) s.limits (period_at sites s.site) (order_at sites s.site) ∷ [])) (sym next)
+    (subst (λ n. AreNewCells sites (take k stations ++ s ∷ []) (cells ++ new_cell n s.site (row_at stations s.site k) s.limits (period_at sites s.site) (order_at sites s.site) ∷ [])) number
+    (subst (λ r. AreNewCells sites (take k stations ++ s ∷ []) (cells ++ new_cell (length (take k stations)) s.site r s.limits (period_at sites s.site) (order_at sites s.site) ∷ [])) row (cells_push sites (take k stations) cells s new)))
 
 -- one book more
 pub books_more : (stations : List StationPlan) (books : List Book) (n : ℕ) → AreNewBooks stations n books → AreNewBooks stations (n + 1) (books ++ new_book stations n ∷ [])

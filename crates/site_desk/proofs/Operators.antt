@@ -44,7 +44,9 @@ boards_more places site k p boards more less is all other own = at (eqb p.site s
         subst (λ qs. AreBoardsOf qs more) (sym same) (subst (AreBoardsOf ps) (sym (other (eqb-false p.site site e))) all)
 
 -- the totals of a cell that stands at the place of the station of this name
-pub totals_named : (places : List StationPlace) (name : List ℕ) (k : ℕ) (at : StationPlace) (c : Cell) (f : Figures) (e x : Energy) → IsNamed places name k → at ≡ get_or places k at → StandsAt k at c → AreTotalsWithin c.limits f e x → AreTotalsOfName places name f e x
+pub totals_named : (places : List StationPlace) (name : List ℕ) (k : ℕ) (at : StationPlace) (c : Cell) (f : Figures) (e x : Energy) → IsNamed places name k → at ≡ get_or places k at → StandsAt k at c → AreTotalsWithin c.limits c.order f e x → AreTotalsOfName places name f e x
 totals_named places name k at c f e x named is stands within =
     let place : at ≡ named.place = is ∙ get_or_from_slice_get places k named.place at named.there in
-    record { number = k; named = named; totals = subst (λ l. AreTotalsWithin l f e x) (stands.limits ∙ ap (λ (p : StationPlace). p.limits) place) within }
+    let limits = stands.limits ∙ ap (λ (p : StationPlace). p.limits) place in
+    let order = stands.order ∙ ap (λ (p : StationPlace). p.order) place in
+    record { number = k; named = named; totals = subst (λ l. AreTotalsWithin l named.place.order f e x) limits (subst (λ o. AreTotalsWithin c.limits o f e x) order within) }

@@ -1,10 +1,10 @@
 -- That rows are tied once the figures of cells that took commands before are posted in new books.
-use Rattle.std.proofs.Common.{◌≡◌, ◌≢◌, ℕ, zero, suc, ◌+◌, ◌<◌, ◌≤◌, List, [], ◌∷◌, ◌++◌, length, set, Some, None, Option, refl, ap, sym, ◌∙◌, subst, ⊎_elim, arith}
+use Rattle.std.proofs.Common.{◌≡◌, ◌≢◌, ℕ, zero, suc, ◌+◌, ◌<◌, ◌≤◌, List, [], ◌∷◌, ◌++◌, length, set, Some, None, refl, ap, sym, ◌∙◌, subst, ⊎_elim, arith}
 use Rattle.std.specs.Prelude.{slice_get}
 use Rattle.std.proofs.lemmas.Bool.{cases_eq}
 use Rattle.std.proofs.lemmas.List.{length_push}
 use Rattle.ledger_model.specs.declared.answer.Answer.TheVariants.{Accepted}
-use Rattle.ledger_model.specs.Board.{figures}
+use Rattle.ledger_model.specs.Board.{figures_by}
 use Rattle.ledger_model.specs.Content.{entries}
 use Rattle.ledger_model.specs.Posts.{row_after}
 use Rattle.ledger_model.proofs.PostLemmas.{row-push_same}
@@ -16,7 +16,7 @@ use Rattle.station_cell.proofs.Settled.{tied_beside}
 use Rattle.std.proofs.lemmas.Option.{slice_get_within}
 use Rattle.site_desk.specs.declared.plan.SitePlan.{SitePlan}
 use Rattle.site_desk.specs.declared.plan.StationPlan.{StationPlan}
-use Rattle.site_desk.specs.Parts.{AreApart, AreBooksOf, AreHeld, AreNewBooks, AreRowsKept, HaveFewPosts, IsHeld, IsTied, KeepsRows, limits_at, new_book, row_at}
+use Rattle.site_desk.specs.Parts.{AreApart, AreBooksOf, AreHeld, AreNewBooks, AreRowsKept, HaveFewPosts, IsHeld, IsTied, limits_at, new_book, row_at}
 use Rattle.site_desk.specs.Plan.{plan_fault}
 use Rattle.site_desk.specs.Roster.{AreCellsOf, StandsAt, new_place}
 use Rattle.site_desk.proofs.NewParts.{planned_sites}
@@ -30,7 +30,7 @@ some_cell x y h = cc
 
 -- the books once a cell's figures are posted in its site's
 module _ (cells : List Cell) (books : List Book) (k : ℕ) (c : Cell) (b : Book) (b' : Book) (at : slice_get cells k ≡ Some c) (stands : slice_get books c.site ≡ Some b)
-    (posted : b' ≡ record b { posts = b.posts ++ (c.row, figures (entries c.content)) ∷ [] }) where
+    (posted : b' ≡ record b { posts = b.posts ++ (c.row, figures_by c.order (entries c.content)) ∷ [] }) where
   there : slice_get (set books c.site b') c.site ≡ Some b'
   there = get_here books c.site b b' stands
 
@@ -68,7 +68,7 @@ module _ (cells : List Cell) (books : List Book) (k : ℕ) (c : Cell) (b : Book)
     book = b';
     there = there;
     held = ap (λ (x : Book). slice_get x.limits c.row) posted ∙ held;
-    tied = ap (λ (x : Book). row_after c.row x.posts) posted ∙ row-push_same c.row (figures (entries c.content)) b.posts;
+    tied = ap (λ (x : Book). row_after c.row x.posts) posted ∙ row-push_same c.row (figures_by c.order (entries c.content)) b.posts;
   }
 
   -- each book has one post more at most
@@ -78,7 +78,7 @@ module _ (cells : List Cell) (books : List Book) (k : ℕ) (c : Cell) (b : Book)
       (λ (e : site ≡ c.site).
       let same : b' ≡ x = some_book b' x (sym there ∙ ap (slice_get (set books c.site b')) (sym e) ∙ here) in
       let less = few c.site b stands in
-      let more : length b'.posts ≡ length b.posts + 1 = ap (λ (y : Book). length y.posts) posted ∙ length_push b.posts (c.row, figures (entries c.content)) in
+      let more : length b'.posts ≡ length b.posts + 1 = ap (λ (y : Book). length y.posts) posted ∙ length_push b.posts (c.row, figures_by c.order (entries c.content)) in
       let is : length x.posts ≡ length b'.posts = ap (λ (y : Book). length y.posts) (sym same) in
       omega (arith, less, more, is))
       (λ (e : site ≢ c.site). let less = few site x (sym (get_else books c.site site b' e) ∙ here) in omega (arith, less))

@@ -5,7 +5,8 @@ use Rattle.ledger_model.specs.declared.answer.Answer.{Answer}
 use Rattle.ledger_model.specs.declared.answer.Answer.TheVariants.{Accepted, Repeat, Refused}
 use Rattle.ledger_model.specs.declared.answer.Refusal.TheVariants.{ConflictingEvent, TooManyTransactions, EventsFull, ReadingsFull, NoSuchEvent, AlreadyVoided, NotVoided, ChangesExhausted}
 use Rattle.ledger_model.specs.declared.command.Command.{Command}
-use Rattle.ledger_model.specs.Board.{Board, board, figures}
+use Rattle.ledger_model.specs.declared.order.Order.{Order}
+use Rattle.ledger_model.specs.Board.{Board, board_by, figures_by}
 use Rattle.ledger_model.specs.Content.{Content, entries}
 use Rattle.ledger_model.specs.Limits.{Bounds}
 use Rattle.ledger_model.specs.Step.{Reached, answer, step}
@@ -33,7 +34,7 @@ module _ (at : StationPlace) (number : ℕ) (c : Cell) (b : Book) (p : Held) (co
   }
 
   taken_by : (n : ℕ) (c' : Cell) (b' : Book) (p' : Held) (told : Option Known) → Accepted n ≡ answer c.limits c.content command → c' ≡ cell_after c p command → p' ≡ record p { changes = p.changes + 1 }
-      → b' ≡ record b { posts = b.posts ++ (c'.row, figures (entries c'.content)) ∷ [] } → told ≡ Some (known b'.site b'.posts) → IsTaken at p command n p' told
+      → b' ≡ record b { posts = b.posts ++ (c'.row, figures_by c'.order (entries c'.content)) ∷ [] } → told ≡ Some (known b'.site b'.posts) → IsTaken at p command n p' told
   taken_by n c' b' p' told is cells passes books told_is =
       let next = next_number c.limits c.content command n (sym is) in
       let part = count_part c.counts p.slot p.changes knows.count in
@@ -46,8 +47,8 @@ module _ (at : StationPlace) (number : ℕ) (c : Cell) (b : Book) (p : Held) (co
         posts = b.posts;
         posted = told_is
             ∙ (λ i. Some (known (books i).site (books i).posts))
-            ∙ (λ i. Some (known (site i) (b.posts ++ ((cells i).row, figures (entries (cells i).content)) ∷ [])))
-            ∙ (λ i. Some (known at.site (b.posts ++ (stands.row i, figures (entries (step (stands.limits i) c.content command).0)) ∷ [])));
+            ∙ (λ i. Some (known (site i) (b.posts ++ ((cells i).row, figures_by (cells i).order (entries (cells i).content)) ∷ [])))
+            ∙ (λ i. Some (known at.site (b.posts ++ (stands.row i, figures_by (stands.order i) (entries (step (stands.limits i) c.content command).0)) ∷ [])));
         pass = passes;
         enough = let more : p'.changes ≡ p.changes + 1 = ap (λ (q : Held). q.changes) passes in omega (arith, more, next, part, counted);
       }
@@ -66,14 +67,15 @@ module _ (at : StationPlace) (number : ℕ) (c : Cell) (b : Book) (p : Held) (co
   submitted (Refused ChangesExhausted) c' b' p' told is cells passes books told_is = record { pass = passes; untold = told_is }
 
 -- the board of a ledger
-pub board_shown : {E : Type 0} (r : Result Board E) (limits : Bounds) (by period : ℕ) (content c : Content) → IfOk r (λ b. b ≡ board by (entries content)) → by ≡ period → content ≡ c → Reached limits c.changes c → IfOk r (IsBoardWithin limits period)
-board_shown (Ok b) limits by period content c shown same is reached = record { content = c; reached = reached; shown = shown ∙ (λ i. board (same i) (entries (is i))) }
-board_shown (Err e) limits by period content c shown same is reached = tt
+pub board_shown : {E : Type 0} (r : Result Board E) (limits : Bounds) (by period : ℕ) (by_order order : Order) (content c : Content) → IfOk r (λ b. b ≡ board_by by_order by (entries content)) → by ≡ period → by_order ≡ order → content ≡ c → Reached limits c.changes c → IfOk r (IsBoardWithin limits period order)
+board_shown (Ok b) limits by period by_order order content c shown same ordered is reached = record { content = c; reached = reached; shown = shown ∙ (λ i. board_by (ordered i) (same i) (entries (is i))) }
+board_shown (Err e) limits by period by_order order content c shown same ordered is reached = tt
 
 -- the board of a cell that stands at the place of the station of this name
-pub board_named : (places : List StationPlace) (name : List ℕ) (k : ℕ) (at : StationPlace) (c : Cell) (b : Board) → IsNamed places name k → at ≡ get_or places k at → StandsAt k at c → IsBoardWithin c.limits c.period b → IsBoardOfName places name b
+pub board_named : (places : List StationPlace) (name : List ℕ) (k : ℕ) (at : StationPlace) (c : Cell) (b : Board) → IsNamed places name k → at ≡ get_or places k at → StandsAt k at c → IsBoardWithin c.limits c.period c.order b → IsBoardOfName places name b
 board_named places name k at c b named is stands within =
     let place : at ≡ named.place = is ∙ get_or_from_slice_get places k named.place at named.there in
     let limits = stands.limits ∙ ap (λ (p : StationPlace). p.limits) place in
     let period = stands.period ∙ ap (λ (p : StationPlace). p.period) place in
-    record { number = k; named = named; board = subst (λ l. IsBoardWithin l named.place.period b) limits (subst (λ s. IsBoardWithin c.limits s b) period within) }
+    let order = stands.order ∙ ap (λ (p : StationPlace). p.order) place in
+    record { number = k; named = named; board = subst (λ l. IsBoardWithin l named.place.period named.place.order b) limits (subst (λ s. IsBoardWithin c.limits s named.place.order b) period (subst (λ o. IsBoardWithin c.limits c.period o b) order within)) }

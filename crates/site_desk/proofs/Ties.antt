@@ -6,7 +6,7 @@ use Rattle.std.proofs.lemmas.List.Sums.{sum_by-cons}
 use Rattle.std.proofs.lemmas.Option.{slice_get_within}
 use Rattle.ledger_model.specs.declared.answer.Answer.{Answer}
 use Rattle.ledger_model.specs.declared.command.Command.{Command}
-use Rattle.ledger_model.specs.Board.{figures}
+use Rattle.ledger_model.specs.Board.{figures_by}
 use Rattle.ledger_model.specs.Limits.{default_limits}
 use Rattle.ledger_model.specs.Step.{answer}
 use Rattle.ledger_model.proofs.ListedRuns.{entries_from_empty}
@@ -16,7 +16,7 @@ use Rattle.site_desk.specs.declared.plan.SitePlan.{SitePlan}
 use Rattle.site_desk.specs.declared.plan.StationPlan.{StationPlan}
 use Rattle.station_cell.specs.Cell.{Cell, Held, new_cell}
 use Rattle.site_desk.specs.Parts.{AreApart, AreNewBooks, AreNewCells, AreTied, IsTied, limits_at, new_book, row_at}
-use Rattle.site_desk.specs.Plan.{period_at, plan_fault}
+use Rattle.site_desk.specs.Plan.{order_at, period_at, plan_fault}
 use Rattle.station_cell.specs.Settle.{Tied, cell_after, posts_after}
 use Rattle.site_desk.proofs.NewParts.{planned_sites}
 use Rattle.station_cell.proofs.Settled.{tied_after, tied_beside}
@@ -62,12 +62,12 @@ rows_apart (x ∷ xs) site (suc j) (suc k) s t at as_ here there same =
 
 -- the station of a cell
 station_of : (sites : List SitePlan) (stations : List StationPlan) (cells : List Cell) (k : ℕ) (c : Cell) → AreNewCells sites stations cells → slice_get cells k ≡ Some c
-    → (s : StationPlan) × ((slice_get stations k ≡ Some s) × (new_cell k s.site (row_at stations s.site k) s.limits (period_at sites s.site) ≡ c))
+    → (s : StationPlan) × ((slice_get stations k ≡ Some s) × (new_cell k s.site (row_at stations s.site k) s.limits (period_at sites s.site) (order_at sites s.site) ≡ c))
 station_of sites stations cells k c new at =
     let less : k < length cells = slice_get_within cells k c at in
     let found = found_at stations k (omega (arith, less, new.count)) in
     let cell = new.each k found.0 found.1 in
-    let same : Some (new_cell k found.0.site (row_at stations found.0.site k) found.0.limits (period_at sites found.0.site)) ≡ Some c = sym cell ∙ at in
+    let same : Some (new_cell k found.0.site (row_at stations found.0.site k) found.0.limits (period_at sites found.0.site) (order_at sites found.0.site)) ≡ Some c = sym cell ∙ at in
     (found.0, (found.1, some_same _ _ same))
   where
     found_at : (xs : List StationPlan) (k : ℕ) → k < length xs → (s : StationPlan) × (slice_get xs k ≡ Some s)
@@ -82,11 +82,11 @@ station_of sites stations cells k c new at =
 pub new_tied : (sites : List SitePlan) (stations : List StationPlan) (cells : List Cell) (books : List Book) → plan_fault sites stations ≡ None → AreNewCells sites stations cells → AreNewBooks stations (length sites) books → AreTied cells books
 new_tied sites stations cells books h new made k c at =
     let s = station_of sites stations cells k c new at in
-    let first : IsTied books (new_cell k s.0.site (row_at stations s.0.site k) s.0.limits (period_at sites s.0.site)) = record {
+    let first : IsTied books (new_cell k s.0.site (row_at stations s.0.site k) s.0.limits (period_at sites s.0.site) (order_at sites s.0.site)) = record {
       book = new_book stations s.0.site;
       there = made.each s.0.site (planned_sites sites stations k s.0 h s.1.0);
       held = limits_row stations k s.0 s.1.0;
-      tied = ap figures (sym (entries_from_empty default_limits []));
+      tied = ap (figures_by (order_at sites s.0.site)) (sym (entries_from_empty default_limits []));
     } in
     subst (IsTied books) s.1.1 first
 

@@ -1,7 +1,7 @@
 use Rattle.std.specs.Prelude.{◌≡◌, ℕ, ◌<◌, ◌==◌, if◌then◌else◌, List, filter, map, length, count_by, sum_by, Some, slice_get, refl}
 use Rattle.std.specs.Coded.{Coded, code_by, coded×, coded_list, coded_ℕ}
 use Rattle.ledger_model.specs.declared.figures.Figures.{Figures}
-use Rattle.ledger_model.specs.Board.{figures, plus_figures, sum_of_figures}
+use Rattle.ledger_model.specs.Board.{figures_by, plus_figures, sum_of_figures}
 use Rattle.ledger_model.specs.Content.{entries}
 use Rattle.ledger_model.specs.Limits.{Bounds}
 use Rattle.ledger_model.specs.Posts.{Post, totals_after}
@@ -44,11 +44,11 @@ changes_of number passes = sum_by (λ p. if p.station == number then p.changes e
 
 -- The figures of a site: the sums over its stations.
 abbrev pub figures_at : List Cell → ℕ → Figures
-figures_at cells site = sum_of_figures (map (λ c. figures (entries c.content)) (filter (λ c. c.site == site) cells))
+figures_at cells site = sum_of_figures (map (λ c. figures_by c.order (entries c.content)) (filter (λ c. c.site == site) cells))
 
 -- These figures with the cell's, where it is the site's.
 abbrev pub figures_with : Cell → ℕ → Figures → Figures
-figures_with c site sum = if c.site == site then plus_figures (figures (entries c.content)) sum else sum
+figures_with c site sum = if c.site == site then plus_figures (figures_by c.order (entries c.content)) sum else sum
 
 -- The cell is that of the station of this number, where the plan has it.
 pub record IsPlaced (places : List StationPlace) (number : ℕ) (c : Cell) : Type 0 where

@@ -2,9 +2,10 @@
 use Rattle.std.specs.Prelude.{◌≡◌, ℕ, ◌==◌, ⊤, List, [], ◌∷◌, filter}
 use Rattle.energy_flow.specs.Flow.{Energy}
 use Rattle.ledger_model.specs.declared.figures.Figures.{Figures}
-use Rattle.ledger_model.specs.Board.{Board, figures}
+use Rattle.ledger_model.specs.declared.order.Order.{Order}
+use Rattle.ledger_model.specs.Board.{Board, figures_by}
 use Rattle.ledger_model.specs.declared.reading.Direction.TheVariants.{Import, Export}
-use Rattle.ledger_model.specs.Energy.{energy}
+use Rattle.ledger_model.specs.Energy.{energy_by}
 use Rattle.ledger_model.specs.Content.{Content, entries}
 use Rattle.ledger_model.specs.Figures.{AreWithin}
 use Rattle.ledger_model.specs.Limits.{Bounds}
@@ -13,24 +14,24 @@ use Rattle.site_desk.specs.declared.roster.StationPlace.{StationPlace}
 use Rattle.site_desk.specs.Roster.{IsNamed}
 use Rattle.site_desk.specs.Submit.{IsBoardWithin}
 
--- The figures and the energies, imported and exported, are those of some content that accepted commands leave within these limits.
-pub record AreTotalsWithin (limits : Bounds) (f : Figures) (e x : Energy) : Type 0 where
+-- The figures and the energies, imported and exported, are those, in this order of readings, of some content that accepted commands leave within these limits.
+pub record AreTotalsWithin (limits : Bounds) (order : Order) (f : Figures) (e x : Energy) : Type 0 where
   pub content : Content
   pub reached : Reached limits content.changes content
-  pub figures : f ≡ figures (entries content)
-  pub imported : e ≡ energy Import (entries content)
-  pub exported : x ≡ energy Export (entries content)
+  pub figures : f ≡ figures_by order (entries content)
+  pub imported : e ≡ energy_by order Import (entries content)
+  pub exported : x ≡ energy_by order Export (entries content)
 
--- They are of the station of this name: some content has them that accepted commands leave within the limits of the station's place.
+-- They are of the station of this name: some content has them that accepted commands leave within the limits of the station's place, in that place's order.
 pub record AreTotalsOfName (places : List StationPlace) (name : List ℕ) (f : Figures) (e x : Energy) : Type 0 where
   pub number : ℕ
   pub named : IsNamed places name number
-  pub totals : AreTotalsWithin named.place.limits f e x
+  pub totals : AreTotalsWithin named.place.limits named.place.order f e x
 
--- The board of the station of this place, under its name: some content makes it that accepted commands leave within the place's limits, by the place's period.
+-- The board of the station of this place, under its name: some content makes it that accepted commands leave within the place's limits, by the place's period and order.
 pub record IsBoardAt (p : StationPlace) (b : List ℕ × Board) : Type 0 where
   pub name : b.0 ≡ p.name
-  pub board : IsBoardWithin p.limits p.period b.1
+  pub board : IsBoardWithin p.limits p.period p.order b.1
   pub within : AreWithin p.limits b.1.figures
 
 -- As many boards as places, each of the station of the place that stands where it stands.

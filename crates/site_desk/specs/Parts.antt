@@ -4,7 +4,7 @@ use Rattle.site_book.specs.Book.{Book, Known, known}
 use Rattle.site_desk.specs.declared.plan.SitePlan.{SitePlan}
 use Rattle.site_desk.specs.declared.plan.StationPlan.{StationPlan}
 use Rattle.station_cell.specs.Cell.{Cell, new_cell}
-use Rattle.site_desk.specs.Plan.{period_at}
+use Rattle.site_desk.specs.Plan.{order_at, period_at}
 use Rattle.station_cell.specs.Settle.{Holds, Tied}
 
 -- The row of a station of this number at a site: how many stations of the site come before it.
@@ -15,10 +15,10 @@ row_at stations site k = count_by (λ s. s.site == site) (take k stations)
 abbrev pub limits_at : List StationPlan → ℕ → List Bounds
 limits_at stations site = map (λ s. s.limits) (filter (λ s. s.site == site) stations)
 
--- The cells of a plan that was just opened: one for each station, in the plan's order, by its site's settlement period and without events.
+-- The cells of a plan that was just opened: one for each station, in the plan's order, by its site's settlement period and order of readings and without events.
 pub record AreNewCells (sites : List SitePlan) (stations : List StationPlan) (cells : List Cell) : Type 0 where
   pub count : length cells ≡ length stations
-  pub each : (k : ℕ) (s : StationPlan) → slice_get stations k ≡ Some s → slice_get cells k ≡ Some (new_cell k s.site (row_at stations s.site k) s.limits (period_at sites s.site))
+  pub each : (k : ℕ) (s : StationPlan) → slice_get stations k ≡ Some s → slice_get cells k ≡ Some (new_cell k s.site (row_at stations s.site k) s.limits (period_at sites s.site) (order_at sites s.site))
 
 -- The book of a site of a plan that was just opened.
 abbrev pub new_book : List StationPlan → ℕ → Book

@@ -2,6 +2,8 @@ use Rattle.std.specs.Prelude.{ℕ, zero, suc, slice_get, Bool, false, not, ◌+�
 use Rattle.std.specs.List.{list_all, list_any}
 use Rattle.std.specs.Option.{is_some}
 use Rattle.std.specs.Str.{bytes_eq}
+use Rattle.ledger_model.specs.declared.order.Order.{Order}
+use Rattle.ledger_model.specs.declared.order.Order.TheVariants.{Sequence}
 use Rattle.ledger_model.specs.Limits.{Bounds}
 use Rattle.ledger_model.specs.Quarter.{default_period}
 use Rattle.ledger_model.specs.Ranges.{most_sites, most_stations, most_plan_readings}
@@ -48,10 +50,10 @@ abbrev pub site_number : Option ℕ → List SitePlan → ℕ
 site_number (Some number) sites = number
 site_number None sites = length sites
 
--- The sites once one of this name is mentioned: it begins at its first mention, with so many viewers and this settlement period.
-abbrev pub sites_with : Option ℕ → List ℕ → ℕ → ℕ → List SitePlan → List SitePlan
-sites_with (Some number) name viewers period sites = sites
-sites_with None name viewers period sites = sites ++ record { name = name; viewers = viewers; period = period } ∷ []
+-- The sites once one of this name is mentioned: it begins at its first mention, with so many viewers, this settlement period and this order of readings.
+abbrev pub sites_with : Option ℕ → List ℕ → ℕ → ℕ → Order → List SitePlan → List SitePlan
+sites_with (Some number) name viewers period order sites = sites
+sites_with None name viewers period order sites = sites ++ record { name = name; viewers = viewers; period = period; order = order } ∷ []
 
 -- The settlement period of a site, if there is the site.
 abbrev pub period_or_default : Option SitePlan → ℕ
@@ -62,11 +64,28 @@ period_or_default (Some s) = s.period
 abbrev pub period_at : List SitePlan → ℕ → ℕ
 period_at sites site = period_or_default (slice_get sites site)
 
+-- The order of readings of a site, if there is the site.
+abbrev pub order_or_default : Option SitePlan → Order
+order_or_default None = Sequence
+order_or_default (Some s) = s.order
+
+-- The order of readings of the site of this number.
+abbrev pub order_at : List SitePlan → ℕ → Order
+order_at sites site = order_or_default (slice_get sites site)
+
+-- The sites once that of this number is changed so.
+abbrev pub sites_changed : (SitePlan → SitePlan) → ℕ → List SitePlan → List SitePlan
+sites_changed change site [] = []
+sites_changed change zero (s ∷ sites) = change s ∷ sites
+sites_changed change (suc site) (s ∷ sites) = s ∷ sites_changed change site sites
+
 -- The sites once that of this number has this settlement period.
 abbrev pub sites_by : ℕ → ℕ → List SitePlan → List SitePlan
-sites_by site period [] = []
-sites_by zero period (s ∷ sites) = record s { period = period } ∷ sites
-sites_by (suc site) period (s ∷ sites) = s ∷ sites_by site period sites
+sites_by site period sites = sites_changed (λ s. record s { period = period }) site sites
+
+-- The sites once that of this number has this order of readings.
+abbrev pub sites_in : ℕ → Order → List SitePlan → List SitePlan
+sites_in site order sites = sites_changed (λ s. record s { order = order }) site sites
 
 -- One station more with these limits, of a site that was found at this place or begins, is more than a plan may have: of stations, of readings, or of sites.
 abbrev pub is_past : Option ℕ → List SitePlan → List StationPlan → Bounds → Bool

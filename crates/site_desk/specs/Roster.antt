@@ -4,7 +4,7 @@ use Rattle.site_desk.specs.declared.plan.StationPlan.{StationPlan}
 use Rattle.site_desk.specs.declared.roster.StationPlace.{StationPlace}
 use Rattle.station_cell.specs.Cell.{Cell}
 use Rattle.site_desk.specs.Parts.{row_at}
-use Rattle.site_desk.specs.Plan.{period_at}
+use Rattle.site_desk.specs.Plan.{order_at, period_at}
 
 -- A desk: where each of its stations stands, how many sites it has, and how many viewers were given out.
 pub record Roster : Type 0 where
@@ -14,7 +14,7 @@ pub record Roster : Type 0 where
 
 -- The place of a station of a plan, by its number.
 abbrev pub new_place : List SitePlan → List StationPlan → ℕ → StationPlan → StationPlace
-new_place sites stations k s = record { name = s.name; site = s.site; row = row_at stations s.site k; limits = s.limits; period = period_at sites s.site }
+new_place sites stations k s = record { name = s.name; site = s.site; row = row_at stations s.site k; limits = s.limits; period = period_at sites s.site; order = order_at sites s.site }
 
 -- The places of a plan's stations, in the plan's order.
 pub record AreNewPlaces (sites : List SitePlan) (stations : List StationPlan) (places : List StationPlace) : Type 0 where
@@ -34,6 +34,7 @@ pub record StandsAt (k : ℕ) (at : StationPlace) (c : Cell) : Type 0 where
   pub row : c.row ≡ at.row
   pub limits : c.limits ≡ at.limits
   pub period : c.period ≡ at.period
+  pub order : c.order ≡ at.order
 
 -- What a desk keeps: a cell for each station, and a book for each site that a station is at; both are no more than a plan may have.
 pub record IsDesk (places : List StationPlace) (cells books : ℕ) : Type 0 where

@@ -3,7 +3,8 @@ use Rattle.ledger_model.specs.declared.answer.Answer.{Answer}
 use Rattle.ledger_model.specs.declared.answer.Answer.TheVariants.{Accepted, Repeat, Refused}
 use Rattle.ledger_model.specs.declared.answer.Refusal.TheVariants.{ConflictingEvent, TooManyTransactions, EventsFull, ReadingsFull, NoSuchEvent, AlreadyVoided, NotVoided, ChangesExhausted}
 use Rattle.ledger_model.specs.declared.command.Command.{Command}
-use Rattle.ledger_model.specs.Board.{Board, board, figures}
+use Rattle.ledger_model.specs.declared.order.Order.{Order}
+use Rattle.ledger_model.specs.Board.{Board, board_by, figures_by}
 use Rattle.ledger_model.specs.Content.{Content, entries}
 use Rattle.ledger_model.specs.Limits.{Bounds}
 use Rattle.ledger_model.specs.Posts.{Post}
@@ -22,7 +23,7 @@ pub record IsTaken (at : StationPlace) (p : Held) (command : Command) (n : ℕ) 
   pub reached : Reached at.limits count before
   pub answered : answer at.limits before command ≡ Accepted n
   pub posts : List Post
-  pub posted : told ≡ Some (known at.site (posts ++ (at.row, figures (entries (step at.limits before command).0)) ∷ []))
+  pub posted : told ≡ Some (known at.site (posts ++ (at.row, figures_by at.order (entries (step at.limits before command).0)) ∷ []))
   pub pass : p' ≡ record p { changes = p.changes + 1 }
   pub enough : p'.changes ≤ n
 
@@ -70,14 +71,14 @@ Submitted at p command (Refused NoSuchEvent) p' told = IsAnswered at p command (
 Submitted at p command (Refused AlreadyVoided) p' told = IsAnswered at p command (Refused AlreadyVoided) p' told
 Submitted at p command (Refused NotVoided) p' told = IsAnswered at p command (Refused NotVoided) p' told
 
--- The board is that of some content that accepted commands leave within these limits, by this settlement period.
-pub record IsBoardWithin (limits : Bounds) (period : ℕ) (b : Board) : Type 0 where
+-- The board is that of some content that accepted commands leave within these limits, by this settlement period and in this order of readings.
+pub record IsBoardWithin (limits : Bounds) (period : ℕ) (order : Order) (b : Board) : Type 0 where
   pub content : Content
   pub reached : Reached limits content.changes content
-  pub shown : b ≡ board period (entries content)
+  pub shown : b ≡ board_by order period (entries content)
 
--- The board is one of the station of this name: some content makes it that accepted commands leave within the limits of the station's place, by that place's period.
+-- The board is one of the station of this name: some content makes it that accepted commands leave within the limits of the station's place, by that place's period and order.
 pub record IsBoardOfName (places : List StationPlace) (name : List ℕ) (b : Board) : Type 0 where
   pub number : ℕ
   pub named : IsNamed places name number
-  pub board : IsBoardWithin named.place.limits named.place.period b
+  pub board : IsBoardWithin named.place.limits named.place.period named.place.order b

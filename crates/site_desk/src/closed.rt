@@ -1,5 +1,5 @@
 ghost use Rattle.std.specs.Prelude.{◌≡◌, ◌<◌, length, Some, slice_get};
-ghost use Rattle.ledger_model.specs.Board.{figures};
+ghost use Rattle.ledger_model.specs.Board.{figures_by};
 ghost use Rattle.ledger_model.specs.Content.{entries};
 ghost use Rattle.ledger_model.specs.Posts.{totals_after};
 ghost use Rattle.site_book.specs.Book.{Book};
@@ -72,7 +72,7 @@ impl<J: Naming> Closed<J> {
     /// Condition: it has the station ([`Closed::stations`] tells).
     pub fn ledger(&self, station: u16) -> &StationLedger
         requires { station < length self.now.cells }
-        ensures { (c : Cell) → slice_get self.now.cells station ≡ Some c → result.now ≡ record { limits = c.limits; period = c.period; content = c.content } }
+        ensures { (c : Cell) → slice_get self.now.cells station ≡ Some c → result.now ≡ record { limits = c.limits; period = c.period; order = c.order; content = c.content } }
     {
         self.cells[station as usize].ledger()
     }
@@ -82,7 +82,7 @@ impl<J: Naming> Closed<J> {
     /// Condition: it has the station ([`Closed::stations`] tells).
     pub fn row(&self, station: u16) -> Figures
         requires { station < length self.now.cells }
-        ensures { (c : Cell) → slice_get self.now.cells station ≡ Some c → result ≡ figures (entries c.content) }
+        ensures { (c : Cell) → slice_get self.now.cells station ≡ Some c → result ≡ figures_by c.order (entries c.content) }
     {
         let cell = &self.cells[station as usize];
         self.books[cell.site() as usize].row(cell.row())

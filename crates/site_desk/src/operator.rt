@@ -19,7 +19,7 @@ use std::sync::{Mutex, MutexGuard, Wait};
 
 // The figures of a cell's station, and what it imported and exported.
 pub(crate) fn totals_of(cell: &StationCell) -> (Figures, Flow, Flow)
-    ensures { AreTotalsWithin cell.now.limits result.0 result.1 result.2 }
+    ensures { AreTotalsWithin cell.now.limits cell.now.order result.0 result.1 result.2 }
 {
     let ledger = cell.ledger();
     (ledger.figures(), ledger.energy(), ledger.export())

@@ -1,5 +1,5 @@
 ghost use Rattle.std.specs.Prelude.{◌≡◌, ◌↔◌, ℕ, ◌<◌, ◌≤◌, ◌^◌, [], ◌∷◌, ◌++◌, length, map, IfOk, OnOk, None, Some};
-ghost use Rattle.ledger_model.specs.Board.{figures};
+ghost use Rattle.ledger_model.specs.Board.{figures_by};
 ghost use Rattle.ledger_model.specs.Content.{entries};
 ghost use Rattle.site_book.specs.Book.{ArePlanned, known};
 ghost use Rattle.site_book.specs.Tables.{HasTable, NamedBy};
@@ -10,7 +10,7 @@ ghost use Rattle.site_desk.specs.Roster.{AreCellsOf};
 ghost use Rattle.station_cell.specs.Settle.{Holds};
 
 use crate::fault::DeskFault;
-use crate::plan::{Plan, SitePlan, StationPlan, period_of};
+use crate::plan::{Plan, SitePlan, StationPlan, order_of, period_of};
 use arrayvec::ArrayVec;
 use ledger_model::{Limits, Listed, MAX_STATIONS};
 use site_book::{Naming, SiteBook, Tables, Viewer};
@@ -105,7 +105,7 @@ fn post_all<J: Naming>(cells: &[StationCell], books: &mut [SiteBook<J>])
 fn post_figures<J: Naming>(cell: &StationCell, book: &mut SiteBook<J>)
     requires held { Holds cell.now book.old }
     requires room { length book.old.posts < 2 ^ 62 }
-    ensures { book.new ≡ record book.old { posts = book.old.posts ++ (cell.now.row, figures (entries cell.now.content)) ∷ [] } }
+    ensures { book.new ≡ record book.old { posts = book.old.posts ++ (cell.now.row, figures_by cell.now.order (entries cell.now.content)) ∷ [] } }
 {
     book.post(cell.row(), cell.ledger().figures());
 }
@@ -132,7 +132,7 @@ fn open_parts<J: Naming>(alloc: Global, tables: Tables, plan: &Plan) -> Result<P
     })
 }
 
-// A cell for each station, by its site's settlement period.
+// A cell for each station, by its site's settlement period and order of readings.
 fn open_cells(
     alloc: Global,
     sites: &[SitePlan],
@@ -146,7 +146,16 @@ fn open_cells(
         let station = &stations[k];
         let row = row_of(stations, station.site, k);
         let period = period_of(sites, station.site);
-        cells.push(StationCell::open(alloc, k as u16, station.site, row, station.limits, period)?)?;
+        let order = order_of(sites, station.site);
+        cells.push(StationCell::open(
+            alloc,
+            k as u16,
+            station.site,
+            row,
+            station.limits,
+            period,
+            order,
+        )?)?;
     }
     Ok(cells)
 }

@@ -3,21 +3,23 @@ ghost use Rattle.std.specs.List.{list_all, list_any, position};
 ghost use Rattle.std.specs.Option.{is_some};
 ghost use Rattle.std.specs.Str.{bytes_eq};
 ghost use Rattle.ledger_model.specs.Ranges.{most_sites};
-ghost use Rattle.site_desk.specs.Plan.{blank_name, first_twice, has_twice, is_past, is_within_limits, most_viewers, period_at, plan_fault, site_number, sites_by, sites_with};
+ghost use Rattle.site_desk.specs.Plan.{blank_name, first_twice, has_twice, is_past, is_within_limits, most_viewers, order_at, period_at, plan_fault, site_number, sites_by, sites_in, sites_with};
 
 use crate::fault::DeskFault;
 use arrayvec::ArrayVec;
-use ledger_model::{Limits, MAX_PLAN_READINGS, MAX_SITES, MAX_STATIONS, Name, Period};
+use ledger_model::{Limits, MAX_PLAN_READINGS, MAX_SITES, MAX_STATIONS, Name, Order, Period};
 
 /// How many viewers a site may have.
 pub const MAX_VIEWERS: u16 = 64;
 
-/// A site: its name, how many viewers it has, at most 64, and the settlement period of its boards.
+/// A site: its name, how many viewers it has, at most 64, the settlement period of its boards, and the order
+/// in which it takes the readings of a transaction.
 #[derive(Debug, Drop)]
 pub struct SitePlan {
     pub name: Name,
     pub viewers: u16,
     pub period: Period,
+    pub order: Order,
 }
 
 /// A station: the number of its site in the plan, its name, and its limits.
@@ -83,23 +85,31 @@ impl Plan {
     }
 
     /// Adds a station of this name with these limits, behind those that stand. Its site begins at its first
-    /// mention, with so many viewers and this settlement period. A name that stands already is left to
-    /// [`Plan::fault`].
+    /// mention, with so many viewers, this settlement period and this order of readings. A name that stands
+    /// already is left to [`Plan::fault`].
     ///
     /// Condition: that is not more than a plan may have (test [`Plan::is_past`]).
-    pub fn declare(&mut self, site: Name, viewers: u16, period: Period, name: Name, limits: Limits)
+    pub fn declare(
+        &mut self,
+        site: Name,
+        viewers: u16,
+        period: Period,
+        order: Order,
+        name: Name,
+        limits: Limits,
+    )
         requires room { is_past (position (λ s. bytes_eq site s.name) self.old.sites.items) self.old.sites.items self.old.stations.items limits ≡ false }
-        ensures sites { self.new.sites.items ≡ sites_with (position (λ s. bytes_eq site s.name) self.old.sites.items) site viewers period self.old.sites.items }
+        ensures sites { self.new.sites.items ≡ sites_with (position (λ s. bytes_eq site s.name) self.old.sites.items) site viewers period order self.old.sites.items }
         ensures stations { self.new.stations.items ≡ self.old.stations.items ++ record { site = site_number (position (λ s. bytes_eq site s.name) self.old.sites.items) self.old.sites.items; name = name; limits = limits } ∷ [] }
     {
-        let site = self.mention(site, viewers, period);
+        let site = self.mention(site, viewers, period, order);
         self.stations.push(StationPlan { site, name, limits });
     }
 
     // The number of the site of this name, which begins at its first mention.
-    fn mention(&mut self, name: Name, viewers: u16, period: Period) -> u16
+    fn mention(&mut self, name: Name, viewers: u16, period: Period, order: Order) -> u16
         requires room { position (λ s. bytes_eq name s.name) self.old.sites.items ≡ None → length self.old.sites.items < most_sites }
-        ensures sites { self.new.sites.items ≡ sites_with (position (λ s. bytes_eq name s.name) self.old.sites.items) name viewers period self.old.sites.items }
+        ensures sites { self.new.sites.items ≡ sites_with (position (λ s. bytes_eq name s.name) self.old.sites.items) name viewers period order self.old.sites.items }
         ensures stations { self.new.stations.items ≡ self.old.stations.items }
         ensures number { result ≡ site_number (position (λ s. bytes_eq name s.name) self.old.sites.items) self.old.sites.items }
     {
@@ -111,6 +121,7 @@ impl Plan {
                     name,
                     viewers,
                     period,
+                    order,
                 });
                 number
             }
@@ -136,6 +147,27 @@ impl Plan {
         ensures stations { self.new.stations.items ≡ self.old.stations.items }
     {
         self.sites.as_mut_slice()[site].period = period;
+    }
+
+    /// The order in which the site of this number takes the readings of a transaction.
+    ///
+    /// Condition: the plan has the site ([`Plan::site`] tells).
+    pub fn order(&self, site: usize) -> Order
+        requires { site < length self.now.sites.items }
+        ensures { result ≡ order_at self.now.sites.items site }
+    {
+        self.sites.as_slice()[site].order
+    }
+
+    /// Gives the site of this number another order of readings.
+    ///
+    /// Condition: the plan has the site ([`Plan::site`] tells).
+    pub fn set_order(&mut self, site: usize, order: Order)
+        requires { site < length self.old.sites.items }
+        ensures sites { self.new.sites.items ≡ sites_in site order self.old.sites.items }
+        ensures stations { self.new.stations.items ≡ self.old.stations.items }
+    {
+        self.sites.as_mut_slice()[site].order = order;
     }
 
     /// The first of the plan's stations whose name stands again behind it.
@@ -165,16 +197,18 @@ impl Plan {
 impl Default for SitePlan {
     ghost use Rattle.std.specs.Prelude.{◌≡◌};
     ghost use Rattle.ledger_model.specs.Quarter.{default_period};
+    ghost use Rattle.ledger_model.specs.declared.order.Order.TheVariants.{Sequence};
     ghost use Rattle.site_desk.specs.Plan.{blank_name};
 
-    ghost is_default = { λ s. s ≡ record { name = blank_name; viewers = 0; period = default_period } };
+    ghost is_default = { λ s. s ≡ record { name = blank_name; viewers = 0; period = default_period; order = Sequence } };
 
-    /// A site named `-`, without viewers, by the default settlement period.
+    /// A site named `-`, without viewers, by the default settlement period, its readings by sequence.
     fn default() -> Self {
         SitePlan {
             name: blank(),
             viewers: 0,
             period: Period::default(),
+            order: Order::default(),
         }
     }
 }
@@ -203,6 +237,16 @@ pub(crate) fn period_of(sites: &[SitePlan], site: u16) -> Period
     match sites.get(usize::from(site)) {
         Some(site) => site.period,
         None => Period::default(),
+    }
+}
+
+// The order of readings of the site of this number, and the default one where there is no such site.
+pub(crate) fn order_of(sites: &[SitePlan], site: u16) -> Order
+    ensures { result ≡ order_at sites.now site }
+{
+    match sites.get(usize::from(site)) {
+        Some(site) => site.order,
+        None => Order::default(),
     }
 }
 

@@ -5,12 +5,12 @@ ghost use Rattle.std.specs.Str.{bytes_eq};
 ghost use Rattle.site_desk.specs.Roster.{AreNewPlaces, IsNamed};
 
 use crate::parts::row_of;
-use crate::plan::{SitePlan, StationPlan, period_of};
-use ledger_model::{Limits, Name, Period};
+use crate::plan::{SitePlan, StationPlan, order_of, period_of};
+use ledger_model::{Limits, Name, Order, Period};
 use std::alloc::{AllocError, Global};
 
-/// Where a station stands: its name, its site's number, its row in the site's book, its limits, and its
-/// settlement period.
+/// Where a station stands: its name, its site's number, its row in the site's book, its limits, its
+/// settlement period, and the order of its readings.
 #[derive(Drop)]
 pub struct StationPlace {
     pub(crate) name: Name,
@@ -18,6 +18,7 @@ pub struct StationPlace {
     pub(crate) row: u16,
     pub(crate) limits: Limits,
     pub(crate) period: Period,
+    pub(crate) order: Order,
 }
 
 // The place of each station of a plan.
@@ -38,6 +39,7 @@ pub(crate) fn open_places(
             row: row_of(stations, station.site, k),
             limits: station.limits,
             period: period_of(sites, station.site),
+            order: order_of(sites, station.site),
         })?;
     }
     Ok(places)

@@ -21,6 +21,7 @@ pub(crate) fn stands_at(cell: &StationCell, number: usize, place: &StationPlace)
         && cell.row() == place.row
         && *cell.ledger().limits() == place.limits
         && cell.ledger().period() == place.period
+        && cell.ledger().order() == place.order
 }
 
 // Tells whether the cell is that of the station of this number and place, and the book its site's.
@@ -101,7 +102,7 @@ pub(crate) fn try_settle<J: Naming>(
 
 // The board of a cell's station.
 pub(crate) fn board_of(cell: &StationCell, alloc: Global) -> Result<StationBoard, AllocError>
-    ensures board { IfOk result (IsBoardWithin cell.now.limits cell.now.period) }
+    ensures board { IfOk result (IsBoardWithin cell.now.limits cell.now.period cell.now.order) }
     ensures within { IfOk result (λ b. AreWithin cell.now.limits b.figures) }
 {
     cell.ledger().board(alloc)

@@ -14,7 +14,7 @@ use crate::serve::serve_many;
 use crate::service::{address_of, listen, open_desk};
 use arrayvec::ArrayString;
 use itoa::Buffer;
-use ledger_model::{Limits, Name, Period};
+use ledger_model::{Limits, Name, Order, Period};
 use site_book::{Naming, Tables};
 use site_desk::{Desk, NoGate, Pass, Plan};
 use station_link::{SimFault, SimStation};
@@ -61,8 +61,8 @@ pub fn simulate<
     simulate_under::<Brand, R, W>(rt, alloc, tables, &plan, stations, events, output)
 }
 
-// The plan of a site `sim` with so many stations `CS-1`, `CS-2` and so on, under the default limits and
-// by the default settlement period.
+// The plan of a site `sim` with so many stations `CS-1`, `CS-2` and so on, under the default limits, by
+// the default settlement period and with readings by sequence.
 fn simulated_plan(stations: u16) -> Plan
     requires { stations ≤ 64 }
     ensures sites { result.sites.items ≡ simulated_sites stations }
@@ -76,6 +76,7 @@ fn simulated_plan(stations: u16) -> Plan
             site.copied(),
             0,
             Period::default(),
+            Order::Sequence,
             station,
             Limits::default(),
         );

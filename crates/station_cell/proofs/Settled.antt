@@ -4,7 +4,8 @@ use Rattle.ledger_model.specs.declared.answer.Answer.{Answer}
 use Rattle.ledger_model.specs.declared.answer.Answer.TheVariants.{Accepted, Repeat, Refused}
 use Rattle.ledger_model.specs.declared.command.Command.{Command}
 use Rattle.ledger_model.specs.declared.figures.Figures.{Figures}
-use Rattle.ledger_model.specs.Board.{figures}
+use Rattle.ledger_model.specs.declared.order.Order.{Order}
+use Rattle.ledger_model.specs.Board.{figures_by}
 use Rattle.ledger_model.specs.Content.{Content, entries}
 use Rattle.ledger_model.specs.Posts.{row_after}
 use Rattle.ledger_model.specs.Step.{answer, step, content_after}
@@ -16,14 +17,14 @@ use Rattle.station_cell.specs.Cell.{Cell, Held, Knows}
 use Rattle.station_cell.specs.Settle.{Tied, cell_after, counts_after, pass_after, posts_after}
 
 -- a cell after an accepted command, by its parts
-pub cell_changed : (c : Cell) (p : Held) (command : Command) (l : Ledger) (n v : ℕ) → l ≡ record { limits = c.limits; period = c.period; content = (step c.limits c.content command).0 } → answer c.limits c.content command ≡ Accepted n → v ≡ p.changes
-    → ◌≡◌ {A = Cell} (record { station = c.station; site = c.site; row = c.row; limits = l.limits; period = l.period; content = l.content; counts = set c.counts p.slot (v + 1) }) (cell_after c p command)
+pub cell_changed : (c : Cell) (p : Held) (command : Command) (l : Ledger) (n v : ℕ) → l ≡ record { limits = c.limits; period = c.period; order = c.order; content = (step c.limits c.content command).0 } → answer c.limits c.content command ≡ Accepted n → v ≡ p.changes
+    → ◌≡◌ {A = Cell} (record { station = c.station; site = c.site; row = c.row; limits = l.limits; period = l.period; order = l.order; content = l.content; counts = set c.counts p.slot (v + 1) }) (cell_after c p command)
 cell_changed c p command l n v left is count =
     let counts : set c.counts p.slot (v + 1) ≡ counts_after c.counts p (answer c.limits c.content command) = ap (λ k. set c.counts p.slot (k + 1)) count ∙ ap (counts_after c.counts p) (sym is) in
-    λ i. record { station = c.station; site = c.site; row = c.row; limits = (left i).limits; period = (left i).period; content = (left i).content; counts = counts i }
+    λ i. record { station = c.station; site = c.site; row = c.row; limits = (left i).limits; period = (left i).period; order = (left i).order; content = (left i).content; counts = counts i }
 
 -- the book after an accepted command's post
-pub book_posted : (b b' : Book) (c : Cell) (a : Answer) (n row : ℕ) (f : Figures) → b' ≡ record b { posts = b.posts ++ (row, f) ∷ [] } → row ≡ c.row → f ≡ figures (entries c.content) → a ≡ Accepted n
+pub book_posted : (b b' : Book) (c : Cell) (a : Answer) (n row : ℕ) (f : Figures) → b' ≡ record b { posts = b.posts ++ (row, f) ∷ [] } → row ≡ c.row → f ≡ figures_by c.order (entries c.content) → a ≡ Accepted n
     → b' ≡ record b { posts = posts_after b.posts c a }
 book_posted b b' c a n row f posted rows shown is =
     posted ∙ (λ i. record b { posts = b.posts ++ (rows i, shown i) ∷ [] }) ∙ (λ i. record b { posts = posts_after b.posts c (sym is i) })
@@ -42,9 +43,9 @@ known_after c c' p p' command a cells passes is k =
 -- the row stays tied
 tied_by : (c : Cell) (b : Book) (content : Content) (counts : List ℕ) (command : Command) (a : Answer) → content ≡ content_after c.content command a → Tied c b
     → Tied (record c { content = content; counts = counts }) (record b { posts = posts_after b.posts (record c { content = content; counts = counts }) a })
-tied_by c b content counts command (Accepted n) is t = row-push_same c.row (figures (entries content)) b.posts
-tied_by c b content counts command Repeat is t = t ∙ ap (λ d. figures (entries d)) (sym is)
-tied_by c b content counts command (Refused why) is t = t ∙ ap (λ d. figures (entries d)) (sym is)
+tied_by c b content counts command (Accepted n) is t = row-push_same c.row (figures_by c.order (entries content)) b.posts
+tied_by c b content counts command Repeat is t = t ∙ ap (λ d. figures_by c.order (entries d)) (sym is)
+tied_by c b content counts command (Refused why) is t = t ∙ ap (λ d. figures_by c.order (entries d)) (sym is)
 
 pub tied_after : (c c' : Cell) (p : Held) (b b' : Book) (command : Command) (a : Answer) → c' ≡ cell_after c p command → b' ≡ record b { posts = posts_after b.posts c' a } → a ≡ answer c.limits c.content command → Tied c b → Tied c' b'
 tied_after c c' p b b' command a cells books is t =
@@ -55,14 +56,14 @@ tied_after c c' p b b' command a cells books is t =
 
 -- the row of another station of the site stays tied
 pub tied_beside : (other c : Cell) (b : Book) (a : Answer) → c.row ≢ other.row → Tied other b → Tied other (record b { posts = posts_after b.posts c a })
-tied_beside other c b (Accepted n) apart t = row-push_other c.row other.row (figures (entries c.content)) b.posts apart ∙ t
+tied_beside other c b (Accepted n) apart t = row-push_other c.row other.row (figures_by c.order (entries c.content)) b.posts apart ∙ t
 tied_beside other c b Repeat apart t = t
 tied_beside other c b (Refused why) apart t = t
 
 -- what a test of the row's figures tells
-pub tied_told : (c : Cell) (b : Book) (r : Bool) (row : ℕ) (f h : Figures) (d : Content) → (IsTrue r → f ≡ h) × (f ≡ h → IsTrue r) → row ≡ c.row → f ≡ row_after row b.posts → d ≡ c.content → h ≡ figures (entries d)
+pub tied_told : (c : Cell) (b : Book) (r : Bool) (row : ℕ) (f h : Figures) (order : Order) (d : Content) → (IsTrue r → f ≡ h) × (f ≡ h → IsTrue r) → row ≡ c.row → f ≡ row_after row b.posts → order ≡ c.order → d ≡ c.content → h ≡ figures_by order (entries d)
     → (IsTrue r → Tied c b) × (Tied c b → IsTrue r)
-tied_told c b r row f h d test rows read is shown =
+tied_told c b r row f h order d test rows read ordered is shown =
     let first : f ≡ row_after c.row b.posts = read ∙ ap (λ n. row_after n b.posts) rows in
-    let second : h ≡ figures (entries c.content) = shown ∙ ap (λ e. figures (entries e)) is in
+    let second : h ≡ figures_by c.order (entries c.content) = shown ∙ (λ i. figures_by (ordered i) (entries (is i))) in
     ((λ t. sym first ∙ test.0 t ∙ second), (λ e. test.1 (first ∙ e ∙ sym second)))

@@ -2,7 +2,7 @@ use Rattle.std.specs.Prelude.{◌≡◌, ℕ, ◌+◌, List, [], ◌∷◌, ◌+
 use Rattle.ledger_model.specs.declared.answer.Answer.{Answer}
 use Rattle.ledger_model.specs.declared.answer.Answer.TheVariants.{Accepted, Repeat, Refused}
 use Rattle.ledger_model.specs.declared.command.Command.{Command}
-use Rattle.ledger_model.specs.Board.{figures}
+use Rattle.ledger_model.specs.Board.{figures_by}
 use Rattle.ledger_model.specs.Content.{entries}
 use Rattle.ledger_model.specs.Posts.{Post, row_after}
 use Rattle.ledger_model.specs.Step.{answer, step}
@@ -15,7 +15,7 @@ Holds c b = slice_get b.limits c.row ≡ Some c.limits
 
 -- The cell's row in the book shows the figures of the cell's content.
 abbrev pub Tied : Cell → Book → Type 0
-Tied c b = row_after c.row b.posts ≡ figures (entries c.content)
+Tied c b = row_after c.row b.posts ≡ figures_by c.order (entries c.content)
 
 -- The pass after this answer: an accepted command is one change more.
 abbrev pub pass_after : Held → Answer → Held
@@ -35,7 +35,7 @@ cell_after c p command = record c { content = (step c.limits c.content command).
 
 -- The posts after this answer, which left this cell: an accepted command is one post more, of the cell's row and the figures of its content.
 abbrev pub posts_after : List Post → Cell → Answer → List Post
-posts_after posts c (Accepted n) = posts ++ (c.row, figures (entries c.content)) ∷ []
+posts_after posts c (Accepted n) = posts ++ (c.row, figures_by c.order (entries c.content)) ∷ []
 posts_after posts c Repeat = posts
 posts_after posts c (Refused why) = posts
 

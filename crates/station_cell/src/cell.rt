@@ -6,7 +6,7 @@ ghost use Rattle.station_cell.specs.Settle.{cell_after, pass_after};
 use crate::fault::TooManyPasses;
 use crate::pass::Pass;
 use energy_flow::Work;
-use ledger_model::{Answer, Command, Limits, Period};
+use ledger_model::{Answer, Command, Limits, Order, Period};
 use station_ledger::StationLedger;
 use std::alloc::{AllocError, Global};
 use std::marker::Model;
@@ -37,14 +37,15 @@ impl Model for StationCell {
 
     ghost coded = { cell_code };
 
-    ghost view = { λ c. record { station = c.station; site = c.site; row = c.row; limits = c.ledger.limits; period = c.ledger.period; content = c.ledger.content; counts = c.counts.items } };
+    ghost view = { λ c. record { station = c.station; site = c.site; row = c.row; limits = c.ledger.limits; period = c.ledger.period; order = c.ledger.order; content = c.ledger.content; counts = c.counts.items } };
 
     ghost invariant = { λ c. IsCell c.ledger.limits c.ledger.content c.counts.items (vec_capacity c.counts) };
 }
 
 impl StationCell {
     /// The cell of a station without events: the station's number, its site's, its row in that site's book,
-    /// its limits and its site's settlement period, with room for all its passes. It alone takes memory.
+    /// its limits, its site's settlement period and the order of its readings, with room for all its passes. It
+    /// alone takes memory.
     pub fn open(
         alloc: Global,
         station: u16,
@@ -52,10 +53,11 @@ impl StationCell {
         row: u16,
         limits: Limits,
         period: Period,
+        order: Order,
     ) -> Result<Self, AllocError>
-        ensures { IfOk result (λ c. c ≡ new_cell station site row limits period) }
+        ensures { IfOk result (λ c. c ≡ new_cell station site row limits period order) }
     {
-        let ledger = StationLedger::open(alloc, limits, period)?;
+        let ledger = StationLedger::open(alloc, limits, period, order)?;
         let counts = Vec::with_capacity(alloc, MAX_PASSES)?;
         counts_commands(&ledger);
         Ok(StationCell {
@@ -99,6 +101,7 @@ impl StationCell {
     pub fn ledger(&self) -> &StationLedger
         ensures limits { result.now.limits ≡ self.now.limits }
         ensures period { result.now.period ≡ self.now.period }
+        ensures order { result.now.order ≡ self.now.order }
         ensures content { result.now.content ≡ self.now.content }
         ensures reached { Reached self.now.limits self.now.content.changes self.now.content }
         ensures counted { sum self.now.counts ≡ self.now.content.changes }

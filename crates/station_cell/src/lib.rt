@@ -11,7 +11,7 @@
 //! station, and what lies behind which lock, is `site_desk`'s.
 //!
 //! ```text
-//! let mut cell = StationCell::open(alloc, 0, 0, 0, limits, period)?;
+//! let mut cell = StationCell::open(alloc, 0, 0, 0, limits, period, order)?;
 //! let mut pass = enlist_cell(rt, &mut cell)?;
 //! settle(&mut cell, &mut book, &mut pass, Command::Void(key));    // (Accepted(1), Some(told))
 //! tied(&cell, &book)                                              // the row shows the ledger's figures

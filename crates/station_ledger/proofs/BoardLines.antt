@@ -3,10 +3,11 @@ use Rattle.std.proofs.Common.{◌==◌, ℕ, ◌≤◌, List, [], ◌∷◌, ◌
 use Rattle.std.specs.List.{All}
 use Rattle.std.proofs.lemmas.List.Elements.{All-nil, All-cons, All-append}
 use Rattle.energy_flow.specs.Flow.{Energy}
-use Rattle.ledger_model.specs.Board.{Flowed, board}
+use Rattle.ledger_model.specs.Board.{Flowed, board_by}
 use Rattle.ledger_model.specs.Content.{Entry}
-use Rattle.ledger_model.specs.Energy.{Flows, Pair, flows_in, energy, energy_in, energy_of, pairs, quarter_of, quarters, difference}
-use Rattle.ledger_model.specs.Evse.{energy_at, evses, flows_at}
+use Rattle.ledger_model.specs.Energy.{Flows, Pair, all_pairs_by, flows_in_by, energy_by, energy_in_by, energy_of_by, quarter_of, quarters_by, difference}
+use Rattle.ledger_model.specs.Evse.{energy_at_by, evses, flows_at_by}
+use Rattle.ledger_model.specs.declared.order.Order.{Order}
 use Rattle.ledger_model.specs.declared.reading.Direction.{Direction}
 use Rattle.ledger_model.specs.declared.reading.Direction.TheVariants.{Import, Export}
 use Rattle.ledger_model.specs.Limits.{Bounds}
@@ -19,21 +20,21 @@ use Rattle.station_ledger.specs.Sums.{AreAllowed}
 use Rattle.station_ledger.proofs.Timely.{in_period}
 use Rattle.station_ledger.proofs.Bounded.{few_up, few_down, evse_up_le, evse_down_le, own_up_le, own_down_le, part_le}
 
-module _ (limits : Bounds) (es : List Entry) (within : AreAllowed limits es) where
-  small : (d : Direction) (e : Energy) → e.up ≤ (energy d es).up → e.down ≤ (energy d es).down → IsStationFlow e
+module _ (order : Order) (limits : Bounds) (es : List Entry) (within : AreAllowed order limits es) where
+  small : (d : Direction) (e : Energy) → e.up ≤ (energy_by order d es).up → e.down ≤ (energy_by order d es).down → IsStationFlow e
   small d e up down = record {
-    up = omega (arith, up, few_up d limits es within, within.most_readings_within);
-    down = omega (arith, down, few_down d limits es within, within.most_readings_within);
+    up = omega (arith, up, few_up order d limits es within, within.most_readings_within);
+    down = omega (arith, down, few_down order d limits es within, within.most_readings_within);
   }
 
-  pub own_flow : (d : Direction) (tx : List ℕ) → IsStationFlow (energy_of d tx es)
-  own_flow d tx = small d (energy_of d tx es) (own_up_le d tx es) (own_down_le d tx es)
+  pub own_flow : (d : Direction) (tx : List ℕ) → IsStationFlow (energy_of_by order d tx es)
+  own_flow d tx = small d (energy_of_by order d tx es) (own_up_le order d tx es) (own_down_le order d tx es)
 
-  evse_flow : (d : Direction) (n : ℕ) → IsStationFlow (energy_at d n es)
-  evse_flow d n = small d (energy_at d n es) (evse_up_le d n es) (evse_down_le d n es)
+  evse_flow : (d : Direction) (n : ℕ) → IsStationFlow (energy_at_by order d n es)
+  evse_flow d n = small d (energy_at_by order d n es) (evse_up_le order d n es) (evse_down_le order d n es)
 
-  quarter_flow : (d : Direction) (period q : ℕ) → IsStationFlow (energy_in d period q es)
-  quarter_flow d period q = small d (energy_in d period q es) (part_le (λ p. (difference p).up) (λ p. quarter_of period p == q) (pairs d es)) (part_le (λ p. (difference p).down) (λ p. quarter_of period p == q) (pairs d es))
+  quarter_flow : (d : Direction) (period q : ℕ) → IsStationFlow (energy_in_by order d period q es)
+  quarter_flow d period q = small d (energy_in_by order d period q es) (part_le (λ p. (difference p).up) (λ p. quarter_of period p == q) (all_pairs_by order d es)) (part_le (λ p. (difference p).down) (λ p. quarter_of period p == q) (all_pairs_by order d es))
 
   all_lines : (f : ℕ → Flows) (ns : List ℕ) → ((n : ℕ) → AreStationFlows (f n)) → All (λ line. AreStationFlows line.1) (map {B = Flowed} (λ n. (n, f n)) ns)
   all_lines f [] each = All-nil (λ line. AreStationFlows line.1)
@@ -44,9 +45,9 @@ module _ (limits : Bounds) (es : List Entry) (within : AreAllowed limits es) whe
   own_lines f period (n ∷ ns) each = All-cons (λ line. IsQuarterOf period line.0) (n, f n) (map {B = Flowed} (λ k. (k, f k)) ns) (each n (inl refl)) (own_lines f period ns (λ k h. each k (inr h)))
 
   -- no line has more than the readings of a station can show, and each quarter is the period's
-  pub lines_within : (period : ℕ) → IsPeriod period → AreStationLines period (board period es).evses (board period es).quarters
+  pub lines_within : (period : ℕ) → IsPeriod period → AreStationLines period (board_by order period es).evses (board_by order period es).quarters
   lines_within period is = record {
-    evse_flows = all_lines (λ n. flows_at n es) (evses es) (λ n. record { flow = evse_flow Import n; export = evse_flow Export n });
-    quarter_flows = all_lines (λ q. flows_in period q es) (quarters period es) (λ q. record { flow = quarter_flow Import period q; export = quarter_flow Export period q });
-    own_quarters = own_lines (λ q. flows_in period q es) period (quarters period es) (λ q h. in_period period (pairs Import es ++ pairs Export es) q is (All-append (λ (p : Pair). IsMoment p.1.moment) (pairs Import es) (pairs Export es) (within.in_time Import) (within.in_time Export)) ((rising-IsIn q (map (quarter_of period) (pairs Import es ++ pairs Export es))).0 h));
+    evse_flows = all_lines (λ n. flows_at_by order n es) (evses es) (λ n. record { flow = evse_flow Import n; export = evse_flow Export n });
+    quarter_flows = all_lines (λ q. flows_in_by order period q es) (quarters_by order period es) (λ q. record { flow = quarter_flow Import period q; export = quarter_flow Export period q });
+    own_quarters = own_lines (λ q. flows_in_by order period q es) period (quarters_by order period es) (λ q h. in_period period (all_pairs_by order Import es ++ all_pairs_by order Export es) q is (All-append (λ (p : Pair). IsMoment p.1.moment) (all_pairs_by order Import es) (all_pairs_by order Export es) (within.in_time Import) (within.in_time Export)) ((rising-IsIn q (map (quarter_of period) (all_pairs_by order Import es ++ all_pairs_by order Export es))).0 h));
   }

@@ -5,17 +5,19 @@ use Rattle.std.specs.Str.{bytes_eq}
 use Rattle.std.proofs.lemmas.List.Concat.{length-flat_map}
 use Rattle.std.proofs.lemmas.List.Sums.{sum_by-cons, sum_by-le-sum_by, count_by-le-length, length-filter}
 use Rattle.ledger_model.specs.Content.{Entry, live, live_of, transactions_of}
-use Rattle.ledger_model.specs.Energy.{Pair, difference, energy, energy_of, followed, pairs, pairs_of, readings_of}
+use Rattle.ledger_model.specs.Energy.{Pair, all_pairs_by, difference, energy_by, energy_of_by, followed, pairs_by, readings_by, readings_of}
 use Rattle.ledger_model.specs.Event.{MeterReading, same_direction, toward}
+use Rattle.ledger_model.specs.declared.order.Order.{Order}
 use Rattle.ledger_model.specs.declared.reading.Direction.{Direction}
 use Rattle.ledger_model.specs.declared.reading.Direction.TheVariants.{Import, Export}
 use Rattle.ledger_model.specs.Limits.{Bounds}
 use Rattle.ledger_model.specs.Ranges.{greatest_reading}
 use Rattle.station_ledger.specs.Sums.{AreAllowed}
-use Rattle.ledger_model.specs.Evse.{energy_at, evse_of, transactions_at}
+use Rattle.ledger_model.specs.Evse.{energy_at_by, evse_of, transactions_at}
 use Rattle.ledger_model.specs.Gaps.{numbers_of, missing}
+use Rattle.ledger_model.specs.InTime.{in_order}
 use Rattle.ledger_model.specs.Step.{readings_stored}
-use Rattle.ledger_model.proofs.Callers.{passed_sum, sum_by-flat_map}
+use Rattle.ledger_model.proofs.Callers.{length-in_order, order-nil, passed_sum, sum_by-flat_map}
 use Rattle.ledger_model.proofs.FigureBounds.{sum_by_transactions}
 use Rattle.ledger_model.proofs.SumsByTransaction.{sum_by_one}
 use Rattle.ledger_model.proofs.TransactionLemmas.{any-map}
@@ -43,7 +45,7 @@ abbrev size : Direction → Entry → ℕ
 size d e = length (toward d e.1.event.readings)
 
 -- each reading is of one direction
-either : (rs : List MeterReading) → length (toward Import rs) + length (toward Export rs) ≤ length rs
+pub either : (rs : List MeterReading) → length (toward Import rs) + length (toward Export rs) ≤ length rs
 either [] = omega arith
 either (r ∷ rs) =
     let rest = either rs in
@@ -56,49 +58,51 @@ sizes : (es : List Entry) → sum_by (size Import) es + sum_by (size Export) es 
 sizes [] = omega arith
 sizes (e ∷ es) = omega (arith, sum_by-cons (size Import) e es, sum_by-cons (size Export) e es, sum_by-cons (λ (f : Entry). length f.1.event.readings) e es, either e.1.event.readings, sizes es)
 
-few_of : (d : Direction) (es : List Entry) → length (pairs d es) ≤ sum_by (size d) (live es)
-few_of d es =
-    let ts = transactions_of (live es) in
-    let one : (t : List ℕ) → length (pairs_of d t es) ≤ sum_by (size d) (live_of t es) = λ t. omega (arith, few_followed (readings_of d t es), length-flat_map (λ (e : Entry). toward d e.1.event.readings) (live_of t es)) in
-    omega (arith, length-flat_map (λ t. pairs_of d t es) ts, sum_by-le-sum_by (λ t. length (pairs_of d t es)) (λ t. sum_by (size d) (live_of t es)) ts one, sum_by_transactions (size d) (live es))
+module _ (order : Order) where
+  few_of : (d : Direction) (es : List Entry) → length (all_pairs_by order d es) ≤ sum_by (size d) (live es)
+  few_of d es =
+      let ts = transactions_of (live es) in
+      let one : (t : List ℕ) → length (pairs_by order d t es) ≤ sum_by (size d) (live_of t es) = λ t. omega (arith, few_followed (readings_by order d t es), length-in_order order (readings_of d t es), length-flat_map (λ (e : Entry). toward d e.1.event.readings) (live_of t es)) in
+      omega (arith, length-flat_map (λ t. pairs_by order d t es) ts, sum_by-le-sum_by (λ t. length (pairs_by order d t es)) (λ t. sum_by (size d) (live_of t es)) ts one, sum_by_transactions (size d) (live es))
 
--- there are no more pairs of both directions than readings
-pub few_pairs : (es : List Entry) → length (pairs Import es) + length (pairs Export es) ≤ readings_stored es
-few_pairs es = omega (arith, few_of Import es, few_of Export es, sizes (live es), part_le (λ (e : Entry). length e.1.event.readings) (λ e. not e.1.voided) es)
+  -- there are no more pairs of both directions than readings
+  pub few_pairs : (es : List Entry) → length (all_pairs_by order Import es) + length (all_pairs_by order Export es) ≤ readings_stored es
+  few_pairs es = omega (arith, few_of Import es, few_of Export es, sizes (live es), part_le (λ (e : Entry). length e.1.event.readings) (λ e. not e.1.voided) es)
 
--- what the limits allow of the energy of a direction
-pub few_up : (d : Direction) (limits : Bounds) (es : List Entry) → AreAllowed limits es → (energy d es).up ≤ greatest_reading * limits.readings
-few_up Import limits es h = h.figures_within.up
-few_up Export limits es h = h.figures_within.export_up
+  -- what the limits allow of the energy of a direction
+  pub few_up : (d : Direction) (limits : Bounds) (es : List Entry) → AreAllowed order limits es → (energy_by order d es).up ≤ greatest_reading * limits.readings
+  few_up Import limits es h = h.figures_within.up
+  few_up Export limits es h = h.figures_within.export_up
 
-pub few_down : (d : Direction) (limits : Bounds) (es : List Entry) → AreAllowed limits es → (energy d es).down ≤ greatest_reading * limits.readings
-few_down Import limits es h = h.figures_within.down
-few_down Export limits es h = h.figures_within.export_down
+  pub few_down : (d : Direction) (limits : Bounds) (es : List Entry) → AreAllowed order limits es → (energy_by order d es).down ≤ greatest_reading * limits.readings
+  few_down Import limits es h = h.figures_within.down
+  few_down Export limits es h = h.figures_within.export_down
 
--- an EVSE's sums are no more than the station's
-at_le : (d : Direction) (f : Pair → ℕ) (n : ℕ) (es : List Entry) → sum_by f (flat_map (λ t. pairs_of d t es) (transactions_at n es)) ≤ sum_by f (pairs d es)
-at_le d f n es =
-    let ts = transactions_of (live es) in
-    omega (arith, sum_by-flat_map f (λ t. pairs_of d t es) (transactions_at n es), sum_by-flat_map f (λ t. pairs_of d t es) ts, part_le (λ t. sum_by f (pairs_of d t es)) (λ t. evse_of t es == n) ts)
+  -- an EVSE's sums are no more than the station's
+  at_le : (d : Direction) (f : Pair → ℕ) (n : ℕ) (es : List Entry) → sum_by f (flat_map (λ t. pairs_by order d t es) (transactions_at n es)) ≤ sum_by f (all_pairs_by order d es)
+  at_le d f n es =
+      let ts = transactions_of (live es) in
+      omega (arith, sum_by-flat_map f (λ t. pairs_by order d t es) (transactions_at n es), sum_by-flat_map f (λ t. pairs_by order d t es) ts, part_le (λ t. sum_by f (pairs_by order d t es)) (λ t. evse_of t es == n) ts)
 
-pub evse_up_le : (d : Direction) (n : ℕ) (es : List Entry) → (energy_at d n es).up ≤ (energy d es).up
-evse_up_le d n es = at_le d (λ p. (difference p).up) n es
+  pub evse_up_le : (d : Direction) (n : ℕ) (es : List Entry) → (energy_at_by order d n es).up ≤ (energy_by order d es).up
+  evse_up_le d n es = at_le d (λ p. (difference p).up) n es
 
-pub evse_down_le : (d : Direction) (n : ℕ) (es : List Entry) → (energy_at d n es).down ≤ (energy d es).down
-evse_down_le d n es = at_le d (λ p. (difference p).down) n es
+  pub evse_down_le : (d : Direction) (n : ℕ) (es : List Entry) → (energy_at_by order d n es).down ≤ (energy_by order d es).down
+  evse_down_le d n es = at_le d (λ p. (difference p).down) n es
 
--- and a transaction's
-own_le : (d : Direction) (f : Pair → ℕ) (tx : List ℕ) (es : List Entry) → sum_by f (pairs_of d tx es) ≤ sum_by f (pairs d es)
-own_le d f tx es =
-    let g : List ℕ → ℕ = λ t. sum_by f (pairs_of d t es) in
-    let absent : list_any (bytes_eq tx) (map (λ (e : Entry). e.0.tx) (live es)) ≡ false → g tx ≡ 0 = λ none. ap (λ (xs : List Entry). sum_by f (followed (flat_map (λ (e : Entry). toward d e.1.event.readings) xs))) (none_live tx es (sym (any-map tx (live es)) ∙ none)) in
-    omega (arith, sum_by-flat_map f (λ t. pairs_of d t es) (transactions_of (live es)), sum_by_one g tx (map (λ (e : Entry). e.0.tx) (live es)) absent)
+  -- and a transaction's
+  own_le : (d : Direction) (f : Pair → ℕ) (tx : List ℕ) (es : List Entry) → sum_by f (pairs_by order d tx es) ≤ sum_by f (all_pairs_by order d es)
+  own_le d f tx es =
+      let g : List ℕ → ℕ = λ t. sum_by f (pairs_by order d t es) in
+      let absent : list_any (bytes_eq tx) (map (λ (e : Entry). e.0.tx) (live es)) ≡ false → g tx ≡ 0 = λ none. ap (λ (xs : List Entry). sum_by f (followed (in_order order (λ (r : MeterReading). r.moment) (flat_map (λ (e : Entry). toward d e.1.event.readings) xs)))) (none_live tx es (sym (any-map tx (live es)) ∙ none))
+      ∙ ap (λ rs. sum_by f (followed rs)) (order-nil (λ (r : MeterReading). r.moment) order) in
+      omega (arith, sum_by-flat_map f (λ t. pairs_by order d t es) (transactions_of (live es)), sum_by_one g tx (map (λ (e : Entry). e.0.tx) (live es)) absent)
 
-pub own_up_le : (d : Direction) (tx : List ℕ) (es : List Entry) → (energy_of d tx es).up ≤ (energy d es).up
-own_up_le d tx es = own_le d (λ p. (difference p).up) tx es
+  pub own_up_le : (d : Direction) (tx : List ℕ) (es : List Entry) → (energy_of_by order d tx es).up ≤ (energy_by order d es).up
+  own_up_le d tx es = own_le d (λ p. (difference p).up) tx es
 
-pub own_down_le : (d : Direction) (tx : List ℕ) (es : List Entry) → (energy_of d tx es).down ≤ (energy d es).down
-own_down_le d tx es = own_le d (λ p. (difference p).down) tx es
+  pub own_down_le : (d : Direction) (tx : List ℕ) (es : List Entry) → (energy_of_by order d tx es).down ≤ (energy_by order d es).down
+  own_down_le d tx es = own_le d (λ p. (difference p).down) tx es
 
 -- a transaction's live events are no more than all
 pub live_le : (tx : List ℕ) (es : List Entry) → length (live_of tx es) ≤ length (live es)

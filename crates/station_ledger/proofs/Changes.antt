@@ -1,5 +1,7 @@
 -- What an event that comes or goes changes: the pairs of each direction that go and come, and what its transaction counts for.
 use Rattle.std.proofs.Common.{◌≡◌, ℕ, ◌+◌, ◌≤◌, Bool, zero, suc, List, [], ◌∷◌, Option, length, refl, sym, ap, subst, ◌∙◌, arith}
+use Rattle.ledger_model.specs.declared.order.Order.{Order}
+use Rattle.ledger_model.specs.declared.order.Order.TheVariants.{Sequence}
 use Rattle.ledger_model.specs.declared.reading.Direction.{Direction}
 use Rattle.ledger_model.specs.declared.reading.Direction.TheVariants.{Import, Export}
 use Rattle.ledger_model.specs.Content.{Entry, Stored}
@@ -23,11 +25,10 @@ use Rattle.station_ledger.specs.Sums.{AreAllowed, IsToCome, IsToGo}
 use Rattle.station_ledger.proofs.Moved.{moved_more, moved_back}
 use Rattle.station_ledger.proofs.Trades.{IsTraded, traded_more, traded_less}
 
--- A change of a transaction's live events, with the pairs of each direction that go and come.
+-- A change of a transaction's live events, with the pairs of each direction that go and come by sequence.
 pub record IsChange (limits : Bounds) (tx : List ℕ) (es new : List Entry) (gone came : Direction → List Pair) (most : ℕ) : Type 0 where
-  pub before : AreAllowed limits es
-  pub after : AreAllowed limits new
-  pub moved : IsMoved tx es new
+  pub before : AreAllowed Sequence limits es
+  pub after : AreAllowed Sequence limits new
   pub kept : Direction → List Pair
   pub traded : (d : Direction) → IsTraded d tx es new (gone d) (came d) (kept d)
   pub few_gone : (d : Direction) → length (gone d) ≤ most_event_readings + 2
@@ -65,7 +66,15 @@ few_each {key = key} {es = es} chains place event d is own =
 few_of : (n : ℕ) (event : Stored) (d : Direction) → length event.event.readings ≤ most_event_readings → n ≤ most_for (length (toward d event.event.readings)) → n ≤ most_event_readings + 2
 few_of n event d few le = omega (arith, le, most_le (length (toward d event.event.readings)), few_toward d event.event.readings, few)
 
-module _ {tx : List ℕ} {es : List Entry} {chains : Chained} {key : KeyName} {place : ByDirection Sides} (tx_is : tx ≡ key.tx) (allowed : AreAllowed chains.limits es) (after : AreAllowed chains.limits (stored chains)) where
+-- the live events of the transaction alone change
+module _ (order : Order) {tx : List ℕ} {es : List Entry} {chains : Chained} {key : KeyName} {place : ByDirection Sides} (tx_is : tx ≡ key.tx) where
+  pub come_moved : {names : Bool} → IsToCome es chains key place names → IsMoved order tx es (stored chains)
+  come_moved h = subst (λ t. IsMoved order t es (stored chains)) (sym tx_is) (moved_more order es (stored chains) (before_key key es) (key, h.event) (behind_key key es) h.one)
+
+  pub go_moved : IsToGo es chains key place → IsMoved order tx es (stored chains)
+  go_moved h = subst (λ t. IsMoved order t es (stored chains)) (sym tx_is) (moved_back order key.tx (stored chains) es (moved_more order (stored chains) es (before_key key es) (key, h.event) (behind_key key es) h.one))
+
+module _ {tx : List ℕ} {es : List Entry} {chains : Chained} {key : KeyName} {place : ByDirection Sides} (tx_is : tx ≡ key.tx) (allowed : AreAllowed Sequence chains.limits es) (after : AreAllowed Sequence chains.limits (stored chains)) where
   -- the readings come
   pub coming : {names : Bool} → IsToCome es chains key place names → IsChange chains.limits tx es (stored chains) (sides_across place) (sides_between place chains key) (most_at chains key)
   coming h =
@@ -75,7 +84,6 @@ module _ {tx : List ℕ} {es : List Entry} {chains : Chained} {key : KeyName} {p
       record {
         before = allowed;
         after = after;
-        moved = subst (λ t. IsMoved t es new) (sym tx_is) (moved_more es new front e back h.one);
         kept = λ d. kept_by d es front e back;
         traded = λ d. subst (λ t. IsTraded d t es new (sides_across place d) (sides_between place chains key d) (kept_by d es front e back)) (sym tx_is)
             (subst (λ ps. IsTraded d key.tx es new ps (sides_between place chains key d) (kept_by d es front e back)) (sym (across_then place h.event d (h.sides d)))
@@ -94,7 +102,6 @@ module _ {tx : List ℕ} {es : List Entry} {chains : Chained} {key : KeyName} {p
       record {
         before = allowed;
         after = after;
-        moved = subst (λ t. IsMoved t es new) (sym tx_is) (moved_back key.tx new es (moved_more new es front e back h.one));
         kept = λ d. kept_by d new front e back;
         traded = λ d. subst (λ t. IsTraded d t es new (sides_between place chains key d) (sides_across place d) (kept_by d new front e back)) (sym tx_is)
             (subst (λ ps. IsTraded d key.tx es new (sides_between place chains key d) ps (kept_by d new front e back)) (sym (across_then place h.event d (h.sides d)))

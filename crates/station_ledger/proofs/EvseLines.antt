@@ -4,11 +4,12 @@ use Rattle.std.specs.List.{filter}
 use Rattle.std.proofs.lemmas.Bool.{eq-eqb, lt-ltb, le-ltb, ltb-true}
 use Rattle.std.proofs.lemmas.Bool.Decides.{Decides-eqb}
 use Rattle.std.proofs.lemmas.List.{append-nil, map-append}
+use Rattle.ledger_model.specs.declared.order.Order.{Order}
 use Rattle.ledger_model.specs.Energy.{Flows}
 use Rattle.ledger_model.specs.Board.{Flowed}
 use Rattle.ledger_model.specs.BoardLaws.{AreRising, IsIn}
 use Rattle.ledger_model.specs.Content.{Entry, live, transactions_of}
-use Rattle.ledger_model.specs.Evse.{evse_of, evses, flows_at, transactions_at}
+use Rattle.ledger_model.specs.Evse.{evse_of, evses, flows_at_by, transactions_at}
 use Rattle.ledger_model.specs.Ranges.{greatest_evse}
 use Rattle.ledger_model.proofs.EnergyLemmas.{evses_rise, evses_shown}
 use Rattle.station_ledger.specs.declared.totals.EvseSum.{EvseSum}
@@ -150,7 +151,7 @@ lines_alike : (f g : ℕ → Flows) (ns : List ℕ) → ((k : ℕ) → IsIn k ns
 lines_alike f g [] same = refl
 lines_alike f g (n ∷ ns) same = let first = same n (inl refl) in let rest = lines_alike f g ns (λ k h. same k (inr h)) in λ i. (n, first i) ∷ rest i
 
-module _ (sums : List EvseSum) (es : List Entry) (in_range : AreNumbered es) (are : AreEvseSums es sums) where
+module _ (order : Order) (sums : List EvseSum) (es : List Entry) (in_range : AreNumbered es) (are : AreEvseSums order es sums) where
   abbrev named : List ℕ
   named = map (λ tx. evse_of tx es) (transactions_of (live es))
 
@@ -173,5 +174,5 @@ module _ (sums : List EvseSum) (es : List Entry) (in_range : AreNumbered es) (ar
       all_below sums (greatest_evse + 1) k (omega arith) (omega (arith, count k le, some_of (λ tx. evse_of tx es) k (transactions_of (live es)) ((evses_shown es k).0 h))))
 
   -- the lines of all numbers are those of the board
-  pub all_lines : map (line_at sums) (shown_below (greatest_evse + 1) sums) ≡ map (λ evse. (evse, flows_at evse es)) (evses es)
-  all_lines = ap (map (line_at sums)) same_evses ∙ lines_alike (λ k. flows_of_sum (sum_at sums k)) (λ k. flows_at k es) (evses es) (λ k h. ap flows_of_sum (are.each k (few k h)))
+  pub all_lines : map (line_at sums) (shown_below (greatest_evse + 1) sums) ≡ map (λ evse. (evse, flows_at_by order evse es)) (evses es)
+  all_lines = ap (map (line_at sums)) same_evses ∙ lines_alike (λ k. flows_of_sum (sum_at sums k)) (λ k. flows_at_by order k es) (evses es) (λ k h. ap flows_of_sum (are.each k (few k h)))

@@ -10,6 +10,7 @@ pub mod Trades
 pub mod Changes
 pub mod Settled
 pub mod Commands
+pub mod Exchanges
 pub mod OneLess
 pub mod Reaching
 pub mod Judged
@@ -18,3 +19,14 @@ pub mod EvseLines
 pub mod TransactionLines
 pub mod Timely
 pub mod BoardLines
+pub mod MomentRanks
+pub mod MomentLists
+pub mod MomentWalks
+pub mod MomentRuns
+pub mod MomentIndexes
+pub mod MomentComing
+pub mod MomentGoing
+pub mod MomentEvents
+pub mod MomentSides
+pub mod MomentMoves
+pub mod MomentListed

@@ -5,27 +5,29 @@ use Rattle.std.specs.Str.{bytes_eq}
 use Rattle.std.proofs.lemmas.Bool.{ne_eqb}
 use Rattle.std.proofs.lemmas.Bool.Decides.{Decides-eqb}
 use Rattle.energy_flow.specs.Flow.{Energy, no_energy, plus}
+use Rattle.ledger_model.specs.declared.order.Order.{Order}
 use Rattle.ledger_model.specs.declared.reading.Direction.{Direction}
 use Rattle.ledger_model.specs.declared.reading.Direction.TheVariants.{Import, Export}
-use Rattle.ledger_model.specs.Event.{toward}
+use Rattle.ledger_model.specs.Event.{MeterReading, toward}
 use Rattle.ledger_model.specs.Complete.{is_complete, starts_and_ends}
 use Rattle.ledger_model.specs.Content.{Entry, live, live_of, transactions_of, has_transaction}
 use Rattle.ledger_model.specs.Deltas.{IsOneMore, flow_if, own_events}
-use Rattle.ledger_model.specs.Energy.{energy_of, energy_over, followed}
-use Rattle.ledger_model.specs.Evse.{evse_of, energy_at, first_or_none}
+use Rattle.ledger_model.specs.Energy.{energy_of_by, energy_over, followed}
+use Rattle.ledger_model.specs.Evse.{evse_of, energy_at_by, first_or_none}
 use Rattle.ledger_model.specs.Gaps.{numbers_of, missing}
-use Rattle.ledger_model.proofs.Callers.{events_more, transactions_more, complete_more, missing_more, energy_at_more, evse_counts, live_with, live_without, live_else}
+use Rattle.ledger_model.specs.InTime.{in_order}
+use Rattle.ledger_model.proofs.Callers.{events_more, transactions_more, complete_more, missing_more, energy_at_more, evse_counts, live_with, live_without, live_else, order-nil}
 use Rattle.station_ledger.specs.declared.standing.Standing.{Standing}
 use Rattle.station_ledger.specs.Standing.{standing_with, kept_with, kept_of}
 use Rattle.station_ledger.specs.Moved.{flow_toward, live_in, one_in, complete_in, missing_in, flow_in, one_at, flow_at, IsMoved}
 
 -- a list without elements
-none_long : {X : Type 0} (xs : List X) → length xs ≡ 0 → xs ≡ []
+pub none_long : {X : Type 0} (xs : List X) → length xs ≡ 0 → xs ≡ []
 none_long [] h = refl
 none_long (x ∷ xs) h = absurd (omega (arith, h))
 
 -- whether a transaction has an event, by how many it has
-has_own : (tx : List ℕ) (xs : List Entry) → has_transaction tx xs ≡ not (length (own_events tx xs) == 0)
+pub has_own : (tx : List ℕ) (xs : List Entry) → has_transaction tx xs ≡ not (length (own_events tx xs) == 0)
 has_own tx [] = refl
 has_own tx (e ∷ xs) = elim (bytes_eq tx e.0.tx) as (λ b. (b || has_transaction tx xs) ≡ not (length (cond b (e ∷ own_events tx xs) (own_events tx xs)) == 0)) [
   | true ↦ sym (ap not (ne_eqb (length (e ∷ own_events tx xs)) 0 (λ h. absurd (omega (arith, h)))))
@@ -51,99 +53,102 @@ kept_cases P flow export tx es none some = elim (length (live_of tx es) == 0) as
   positive zero h = cc
   positive (suc n) h = omega arith
 
-pub live_kept : (tx : List ℕ) (es : List Entry) → live_in (kept_of tx es) ≡ length (live_of tx es)
-live_kept tx es = kept_cases (λ o. live_in o ≡ length (live_of tx es)) (energy_of Import tx es) (energy_of Export tx es) tx es (λ none. sym (ap length none)) (λ _. refl)
-
-one_kept : (tx : List ℕ) (es : List Entry) → one_in (kept_of tx es) ≡ cond (has_transaction tx (live es)) 1 0
-one_kept tx es = ones (length (live_of tx es) == 0) ∙ ap (λ b. cond {A = ℕ} b 1 0) (sym (has_own tx (live es))) where
-  ones : (b : Bool) → one_in (cond b None (Some (standing_with (energy_of Import tx es) (energy_of Export tx es) tx es))) ≡ cond (not b) 1 0
-  ones true = refl
-  ones false = refl
-
-complete_kept : (tx : List ℕ) (es : List Entry) → complete_in (kept_of tx es) ≡ cond (is_complete tx es) 1 0
-complete_kept tx es = kept_cases (λ o. complete_in o ≡ cond (is_complete tx es) 1 0) (energy_of Import tx es) (energy_of Export tx es) tx es
-    (λ none. sym (ap (λ (xs : List Entry). cond {A = ℕ} (starts_and_ends (map (λ (e : Entry). e.1.event.kind) xs) && (missing (numbers_of tx es) == 0)) 1 0) none)) (λ _. refl)
-
-pub missing_kept : (tx : List ℕ) (es : List Entry) → missing_in (kept_of tx es) ≡ missing (numbers_of tx es)
-missing_kept tx es = kept_cases (λ o. missing_in o ≡ missing (numbers_of tx es)) (energy_of Import tx es) (energy_of Export tx es) tx es
-    (λ none. sym (ap (λ (xs : List Entry). missing (map (λ (e : Entry). e.0.seq) xs)) none)) (λ _. refl)
-
-at_kept : (n : ℕ) (tx : List ℕ) (es : List Entry) → one_at n (kept_of tx es) ≡ cond (has_transaction tx (live es)) (cond (evse_of tx es == n) 1 0) 0
-at_kept n tx es = ones (length (live_of tx es) == 0) ∙ ap (λ b. cond {A = ℕ} b (cond (evse_of tx es == n) 1 0) 0) (sym (has_own tx (live es))) where
-  ones : (b : Bool) → one_at n (cond b None (Some (standing_with (energy_of Import tx es) (energy_of Export tx es) tx es))) ≡ cond (not b) (cond (evse_of tx es == n) 1 0) 0
-  ones true = refl
-  ones false = refl
-
 none_if : (b : Bool) → flow_if b no_energy ≡ no_energy
 none_if true = refl
 none_if false = refl
-
-energy_none : (d : Direction) (tx : List ℕ) (es : List Entry) → live_of tx es ≡ [] → energy_of d tx es ≡ no_energy
-energy_none d tx es none = ap (λ (xs : List Entry). energy_over (followed (flat_map (λ (e : Entry). toward d e.1.event.readings) xs))) none
-
--- the energy of a transaction's standing
-toward_is : (d : Direction) (tx : List ℕ) (es : List Entry) → flow_toward d (standing_with (energy_of Import tx es) (energy_of Export tx es) tx es) ≡ energy_of d tx es
-toward_is Import tx es = refl
-toward_is Export tx es = refl
-
-pub flow_kept : (d : Direction) (n : ℕ) (tx : List ℕ) (es : List Entry) → flow_at d n (kept_of tx es) ≡ flow_if (evse_of tx es == n) (energy_of d tx es)
-flow_kept d n tx es = kept_cases (λ o. flow_at d n o ≡ flow_if (evse_of tx es == n) (energy_of d tx es)) (energy_of Import tx es) (energy_of Export tx es) tx es
-    (λ none. sym (ap (flow_if (evse_of tx es == n)) (energy_none d tx es none) ∙ none_if (evse_of tx es == n))) (λ _. ap (flow_if (evse_of tx es == n)) (toward_is d tx es))
 
 -- one transaction more, where it is new
 counted : (b : Bool) (n m : ℕ) → m ≡ cond b n (n + 1) → m + cond b 1 0 ≡ n + 1
 counted true n m h = omega (arith, h)
 counted false n m h = omega (arith, h)
 
--- one live event more
-pub moved_more : (es more front : List Entry) (e : Entry) (back : List Entry) → IsOneMore es more front e back → IsMoved e.0.tx es more
-moved_more es more front e back one =
-    let tx = e.0.tx in
-    let own = ap length (live_without es more front e back one) ∙ length-append (own_events tx front) (own_events tx back) in
-    let with_it = ap length (live_with es more front e back one) ∙ length-append (own_events tx front) (e ∷ own_events tx back) in
-    let there : has_transaction tx (live more) ≡ true = has_own tx (live more) ∙ ap not (ne_eqb (length (live_of tx more)) 0 (λ h. absurd (omega (arith, h, with_it)))) in
-    record {
-      others = λ u apart. live_else es more front e back u one apart;
-      events = omega (arith, events_more es more front e back one, live_kept tx es, live_kept tx more, own, with_it);
-      transactions = omega (arith, counted (has_transaction tx (live es)) (length (transactions_of (live es))) (length (transactions_of (live more))) (transactions_more es more front e back one), one_kept tx es, one_kept tx more, ap (λ b. cond {A = ℕ} b 1 0) there);
-      complete = omega (arith, complete_more es more front e back one, complete_kept tx es, complete_kept tx more);
-      missing_are = omega (arith, missing_more es more front e back one, missing_kept tx es, missing_kept tx more);
-      at_evse = λ n. omega (arith, evse_counts n es more front e back one, at_kept n tx es, at_kept n tx more, ap (λ b. cond {A = ℕ} b (cond (evse_of tx more == n) 1 0) 0) there);
-      flow_at_evse = λ d n. ap (plus (energy_at d n more)) (flow_kept d n tx es) ∙ energy_at_more d n es more front e back one ∙ ap (plus (energy_at d n es)) (sym (flow_kept d n tx more));
-    }
+module _ (order : Order) where
+  pub live_kept : (tx : List ℕ) (es : List Entry) → live_in (kept_of order tx es) ≡ length (live_of tx es)
+  live_kept tx es = kept_cases (λ o. live_in o ≡ length (live_of tx es)) (energy_of_by order Import tx es) (energy_of_by order Export tx es) tx es (λ none. sym (ap length none)) (λ _. refl)
 
--- one live event less
-pub moved_back : (tx : List ℕ) (es new : List Entry) → IsMoved tx es new → IsMoved tx new es
-moved_back tx es new m = record {
-  others = λ u apart. sym (m.others u apart);
-  events = sym m.events;
-  transactions = sym m.transactions;
-  complete = sym m.complete;
-  missing_are = sym m.missing_are;
-  at_evse = λ n. sym (m.at_evse n);
-  flow_at_evse = λ d n. sym (m.flow_at_evse d n);
-}
+  one_kept : (tx : List ℕ) (es : List Entry) → one_in (kept_of order tx es) ≡ cond (has_transaction tx (live es)) 1 0
+  one_kept tx es = ones (length (live_of tx es) == 0) ∙ ap (λ b. cond {A = ℕ} b 1 0) (sym (has_own tx (live es))) where
+    ones : (b : Bool) → one_in (cond b None (Some (standing_with (energy_of_by order Import tx es) (energy_of_by order Export tx es) tx es))) ≡ cond (not b) 1 0
+    ones true = refl
+    ones false = refl
 
--- the energy of what is kept
-pub flow_in_kept : (d : Direction) (tx : List ℕ) (es : List Entry) → flow_in d (kept_of tx es) ≡ energy_of d tx es
-flow_in_kept d tx es = kept_cases (λ o. flow_in d o ≡ energy_of d tx es) (energy_of Import tx es) (energy_of Export tx es) tx es
-    (λ none. sym (energy_none d tx es none)) (λ _. toward_is d tx es)
+  complete_kept : (tx : List ℕ) (es : List Entry) → complete_in (kept_of order tx es) ≡ cond (is_complete tx es) 1 0
+  complete_kept tx es = kept_cases (λ o. complete_in o ≡ cond (is_complete tx es) 1 0) (energy_of_by order Import tx es) (energy_of_by order Export tx es) tx es
+      (λ none. sym (ap (λ (xs : List Entry). cond {A = ℕ} (starts_and_ends (map (λ (e : Entry). e.1.event.kind) xs) && (missing (numbers_of tx es) == 0)) 1 0) none)) (λ _. refl)
+
+  pub missing_kept : (tx : List ℕ) (es : List Entry) → missing_in (kept_of order tx es) ≡ missing (numbers_of tx es)
+  missing_kept tx es = kept_cases (λ o. missing_in o ≡ missing (numbers_of tx es)) (energy_of_by order Import tx es) (energy_of_by order Export tx es) tx es
+      (λ none. sym (ap (λ (xs : List Entry). missing (map (λ (e : Entry). e.0.seq) xs)) none)) (λ _. refl)
+
+  at_kept : (n : ℕ) (tx : List ℕ) (es : List Entry) → one_at n (kept_of order tx es) ≡ cond (has_transaction tx (live es)) (cond (evse_of tx es == n) 1 0) 0
+  at_kept n tx es = ones (length (live_of tx es) == 0) ∙ ap (λ b. cond {A = ℕ} b (cond (evse_of tx es == n) 1 0) 0) (sym (has_own tx (live es))) where
+    ones : (b : Bool) → one_at n (cond b None (Some (standing_with (energy_of_by order Import tx es) (energy_of_by order Export tx es) tx es))) ≡ cond (not b) (cond (evse_of tx es == n) 1 0) 0
+    ones true = refl
+    ones false = refl
+
+  energy_none : (d : Direction) (tx : List ℕ) (es : List Entry) → live_of tx es ≡ [] → energy_of_by order d tx es ≡ no_energy
+  energy_none d tx es none =
+      ap (λ (xs : List Entry). energy_over (followed (in_order order (λ (r : MeterReading). r.moment) (flat_map (λ (e : Entry). toward d e.1.event.readings) xs)))) none
+      ∙ ap (λ rs. energy_over (followed rs)) (order-nil (λ (r : MeterReading). r.moment) order)
+
+  -- the energy of a transaction's standing
+  toward_is : (d : Direction) (tx : List ℕ) (es : List Entry) → flow_toward d (standing_with (energy_of_by order Import tx es) (energy_of_by order Export tx es) tx es) ≡ energy_of_by order d tx es
+  toward_is Import tx es = refl
+  toward_is Export tx es = refl
+
+  pub flow_kept : (d : Direction) (n : ℕ) (tx : List ℕ) (es : List Entry) → flow_at d n (kept_of order tx es) ≡ flow_if (evse_of tx es == n) (energy_of_by order d tx es)
+  flow_kept d n tx es = kept_cases (λ o. flow_at d n o ≡ flow_if (evse_of tx es == n) (energy_of_by order d tx es)) (energy_of_by order Import tx es) (energy_of_by order Export tx es) tx es
+      (λ none. sym (ap (flow_if (evse_of tx es == n)) (energy_none d tx es none) ∙ none_if (evse_of tx es == n))) (λ _. ap (flow_if (evse_of tx es == n)) (toward_is d tx es))
+
+  -- one live event more
+  pub moved_more : (es more front : List Entry) (e : Entry) (back : List Entry) → IsOneMore es more front e back → IsMoved order e.0.tx es more
+  moved_more es more front e back one =
+      let tx = e.0.tx in
+      let own = ap length (live_without es more front e back one) ∙ length-append (own_events tx front) (own_events tx back) in
+      let with_it = ap length (live_with es more front e back one) ∙ length-append (own_events tx front) (e ∷ own_events tx back) in
+      let there : has_transaction tx (live more) ≡ true = has_own tx (live more) ∙ ap not (ne_eqb (length (live_of tx more)) 0 (λ h. absurd (omega (arith, h, with_it)))) in
+      record {
+        others = λ u apart. live_else es more front e back u one apart;
+        events = omega (arith, events_more es more front e back one, live_kept tx es, live_kept tx more, own, with_it);
+        transactions = omega (arith, counted (has_transaction tx (live es)) (length (transactions_of (live es))) (length (transactions_of (live more))) (transactions_more es more front e back one), one_kept tx es, one_kept tx more, ap (λ b. cond {A = ℕ} b 1 0) there);
+        complete = omega (arith, complete_more es more front e back one, complete_kept tx es, complete_kept tx more);
+        missing_are = omega (arith, missing_more es more front e back one, missing_kept tx es, missing_kept tx more);
+        at_evse = λ n. omega (arith, evse_counts n es more front e back one, at_kept n tx es, at_kept n tx more, ap (λ b. cond {A = ℕ} b (cond (evse_of tx more == n) 1 0) 0) there);
+        flow_at_evse = λ d n. ap (plus (energy_at_by order d n more)) (flow_kept d n tx es) ∙ energy_at_more order d n es more front e back one ∙ ap (plus (energy_at_by order d n es)) (sym (flow_kept d n tx more));
+      }
+
+  -- one live event less
+  pub moved_back : (tx : List ℕ) (es new : List Entry) → IsMoved order tx es new → IsMoved order tx new es
+  moved_back tx es new m = record {
+    others = λ u apart. sym (m.others u apart);
+    events = sym m.events;
+    transactions = sym m.transactions;
+    complete = sym m.complete;
+    missing_are = sym m.missing_are;
+    at_evse = λ n. sym (m.at_evse n);
+    flow_at_evse = λ d n. sym (m.flow_at_evse d n);
+  }
+
+  -- the energy of what is kept
+  pub flow_in_kept : (d : Direction) (tx : List ℕ) (es : List Entry) → flow_in d (kept_of order tx es) ≡ energy_of_by order d tx es
+  flow_in_kept d tx es = kept_cases (λ o. flow_in d o ≡ energy_of_by order d tx es) (energy_of_by order Import tx es) (energy_of_by order Export tx es) tx es
+      (λ none. sym (energy_none d tx es none)) (λ _. toward_is d tx es)
 
 -- what is kept hangs on the transaction's live events alone
-kept_over : List ℕ → List Entry → Option Standing
-kept_over tx own = cond (length own == 0) None (Some (record {
+kept_over : Order → List ℕ → List Entry → Option Standing
+kept_over order tx own = cond (length own == 0) None (Some (record {
   first = unwrap_or (slice_get (map (λ e. e.0.seq) own) 0) 0;
   live = length own;
   evse = first_or_none (filter_map (λ e. e.1.event.evse) own);
   complete = starts_and_ends (map (λ e. e.1.event.kind) own) && (missing (map (λ e. e.0.seq) own) == 0);
   missing = missing (map (λ e. e.0.seq) own);
-  flow = energy_over (followed (flat_map (λ e. toward Import e.1.event.readings) own));
-  export = energy_over (followed (flat_map (λ e. toward Export e.1.event.readings) own));
+  flow = energy_over (followed (in_order order (λ r. r.moment) (flat_map (λ e. toward Import e.1.event.readings) own)));
+  export = energy_over (followed (in_order order (λ r. r.moment) (flat_map (λ e. toward Export e.1.event.readings) own)));
 }))
 
-pub kept_same : (u : List ℕ) (es new : List Entry) → live_of u new ≡ live_of u es → kept_of u new ≡ kept_of u es
+pub kept_same : (order : Order) (u : List ℕ) (es new : List Entry) → live_of u new ≡ live_of u es → kept_of order u new ≡ kept_of order u es
 unfolding kept_over
-kept_same u es new same = ap (kept_over u) same
+kept_same order u es new same = ap (kept_over order u) same
 
 -- at most one
 pub one_in_le : (o : Option Standing) → one_in o ≤ 1

@@ -7,6 +7,7 @@ use Rattle.std.specs.declared.cmp.Ordering.TheVariants.{Less, Equal, Greater}
 use Rattle.ledger_model.specs.declared.answer.Answer.{Answer}
 use Rattle.ledger_model.specs.declared.answer.Answer.TheVariants.{Accepted}
 use Rattle.ledger_model.specs.declared.command.Command.{Command}
+use Rattle.ledger_model.specs.declared.order.Order.{Order}
 use Rattle.ledger_model.specs.Admissible.{IsAdmissible}
 use Rattle.ledger_model.specs.Content.{Content, Entry, Stored, entries}
 use Rattle.ledger_model.specs.Key.{KeyName, key_cmp}
@@ -15,6 +16,7 @@ use Rattle.ledger_model.specs.Limits.{Bounds}
 use Rattle.ledger_model.specs.Ranges.{most_event_readings, most_events, most_readings, most_transactions}
 use Rattle.ledger_model.specs.Step.{Reached, answer, content_after, events_after, step}
 use Rattle.ledger_model.proofs.Callers.{AreEntries, AreKept-reached, figures_within, is_counted}
+use Rattle.ledger_model.proofs.NumberLemmas.{numbers-AreRising}
 use Rattle.station_ledger.specs.Sums.{AreAllowed}
 use Rattle.station_ledger.proofs.Timely.{pairs_in_time}
 
@@ -28,15 +30,17 @@ few_readings_at key s (e ∷ es) h is =
       | Greater ↦ λ some. few_readings_at key s es h.1 some
     ] is
 
-module _ (limits : Bounds) (transactions : limits.transactions ≤ most_transactions) (events : limits.events ≤ most_events) (readings : limits.readings ≤ most_readings) where
+module _ (order : Order) (limits : Bounds) (transactions : limits.transactions ≤ most_transactions) (events : limits.events ≤ most_events) (readings : limits.readings ≤ most_readings) where
   -- reached events are allowed
-  pub allowed : (n : ℕ) (c : Content) → Reached limits n c → AreAllowed limits (entries c)
+  pub allowed : (n : ℕ) (c : Content) → Reached limits n c → AreAllowed order limits (entries c)
   allowed n c reached =
       let kept = AreKept-reached limits n c reached in
       record {
-        figures_within = figures_within limits n c reached;
+        figures_within = figures_within order limits n c reached;
         readings_within = kept.readings;
-        in_time = λ d. pairs_in_time d (entries c) kept.in_range;
+        in_time = λ d. pairs_in_time order d (entries c) kept.in_range;
+        in_range = kept.in_range;
+        rising = λ tx. numbers-AreRising tx c;
         few_in_each = λ key s found. few_readings_at key s (entries c) kept.in_range found;
         most_transactions_within = transactions;
         most_events_within = events;

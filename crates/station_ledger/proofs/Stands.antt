@@ -7,8 +7,9 @@ use Rattle.std.proofs.lemmas.Slice.Eq.{bytes_eq-Decides}
 use Rattle.energy_flow.specs.Flow.{Energy, plus, minus, CanPlus, CanMinus}
 use Rattle.ledger_model.specs.declared.figures.Figures.{Figures}
 use Rattle.ledger_model.specs.Content.{Entry, live, transactions_of}
-use Rattle.ledger_model.specs.Energy.{energy_of}
-use Rattle.ledger_model.specs.Evse.{energy_at, transactions_at}
+use Rattle.ledger_model.specs.Energy.{energy_of_by}
+use Rattle.ledger_model.specs.Evse.{energy_at_by, transactions_at}
+use Rattle.ledger_model.specs.declared.order.Order.{Order}
 use Rattle.ledger_model.specs.declared.reading.Direction.{Direction}
 use Rattle.ledger_model.specs.declared.reading.Direction.TheVariants.{Import, Export}
 use Rattle.ledger_model.specs.Limits.{Bounds}
@@ -45,22 +46,22 @@ some_one : (o : Option Standing) → (o ≡ None → ⊥) → one_in o ≡ 1
 some_one None h = absurd (h refl)
 some_one (Some s) h = refl
 
-module _ (limits : Bounds) (tx : List ℕ) (es new : List Entry) (moved : IsMoved tx es new) (before : AreAllowed limits es) (after : AreAllowed limits new) (was is : Option Standing) (is_is : is ≡ kept_of tx new) where
-  module _ (kept : Mapped Standing) (standing : AreStanding limits es kept) (was_is : was ≡ find id_cmp tx kept.rows) where
-    pub was_kept : was ≡ kept_of tx es
+module _ (order : Order) (limits : Bounds) (tx : List ℕ) (es new : List Entry) (moved : IsMoved order tx es new) (before : AreAllowed order limits es) (after : AreAllowed order limits new) (was is : Option Standing) (is_is : is ≡ kept_of order tx new) where
+  module _ (kept : Mapped Standing) (standing : AreStanding order limits es kept) (was_is : was ≡ find id_cmp tx kept.rows) where
+    pub was_kept : was ≡ kept_of order tx es
     was_kept = was_is ∙ standing.each tx
 
     pub place : find id_cmp tx kept.rows ≡ None → (is ≡ None → ⊥) → length kept.rows < kept.capacity
     place none some =
-        let gone : one_in (kept_of tx es) ≡ 0 = ap one_in (sym (standing.each tx) ∙ none) in
-        let here : one_in (kept_of tx new) ≡ 1 = ap one_in (sym is_is) ∙ some_one is some in
+        let gone : one_in (kept_of order tx es) ≡ 0 = ap one_in (sym (standing.each tx) ∙ none) in
+        let here : one_in (kept_of order tx new) ≡ 1 = ap one_in (sym is_is) ∙ some_one is some in
         omega (arith, standing.number, standing.room, moved.transactions, gone, here, after.figures_within.transactions)
 
-    pub stands : (next : Mapped Standing) → next.rows ≡ keep tx is kept.rows → next.capacity ≡ kept.capacity → AreStanding limits new next
+    pub stands : (next : Mapped Standing) → next.rows ≡ keep tx is kept.rows → next.capacity ≡ kept.capacity → AreStanding order limits new next
     stands next rows same = record {
-      each = λ u. ap (find id_cmp u) rows ∙ found_keep u tx is kept.rows ∙ (elim (eq_by_cmp id_cmp u tx) as (λ b. eq_by_cmp id_cmp u tx ≡ b → cond b is (find id_cmp u kept.rows) ≡ kept_of u new) [
-        | true ↦ λ e. is_is ∙ ap (λ t. kept_of t new) (sym (equal_ids u tx e))
-        | false ↦ λ e. standing.each u ∙ sym (kept_same u es new (moved.others u (apart_ids u tx e)))
+      each = λ u. ap (find id_cmp u) rows ∙ found_keep u tx is kept.rows ∙ (elim (eq_by_cmp id_cmp u tx) as (λ b. eq_by_cmp id_cmp u tx ≡ b → cond b is (find id_cmp u kept.rows) ≡ kept_of order u new) [
+        | true ↦ λ e. is_is ∙ ap (λ t. kept_of order t new) (sym (equal_ids u tx e))
+        | false ↦ λ e. standing.each u ∙ sym (kept_same order u es new (moved.others u (apart_ids u tx e)))
       ] refl);
       rising = subst (λ rs. AreRising rs) (sym rows) (rises is);
       number = ap length rows ∙ counted is is_is;
@@ -70,26 +71,26 @@ module _ (limits : Bounds) (tx : List ℕ) (es new : List Entry) (moved : IsMove
       rises None = rising_out tx kept.rows standing.rising
       rises (Some s) = rising_put tx s kept.rows standing.rising
 
-      was_one : one_in (kept_of tx es) ≡ cond (is_some (find id_cmp tx kept.rows)) 1 0
+      was_one : one_in (kept_of order tx es) ≡ cond (is_some (find id_cmp tx kept.rows)) 1 0
       was_one = ap one_in (sym (standing.each tx)) ∙ is_one (find id_cmp tx kept.rows)
 
       grown : (b : Bool) (n : ℕ) → cond b n (n + 1) + cond b 1 0 ≡ n + 1
       grown true n = refl
       grown false n = omega arith
 
-      counted : (o : Option Standing) → o ≡ kept_of tx new → length (keep tx o kept.rows) ≡ length (transactions_of (live new))
+      counted : (o : Option Standing) → o ≡ kept_of order tx new → length (keep tx o kept.rows) ≡ length (transactions_of (live new))
       counted None now = omega (arith, length_out tx kept.rows standing.rising, standing.number, moved.transactions, was_one, ap one_in now)
       counted (Some s) now = omega (arith, length_put tx s kept.rows standing.rising, standing.number, moved.transactions, was_one, ap one_in now, grown (is_some (find id_cmp tx kept.rows)) (length kept.rows))
 
-  module _ (was_at : was ≡ kept_of tx es) where
-    flow_is : (d : Direction) → flow_in d is ≡ energy_of d tx new
-    flow_is d = ap (flow_in d) is_is ∙ flow_in_kept d tx new
+  module _ (was_at : was ≡ kept_of order tx es) where
+    flow_is : (d : Direction) → flow_in d is ≡ energy_of_by order d tx new
+    flow_is d = ap (flow_in d) is_is ∙ flow_in_kept order d tx new
 
-    module _ (evses : List EvseSum) (sums : AreEvseSums es evses) where
-      room_for : (d : Direction) (n : ℕ) → CanPlus (energy_at d n es) (flow_at d n is)
+    module _ (evses : List EvseSum) (sums : AreEvseSums order es evses) where
+      room_for : (d : Direction) (n : ℕ) → CanPlus (energy_at_by order d n es) (flow_at d n is)
       room_for d n = record {
-        up = omega (arith, evse_up_le d n es, few_up d limits es before, before.most_readings_within, (flow_at_le d n is).0, ap (λ (e : Energy). e.up) (flow_is d), own_up_le d tx new, few_up d limits new after);
-        down = omega (arith, evse_down_le d n es, few_down d limits es before, before.most_readings_within, (flow_at_le d n is).1, ap (λ (e : Energy). e.down) (flow_is d), own_down_le d tx new, few_down d limits new after);
+        up = omega (arith, evse_up_le order d n es, few_up order d limits es before, before.most_readings_within, (flow_at_le d n is).0, ap (λ (e : Energy). e.up) (flow_is d), own_up_le order d tx new, few_up order d limits new after);
+        down = omega (arith, evse_down_le order d n es, few_down order d limits es before, before.most_readings_within, (flow_at_le d n is).1, ap (λ (e : Energy). e.down) (flow_is d), own_down_le order d tx new, few_down order d limits new after);
       }
 
       pub room_at : (n : ℕ) → n ≤ greatest_evse → HasRoomAt n is (sum_at evses n)
@@ -103,10 +104,10 @@ module _ (limits : Bounds) (tx : List ℕ) (es new : List Entry) (moved : IsMove
       ones : (n : ℕ) → length (transactions_at n new) + one_at n was ≡ length (transactions_at n es) + one_at n is
       ones n = ap (λ o. length (transactions_at n new) + one_at n o) was_at ∙ moved.at_evse n ∙ ap (λ o. length (transactions_at n es) + one_at n o) (sym is_is)
 
-      flows : (d : Direction) (n : ℕ) → plus (energy_at d n new) (flow_at d n was) ≡ plus (energy_at d n es) (flow_at d n is)
-      flows d n = ap (λ o. plus (energy_at d n new) (flow_at d n o)) was_at ∙ moved.flow_at_evse d n ∙ ap (λ o. plus (energy_at d n es) (flow_at d n o)) (sym is_is)
+      flows : (d : Direction) (n : ℕ) → plus (energy_at_by order d n new) (flow_at d n was) ≡ plus (energy_at_by order d n es) (flow_at d n is)
+      flows d n = ap (λ o. plus (energy_at_by order d n new) (flow_at d n o)) was_at ∙ moved.flow_at_evse d n ∙ ap (λ o. plus (energy_at_by order d n es) (flow_at d n o)) (sym is_is)
 
-      holds_for : (d : Direction) (n : ℕ) → CanMinus (plus (energy_at d n es) (flow_at d n is)) (flow_at d n was)
+      holds_for : (d : Direction) (n : ℕ) → CanMinus (plus (energy_at_by order d n es) (flow_at d n is)) (flow_at d n was)
       holds_for d n = record { up = omega (arith, ap (λ (e : Energy). e.up) (flows d n)); down = omega (arith, ap (λ (e : Energy). e.down) (flows d n)) }
 
       pub counts_at : (n : ℕ) → n ≤ greatest_evse → CountsAt n was (with_one n is (sum_at evses n))
@@ -116,13 +117,13 @@ module _ (limits : Bounds) (tx : List ℕ) (es new : List Entry) (moved : IsMove
         export = holds_for Export n;
       })
 
-      left_at : (d : Direction) (n : ℕ) → minus (plus (energy_at d n es) (flow_at d n is)) (flow_at d n was) ≡ energy_at d n new
+      left_at : (d : Direction) (n : ℕ) → minus (plus (energy_at_by order d n es) (flow_at d n is)) (flow_at d n was) ≡ energy_at_by order d n new
       left_at d n =
-          let up : ((energy_at d n es).up + (flow_at d n is).up) - (flow_at d n was).up ≡ (energy_at d n new).up = omega (arith, ap (λ (e : Energy). e.up) (flows d n)) in
-          let down : ((energy_at d n es).down + (flow_at d n is).down) - (flow_at d n was).down ≡ (energy_at d n new).down = omega (arith, ap (λ (e : Energy). e.down) (flows d n)) in
+          let up : ((energy_at_by order d n es).up + (flow_at d n is).up) - (flow_at d n was).up ≡ (energy_at_by order d n new).up = omega (arith, ap (λ (e : Energy). e.up) (flows d n)) in
+          let down : ((energy_at_by order d n es).down + (flow_at d n is).down) - (flow_at d n was).down ≡ (energy_at_by order d n new).down = omega (arith, ap (λ (e : Energy). e.down) (flows d n)) in
           λ i. record { up = up i; down = down i }
 
-      pub sums_stand : (next : List EvseSum) → length next ≡ greatest_evse + 1 → ((n : ℕ) → sum_at next n ≡ without_one n was (with_one n is (sum_at evses n))) → AreEvseSums new next
+      pub sums_stand : (next : List EvseSum) → length next ≡ greatest_evse + 1 → ((n : ℕ) → sum_at next n ≡ without_one n was (with_one n is (sum_at evses n))) → AreEvseSums order new next
       sums_stand next all each = record {
         all = all;
         each = λ n le.
@@ -133,10 +134,10 @@ module _ (limits : Bounds) (tx : List ℕ) (es new : List Entry) (moved : IsMove
     module _ (f : Figures) (counts : AreCounts es f) where
       pub have_room : HaveRoom is f
       have_room = record {
-        events = omega (arith, counts.events, before.figures_within.events, before.most_events_within, ap live_in is_is, live_kept tx new, live_le tx new, after.figures_within.events);
+        events = omega (arith, counts.events, before.figures_within.events, before.most_events_within, ap live_in is_is, live_kept order tx new, live_le tx new, after.figures_within.events);
         transactions = omega (arith, counts.transactions, before.figures_within.transactions, before.most_transactions_within, one_in_le is);
         complete = omega (arith, counts.complete, before.figures_within.complete, before.most_transactions_within, complete_in_le is);
-        missing_fit = omega (arith, counts.missing_are, before.figures_within.missing, before.most_transactions_within, ap missing_in is_is, missing_kept tx new, own_missing_le tx new, after.figures_within.missing);
+        missing_fit = omega (arith, counts.missing_are, before.figures_within.missing, before.most_transactions_within, ap missing_in is_is, missing_kept order tx new, own_missing_le tx new, after.figures_within.missing);
       }
 
       pub do_count : DoCount was (with_figures is f)
@@ -156,5 +157,5 @@ module _ (limits : Bounds) (tx : List ℕ) (es new : List Entry) (moved : IsMove
       }
 
 -- the energy of what was kept
-pub own_flow : (d : Direction) (limits : Bounds) (es : List Entry) (tx : List ℕ) (kept : Mapped Standing) (was : Option Standing) → was ≡ find id_cmp tx kept.rows → AreStanding limits es kept → flow_in d was ≡ energy_of d tx es
-own_flow d limits es tx kept was was_is standing = ap (flow_in d) (was_is ∙ standing.each tx) ∙ flow_in_kept d tx es
+pub own_flow : (order : Order) (d : Direction) (limits : Bounds) (es : List Entry) (tx : List ℕ) (kept : Mapped Standing) (was : Option Standing) → was ≡ find id_cmp tx kept.rows → AreStanding order limits es kept → flow_in d was ≡ energy_of_by order d tx es
+own_flow order d limits es tx kept was was_is standing = ap (flow_in d) (was_is ∙ standing.each tx) ∙ flow_in_kept order d tx es

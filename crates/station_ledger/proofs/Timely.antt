@@ -1,12 +1,15 @@
 -- Each reading of events in range is at a moment, and so the quarter of each pair begins at one.
-use Rattle.std.proofs.Common.{◌≡◌, ℕ, suc, not, true, false, cond, List, [], ◌∷◌, ◌++◌, map, sym, subst, arith, ⊎_elim}
+use Rattle.std.proofs.Common.{◌≡◌, ℕ, suc, not, true, false, cond, nat_lt, List, [], ◌∷◌, ◌++◌, map, sym, subst, arith, ⊎_elim}
 use Rattle.std.specs.List.{All, flat_map}
 use Rattle.std.specs.Str.{bytes_eq}
 use Rattle.std.proofs.lemmas.List.Elements.{All-nil, All-cons, All-append}
 use Rattle.ledger_model.specs.BoardLaws.{IsIn}
 use Rattle.ledger_model.specs.Content.{Entry, live, live_of, transactions_of}
-use Rattle.ledger_model.specs.Energy.{Pair, followed, pairs, pairs_of, quarter_of, readings_of}
+use Rattle.ledger_model.specs.Energy.{Pair, all_pairs_by, followed, pairs_by, quarter_of, readings_of}
 use Rattle.ledger_model.specs.Event.{MeterReading, IsMeterReading, same_direction, toward}
+use Rattle.ledger_model.specs.InTime.{in_order, in_time, put_in_time}
+use Rattle.ledger_model.specs.declared.order.Order.{Order}
+use Rattle.ledger_model.specs.declared.order.Order.TheVariants.{Sequence, Moment}
 use Rattle.ledger_model.specs.declared.reading.Direction.{Direction}
 use Rattle.ledger_model.specs.Moment.{IsMoment}
 use Rattle.ledger_model.specs.Quarter.{IsPeriod, IsQuarterOf, quarter_at}
@@ -36,20 +39,34 @@ timely-entries : (d : Direction) (es : List Entry) → AreEntries es → AreTime
 timely-entries d [] h = tt
 timely-entries d (e ∷ es) h = timely-append (toward d e.1.event.readings) (flat_map (λ f. toward d f.1.event.readings) es) (timely-some d e.1.event.readings (timely-all e.1.event.readings h.0.event.readings)) (timely-entries d es h.1)
 
+timely-put : (r : MeterReading) (rs : List MeterReading) → IsMoment r.moment → AreTimely rs → AreTimely (put_in_time (λ s. s.moment) r rs)
+timely-put r [] at h = (at, tt)
+timely-put r (s ∷ rs) at h =
+    let rest = timely-put r rs at h.1 in
+    elim (nat_lt s.moment r.moment) as (λ b. AreTimely (cond b (s ∷ put_in_time (λ t. t.moment) r rs) (r ∷ s ∷ rs))) [ true ↦ (h.0, rest) | false ↦ (at, h) ]
+
+timely-in_time : (rs : List MeterReading) → AreTimely rs → AreTimely (in_time (λ s. s.moment) rs)
+timely-in_time [] h = tt
+timely-in_time (r ∷ rs) h = timely-put r (in_time (λ s. s.moment) rs) h.0 (timely-in_time rs h.1)
+
+timely-in_order : (order : Order) (rs : List MeterReading) → AreTimely rs → AreTimely (in_order order (λ s. s.moment) rs)
+timely-in_order Sequence rs h = h
+timely-in_order Moment rs h = timely-in_time rs h
+
 later_timely : (rs : List MeterReading) → AreTimely rs → All (λ (p : Pair). IsMoment p.1.moment) (followed rs)
 later_timely [] h = All-nil (λ (p : Pair). IsMoment p.1.moment)
 later_timely (r ∷ []) h = All-nil (λ (p : Pair). IsMoment p.1.moment)
 later_timely (r ∷ s ∷ rs) h = All-cons (λ (p : Pair). IsMoment p.1.moment) (r, s) (followed (s ∷ rs)) h.1.0 (later_timely (s ∷ rs) h.1)
 
-of_each : (d : Direction) (es : List Entry) (txs : List (List ℕ)) → AreEntries (live es) → All (λ (p : Pair). IsMoment p.1.moment) (flat_map (λ tx. pairs_of d tx es) txs)
-of_each d es [] h = All-nil (λ (p : Pair). IsMoment p.1.moment)
-of_each d es (tx ∷ txs) h = All-append (λ (p : Pair). IsMoment p.1.moment) (pairs_of d tx es) (flat_map (λ t. pairs_of d t es) txs)
-    (later_timely (readings_of d tx es) (timely-entries d (live_of tx es) (AreEntries-filter (λ e. bytes_eq tx e.0.tx) (live es) h)))
-    (of_each d es txs h)
+of_each : (order : Order) (d : Direction) (es : List Entry) (txs : List (List ℕ)) → AreEntries (live es) → All (λ (p : Pair). IsMoment p.1.moment) (flat_map (λ tx. pairs_by order d tx es) txs)
+of_each order d es [] h = All-nil (λ (p : Pair). IsMoment p.1.moment)
+of_each order d es (tx ∷ txs) h = All-append (λ (p : Pair). IsMoment p.1.moment) (pairs_by order d tx es) (flat_map (λ t. pairs_by order d t es) txs)
+    (later_timely (in_order order (λ s. s.moment) (readings_of d tx es)) (timely-in_order order (readings_of d tx es) (timely-entries d (live_of tx es) (AreEntries-filter (λ e. bytes_eq tx e.0.tx) (live es) h))))
+    (of_each order d es txs h)
 
 -- each pair's later reading is at a moment
-pub pairs_in_time : (d : Direction) (es : List Entry) → AreEntries es → All (λ (p : Pair). IsMoment p.1.moment) (pairs d es)
-pairs_in_time d es h = of_each d es (transactions_of (live es)) (AreEntries-filter (λ e. not e.1.voided) es h)
+pub pairs_in_time : (order : Order) (d : Direction) (es : List Entry) → AreEntries es → All (λ (p : Pair). IsMoment p.1.moment) (all_pairs_by order d es)
+pairs_in_time order d es h = of_each order d es (transactions_of (live es)) (AreEntries-filter (λ e. not e.1.voided) es h)
 
 -- the quarter of a moment begins at one
 own_quarter : (period moment : ℕ) → IsPeriod period → IsMoment moment → IsQuarterOf period (quarter_at period moment)

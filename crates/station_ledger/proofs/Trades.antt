@@ -1,12 +1,14 @@
--- Pairs that go and pairs that come, while the others are kept.
+-- Pairs that go and pairs that come, while the others are kept, and what they move.
 use Rattle.std.proofs.Common.{◌≡◌, ℕ, ◌+◌, ◌-◌, ◌*◌, ◌≤◌, List, [], ◌∷◌, ◌++◌, length, refl, sym, ap, ◌∙◌, arith, length-append}
 use Rattle.std.specs.List.{sum_by}
 use Rattle.std.proofs.lemmas.List.Sums.{sum_by-append, sum_by-cons}
-use Rattle.energy_flow.specs.Flow.{Energy, plus, minus, CanPlus, CanMinus}
+use Rattle.energy_flow.specs.Flow.{Energy, plus, minus}
 use Rattle.ledger_model.specs.Board.{Flowed}
 use Rattle.ledger_model.specs.Content.{Entry}
 use Rattle.ledger_model.specs.Deltas.{IsOneMore, came_by, gone_by, kept_by}
-use Rattle.ledger_model.specs.Energy.{Flows, Pair, difference, energy, energy_of, energy_over, pairs, pairs_of}
+use Rattle.ledger_model.specs.Energy.{Flows, Pair, difference, energy, energy_by, energy_of, energy_over, pairs, pairs_of}
+use Rattle.ledger_model.specs.declared.order.Order.{Order}
+use Rattle.ledger_model.specs.declared.order.Order.TheVariants.{Sequence}
 use Rattle.ledger_model.specs.declared.reading.Direction.{Direction}
 use Rattle.ledger_model.specs.declared.reading.Direction.TheVariants.{Import, Export}
 use Rattle.ledger_model.specs.Limits.{Bounds}
@@ -18,7 +20,7 @@ use Rattle.quarter_table.proofs.Several.{made_with, one_side, both_sides}
 use Rattle.quarter_table.proofs.Made.{made_alike}
 use Rattle.station_ledger.specs.Quarters.{HasRoom, HoldsBoth, IsWith, IsWithout, both_length, both_quartered, quartered}
 use Rattle.station_ledger.specs.Sums.{AreAllowed, AreQuarterRows}
-use Rattle.station_ledger.proofs.Bounded.{few_up, few_down, few_pairs, own_up_le, own_down_le}
+use Rattle.station_ledger.proofs.Bounded.{few_up, few_down, few_pairs}
 use Rattle.station_ledger.proofs.Rows.{long, rows_less, total_quartered}
 use Rattle.station_ledger.specs.Moved.{CanTrade}
 
@@ -48,71 +50,50 @@ ones : (ps : List Pair) → sum_by (λ p. 1) ps ≡ length ps
 ones [] = refl
 ones (p ∷ ps) = omega (arith, sum_by-cons (λ (q : Pair). 1) p ps, ones ps)
 
-module _ (d : Direction) (limits : Bounds) (tx : List ℕ) (es new : List Entry) (gone came kept : List Pair) (traded : IsTraded d tx es new gone came kept) (before : AreAllowed limits es) (after : AreAllowed limits new) where
-  -- what the station's energy was and is
-  up_sums : (energy d new).up + (energy_over gone).up ≡ (energy d es).up + (energy_over came).up
-  up_sums = let f = λ (p : Pair). (difference p).up in omega (arith, traded.old_sum f, traded.new_sum f, sum_by-append f gone kept, sum_by-append f came kept)
+-- what pairs that go and come move of the energies of the station and of the transaction
+module _ (d : Direction) {tx : List ℕ} {es new : List Entry} {gone came kept : List Pair} (traded : IsTraded d tx es new gone came kept) {less more : Energy} (less_is : less ≡ energy_over gone) (more_is : more ≡ energy_over came) where
+  pub station_exchanged : plus (energy d new) less ≡ plus (energy d es) more
+  station_exchanged =
+      let f = λ (p : Pair). (difference p).up in let g = λ (p : Pair). (difference p).down in
+      let up : (energy d new).up + less.up ≡ (energy d es).up + more.up = omega (arith, traded.old_sum f, traded.new_sum f, sum_by-append f gone kept, sum_by-append f came kept, ap (λ (e : Energy). e.up) less_is, ap (λ (e : Energy). e.up) more_is) in
+      let down : (energy d new).down + less.down ≡ (energy d es).down + more.down = omega (arith, traded.old_sum g, traded.new_sum g, sum_by-append g gone kept, sum_by-append g came kept, ap (λ (e : Energy). e.down) less_is, ap (λ (e : Energy). e.down) more_is) in
+      λ i. record { up = up i; down = down i }
 
-  down_sums : (energy d new).down + (energy_over gone).down ≡ (energy d es).down + (energy_over came).down
-  down_sums = let f = λ (p : Pair). (difference p).down in omega (arith, traded.old_sum f, traded.new_sum f, sum_by-append f gone kept, sum_by-append f came kept)
+  pub own_exchanged : plus (energy_of d tx new) less ≡ plus (energy_of d tx es) more
+  own_exchanged =
+      let up : (energy_of d tx new).up + less.up ≡ (energy_of d tx es).up + more.up = omega (arith, traded.own (λ p. (difference p).up), ap (λ (e : Energy). e.up) less_is, ap (λ (e : Energy). e.up) more_is) in
+      let down : (energy_of d tx new).down + less.down ≡ (energy_of d tx es).down + more.down = omega (arith, traded.own (λ p. (difference p).down), ap (λ (e : Energy). e.down) less_is, ap (λ (e : Energy). e.down) more_is) in
+      λ i. record { up = up i; down = down i }
 
-  -- what goes is in the sum with what comes
-  module _ (flow less more : Energy) (less_is : less ≡ energy_over gone) (more_is : more ≡ energy_over came) (up_few : more.up ≤ greatest_reading * most_readings) (down_few : more.down ≤ greatest_reading * most_readings) where
-    less_up : less.up ≡ (energy_over gone).up
-    less_up = ap (λ (e : Energy). e.up) less_is
+-- what goes is in an energy of the station with what comes
+module _ (order : Order) (d : Direction) (limits : Bounds) (es : List Entry) (before : AreAllowed order limits es) {flow was : Energy} (is less more : Energy) (flow_is : flow ≡ was) (up_le : was.up ≤ (energy_by order d es).up) (down_le : was.down ≤ (energy_by order d es).down)
+    (exchanged : plus is less ≡ plus was more) (up_few : more.up ≤ greatest_reading * most_readings) (down_few : more.down ≤ greatest_reading * most_readings) where
+  up_was : flow.up ≡ was.up
+  up_was = ap (λ (e : Energy). e.up) flow_is
 
-    less_down : less.down ≡ (energy_over gone).down
-    less_down = ap (λ (e : Energy). e.down) less_is
+  down_was : flow.down ≡ was.down
+  down_was = ap (λ (e : Energy). e.down) flow_is
 
-    more_up : more.up ≡ (energy_over came).up
-    more_up = ap (λ (e : Energy). e.up) more_is
+  ups : is.up + less.up ≡ was.up + more.up
+  ups = ap (λ (e : Energy). e.up) exchanged
 
-    more_down : more.down ≡ (energy_over came).down
-    more_down = ap (λ (e : Energy). e.down) more_is
+  downs : is.down + less.down ≡ was.down + more.down
+  downs = ap (λ (e : Energy). e.down) exchanged
 
-    module _ (own_is : flow ≡ energy_of d tx es) where
-      own_room : CanPlus flow more
-      own_room = record {
-        up = omega (arith, ap (λ (e : Energy). e.up) own_is, own_up_le d tx es, few_up d limits es before, before.most_readings_within, up_few);
-        down = omega (arith, ap (λ (e : Energy). e.down) own_is, own_down_le d tx es, few_down d limits es before, before.most_readings_within, down_few);
-      }
+  pub may_trade : CanTrade flow less more
+  may_trade = record {
+    room = record {
+      up = omega (arith, up_was, up_le, few_up order d limits es before, before.most_readings_within, up_few);
+      down = omega (arith, down_was, down_le, few_down order d limits es before, before.most_readings_within, down_few);
+    };
+    holds = record { up = omega (arith, up_was, ups); down = omega (arith, down_was, downs) };
+  }
 
-      own_holds : CanMinus (plus flow more) less
-      own_holds = record {
-        up = omega (arith, ap (λ (e : Energy). e.up) own_is, less_up, more_up, traded.own (λ p. (difference p).up));
-        down = omega (arith, ap (λ (e : Energy). e.down) own_is, less_down, more_down, traded.own (λ p. (difference p).down));
-      }
-
-      pub own_trade : CanTrade flow less more
-      own_trade = record { room = own_room; holds = own_holds }
-
-      pub own_left : minus (plus flow more) less ≡ energy_of d tx new
-      own_left =
-          let up : (flow.up + more.up) - less.up ≡ (energy_of d tx new).up = omega (arith, ap (λ (e : Energy). e.up) own_is, less_up, more_up, traded.own (λ p. (difference p).up)) in
-          let down : (flow.down + more.down) - less.down ≡ (energy_of d tx new).down = omega (arith, ap (λ (e : Energy). e.down) own_is, less_down, more_down, traded.own (λ p. (difference p).down)) in
-          λ i. record { up = up i; down = down i }
-
-    module _ (all_is : flow ≡ energy d es) where
-      all_room : CanPlus flow more
-      all_room = record {
-        up = omega (arith, ap (λ (e : Energy). e.up) all_is, few_up d limits es before, before.most_readings_within, up_few);
-        down = omega (arith, ap (λ (e : Energy). e.down) all_is, few_down d limits es before, before.most_readings_within, down_few);
-      }
-
-      all_holds : CanMinus (plus flow more) less
-      all_holds = record {
-        up = omega (arith, ap (λ (e : Energy). e.up) all_is, less_up, more_up, up_sums);
-        down = omega (arith, ap (λ (e : Energy). e.down) all_is, less_down, more_down, down_sums);
-      }
-
-      pub all_trade : CanTrade flow less more
-      all_trade = record { room = all_room; holds = all_holds }
-
-      pub all_left : minus (plus flow more) less ≡ energy d new
-      all_left =
-          let up : (flow.up + more.up) - less.up ≡ (energy d new).up = omega (arith, ap (λ (e : Energy). e.up) all_is, less_up, more_up, up_sums) in
-          let down : (flow.down + more.down) - less.down ≡ (energy d new).down = omega (arith, ap (λ (e : Energy). e.down) all_is, less_down, more_down, down_sums) in
-          λ i. record { up = up i; down = down i }
+  pub is_left : minus (plus flow more) less ≡ is
+  is_left =
+      let up : (flow.up + more.up) - less.up ≡ is.up = omega (arith, up_was, ups) in
+      let down : (flow.down + more.down) - less.down ≡ is.down = omega (arith, down_was, downs) in
+      λ i. record { up = up i; down = down i }
 
 total_both : (period : ℕ) (ps : Direction → List Pair) → total (both_quartered period ps) ≡ record { flow = energy_over (ps Import); export = energy_over (ps Export) }
 total_both period ps =
@@ -131,17 +112,17 @@ parted period all some rest same =
     made_alike (both_quartered period all) (both_quartered period some ++ both_quartered period rest) (λ measure.
     both_sides measure (quartered period Import (all Import)) (quartered period Import (some Import)) (quartered period Import (rest Import)) (quartered period Export (all Export)) (quartered period Export (some Export)) (quartered period Export (rest Export)) (side Import measure) (side Export measure))
 
-module _ (limits : Bounds) (tx : List ℕ) (es new : List Entry) (gone came kept : Direction → List Pair) (traded : (d : Direction) → IsTraded d tx es new (gone d) (came d) (kept d)) (before : AreAllowed limits es) (after : AreAllowed limits new) where
+module _ (limits : Bounds) (tx : List ℕ) (es new : List Entry) (gone came kept : Direction → List Pair) (traded : (d : Direction) → IsTraded d tx es new (gone d) (came d) (kept d)) (before : AreAllowed Sequence limits es) (after : AreAllowed Sequence limits new) where
   count : (d : Direction) → length (pairs d new) ≡ length (came d) + length (kept d)
   count d = sym (ones (pairs d new)) ∙ (traded d).new_sum (λ p. 1) ∙ ones (came d ++ kept d) ∙ length-append (came d) (kept d)
 
   kept_up : (d : Direction) → (energy_over (kept d)).up ≤ greatest_reading * limits.readings
-  kept_up d = let f = λ (p : Pair). (difference p).up in omega (arith, (traded d).old_sum f, sum_by-append f (gone d) (kept d), few_up d limits es before)
+  kept_up d = let f = λ (p : Pair). (difference p).up in omega (arith, (traded d).old_sum f, sum_by-append f (gone d) (kept d), few_up Sequence d limits es before)
 
   kept_down : (d : Direction) → (energy_over (kept d)).down ≤ greatest_reading * limits.readings
-  kept_down d = let f = λ (p : Pair). (difference p).down in omega (arith, (traded d).old_sum f, sum_by-append f (gone d) (kept d), few_down d limits es before)
+  kept_down d = let f = λ (p : Pair). (difference p).down in omega (arith, (traded d).old_sum f, sum_by-append f (gone d) (kept d), few_down Sequence d limits es before)
 
-  module _ (period : ℕ) (t : Table) (rows : AreQuarterRows limits es period t) where
+  module _ (period : ℕ) (t : Table) (rows : AreQuarterRows Sequence limits es period t) where
     old_rows : t.rows ≡ rows_of (both_quartered period gone ++ both_quartered period kept)
     old_rows = rows.rows ∙ parted period (λ d. pairs d es) gone kept (λ d. (traded d).old_sum)
 
@@ -159,7 +140,7 @@ module _ (limits : Bounds) (tx : List ℕ) (es new : List Entry) (gone came kept
             both_quartered period kept,
             record {
               rows = left_rows;
-              room = omega (arith, n, long period Import (kept Import), long period Export (kept Export), count Import, count Export, few_pairs new, after.readings_within, taken.capacity, rows.room);
+              room = omega (arith, n, long period Import (kept Import), long period Export (kept Export), count Import, count Export, few_pairs Sequence new, after.readings_within, taken.capacity, rows.room);
               up = omega (arith, ap (λ (e : Flows). e.flow.up) sum, kept_up Import, before.most_readings_within, few);
               down = omega (arith, ap (λ (e : Flows). e.flow.down) sum, kept_down Import, before.most_readings_within, few);
               export_up = omega (arith, ap (λ (e : Flows). e.export.up) sum, kept_up Export, before.most_readings_within, few);
@@ -168,7 +149,7 @@ module _ (limits : Bounds) (tx : List ℕ) (es new : List Entry) (gone came kept
             },
           )
 
-      pub filled : {t2 : Table} → IsWith (both_quartered period came) t1 t2 → AreQuarterRows limits new period t2
+      pub filled : {t2 : Table} → IsWith (both_quartered period came) t1 t2 → AreQuarterRows Sequence limits new period t2
       filled put = record {
         rows = put.rows ∙ ap (rows_with (both_quartered period came)) left_rows ∙ made_with (both_quartered period came) (both_quartered period kept) ∙ sym (parted period (λ d. pairs d new) came kept (λ d. (traded d).new_sum));
         room = put.capacity ∙ taken.capacity ∙ rows.room;

@@ -13,8 +13,9 @@ use Rattle.std.proofs.lemmas.Slice.Eq.{bytes_eq-Decides}
 use Rattle.event_chain.specs.Chains.{Chained, stored}
 use Rattle.ledger_model.specs.Board.{last_or_none}
 use Rattle.ledger_model.specs.Content.{Entry, live, transactions_of, has_transaction}
+use Rattle.ledger_model.specs.declared.order.Order.{Order}
 use Rattle.ledger_model.specs.declared.reading.Direction.TheVariants.{Import, Export}
-use Rattle.ledger_model.specs.Energy.{energy_of}
+use Rattle.ledger_model.specs.Energy.{energy_of_by}
 use Rattle.ledger_model.specs.Evse.{first_or_none}
 use Rattle.ledger_model.specs.Limits.{Bounds}
 use Rattle.ledger_model.proofs.Rising.{both}
@@ -23,7 +24,7 @@ use Rattle.transaction_map.specs.Map.{Mapped, AreRising, id_cmp}
 use Rattle.transaction_map.proofs.Found.{same_ids}
 use Rattle.transaction_map.proofs.Rising.{equal_ids, same_id}
 use Rattle.station_ledger.specs.declared.standing.Standing.{Standing}
-use Rattle.station_ledger.specs.Standing.{kept_of, standing_with}
+use Rattle.station_ledger.specs.Standing.{kept_of, standing_by}
 use Rattle.station_ledger.specs.Sums.{AreStanding}
 use Rattle.station_ledger.proofs.EndNumbers.{kept_some, kept_none}
 use Rattle.station_ledger.proofs.Moved.{none_live}
@@ -70,10 +71,10 @@ some_own tx (e ∷ es) h = elim (bytes_eq tx e.0.tx) as (λ b. (b || has_transac
 ] h
 
 -- it is kept just where it has a live event
-kept_has : (tx : List ℕ) (es : List Entry) → is_some (kept_of tx es) ≡ has_transaction tx (live es)
-kept_has tx es = elim (has_transaction tx (live es)) as (λ b. has_transaction tx (live es) ≡ b → is_some (kept_of tx es) ≡ b) [
-  | true ↦ λ e. ap is_some (sym (kept_some (energy_of Import tx es) (energy_of Export tx es) tx es (some_own tx (live es) e)))
-  | false ↦ λ e. ap is_some (sym (kept_none (energy_of Import tx es) (energy_of Export tx es) tx es (ap length (none_live tx es e))))
+kept_has : (order : Order) (tx : List ℕ) (es : List Entry) → is_some (kept_of order tx es) ≡ has_transaction tx (live es)
+kept_has order tx es = elim (has_transaction tx (live es)) as (λ b. has_transaction tx (live es) ≡ b → is_some (kept_of order tx es) ≡ b) [
+  | true ↦ λ e. ap is_some (sym (kept_some (energy_of_by order Import tx es) (energy_of_by order Export tx es) tx es (some_own tx (live es) e)))
+  | false ↦ λ e. ap is_some (sym (kept_none (energy_of_by order Import tx es) (energy_of_by order Export tx es) tx es (ap length (none_live tx es e))))
 ] refl
 
 -- an id at a place is one of them
@@ -82,21 +83,21 @@ is_any [] n tx h = cc
 is_any (t ∷ ts) zero tx h = let same : t ≡ tx = cc in ap (λ b. b || list_any (bytes_eq tx) ts) ((bytes_eq-Decides tx t).1 (sym same))
 is_any (t ∷ ts) (suc n) tx h = elim (bytes_eq tx t) as (λ b. (b || list_any (bytes_eq tx) ts) ≡ true) [ true ↦ refl | false ↦ is_any ts n tx h ]
 
-module _ (limits : Bounds) (c : Chained) (kept : Mapped Standing) (standing : AreStanding limits (stored c) kept) where
+module _ (order : Order) (limits : Bounds) (c : Chained) (kept : Mapped Standing) (standing : AreStanding order limits (stored c) kept) where
   -- the ids that are kept are those of the transactions with a live event
   pub kept_ids : map (λ (r : List ℕ × Standing). r.0) kept.rows ≡ transactions_of (live (stored c))
   kept_ids =
       let es = stored c in let ts = transactions_of (live es) in
       same_ids kept.rows (bare ts) standing.rising (bare_rise ts (transactions_rise (record { events = c.events; changes = 0 })))
-      (λ q. ap is_some (standing.each q) ∙ kept_has q es ∙ sym (bare_found q ts ∙ transactions-any q (live es)))
+      (λ q. ap is_some (standing.each q) ∙ kept_has order q es ∙ sym (bare_found q ts ∙ transactions-any q (live es)))
       ∙ bare_ids ts
 
   -- what is found under the id of a place
-  pub found_at : (n : ℕ) (tx : List ℕ) → slice_get (map (λ (r : List ℕ × Standing). r.0) kept.rows) n ≡ Some tx → find id_cmp tx kept.rows ≡ Some (standing_with (energy_of Import tx (stored c)) (energy_of Export tx (stored c)) tx (stored c))
+  pub found_at : (n : ℕ) (tx : List ℕ) → slice_get (map (λ (r : List ℕ × Standing). r.0) kept.rows) n ≡ Some tx → find id_cmp tx kept.rows ≡ Some (standing_by order tx (stored c))
   found_at n tx at =
       let es = stored c in
       let any = is_any (transactions_of (live es)) n tx (ap (λ ts. slice_get ts n) (sym kept_ids) ∙ at) in
-      standing.each tx ∙ sym (kept_some (energy_of Import tx es) (energy_of Export tx es) tx es (some_own tx (live es) (sym (transactions-any tx (live es)) ∙ any)))
+      standing.each tx ∙ sym (kept_some (energy_of_by order Import tx es) (energy_of_by order Export tx es) tx es (some_own tx (live es) (sym (transactions-any tx (live es)) ∙ any)))
 
 -- the lines with that of the next id
 pub line_more : {X : Type 0} (line : List ℕ → X) (ids : List (List ℕ)) (n : ℕ) (tx : List ℕ) → slice_get ids n ≡ Some tx → map line (take (n + 1) ids) ≡ map line (take n ids) ++ line tx ∷ []

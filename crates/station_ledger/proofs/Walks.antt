@@ -39,6 +39,11 @@ pub parted : (left rest : List MeterReading) (r d : MeterReading) → 1 ≤ leng
 parted [] rest r d some is after = absurd (omega (arith, some))
 parted (x ∷ left) rest r d some is after = λ i. sym is i ∷ sym after i
 
+-- the same of any elements
+pub first_and_rest : {X : Type 0} (left rest : List X) (r d : X) → 1 ≤ length left → r ≡ get_or left 0 d → rest ≡ drop 1 left → left ≡ r ∷ rest
+first_and_rest [] rest r d some is after = absurd (omega (arith, some))
+first_and_rest (x ∷ left) rest r d some is after = λ i. sym is i ∷ sym after i
+
 same_self : (d : Direction) → same_direction d d ≡ true
 same_self Import = refl
 same_self Export = refl

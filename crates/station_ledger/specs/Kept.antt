@@ -12,7 +12,7 @@ use Rattle.event_chain.specs.declared.answers.Room.TheVariants.{Fits}
 use Rattle.event_chain.specs.Chains.{Chained, stored}
 use Rattle.event_chain.specs.Room.{found_of, room_of}
 use Rattle.station_ledger.specs.declared.sums.Sums.{Sums}
-use Rattle.station_ledger.specs.Sums.{AreAllowed, AreSummed}
+use Rattle.station_ledger.specs.Sums.{AreAllowed, AreSummed, order_in}
 
 -- The content that chains show after so many changes.
 abbrev pub content_in : Chained → ℕ → Content
@@ -42,8 +42,8 @@ IsReady c (Erase key) = found_of (finite.get c.events key) ≡ Some Voided
 -- The command may be carried out: its key is as it has to be, the limits allow the events before it and after it, and the sums are those of the events before it.
 pub record CanDo (command : Command) (chains : Chained) (sums : Sums) : Type 0 where
   pub ready : IsReady chains command
-  pub before : AreAllowed chains.limits (stored chains)
-  pub after : AreAllowed chains.limits (finite.entries (events_after chains.events command))
+  pub before : AreAllowed (order_in sums) chains.limits (stored chains)
+  pub after : AreAllowed (order_in sums) chains.limits (finite.entries (events_after chains.events command))
   pub summed : AreSummed chains.limits (stored chains) sums
   pub voided : sums.figures.voided ≡ voided_in chains
 
@@ -53,4 +53,5 @@ pub record IsDone (command : Command) (chains new : Chained) (sums next : Sums) 
   pub events : new.events ≡ events_after chains.events command
   pub summed : AreSummed new.limits (stored new) next
   pub period : next.period ≡ sums.period
+  pub order : order_in next ≡ order_in sums
   pub voided : next.figures.voided ≡ voided_in new

@@ -7,11 +7,14 @@ use Rattle.ledger_model.specs.Event.{EventContent}
 use Rattle.ledger_model.specs.Key.{key_cmp, key_code}
 use Rattle.ledger_model.specs.Limits.{Bounds}
 use Rattle.ledger_model.specs.Content.{Content, Stored, Entry}
+use Rattle.ledger_model.specs.declared.order.Order.{Order}
+use Rattle.ledger_model.specs.contracts.order.Order as orders
 
--- A station's ledger: its limits, its settlement period in seconds, and what it holds.
+-- A station's ledger: its limits, its settlement period in seconds, the order in which it takes the readings of a transaction, and what it holds.
 pub record Ledger : Type 0 where
   pub limits : Bounds
   pub period : ℕ
+  pub order : Order
   pub content : Content
 
 -- A stored event is kept as the pair of its parts.
@@ -36,7 +39,7 @@ bounds_code = code_by (ℕ × (ℕ × (ℕ × ℕ))) (coded× coded_ℕ (coded×
 
 -- A ledger is kept as the tuple of its parts.
 abbrev pub ledger_code : Coded Ledger
-ledger_code = code_by (Bounds × (ℕ × Content)) (coded× bounds_code (coded× coded_ℕ content_code)) (λ l. (l.limits, (l.period, l.content))) (λ p. record { limits = p.0; period = p.1.0; content = p.1.1 }) (λ _. refl)
+ledger_code = code_by (Bounds × (ℕ × (Order × Content))) (coded× bounds_code (coded× coded_ℕ (coded× orders.the_row.coded content_code))) (λ l. (l.limits, (l.period, (l.order, l.content)))) (λ p. record { limits = p.0; period = p.1.0; order = p.1.1.0; content = p.1.1.1 }) (λ _. refl)
 
 -- The content of entries in the order of their keys, after so many changes.
 abbrev pub content_of : List Entry → ℕ → Content

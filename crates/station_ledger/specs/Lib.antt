@@ -1,9 +1,12 @@
+pub mod ByMoment
+pub mod Runs
 pub mod Kept
 pub mod Ledger
 pub mod Quarters
 pub mod Sides
 pub mod Moved
 pub mod Spent
+pub mod Exchange
 pub mod Sums
 pub mod Standing
 pub mod Coming

@@ -1,5 +1,5 @@
 -- What a change of one transaction's live events moves.
-use Rattle.std.specs.Prelude.{◌≡◌, ℕ, ◌+◌, ◌-◌, ◌<◌, ◌≤◌, ◌^◌, ◌==◌, false, unwrap_or, slice_get, if◌then◌else◌, List, Option, None, Some, length, count_by, sum_by}
+use Rattle.std.specs.Prelude.{◌≡◌, ℕ, ◌+◌, ◌-◌, ◌*◌, ◌<◌, ◌≤◌, ◌^◌, ◌==◌, false, unwrap_or, slice_get, if◌then◌else◌, List, Option, None, Some, length, count_by, sum_by}
 use Rattle.std.specs.Str.{bytes_eq}
 use Rattle.energy_flow.specs.Flow.{Energy, no_energy, plus, minus, CanPlus, CanMinus}
 use Rattle.ledger_model.specs.declared.reading.Direction.{Direction}
@@ -7,7 +7,12 @@ use Rattle.ledger_model.specs.declared.reading.Direction.TheVariants.{Import, Ex
 use Rattle.ledger_model.specs.Complete.{is_complete}
 use Rattle.ledger_model.specs.Content.{Entry, live, live_of, transactions_of}
 use Rattle.ledger_model.specs.Deltas.{flow_if}
-use Rattle.ledger_model.specs.Evse.{energy_at, transactions_at}
+use Rattle.ledger_model.specs.declared.order.Order.{Order}
+use Rattle.ledger_model.specs.Evse.{energy_at_by, transactions_at}
+use Rattle.ledger_model.specs.ByDirection.{in_direction}
+use Rattle.ledger_model.specs.declared.by_direction.ByDirection.{ByDirection}
+use Rattle.ledger_model.specs.Energy.{energy_by, energy_of_by}
+use Rattle.ledger_model.specs.Ranges.{greatest_reading, most_readings}
 use Rattle.ledger_model.specs.Gaps.{numbers_of, missing}
 use Rattle.ledger_model.specs.declared.figures.Figures.{Figures}
 use Rattle.station_ledger.specs.declared.totals.EvseSum.{EvseSum}
@@ -51,15 +56,15 @@ abbrev pub flow_at : Direction → ℕ → Option Standing → Energy
 flow_at d n None = no_energy
 flow_at d n (Some s) = flow_if (s.evse == n) (flow_toward d s)
 
--- The live events of one transaction changed: no other's did, and each sum changed by what that one counts for.
-pub record IsMoved (tx : List ℕ) (es new : List Entry) : Type 0 where
+-- The live events of one transaction changed: no other's did, and each sum changed by what that one counts for, the readings of each in an order.
+pub record IsMoved (order : Order) (tx : List ℕ) (es new : List Entry) : Type 0 where
   pub others : (u : List ℕ) → bytes_eq u tx ≡ false → live_of u new ≡ live_of u es
-  pub events : length (live new) + live_in (kept_of tx es) ≡ length (live es) + live_in (kept_of tx new)
-  pub transactions : length (transactions_of (live new)) + one_in (kept_of tx es) ≡ length (transactions_of (live es)) + one_in (kept_of tx new)
-  pub complete : count_by (λ u. is_complete u new) (transactions_of (live new)) + complete_in (kept_of tx es) ≡ count_by (λ u. is_complete u es) (transactions_of (live es)) + complete_in (kept_of tx new)
-  pub missing_are : sum_by (λ u. missing (numbers_of u new)) (transactions_of (live new)) + missing_in (kept_of tx es) ≡ sum_by (λ u. missing (numbers_of u es)) (transactions_of (live es)) + missing_in (kept_of tx new)
-  pub at_evse : (n : ℕ) → length (transactions_at n new) + one_at n (kept_of tx es) ≡ length (transactions_at n es) + one_at n (kept_of tx new)
-  pub flow_at_evse : (d : Direction) (n : ℕ) → plus (energy_at d n new) (flow_at d n (kept_of tx es)) ≡ plus (energy_at d n es) (flow_at d n (kept_of tx new))
+  pub events : length (live new) + live_in (kept_of order tx es) ≡ length (live es) + live_in (kept_of order tx new)
+  pub transactions : length (transactions_of (live new)) + one_in (kept_of order tx es) ≡ length (transactions_of (live es)) + one_in (kept_of order tx new)
+  pub complete : count_by (λ u. is_complete u new) (transactions_of (live new)) + complete_in (kept_of order tx es) ≡ count_by (λ u. is_complete u es) (transactions_of (live es)) + complete_in (kept_of order tx new)
+  pub missing_are : sum_by (λ u. missing (numbers_of u new)) (transactions_of (live new)) + missing_in (kept_of order tx es) ≡ sum_by (λ u. missing (numbers_of u es)) (transactions_of (live es)) + missing_in (kept_of order tx new)
+  pub at_evse : (n : ℕ) → length (transactions_at n new) + one_at n (kept_of order tx es) ≡ length (transactions_at n es) + one_at n (kept_of order tx new)
+  pub flow_at_evse : (d : Direction) (n : ℕ) → plus (energy_at_by order d n new) (flow_at d n (kept_of order tx es)) ≡ plus (energy_at_by order d n es) (flow_at d n (kept_of order tx new))
 
 -- An EVSE without transactions.
 abbrev pub no_sum : EvseSum
@@ -69,9 +74,9 @@ no_sum = record { transactions = 0; flow = no_energy; export = no_energy }
 abbrev pub sum_at : List EvseSum → ℕ → EvseSum
 sum_at sums n = unwrap_or (slice_get sums n) no_sum
 
--- The sum of an EVSE from scratch.
-abbrev pub evse_sum : ℕ → List Entry → EvseSum
-evse_sum n es = record { transactions = length (transactions_at n es); flow = energy_at Import n es; export = energy_at Export n es }
+-- The sum of an EVSE from scratch, in an order.
+abbrev pub evse_sum : Order → ℕ → List Entry → EvseSum
+evse_sum order n es = record { transactions = length (transactions_at n es); flow = energy_at_by order Import n es; export = energy_at_by order Export n es }
 
 -- The sum of an EVSE with what a transaction counts for there.
 abbrev pub with_one : ℕ → Option Standing → EvseSum → EvseSum
@@ -119,3 +124,10 @@ pub record DoCount (o : Option Standing) (f : Figures) : Type 0 where
 pub record CanTrade (flow less more : Energy) : Type 0 where
   pub room : CanPlus flow more
   pub holds : CanMinus (plus flow more) less
+
+-- What went and what came of the energies of a station, and of one of its transactions, in each direction.
+pub record IsExchanged (order : Order) (tx : List ℕ) (es new : List Entry) (less more : ByDirection Energy) : Type 0 where
+  pub station : (d : Direction) → plus (energy_by order d new) (in_direction d less) ≡ plus (energy_by order d es) (in_direction d more)
+  pub own : (d : Direction) → plus (energy_of_by order d tx new) (in_direction d less) ≡ plus (energy_of_by order d tx es) (in_direction d more)
+  pub up_few : (d : Direction) → (in_direction d more).up ≤ greatest_reading * most_readings
+  pub down_few : (d : Direction) → (in_direction d more).down ≤ greatest_reading * most_readings

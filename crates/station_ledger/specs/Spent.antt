@@ -1,14 +1,19 @@
-use Rattle.std.specs.Prelude.{◌≡◌, ℕ, ◌+◌, ◌≤◌, List, Option, None, Some, length}
+use Rattle.std.specs.Prelude.{◌≡◌, ℕ, ◌+◌, ◌*◌, ◌≤◌, List, Option, None, Some, filter, length}
 use Rattle.std.specs.FinMap as finite
 use Rattle.std.specs.FinMap.{FinMap}
 use Rattle.ledger_model.specs.declared.command.Command.{Command}
 use Rattle.ledger_model.specs.declared.command.Command.TheVariants.{Deliver, Void, Restore, Erase}
+use Rattle.ledger_model.specs.declared.reading.Direction.{Direction}
 use Rattle.ledger_model.specs.declared.reading.Direction.TheVariants.{Import, Export}
+use Rattle.ledger_model.specs.declared.order.Order.{Order}
+use Rattle.ledger_model.specs.declared.order.Order.TheVariants.{Sequence, Moment}
 use Rattle.ledger_model.specs.Deltas.{most_for}
 use Rattle.ledger_model.specs.Event.{MeterReading, toward}
 use Rattle.ledger_model.specs.Key.{KeyName, key_cmp}
-use Rattle.ledger_model.specs.Content.{Stored}
-use Rattle.event_chain.specs.Chains.{Chained}
+use Rattle.ledger_model.specs.Content.{Entry, Stored}
+use Rattle.ledger_model.specs.ReadingOrder.{is_own, numbered_by, runs_of}
+use Rattle.ledger_model.specs.Step.{events_after}
+use Rattle.event_chain.specs.Chains.{Chained, stored}
 use Rattle.station_ledger.specs.Quarters.{readings_at}
 use Rattle.ledger_model.specs.declared.answer.Answer.{Answer}
 use Rattle.ledger_model.specs.declared.answer.Answer.TheVariants.{Accepted, Repeat, Refused}
@@ -32,9 +37,30 @@ abbrev pub most_under : Option Stored → ℕ
 most_under None = 0
 most_under (Some s) = most_with s.event.readings
 
+-- The most differences of a direction that come and go with the live event of a key, its readings taken by moment: one for each of them, and two for each run in which they stand.
+abbrev pub most_by_moment : Direction → KeyName → List Entry → ℕ
+most_by_moment d key es = length (filter (is_own key.seq) (numbered_by Moment d key.tx es)) + 2 * runs_of Moment d key es
+
+-- The same of both directions.
+abbrev pub most_in_runs : KeyName → List Entry → ℕ
+most_in_runs key es = most_by_moment Import key es + most_by_moment Export key es
+
+-- The most for the live event of a key that the chains have more.
+abbrev pub most_more : Order → Chained → KeyName → ℕ
+most_more Sequence chains key = most_at chains key
+most_more Moment chains key = most_in_runs key (stored chains)
+
+-- The most for one that they have no more, which stood among these.
+abbrev pub most_less : Order → Chained → KeyName → List Entry → ℕ
+most_less Sequence chains key es = most_at chains key
+most_less Moment chains key es = most_in_runs key es
+
 -- The most differences that a command may evaluate: those of the event that it delivers, voids or restores, and none for an erasure.
-unfoldable pub most_spent : FinMap key_cmp Stored → Command → ℕ
-most_spent events (Deliver key event) = most_with event.readings
-most_spent events (Void key) = most_under (finite.get events key)
-most_spent events (Restore key) = most_under (finite.get events key)
-most_spent events (Erase key) = 0
+unfoldable pub most_spent : Order → FinMap key_cmp Stored → Command → ℕ
+most_spent Sequence events (Deliver key event) = most_with event.readings
+most_spent Sequence events (Void key) = most_under (finite.get events key)
+most_spent Sequence events (Restore key) = most_under (finite.get events key)
+most_spent Moment events (Deliver key event) = most_in_runs key (finite.entries (events_after events (Deliver key event)))
+most_spent Moment events (Void key) = most_in_runs key (finite.entries events)
+most_spent Moment events (Restore key) = most_in_runs key (finite.entries (events_after events (Restore key)))
+most_spent order events (Erase key) = 0

@@ -6,7 +6,8 @@ use Rattle.ledger_model.specs.Complete.{is_complete}
 use Rattle.ledger_model.specs.declared.kind.Kind.{Kind}
 use Rattle.ledger_model.specs.declared.kind.Kind.TheVariants.{Started, Ended}
 use Rattle.ledger_model.specs.declared.reading.Direction.TheVariants.{Import, Export}
-use Rattle.ledger_model.specs.Energy.{energy_of}
+use Rattle.ledger_model.specs.declared.order.Order.{Order}
+use Rattle.ledger_model.specs.Energy.{energy_of_by}
 use Rattle.ledger_model.specs.Evse.{evse_of}
 use Rattle.ledger_model.specs.Gaps.{numbers_of, missing}
 use Rattle.station_ledger.specs.declared.standing.Standing.{Standing}
@@ -27,9 +28,13 @@ standing_with flow export tx es = record {
 abbrev pub kept_with : Energy → Energy → List ℕ → List Entry → Option Standing
 kept_with flow export tx es = if length (live_of tx es) == 0 then None else Some (standing_with flow export tx es)
 
--- What is kept of a transaction: its standing with its energies, where it has a live event.
-abbrev pub kept_of : List ℕ → List Entry → Option Standing
-kept_of tx es = kept_with (energy_of Import tx es) (energy_of Export tx es) tx es
+-- A transaction's standing with its energies, its readings in an order.
+abbrev pub standing_by : Order → List ℕ → List Entry → Standing
+standing_by order tx es = standing_with (energy_of_by order Import tx es) (energy_of_by order Export tx es) tx es
+
+-- What is kept of a transaction, its readings in an order: its standing with its energies, where it has a live event.
+abbrev pub kept_of : Order → List ℕ → List Entry → Option Standing
+kept_of order tx es = kept_with (energy_of_by order Import tx es) (energy_of_by order Export tx es) tx es
 
 -- Tells whether the first kind is Started.
 abbrev pub is_started : Option Kind → Bool

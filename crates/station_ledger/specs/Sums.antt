@@ -1,29 +1,35 @@
 -- What is kept of a station's live events, so that no figure needs a walk.
-use Rattle.std.specs.Prelude.{◌≡◌, ℕ, ◌+◌, ◌<◌, ◌≤◌, Bool, false, not, List, Option, None, Some, All, length, count_by, sum_by}
+use Rattle.std.specs.Prelude.{◌≡◌, ℕ, ◌+◌, ◌<◌, ◌≤◌, Bool, false, not, List, Option, None, Some, All, IfSome, length, count_by, sum_by}
 use Rattle.std.specs.List.{filter}
 use Rattle.std.specs.Ordering.{eq_by_cmp}
 use Rattle.std.specs.FinMap.{find, put}
 use Rattle.ledger_model.specs.declared.figures.Figures.{Figures}
-use Rattle.ledger_model.specs.Board.{figures}
+use Rattle.ledger_model.specs.declared.order.Order.{Order}
+use Rattle.ledger_model.specs.Board.{figures_by}
 use Rattle.ledger_model.specs.Complete.{is_complete}
 use Rattle.ledger_model.specs.Content.{Entry, Stored, live, transactions_of}
 use Rattle.ledger_model.specs.ByDirection.{in_direction}
 use Rattle.ledger_model.specs.declared.by_direction.ByDirection.{ByDirection}
 use Rattle.ledger_model.specs.Deltas.{IsOneMore, before_key, behind_key}
-use Rattle.ledger_model.specs.Energy.{energy, pairs}
+use Rattle.ledger_model.specs.Energy.{all_pairs_by, energy_by}
 use Rattle.ledger_model.specs.declared.reading.Direction.{Direction}
 use Rattle.ledger_model.specs.Event.{toward}
+use Rattle.ledger_model.specs.BoardLaws as laws
 use Rattle.ledger_model.specs.Figures.{AreWithin}
 use Rattle.ledger_model.specs.Key.{KeyName, key_cmp}
 use Rattle.ledger_model.specs.Step.{readings_stored}
+use Rattle.ledger_model.proofs.Callers.{AreEntries}
 use Rattle.event_chain.specs.Chains.{Chained, stored}
 use Rattle.ledger_model.specs.Gaps.{numbers_of, missing}
 use Rattle.ledger_model.specs.Limits.{Bounds}
 use Rattle.ledger_model.specs.Moment.{IsMoment}
 use Rattle.ledger_model.specs.Ranges.{greatest_evse, most_event_readings, most_events, most_readings, most_transactions}
 use Rattle.quarter_table.specs.Table.{Table}
-use Rattle.quarter_table.specs.Pairs.{rows_of, station_flows}
+use Rattle.quarter_table.specs.Pairs.{rows_of, station_flows_by}
 use Rattle.transaction_map.specs.Map.{Mapped, AreRising, id_cmp}
+use Rattle.ledger_model.specs.declared.order.Order.TheVariants.{Sequence, Moment}
+use Rattle.station_ledger.specs.declared.by_moment.ByMoment.{ByMoment}
+use Rattle.station_ledger.specs.ByMoment.{AreByMoment}
 use Rattle.station_ledger.specs.declared.standing.Standing.{Standing}
 use Rattle.station_ledger.specs.declared.sums.Sums.{Sums}
 use Rattle.station_ledger.specs.declared.totals.Change.{Change}
@@ -36,20 +42,20 @@ use Rattle.station_ledger.specs.Sides.{has_some}
 use Rattle.station_ledger.specs.Standing.{kept_of}
 
 -- Each transaction with a live event is kept, and no other.
-pub record AreStanding (limits : Bounds) (es : List Entry) (kept : Mapped Standing) : Type 0 where
-  pub each : (tx : List ℕ) → find id_cmp tx kept.rows ≡ kept_of tx es
+pub record AreStanding (order : Order) (limits : Bounds) (es : List Entry) (kept : Mapped Standing) : Type 0 where
+  pub each : (tx : List ℕ) → find id_cmp tx kept.rows ≡ kept_of order tx es
   pub rising : AreRising kept.rows
   pub number : length kept.rows ≡ length (transactions_of (live es))
   pub room : kept.capacity ≡ limits.transactions
 
 -- The sums of the EVSEs.
-pub record AreEvseSums (es : List Entry) (evses : List EvseSum) : Type 0 where
+pub record AreEvseSums (order : Order) (es : List Entry) (evses : List EvseSum) : Type 0 where
   pub all : length evses ≡ greatest_evse + 1
-  pub each : (n : ℕ) → n ≤ greatest_evse → sum_at evses n ≡ evse_sum n es
+  pub each : (n : ℕ) → n ≤ greatest_evse → sum_at evses n ≡ evse_sum order n es
 
 -- The rows of the quarters, by periods of so many seconds.
-pub record AreQuarterRows (limits : Bounds) (es : List Entry) (period : ℕ) (quarters : Table) : Type 0 where
-  pub rows : quarters.rows ≡ rows_of (station_flows period es)
+pub record AreQuarterRows (order : Order) (limits : Bounds) (es : List Entry) (period : ℕ) (quarters : Table) : Type 0 where
+  pub rows : quarters.rows ≡ rows_of (station_flows_by order period es)
   pub room : quarters.capacity ≡ limits.readings
 
 -- The figures but for the energy and the voided events.
@@ -59,13 +65,22 @@ pub record AreCounts (es : List Entry) (f : Figures) : Type 0 where
   pub complete : f.complete ≡ count_by (λ tx. is_complete tx es) (transactions_of (live es))
   pub missing_are : f.missing ≡ sum_by (λ tx. missing (numbers_of tx es)) (transactions_of (live es))
 
+-- The order in which the readings of a transaction are summed: by moment where they are kept so.
+abbrev pub order_of : Option ByMoment → Order
+order_of None = Sequence
+order_of (Some b) = Moment
+
+abbrev pub order_in : Sums → Order
+order_in sums = order_of sums.by_moment
+
 -- All sums of these events within these limits, but for the count of voided ones.
 pub record AreSummed (limits : Bounds) (es : List Entry) (sums : Sums) : Type 0 where
-  pub standing : AreStanding limits es sums.kept
-  pub at_evses : AreEvseSums es sums.evses.items
-  pub by_quarter : AreQuarterRows limits es sums.period sums.quarters
-  pub energies_are : (d : Direction) → in_direction d sums.energies ≡ energy d es
+  pub standing : AreStanding (order_in sums) limits es sums.kept
+  pub at_evses : AreEvseSums (order_in sums) es sums.evses.items
+  pub by_quarter : AreQuarterRows (order_in sums) limits es sums.period sums.quarters
+  pub energies_are : (d : Direction) → in_direction d sums.energies ≡ energy_by (order_in sums) d es
   pub counts : AreCounts es sums.figures
+  pub timed : IfSome sums.by_moment (AreByMoment limits es)
 
 -- The rows with that of a transaction written, or taken out where nothing is kept of it.
 abbrev pub keep : List ℕ → Option Standing → List (List ℕ × Standing) → List (List ℕ × Standing)
@@ -89,11 +104,13 @@ pub record IsToGo (es : List Entry) (chains : Chained) (key : KeyName) (place : 
   pub sides : (d : Direction) → AreSides d (has_some (toward d event.event.readings)) key es (in_direction d place)
   pub few : length event.event.readings ≤ most_event_readings
 
--- Events such as the limits allow, with each reading at a moment.
-pub record AreAllowed (limits : Bounds) (es : List Entry) : Type 0 where
-  pub figures_within : AreWithin limits (figures es)
+-- Events such as the limits allow, with each entry in range and each reading at a moment.
+pub record AreAllowed (order : Order) (limits : Bounds) (es : List Entry) : Type 0 where
+  pub figures_within : AreWithin limits (figures_by order es)
   pub readings_within : readings_stored es ≤ limits.readings
-  pub in_time : (d : Direction) → All (λ p. IsMoment p.1.moment) (pairs d es)
+  pub in_time : (d : Direction) → All (λ p. IsMoment p.1.moment) (all_pairs_by order d es)
+  pub in_range : AreEntries es
+  pub rising : (tx : List ℕ) → laws.AreRising (numbers_of tx es)
   pub few_in_each : (key : KeyName) (s : Stored) → find key_cmp key es ≡ Some s → length s.event.readings ≤ most_event_readings
   pub most_transactions_within : limits.transactions ≤ most_transactions
   pub most_events_within : limits.events ≤ most_events
@@ -101,13 +118,13 @@ pub record AreAllowed (limits : Bounds) (es : List Entry) : Type 0 where
 
 -- The sums are those of allowed events, and one live event more stands in the chains.
 pub record AreGrowing (es : List Entry) (chains : Chained) (key : KeyName) (place : ByDirection Sides) (names : Bool) (sums : Sums) : Type 0 where
-  pub allowed : AreAllowed chains.limits es
+  pub allowed : AreAllowed (order_in sums) chains.limits es
   pub come : IsToCome es chains key place names
   pub summed : AreSummed chains.limits es sums
 
 -- The sums are those of allowed events, and one live event of these stands in the chains no more.
 pub record AreShrinking (es : List Entry) (chains : Chained) (key : KeyName) (place : ByDirection Sides) (sums : Sums) : Type 0 where
-  pub allowed : AreAllowed chains.limits es
+  pub allowed : AreAllowed (order_in sums) chains.limits es
   pub go : IsToGo es chains key place
   pub summed : AreSummed chains.limits es sums
 
@@ -130,3 +147,13 @@ pub record IsReplaced (tx : List ℕ) (change : Change) (old new : Sums) : Type 
   pub period : new.period ≡ old.period
   pub quarters : new.quarters ≡ old.quarters
   pub energies : new.energies ≡ old.energies
+  pub by_moment : new.by_moment ≡ old.by_moment
+
+-- Quarters alone changed, and readings by moment, where they are kept so.
+pub record ArePairsMoved (old new : Sums) : Type 0 where
+  pub kept : new.kept ≡ old.kept
+  pub evses : new.evses ≡ old.evses
+  pub period : new.period ≡ old.period
+  pub energies : new.energies ≡ old.energies
+  pub figures : new.figures ≡ old.figures
+  pub order : order_in new ≡ order_in old

@@ -3,10 +3,10 @@ ghost use Rattle.std.specs.FinMap as finite;
 ghost use Rattle.ledger_model.specs.Ranges.{most_event_readings};
 ghost use Rattle.ledger_model.specs.Content.{empty_content, entries};
 ghost use Rattle.ledger_model.specs.declared.reading.Direction.TheVariants.{Import, Export};
-ghost use Rattle.ledger_model.specs.Energy.{energy};
-ghost use Rattle.ledger_model.specs.Evse.{energy_at};
+ghost use Rattle.ledger_model.specs.Energy.{energy_by};
+ghost use Rattle.ledger_model.specs.Evse.{energy_at_by};
 ghost use Rattle.ledger_model.specs.Figures.{AreWithin};
-ghost use Rattle.ledger_model.specs.Board.{board, figures};
+ghost use Rattle.ledger_model.specs.Board.{board_by, figures_by};
 ghost use Rattle.ledger_model.specs.Step.{Reached, answer, answer_to_deliver, answer_to_void, answer_to_voided, accepted_within_limit, step};
 ghost use Rattle.station_ledger.specs.New.{answer_to_new};
 ghost use Rattle.station_ledger.specs.Spent.{IsSpent, most_spent};
@@ -18,7 +18,9 @@ use crate::sums::Sums;
 use energy_flow::{Flow, Work};
 use event_chain::{Chains, Found, Room};
 use key_index::KeyPlace;
-use ledger_model::{Answer, Command, Event, EvseId, Figures, Key, Limits, Period, Refusal, TxId};
+use ledger_model::{
+    Answer, Command, Event, EvseId, Figures, Key, Limits, Order, Period, Refusal, TxId,
+};
 use std::alloc::{AllocError, Global};
 use std::marker::Model;
 
@@ -35,29 +37,36 @@ pub struct StationLedger {
 impl Model for StationLedger {
     ghost use Rattle.station_ledger.specs.Ledger.{Ledger, ledger_code};
     ghost use Rattle.station_ledger.specs.Kept.{content_in, IsKept};
+    ghost use Rattle.station_ledger.specs.Sums.{order_in};
 
     ghost Value = { Ledger };
 
     ghost coded = { ledger_code };
 
-    ghost view = { λ l. record { limits = l.limits; period = l.sums.period; content = content_in l.chains l.changes } };
+    ghost view = { λ l. record { limits = l.limits; period = l.sums.period; order = order_in l.sums; content = content_in l.chains l.changes } };
 
     ghost invariant = { λ l. IsKept l.limits l.chains l.changes l.sums };
 }
 
 impl StationLedger {
-    /// A ledger without events, within these limits, whose board is by this settlement period. It and
-    /// [`StationLedger::board`] alone can run out of memory.
-    pub fn open(alloc: Global, limits: Limits, period: Period) -> Result<Self, AllocError>
+    /// A ledger without events, within these limits, whose board is by this settlement period and takes the
+    /// readings of a transaction in this order. It and [`StationLedger::board`] alone can run out of memory.
+    pub fn open(
+        alloc: Global,
+        limits: Limits,
+        period: Period,
+        order: Order,
+    ) -> Result<Self, AllocError>
         ensures limits { IfOk result (λ l. l.limits ≡ limits) }
         ensures period { IfOk result (λ l. l.period ≡ period) }
+        ensures order { IfOk result (λ l. l.order ≡ order) }
         ensures empty { IfOk result (λ l. l.content ≡ empty_content) }
     {
         limits.keep_ranges();
         Ok(StationLedger {
             limits,
             chains: Chains::open(alloc, &limits)?,
-            sums: Sums::open(alloc, &limits, period)?,
+            sums: Sums::open(alloc, &limits, period, order)?,
             changes: 0,
         })
     }
@@ -150,7 +159,7 @@ impl StationLedger {
         ensures answer { result ≡ answer self.old.limits self.old.content command }
         ensures content { self.new ≡ record self.old { content = (step self.old.limits self.old.content command).0 } }
         ensures work { IsSpent result work.old work.new }
-        ensures bound { work.new ≤ work.old + most_spent self.old.content.events command }
+        ensures bound { work.new ≤ work.old + most_spent self.old.order self.old.content.events command }
     {
         command.keeps_ranges();
         let (answer, place) = self.judge_at(&command);
@@ -164,7 +173,7 @@ impl StationLedger {
     /// What the import register rose and fell by over all transactions, in milliwatt-hours; no reading
     /// is compared.
     pub fn energy(&self) -> Flow
-        ensures { result ≡ energy Import (entries self.now.content) }
+        ensures { result ≡ energy_by self.now.order Import (entries self.now.content) }
     {
         self.sums.energies.import
     }
@@ -172,7 +181,7 @@ impl StationLedger {
     /// What the export register rose and fell by over all transactions, in milliwatt-hours; no reading
     /// is compared.
     pub fn export(&self) -> Flow
-        ensures { result ≡ energy Export (entries self.now.content) }
+        ensures { result ≡ energy_by self.now.order Export (entries self.now.content) }
     {
         self.sums.energies.export
     }
@@ -180,7 +189,7 @@ impl StationLedger {
     /// The figures: live and voided events; transactions with a live event, how many of these are
     /// complete and how many numbers they miss; and the energies: imported, and exported.
     pub fn figures(&self) -> Figures
-        ensures value { result ≡ figures (entries self.now.content) }
+        ensures value { result ≡ figures_by self.now.order (entries self.now.content) }
         ensures within { AreWithin self.now.limits result }
     {
         Figures {
@@ -195,14 +204,14 @@ impl StationLedger {
     /// What the import register rose and fell by over the transactions of an EVSE, in milliwatt-hours.
     /// EVSE 0 has the transactions of which no live event names one.
     pub fn evse(&self, evse: EvseId) -> Flow
-        ensures { result ≡ energy_at Import evse (entries self.now.content) }
+        ensures { result ≡ energy_at_by self.now.order Import evse (entries self.now.content) }
     {
         self.sums.evses[usize::from(evse.number())].flow
     }
 
     /// What the export register rose and fell by over the same transactions, in milliwatt-hours.
     pub fn evse_export(&self, evse: EvseId) -> Flow
-        ensures { result ≡ energy_at Export evse (entries self.now.content) }
+        ensures { result ≡ energy_at_by self.now.order Export evse (entries self.now.content) }
     {
         self.sums.evses[usize::from(evse.number())].export
     }
@@ -210,7 +219,7 @@ impl StationLedger {
     /// The board: the figures; the EVSEs and the quarters with their energy; and the transactions with
     /// a live event, with their gaps. It alone of the calls on an open ledger takes memory.
     pub fn board(&self, alloc: Global) -> Result<StationBoard, AllocError>
-        ensures board { IfOk result (λ b. b ≡ board self.now.period (entries self.now.content)) }
+        ensures board { IfOk result (λ b. b ≡ board_by self.now.order self.now.period (entries self.now.content)) }
         ensures within { IfOk result (λ b. AreWithin self.now.limits b.figures) }
     {
         board_of(alloc, &self.chains, &self.sums, self.figures())
@@ -236,5 +245,15 @@ impl StationLedger {
         ensures { result ≡ self.now.period }
     {
         self.sums.period
+    }
+
+    /// The order in which it takes the readings of a transaction: the one that the ledger was opened with.
+    pub fn order(&self) -> Order
+        ensures { result ≡ self.now.order }
+    {
+        match self.sums.by_moment {
+            None => Order::Sequence,
+            Some(_) => Order::Moment,
+        }
     }
 }

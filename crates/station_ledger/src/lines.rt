@@ -1,20 +1,20 @@
 //! The lines of a board, from what is kept of a station's live events.
-ghost use Rattle.std.specs.Prelude.{◌≡◌, ◌+◌, List, IfOk, length, map};
+ghost use Rattle.std.specs.Prelude.{◌≡◌, ◌+◌, List, Some, IfOk, length, map};
+ghost use Rattle.std.specs.FinMap.{find};
 ghost use Rattle.event_chain.specs.Chains.{stored};
-ghost use Rattle.ledger_model.specs.Board.{board, figures as figures_of, shown};
-ghost use Rattle.ledger_model.specs.Evse.{flows_at, evses as evses_of};
+ghost use Rattle.ledger_model.specs.Board.{board_by, figures_by, shown_by};
+ghost use Rattle.ledger_model.specs.Evse.{flows_at_by, evses as evses_of};
 ghost use Rattle.ledger_model.specs.Content.{Entry, live, transactions_of};
-ghost use Rattle.ledger_model.specs.declared.reading.Direction.TheVariants.{Import, Export};
-ghost use Rattle.ledger_model.specs.Energy.{energy_of};
+ghost use Rattle.ledger_model.specs.declared.order.Order.{Order};
 ghost use Rattle.ledger_model.specs.Gaps.{gaps, numbers_of};
 ghost use Rattle.ledger_model.specs.Ranges.{greatest_evse};
 ghost use Rattle.quarter_table.specs.Pairs.{line_of};
 ghost use Rattle.station_ledger.specs.Numbered.{AreNumbered};
-ghost use Rattle.station_ledger.specs.Standing.{standing_with};
-ghost use Rattle.station_ledger.specs.Sums.{AreAllowed, AreEvseSums, AreStanding, AreSummed};
+ghost use Rattle.transaction_map.specs.Map.{id_cmp};
+ghost use Rattle.station_ledger.specs.Standing.{standing_by};
+ghost use Rattle.station_ledger.specs.Sums.{AreAllowed, AreEvseSums, AreStanding, AreSummed, order_in};
 
 use crate::board::{EvseLine, QuarterLine, StationBoard, TxLine};
-use crate::standing::Standing;
 use crate::sums::Sums;
 use crate::totals::EvseSum;
 use event_chain::Chains;
@@ -22,7 +22,6 @@ use gap_list::Gaps;
 use ledger_model::{EvseId, Figures, GREATEST_EVSE, Listed, TxId};
 use quarter_table::QuarterTable;
 use std::alloc::{AllocError, Global};
-use transaction_map::TransactionMap;
 
 // The lines of the quarters, rising.
 pub(crate) fn quarter_lines(
@@ -41,7 +40,7 @@ pub(crate) fn quarter_lines(
 // The lines of the EVSEs that have a transaction with a live event, rising.
 pub(crate) fn evse_lines(alloc: Global, evses: &[EvseSum]) -> Result<Vec<EvseLine>, AllocError>
     requires { length evses.now ≡ greatest_evse + 1 }
-    ensures { IfOk result (λ lines. (es : List Entry) → AreNumbered es → AreEvseSums es evses.now → lines.items ≡ map (λ evse. (evse, flows_at evse es)) (evses_of es)) }
+    ensures { IfOk result (λ lines. (order : Order) (es : List Entry) → AreNumbered es → AreEvseSums order es evses.now → lines.items ≡ map (λ evse. (evse, flows_at_by order evse es)) (evses_of es)) }
 {
     let mut lines = Vec::new(alloc);
     for number in 0..GREATEST_EVSE + 1 {
@@ -62,18 +61,19 @@ fn gaps(alloc: Global, chains: &Chains, tx: &TxId) -> Result<Vec<(u32, u32)>, Al
     Gaps::over(&chains.walk(tx)).collect(alloc)
 }
 
-// The line of a transaction that stands so.
+// The line of a transaction that is kept.
 fn transaction_line(
     alloc: Global,
     chains: &Chains,
+    sums: &Sums,
     tx: &TxId,
-    standing: &Standing,
 ) -> Result<TxLine, AllocError>
-    requires within { AreAllowed chains.now.limits (stored chains.now) }
+    requires within { AreAllowed (order_in sums.now) chains.now.limits (stored chains.now) }
     requires numbered { AreNumbered (stored chains.now) }
-    requires standing { standing.now ≡ standing_with (energy_of Import tx.now (stored chains.now)) (energy_of Export tx.now (stored chains.now)) tx.now (stored chains.now) }
-    ensures { IfOk result (λ line. line ≡ shown (stored chains.now) tx.now) }
+    requires kept { find id_cmp tx.now sums.now.kept.rows ≡ Some (standing_by (order_in sums.now) tx.now (stored chains.now)) }
+    ensures { IfOk result (λ line. line ≡ shown_by (order_in sums.now) (stored chains.now) tx.now) }
 {
+    let standing = sums.kept.get(tx).unwrap();
     Ok(TxLine {
         tx: tx.copied(),
         evse: standing.evse,
@@ -92,19 +92,18 @@ fn transaction_line(
 pub(crate) fn transaction_lines(
     alloc: Global,
     chains: &Chains,
-    kept: &TransactionMap<Standing>,
+    sums: &Sums,
 ) -> Result<Vec<TxLine>, AllocError>
-    requires within { AreAllowed chains.now.limits (stored chains.now) }
+    requires within { AreAllowed (order_in sums.now) chains.now.limits (stored chains.now) }
     requires numbered { AreNumbered (stored chains.now) }
-    requires standing { AreStanding chains.now.limits (stored chains.now) kept.now }
-    ensures { IfOk result (λ lines. lines.items ≡ map (shown (stored chains.now)) (transactions_of (live (stored chains.now)))) }
+    requires standing { AreStanding (order_in sums.now) chains.now.limits (stored chains.now) sums.now.kept }
+    ensures { IfOk result (λ lines. lines.items ≡ map (shown_by (order_in sums.now) (stored chains.now)) (transactions_of (live (stored chains.now)))) }
 {
     let mut lines = Vec::new(alloc);
-    for place in 0..kept.len() as usize {
+    for place in 0..sums.kept.len() as usize {
         // Each place has an id, and each id is kept.
-        let tx = kept.id_at(place).unwrap();
-        let standing = kept.get(tx).unwrap();
-        lines.push(transaction_line(alloc, chains, tx, &standing)?)?;
+        let tx = sums.kept.id_at(place).unwrap();
+        lines.push(transaction_line(alloc, chains, sums, tx)?)?;
     }
     Ok(lines)
 }
@@ -116,14 +115,14 @@ pub(crate) fn board_of(
     sums: &Sums,
     figures: Figures,
 ) -> Result<StationBoard, AllocError>
-    requires within { AreAllowed chains.now.limits (stored chains.now) }
+    requires within { AreAllowed (order_in sums.now) chains.now.limits (stored chains.now) }
     requires numbered { AreNumbered (stored chains.now) }
     requires summed { AreSummed chains.now.limits (stored chains.now) sums.now }
-    requires figures { figures ≡ figures_of (stored chains.now) }
-    ensures { IfOk result (λ b. b ≡ board sums.now.period (stored chains.now)) }
+    requires figures { figures ≡ figures_by (order_in sums.now) (stored chains.now) }
+    ensures { IfOk result (λ b. b ≡ board_by (order_in sums.now) sums.now.period (stored chains.now)) }
 {
     sums.period.keep_range();
-    let transactions = transaction_lines(alloc, chains, &sums.kept)?;
+    let transactions = transaction_lines(alloc, chains, sums)?;
     let evses = evse_lines(alloc, &sums.evses)?;
     let quarters = quarter_lines(alloc, &sums.quarters)?;
     Ok(StationBoard {

@@ -1,6 +1,5 @@
 //! What an accepted command does to the events and to their sums.
 ghost use Rattle.std.specs.Prelude.{◌≡◌};
-ghost use Rattle.std.specs.FinMap as finite;
 ghost use Rattle.event_chain.specs.Chains.{stored};
 ghost use Rattle.event_chain.specs.Sides.{AreSides};
 ghost use Rattle.ledger_model.specs.ByDirection.{in_direction};
@@ -8,7 +7,8 @@ ghost use Rattle.ledger_model.specs.declared.reading.Direction.{Direction};
 ghost use Rattle.ledger_model.specs.declared.command.Command.TheVariants.{Deliver, Erase, Restore, Void};
 ghost use Rattle.station_ledger.specs.Kept.{CanDo, IsDone};
 ghost use Rattle.station_ledger.specs.Quarters.{IsWork};
-ghost use Rattle.station_ledger.specs.Spent.{most_spent, most_under, most_with};
+ghost use Rattle.station_ledger.specs.Spent.{most_spent};
+ghost use Rattle.station_ledger.specs.Sums.{order_in};
 
 use crate::sums::{Sums, add_event, take_event};
 use energy_flow::Work;
@@ -52,7 +52,7 @@ fn deliver(
 )
     requires { CanDo (Deliver key.now event.now) chains.old sums.old }
     ensures done { IsDone (Deliver key.now event.now) chains.old chains.new sums.old sums.new }
-    ensures work { IsWork (most_with event.now.readings) work.old work.new }
+    ensures work { IsWork (most_spent (order_in sums.old) chains.old.events (Deliver key.now event.now)) work.old work.new }
 {
     let around = chains.admit(key, event, place);
     sums.kept.look_near(chains.near());
@@ -65,7 +65,7 @@ fn deliver(
 pub(crate) fn restore(chains: &mut Chains, sums: &mut Sums, key: &Key, work: &mut Work)
     requires { CanDo (Restore key.now) chains.old sums.old }
     ensures done { IsDone (Restore key.now) chains.old chains.new sums.old sums.new }
-    ensures work { IsWork (most_under (finite.get chains.old.events key.now)) work.old work.new }
+    ensures work { IsWork (most_spent (order_in sums.old) chains.old.events (Restore key.now)) work.old work.new }
 {
     let has = chains.carries(key);
     let place = around(chains, key, has);
@@ -79,7 +79,7 @@ pub(crate) fn restore(chains: &mut Chains, sums: &mut Sums, key: &Key, work: &mu
 pub(crate) fn void(chains: &mut Chains, sums: &mut Sums, key: &Key, work: &mut Work)
     requires { CanDo (Void key.now) chains.old sums.old }
     ensures done { IsDone (Void key.now) chains.old chains.new sums.old sums.new }
-    ensures work { IsWork (most_under (finite.get chains.old.events key.now)) work.old work.new }
+    ensures work { IsWork (most_spent (order_in sums.old) chains.old.events (Void key.now)) work.old work.new }
 {
     let has = chains.carries(key);
     let place = around(chains, key, has);
@@ -109,11 +109,10 @@ fn seek(chains: &mut Chains, sums: &mut Sums, place: KeyPlace, key: &Key)
 }
 
 // Carries out a command that may be accepted.
-#[tactic(auto, unfolding(crate::specs::Spent::most_spent))]
 fn carry(chains: &mut Chains, sums: &mut Sums, place: KeyPlace, command: &Command, work: &mut Work)
     requires { CanDo command.now chains.old sums.old }
     ensures done { IsDone command.now chains.old chains.new sums.old sums.new }
-    ensures work { IsWork (most_spent chains.old.events command.now) work.old work.new }
+    ensures work { IsWork (most_spent (order_in sums.old) chains.old.events command.now) work.old work.new }
 {
     match command {
         Command::Deliver(key, event) => deliver(chains, sums, place, key, event, work),
@@ -133,7 +132,7 @@ pub(crate) fn carry_out(
 )
     requires { CanDo command.now chains.old sums.old }
     ensures done { IsDone command.now chains.old chains.new sums.old sums.new }
-    ensures work { IsWork (most_spent chains.old.events command.now) work.old work.new }
+    ensures work { IsWork (most_spent (order_in sums.old) chains.old.events command.now) work.old work.new }
 {
     seek(chains, sums, place, command.key());
     carry(chains, sums, place, command, work);

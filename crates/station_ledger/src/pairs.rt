@@ -54,7 +54,7 @@ fn take_pair(
 
 // Adds the pair of two readings where there are both, and answers its difference.
 #[inline(always)]
-fn add_across(
+pub(crate) fn add_across(
     quarters: &mut QuarterTable,
     period: Period,
     direction: Direction,
@@ -73,7 +73,7 @@ fn add_across(
 
 // Takes the pair of two readings out where there are both, and answers its difference.
 #[inline(always)]
-fn take_across(
+pub(crate) fn take_across(
     quarters: &mut QuarterTable,
     period: Period,
     direction: Direction,

@@ -1,5 +1,5 @@
 //! What is kept of a station's live events, so that no figure needs a walk.
-ghost use Rattle.std.specs.Prelude.{◌≡◌, ℕ, ◌+◌, ◌<◌, List, [], None, length, IfOk, IfSome};
+ghost use Rattle.std.specs.Prelude.{◌≡◌, ℕ, ◌+◌, ◌<◌, Bool, List, [], None, length, IfOk, IfSome};
 ghost use Rattle.std.specs.FinMap.{find};
 ghost use Rattle.energy_flow.specs.Flow.{no_energy, plus, minus};
 ghost use Rattle.event_chain.specs.Chains.{stored};
@@ -11,22 +11,27 @@ ghost use Rattle.ledger_model.specs.Figures.{no_figures};
 ghost use Rattle.ledger_model.specs.Ranges.{greatest_evse};
 ghost use Rattle.transaction_map.specs.Map.{id_cmp};
 ghost use Rattle.transaction_map.specs.Places.{IsAt};
-ghost use Rattle.station_ledger.specs.Moved.{sum_at, CanTrade, flow_in};
+ghost use Rattle.station_ledger.specs.Moved.{sum_at, CanTrade, IsExchanged, flow_in};
 ghost use Rattle.station_ledger.specs.Quarters.{readings_at, IsWork};
-ghost use Rattle.station_ledger.specs.Spent.{most_at};
-ghost use Rattle.station_ledger.specs.Sums.{keep, AreSummed, AreAllowed, AreGrowing, AreShrinking, CanReplace, IsReplaced};
+ghost use Rattle.station_ledger.specs.ByMoment.{AreByMoment};
+ghost use Rattle.station_ledger.specs.Spent.{most_less, most_more};
+ghost use Rattle.station_ledger.specs.Sums.{keep, order_in, order_of, AreSummed, AreAllowed, AreGrowing, ArePairsMoved, AreQuarterRows, AreShrinking, CanReplace, IsReplaced};
 
+use crate::by_moment::{self, ByMoment, Exchange, put_event};
 use crate::pairs::{Energies, add_gap, add_own, take_gap, take_own};
 use crate::standing::{Standing, standing_after, standing_of};
 use crate::totals::{Change, EvseSum, move_at_evses, move_in_figures};
 use energy_flow::{Flow, Work};
 use event_chain::{Around, Chains};
-use ledger_model::{ByDirection, Figures, GREATEST_EVSE, Key, Limits, Period, Reading, TxId};
+use ledger_model::{
+    ByDirection, Figures, GREATEST_EVSE, Key, Limits, Order, Period, Reading, TxId,
+};
 use quarter_table::QuarterTable;
 use std::alloc::{AllocError, Global};
 use transaction_map::TransactionMap;
 
-// The sums over the live events. The figures are kept but for the energies, which stand beside them.
+// The sums over the live events. The figures are kept but for the energies, which stand beside them. Where
+// the readings of a transaction are taken by moment, they are kept so.
 #[derive(Drop)]
 pub(crate) struct Sums {
     pub(crate) kept: TransactionMap<Standing>,
@@ -35,6 +40,7 @@ pub(crate) struct Sums {
     pub(crate) quarters: QuarterTable,
     pub(crate) energies: Energies,
     pub(crate) figures: Figures,
+    pub(crate) by_moment: Option<ByMoment>,
 }
 
 // Sums of no events, one for each EVSE.
@@ -54,10 +60,31 @@ fn no_sums(alloc: Global) -> Result<Vec<EvseSum>, AllocError>
     Ok(evses)
 }
 
+// The readings by moment of no events, where they are taken so.
+fn by_moment_in(
+    alloc: Global,
+    limits: &Limits,
+    order: Order,
+) -> Result<Option<ByMoment>, AllocError>
+    ensures order { IfOk result (λ b. order_of b ≡ order) }
+    ensures none { IfOk result (λ b. IfSome b (AreByMoment limits.now [])) }
+{
+    match order {
+        Order::Sequence => Ok(None),
+        Order::Moment => Ok(Some(ByMoment::open(alloc, limits)?)),
+    }
+}
+
 impl Sums {
     // The sums of no events by this period, with room for those of these limits.
-    pub(crate) fn open(alloc: Global, limits: &Limits, period: Period) -> Result<Self, AllocError>
+    pub(crate) fn open(
+        alloc: Global,
+        limits: &Limits,
+        period: Period,
+        order: Order,
+    ) -> Result<Self, AllocError>
         ensures period { IfOk result (λ s. s.period ≡ period) }
+        ensures order { IfOk result (λ s. order_in s ≡ order) }
         ensures summed { IfOk result (λ s. AreSummed limits.now [] s) }
         ensures voided { IfOk result (λ s. s.figures.voided ≡ 0) }
     {
@@ -71,6 +98,7 @@ impl Sums {
                 export: Flow::zero(),
             },
             figures: Figures::zero(),
+            by_moment: by_moment_in(alloc, limits, order)?,
         })
     }
 }
@@ -150,6 +178,70 @@ fn replace_standing(sums: &mut Sums, at: Option<usize>, tx: &TxId, change: &Chan
     move_in_figures(&mut sums.figures, change);
 }
 
+// Adds the pairs that the readings of an event make, which may be at hand, and takes back those across their
+// places.
+fn add_pairs_of(
+    chains: &Chains,
+    sums: &mut Sums,
+    key: &Key,
+    own: Option<&[Reading]>,
+    place: &Around,
+    work: &mut Work,
+) -> Exchange
+    requires within { AreAllowed (order_in sums.old) chains.now.limits (stored chains.now) }
+    requires own { (d : Direction) → IfSome own (λ rs. toward d rs.now ≡ readings_at d chains.now key.now) }
+    requires to_come { (es : List Entry) × ((names : Bool) × AreGrowing es chains.now key.now place.now names sums.old) }
+    ensures kept { ArePairsMoved sums.old sums.new }
+    ensures rows { AreQuarterRows (order_in sums.old) chains.now.limits (stored chains.now) sums.old.period sums.new.quarters }
+    ensures timed { IfSome sums.new.by_moment (AreByMoment chains.now.limits (stored chains.now)) }
+    ensures exchanged { (es : List Entry) (names : Bool) → AreGrowing es chains.now key.now place.now names sums.old → IsExchanged (order_in sums.old) key.now.tx es (stored chains.now) result.less result.more }
+    ensures work { IsWork (most_more (order_in sums.old) chains.now key.now) work.old work.new }
+{
+    let period = sums.period;
+    match &mut sums.by_moment {
+        Some(by_moment) => put_event(chains, by_moment, &mut sums.quarters, period, key, work),
+        None => {
+            let less = take_gap(&mut sums.quarters, period, place, work);
+            let more = add_own(&mut sums.quarters, period, place, chains, key, own, work);
+            Exchange { less, more }
+        }
+    }
+}
+
+// Takes out the pairs that the readings of an event make, and adds those across their places.
+fn take_pairs_of(
+    chains: &Chains,
+    sums: &mut Sums,
+    key: &Key,
+    place: &Around,
+    work: &mut Work,
+) -> Exchange
+    requires within { AreAllowed (order_in sums.old) chains.now.limits (stored chains.now) }
+    requires to_go { (es : List Entry) × AreShrinking es chains.now key.now place.now sums.old }
+    ensures kept { ArePairsMoved sums.old sums.new }
+    ensures rows { AreQuarterRows (order_in sums.old) chains.now.limits (stored chains.now) sums.old.period sums.new.quarters }
+    ensures timed { IfSome sums.new.by_moment (AreByMoment chains.now.limits (stored chains.now)) }
+    ensures exchanged { (es : List Entry) → AreShrinking es chains.now key.now place.now sums.old → IsExchanged (order_in sums.old) key.now.tx es (stored chains.now) result.less result.more }
+    ensures work { (es : List Entry) → AreShrinking es chains.now key.now place.now sums.old → IsWork (most_less (order_in sums.old) chains.now key.now es) work.old work.new }
+{
+    let period = sums.period;
+    match &mut sums.by_moment {
+        Some(by_moment) => by_moment::take_event(
+            chains,
+            by_moment,
+            &mut sums.quarters,
+            period,
+            key,
+            work,
+        ),
+        None => {
+            let less = take_own(&mut sums.quarters, period, place, chains, key, work);
+            let more = add_gap(&mut sums.quarters, period, place, work);
+            Exchange { less, more }
+        }
+    }
+}
+
 // Takes into all sums a live event that the chains have more, which may name an EVSE; its readings may be
 // at hand.
 pub(crate) fn add_event(
@@ -161,19 +253,18 @@ pub(crate) fn add_event(
     place: &Around,
     work: &mut Work,
 )
-    requires within { AreAllowed chains.now.limits (stored chains.now) }
+    requires within { AreAllowed (order_in sums.old) chains.now.limits (stored chains.now) }
     requires own { (d : Direction) → IfSome own (λ rs. toward d rs.now ≡ readings_at d chains.now key.now) }
     requires to_come { (es : List Entry) × AreGrowing es chains.now key.now place.now names sums.old }
     ensures summed { AreSummed chains.now.limits (stored chains.now) sums.new }
     ensures period { sums.new.period ≡ sums.old.period }
+    ensures order { order_in sums.new ≡ order_in sums.old }
     ensures voided { sums.new.figures.voided ≡ sums.old.figures.voided }
-    ensures work { IsWork (most_at chains.now key.now) work.old work.new }
+    ensures work { IsWork (most_more (order_in sums.old) chains.now key.now) work.old work.new }
 {
     let tx = key.tx();
     let (at, was) = found(&sums.kept, tx);
-    let period = sums.period;
-    let less = take_gap(&mut sums.quarters, period, place, work);
-    let more = add_own(&mut sums.quarters, period, place, chains, key, own, work);
+    let Exchange { less, more } = add_pairs_of(chains, sums, key, own, place, work);
     sums.energies = trade(sums.energies, &less, &more);
     let own = trade(energies_of(&was), &less, &more);
     let is = standing_after(chains, tx, key.seq(), names, was, own);
@@ -188,18 +279,17 @@ pub(crate) fn take_event(
     place: &Around,
     work: &mut Work,
 )
-    requires within { AreAllowed chains.now.limits (stored chains.now) }
+    requires within { AreAllowed (order_in sums.old) chains.now.limits (stored chains.now) }
     requires to_go { (es : List Entry) × AreShrinking es chains.now key.now place.now sums.old }
     ensures summed { AreSummed chains.now.limits (stored chains.now) sums.new }
     ensures period { sums.new.period ≡ sums.old.period }
+    ensures order { order_in sums.new ≡ order_in sums.old }
     ensures voided { sums.new.figures.voided ≡ sums.old.figures.voided }
-    ensures work { IsWork (most_at chains.now key.now) work.old work.new }
+    ensures work { (es : List Entry) → AreShrinking es chains.now key.now place.now sums.old → IsWork (most_less (order_in sums.old) chains.now key.now es) work.old work.new }
 {
     let tx = key.tx();
     let was = sums.kept.get(tx);
-    let period = sums.period;
-    let less = take_own(&mut sums.quarters, period, place, chains, key, work);
-    let more = add_gap(&mut sums.quarters, period, place, work);
+    let Exchange { less, more } = take_pairs_of(chains, sums, key, place, work);
     sums.energies = trade(sums.energies, &less, &more);
     let own = trade(energies_of(&was), &less, &more);
     let is = standing_of(chains, tx, own);

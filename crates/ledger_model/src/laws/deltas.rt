@@ -8,10 +8,11 @@ ghost use Rattle.ledger_model.specs.declared.reading.Direction.{Direction};
 ghost use Rattle.ledger_model.specs.Complete.{is_complete};
 ghost use Rattle.ledger_model.specs.Content.{Entry, Stored, has_transaction, live, live_of, transactions_of};
 ghost use Rattle.ledger_model.specs.Deltas.{across, before_key, behind_key, came_by, first_reading, flow_if, gone_by, kept_by, last_reading, most_for, own_events, own_readings, pairs_between, pairs_kept, pairs_less, pairs_more, IsOneMore};
-ghost use Rattle.ledger_model.specs.Energy.{Pair, energy, energy_in, energy_of, energy_over, followed, pairs, pairs_of, quarter_of};
+ghost use Rattle.ledger_model.specs.declared.order.Order.{Order};
+ghost use Rattle.ledger_model.specs.Energy.{Pair, energy, energy_in, energy_of, energy_of_by, energy_over, followed, pairs, pairs_of, quarter_of};
 ghost use Rattle.ledger_model.specs.Entries.{entries_after, IsRising};
 ghost use Rattle.ledger_model.specs.Event.{EventContent, MeterReading, toward};
-ghost use Rattle.ledger_model.specs.Evse.{energy_at, evse_of, transactions_at};
+ghost use Rattle.ledger_model.specs.Evse.{energy_at_by, evse_of, transactions_at};
 ghost use Rattle.ledger_model.specs.Gaps.{missing, numbers_of};
 ghost use Rattle.ledger_model.specs.Key.{KeyName, key_cmp};
 
@@ -64,7 +65,7 @@ pub fn energies_with_one_event_more()
     ensures transaction { (d : Direction) (es more front : List Entry) (e : Entry) (back : List Entry) → IsOneMore es more front e back → plus (energy_of d e.0.tx more) (energy_over (gone_by d front e back)) ≡ plus (energy_of d e.0.tx es) (energy_over (came_by d front e back)) }
     ensures quarter { (d : Direction) (period q : ℕ) (es more front : List Entry) (e : Entry) (back : List Entry) → IsOneMore es more front e back → plus (energy_in d period q more) (energy_over (filter (λ p. quarter_of period p == q) (gone_by d front e back))) ≡ plus (energy_in d period q es) (energy_over (filter (λ p. quarter_of period p == q) (came_by d front e back))) }
     ensures quarter_pairs { (d : Direction) (period q : ℕ) (es more front : List Entry) (e : Entry) (back : List Entry) → IsOneMore es more front e back → count_by (λ p. quarter_of period p == q) (pairs d more) + count_by (λ p. quarter_of period p == q) (gone_by d front e back) ≡ count_by (λ p. quarter_of period p == q) (pairs d es) + count_by (λ p. quarter_of period p == q) (came_by d front e back) }
-    ensures evse { (d : Direction) (evse : ℕ) (es more front : List Entry) (e : Entry) (back : List Entry) → IsOneMore es more front e back → plus (energy_at d evse more) (flow_if (evse_of e.0.tx es == evse) (energy_of d e.0.tx es)) ≡ plus (energy_at d evse es) (flow_if (evse_of e.0.tx more == evse) (energy_of d e.0.tx more)) }
+    ensures evse { (order : Order) (d : Direction) (evse : ℕ) (es more front : List Entry) (e : Entry) (back : List Entry) → IsOneMore es more front e back → plus (energy_at_by order d evse more) (flow_if (evse_of e.0.tx es == evse) (energy_of_by order d e.0.tx es)) ≡ plus (energy_at_by order d evse es) (flow_if (evse_of e.0.tx more == evse) (energy_of_by order d e.0.tx more)) }
 {}
 
 /// With one live event more, one event more is live, and a transaction more where the event's had

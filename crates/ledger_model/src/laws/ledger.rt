@@ -11,7 +11,8 @@ ghost use Rattle.ledger_model.specs.declared.answer.Refusal.TheVariants.{Conflic
 ghost use Rattle.ledger_model.specs.Key.{KeyName};
 ghost use Rattle.ledger_model.specs.Limits.{Bounds, default_limits};
 ghost use Rattle.ledger_model.specs.Content.{Content, empty_content, entries, transactions_of};
-ghost use Rattle.ledger_model.specs.Board.{figures};
+ghost use Rattle.ledger_model.specs.Board.{figures_by};
+ghost use Rattle.ledger_model.specs.declared.order.Order.{Order};
 ghost use Rattle.ledger_model.specs.Figures.{AreWithin};
 ghost use Rattle.ledger_model.specs.Step.{step, Reached, readings_stored};
 ghost use Rattle.ledger_model.specs.Energy.{readings_of, energy};
@@ -49,7 +50,7 @@ pub fn reached()
     ensures events { (limits : Bounds) (n : ℕ) (c : Content) → Reached limits n c → length (entries c) ≤ limits.events }
     ensures readings { (limits : Bounds) (n : ℕ) (c : Content) → Reached limits n c → readings_stored (entries c) ≤ limits.readings }
     ensures transactions { (limits : Bounds) (n : ℕ) (c : Content) → Reached limits n c → length (transactions_of (entries c)) ≤ limits.transactions }
-    ensures figures { (limits : Bounds) (n : ℕ) (c : Content) → Reached limits n c → AreWithin limits (figures (entries c)) }
+    ensures figures { (order : Order) (limits : Bounds) (n : ℕ) (c : Content) → Reached limits n c → AreWithin limits (figures_by order (entries c)) }
 {}
 
 /// The readings of a transaction in a direction, in order, are those met by looking at the numbers 0, 1, .. one by one,

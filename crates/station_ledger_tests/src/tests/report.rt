@@ -7,8 +7,8 @@ ghost use Rattle.board_report.specs.Sums.{station_quarters, AreOfPeriod, Quarter
 use board_report::{SiteBoard, energy_text, site_board, total_text, write_board};
 use energy_flow::{Flow, Level, Work, difference};
 use ledger_model::{
-    Answer, Command, Direction, Event, Figures, Key, Kind, Limits, Moment, Name, Period, Reading,
-    TxId,
+    Answer, Command, Direction, Event, Figures, Key, Kind, Limits, Moment, Name, Order, Period,
+    Reading, TxId,
 };
 use station_ledger::{StationBoard, StationLedger};
 use std::alloc::{AllocError, AllocFailed, Global};
@@ -102,7 +102,12 @@ fn station(alloc: Global, work: &mut Work, asked: &[Asked]) -> Result<StationBoa
     ensures within { IfOk result (λ b. IsBoardWithin default_limits b) }
     ensures period { IfOk result (λ b. b.period ≡ default_period) }
 {
-    let mut ledger = StationLedger::open(alloc, Limits::default(), Period::default())?;
+    let mut ledger = StationLedger::open(
+        alloc,
+        Limits::default(),
+        Period::default(),
+        Order::Sequence,
+    )?;
     for one in asked {
         if !is_taken(&mut ledger, command(alloc, *one), work) {
             return Err(Refused);
@@ -160,7 +165,15 @@ fn figures(numbers: [u64; 7]) -> Figures {
 fn board_of(alloc: Global, work: &mut Work, site: &Site) -> Option<SiteBoard> {
     let boards = stations(alloc, work, site.stations).ok()?;
     let (name, figures) = (Name::new("north")?, figures(site.figures));
-    site_board(alloc, &name, Period::default(), figures, boards).ok()
+    site_board(
+        alloc,
+        &name,
+        Period::default(),
+        Order::Sequence,
+        figures,
+        boards,
+    )
+    .ok()
 }
 
 // The text of a site's board. What found no memory is asked for once more.

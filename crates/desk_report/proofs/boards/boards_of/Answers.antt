@@ -2,15 +2,14 @@ use Rattle.std.proofs.Common.{◌≡◌, take, subst, ap, ◌∙◌, arith}
 use Rattle.std.proofs.lemmas.List.{take_all}
 use Rattle.board_report.specs.Plans.{AreBoardsWithin}
 use Rattle.site_desk.specs.Parts.{limits_at}
-use Rattle.site_desk.specs.Plan.{period_at}
-use Rattle.desk_report.specs.Boards.{boards_at}
+use Rattle.desk_report.specs.Boards.{site_boards}
 use Rattle.desk_report.proofs.boards.boards_of.Goals as goal
 
 pub returns-clause-boards : goal.returns-clause-boards
 returns-clause-boards c =
     let stations = c.args.plan.now.stations.items in
     let all : take c.loop-number.number stations ≡ stations = take_all _ stations (omega (arith, c.loop-number-test.false, c.len-number-end.ensures.value)) in
-    c.loop-number.invariant.0 ∙ ap (λ l. boards_at (period_at c.args.plan.now.sites.items c.args.site) l c.args.cells.now c.args.site) all
+    c.loop-number.invariant.0 ∙ ap (λ l. site_boards c.args.plan.now.sites.items l c.args.cells.now c.args.site) all
 
 pub returns-clause-within : goal.returns-clause-within
 returns-clause-within c =

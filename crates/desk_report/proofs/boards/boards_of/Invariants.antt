@@ -1,12 +1,11 @@
 use Rattle.std.proofs.Common.{◌≡◌, length, take}
 use Rattle.board_report.specs.Plans.{AreBoardsWithin}
 use Rattle.site_desk.specs.Parts.{limits_at}
-use Rattle.site_desk.specs.Plan.{period_at}
-use Rattle.desk_report.specs.Boards.{boards_at}
+use Rattle.desk_report.specs.Boards.{site_boards}
 use Rattle.desk_report.proofs.boards.boards_of.Given as goal
 
 abbrev pub invariant-loop-number : goal.invariant-loop-number
 invariant-loop-number l =
-    (l.boards.items ≡ boards_at (period_at l.fn.plan.sites.items l.fn.site) (take l.number l.fn.plan.stations.items) l.fn.cells l.fn.site)
+    (l.boards.items ≡ site_boards l.fn.plan.sites.items (take l.number l.fn.plan.stations.items) l.fn.cells l.fn.site)
     × AreBoardsWithin (limits_at (take l.number l.fn.plan.stations.items) l.fn.site) l.boards.items
     × (l.number-end ≡ length l.fn.plan.stations.items)

@@ -5,7 +5,7 @@ use Rattle.board_report.specs.Texts.{board_text}
 use Rattle.board_report.proofs.PlanLemmas.{plans_fit}
 use Rattle.site_desk.specs.declared.plan.SitePlan.{SitePlan}
 use Rattle.site_desk.specs.Parts.{limits_at}
-use Rattle.site_desk.specs.Plan.{period_at}
+use Rattle.site_desk.specs.Plan.{order_at, period_at}
 use Rattle.desk_report.proofs.ClosedSites.{name_at}
 use Rattle.desk_report.proofs.RunningBoards.{boards_by, boards_within, places_like}
 use Rattle.desk_report.proofs.SiteBoards.{named_is, sum_at}
@@ -16,7 +16,7 @@ site_board-requires-clause-periods g c =
     let plan = c.args.plan.now in
     let places = c.args.desk.now.stations in
     let boards = c.in-Ok.shown.0.items in
-    subst (λ p. AreOfPeriod p boards) (sym c.period.ensures)
+    subst (λ p. AreOfPeriod p boards) (sym c.period-period.ensures)
     (boards_by plan.sites.items c.args.site plan.stations.items places boards (places_like plan.sites.items plan.stations.items places c.requires.opened) c.in-Ok.ensures.boards)
 
 pub site_board-requires-clause-fit : goal.site_board-requires-clause-fit
@@ -39,6 +39,6 @@ returns-in-Ok-write_board g c =
       boards = boards;
       of_site = c.in-Ok.ensures.boards;
       is = c.in-Ok-write_board.ensures
-          ∙ ap board_text (named_is b.board (get_or (map (λ (p : SitePlan). p.name) sites) site []) (period_at sites site) _ boards name (b.ensures.figures ∙ c.in-Ok.ensures.totals) (b.ensures.period ∙ c.period.ensures)
-          (b.ensures.quarters ∙ ap (λ p. (site_board p boards).quarters) c.period.ensures) b.ensures.stations);
+          ∙ ap board_text (named_is b.board (get_or (map (λ (p : SitePlan). p.name) sites) site []) (period_at sites site) (order_at sites site) _ boards name (b.ensures.figures ∙ c.in-Ok.ensures.totals) (b.ensures.period ∙ c.period-period.ensures) (b.ensures.order ∙ c.order-order.ensures)
+          (b.ensures.quarters ∙ ap (λ p. (site_board p boards).quarters) c.period-period.ensures) b.ensures.stations);
     }

@@ -10,7 +10,7 @@ use super::{
     pass_of, tells,
 };
 use board_report::{SiteBoard, site_board, write_board};
-use ledger_model::{Answer, Command, Figures, Kind, Name, Period, Refusal};
+use ledger_model::{Answer, Command, Figures, Kind, Name, Order, Period, Refusal};
 use site_book::{Naming, Viewer};
 use site_desk::{Closed, Desk, NoGate, Pass};
 use station_ledger::{StationBoard, StationLedger};
@@ -277,7 +277,15 @@ fn board_of<J: Naming>(alloc: Global, closed: &Closed<J>) -> Option<SiteBoard> {
     }
     let stations = boards_of(alloc, closed, Name::new("A")?, Name::new("B")?).ok()??;
     let name = Name::new("north")?;
-    site_board(alloc, &name, Period::default(), closed.totals(0), stations).ok()
+    site_board(
+        alloc,
+        &name,
+        Period::default(),
+        Order::Sequence,
+        closed.totals(0),
+        stations,
+    )
+    .ok()
 }
 
 // Tells whether the threads leave the board of their script.

@@ -2,7 +2,7 @@ use Rattle.std.proofs.Common.{◌≡◌, ◌≢◌, ℕ, ◌+◌, ◌<◌, [], �
 use Rattle.std.specs.Prelude.{slice_get}
 use Rattle.std.proofs.lemmas.Bool.{cases_eq}
 use Rattle.std.proofs.lemmas.Option.{slice_get_read, slice_get-get_or, slice_get_within}
-use Rattle.ledger_model.specs.Board.{figures}
+use Rattle.ledger_model.specs.Board.{figures_by}
 use Rattle.ledger_model.specs.Content.{entries}
 use Rattle.site_book.specs.Book.{Book}
 use Rattle.station_cell.specs.Cell.{Cell}
@@ -58,7 +58,7 @@ loop-cell-preserved g c =
     let there : slice_get books d.site ≡ Some b = ap (slice_get books) (sym c.site.ensures) ∙ slice_get-get_or books c.site.result c.index-books-site.result (omega (arith, less, c.site.ensures)) in
     let same : b ≡ held.book = some_book b held.book (sym there ∙ held.there) in
     let later = c.post_figures.new.book in
-    let posted : later ≡ record b { posts = b.posts ++ (d.row, figures (entries d.content)) ∷ [] } = c.post_figures.ensures in
+    let posted : later ≡ record b { posts = b.posts ++ (d.row, figures_by d.order (entries d.content)) ∷ [] } = c.post_figures.ensures in
     let P : ℕ → Type 0 = λ n. record {
       held : AreHeld cells (set books n later);
       rows : AreRowsKept c.args.books.now (set books n later);

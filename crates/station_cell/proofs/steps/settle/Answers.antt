@@ -1,6 +1,6 @@
-use Rattle.std.proofs.Common.{ap, refl, ◌∙◌}
+use Rattle.std.proofs.Common.{refl, ◌∙◌}
 use Rattle.ledger_model.specs.declared.answer.Answer.TheVariants.{Repeat, Refused}
-use Rattle.ledger_model.specs.Board.{figures}
+use Rattle.ledger_model.specs.Board.{figures_by}
 use Rattle.ledger_model.specs.Content.{entries}
 use Rattle.station_cell.proofs.Settled.{book_posted, known_after, tied_after}
 use Rattle.station_cell.proofs.steps.settle.Goals as goal
@@ -8,7 +8,7 @@ use Rattle.station_cell.proofs.steps.settle.Goals as goal
 pub returns-in-Accepted-clause-book : goal.returns-in-Accepted-clause-book
 returns-in-Accepted-clause-book g c =
     book_posted c.args.book.now c.post-told.new.self c.change-answer.new.self c.change-answer.result c.in-Accepted.field-0 c.row.result c.figures.result c.post-told.ensures.posted c.row.ensures
-    (c.figures.ensures.value ∙ ap (λ d. figures (entries d)) c.ledger.ensures.content) c.in-Accepted.is
+    (c.figures.ensures.value ∙ (λ i. figures_by (c.ledger.ensures.order i) (entries (c.ledger.ensures.content i)))) c.in-Accepted.is
 
 pub returns-in-Accepted-clause-known : goal.returns-in-Accepted-clause-known
 returns-in-Accepted-clause-known g c =

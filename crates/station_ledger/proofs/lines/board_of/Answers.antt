@@ -1,29 +1,28 @@
 use Rattle.std.proofs.Common.{map, sym, ap, subst, ◌∙◌}
 use Rattle.event_chain.specs.Chains.{stored}
-use Rattle.ledger_model.specs.Board.{board}
+use Rattle.ledger_model.specs.Board.{board_by}
 use Rattle.quarter_table.specs.Pairs.{line_of}
-use Rattle.ledger_model.specs.declared.order.Order.TheVariants.{Sequence}
 use Rattle.quarter_table.proofs.Boards.{lines_of_station}
 use Rattle.station_ledger.specs.Lines.{AreStationLines}
-use Rattle.station_ledger.specs.Sums.{AreEvseSums}
+use Rattle.station_ledger.specs.Sums.{AreEvseSums, order_in}
 use Rattle.station_ledger.proofs.BoardLines.{lines_within}
 use Rattle.station_ledger.proofs.lines.board_of.Goals as goal
 
 -- the lines are the board's, and no line has more than the station
 pub invariant_of-result : goal.invariant_of-result
 invariant_of-result c =
-    let es = stored c.args.chains.now in
-    let sums = subst (AreEvseSums es) (sym c.deref.ensures.value) c.requires.summed.at_evses in
-    let evses = c.of.ensures ∙ c.in_ok-evses.ensures es c.requires.numbered sums in
-    let quarters = c.of-2.ensures ∙ c.in_ok-quarters.ensures ∙ ap (map line_of) c.requires.summed.by_quarter.rows ∙ lines_of_station Sequence c.args.sums.now.period es in
-    subst (λ ls. AreStationLines c.args.sums.now.period ls c.of-2.result) (sym evses) (subst (AreStationLines c.args.sums.now.period (board c.args.sums.now.period es).evses) (sym quarters) (lines_within c.args.chains.now.limits es c.requires.within c.args.sums.now.period c.keep_range.ensures))
+    let es = stored c.args.chains.now in let order = order_in c.args.sums.now in
+    let sums = subst (AreEvseSums order es) (sym c.deref.ensures.value) c.requires.summed.at_evses in
+    let evses = c.of.ensures ∙ c.in_ok-evses.ensures order es c.requires.numbered sums in
+    let quarters = c.of-2.ensures ∙ c.in_ok-quarters.ensures ∙ ap (map line_of) c.requires.summed.by_quarter.rows ∙ lines_of_station order c.args.sums.now.period es in
+    subst (λ ls. AreStationLines c.args.sums.now.period ls c.of-2.result) (sym evses) (subst (AreStationLines c.args.sums.now.period (board_by order c.args.sums.now.period es).evses) (sym quarters) (lines_within order c.args.chains.now.limits es c.requires.within c.args.sums.now.period c.keep_range.ensures))
 
 -- each list is the board's
 pub returns : goal.returns
 returns c =
-    let es = stored c.args.chains.now in
-    let sums = subst (AreEvseSums es) (sym c.deref.ensures.value) c.requires.summed.at_evses in
-    let evses = c.of.ensures ∙ c.in_ok-evses.ensures es c.requires.numbered sums in
-    let quarters = c.of-2.ensures ∙ c.in_ok-quarters.ensures ∙ ap (map line_of) c.requires.summed.by_quarter.rows ∙ lines_of_station Sequence c.args.sums.now.period es in
+    let es = stored c.args.chains.now in let order = order_in c.args.sums.now in
+    let sums = subst (AreEvseSums order es) (sym c.deref.ensures.value) c.requires.summed.at_evses in
+    let evses = c.of.ensures ∙ c.in_ok-evses.ensures order es c.requires.numbered sums in
+    let quarters = c.of-2.ensures ∙ c.in_ok-quarters.ensures ∙ ap (map line_of) c.requires.summed.by_quarter.rows ∙ lines_of_station order c.args.sums.now.period es in
     let transactions = c.of-3.ensures ∙ c.in_ok-transactions.ensures in
     λ i. record { period = c.args.sums.now.period; figures = c.requires.figures i; evses = evses i; quarters = quarters i; transactions = transactions i }

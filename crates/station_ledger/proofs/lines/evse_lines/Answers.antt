@@ -30,6 +30,6 @@ loop-number-preserved c =
 
 -- past the last number these are all
 pub returns : goal.returns
-returns c es in_range are =
+returns c order es in_range are =
     let end : c.loop-number.number ≡ greatest_evse + 1 = omega (arith, c.loop-number-test.false, c.loop-number.auto) in
-    c.loop-number.invariant ∙ ap (λ n. map (line_at c.args.evses.now) (shown_below n c.args.evses.now)) end ∙ all_lines c.args.evses.now es in_range are
+    c.loop-number.invariant ∙ ap (λ n. map (line_at c.args.evses.now) (shown_below n c.args.evses.now)) end ∙ all_lines order c.args.evses.now es in_range are

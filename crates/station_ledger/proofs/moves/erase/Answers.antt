@@ -1,7 +1,7 @@
 use Rattle.std.proofs.Common.{sym, subst, arith}
 use Rattle.std.specs.FinMap as finite
 use Rattle.event_chain.specs.Chains.{stored}
-use Rattle.station_ledger.specs.Sums.{AreSummed}
+use Rattle.station_ledger.specs.Sums.{AreSummed, order_in}
 use Rattle.station_ledger.proofs.Commands.{found_voided, erased, erased_voided, some_voided, summed_same, summed_voided}
 use Rattle.station_ledger.proofs.moves.erase.Goals as goal
 
@@ -18,5 +18,6 @@ returns c =
       events = e;
       summed = summed_voided (summed_same (stored new) (erased old new key e f) (subst (λ l. AreSummed l (stored old) c.args.sums.now) (sym c.remove.ensures.limits) c.requires.summed));
       period = λ i. c.args.sums.now.period;
+      order = λ i. order_in c.args.sums.now;
       voided = omega (arith, c.requires.voided, erased_voided old new key e f);
     }

@@ -1,6 +1,6 @@
 use Rattle.std.proofs.Common.{sym, ap, subst, ◌∙◌}
 use Rattle.energy_flow.specs.Flow.{Energy}
-use Rattle.ledger_model.specs.Board.{figures}
+use Rattle.ledger_model.specs.Board.{figures_by}
 use Rattle.ledger_model.specs.Content.{entries}
 use Rattle.ledger_model.specs.declared.reading.Direction.TheVariants.{Import, Export}
 use Rattle.ledger_model.specs.Limits.{Bounds}
@@ -9,6 +9,7 @@ use Rattle.ledger_model.proofs.Callers.{figures_within}
 use Rattle.event_chain.specs.Chains.{stored}
 use Rattle.station_ledger.specs.Kept.{content_in}
 use Rattle.station_ledger.specs.Ledger.{Ledger}
+use Rattle.station_ledger.specs.Sums.{order_in}
 use Rattle.station_ledger.proofs.ledger.StationLedger.figures.Goals as goal
 
 pub returns-clause-value : goal.returns-clause-value
@@ -19,7 +20,7 @@ returns-clause-value c =
     let export_up = c.up-2.ensures ∙ ap (λ (e : Energy). e.up) (s.energies_are Export) in
     let export_down = c.down-2.ensures ∙ ap (λ (e : Energy). e.down) (s.energies_are Export) in
     (λ i. record { events = s.counts.events i; voided = k.voided_are i; transactions = s.counts.transactions i; complete = s.counts.complete i; missing = s.counts.missing_are i; up = up i; down = down i; export_up = export_up i; export_down = export_down i })
-    ∙ ap (λ (l : Ledger). figures (entries l.content)) c.self.view_is
+    ∙ ap (λ (l : Ledger). figures_by l.order (entries l.content)) c.self.view_is
 
 pub returns-clause-within : goal.returns-clause-within
 returns-clause-within c =
@@ -29,4 +30,4 @@ returns-clause-within c =
     let export_up = c.up-2.ensures ∙ ap (λ (e : Energy). e.up) (s.energies_are Export) in
     let export_down = c.down-2.ensures ∙ ap (λ (e : Energy). e.down) (s.energies_are Export) in
     subst (AreWithin c.args.self.now.limits) (sym (λ i. record { events = s.counts.events i; voided = k.voided_are i; transactions = s.counts.transactions i; complete = s.counts.complete i; missing = s.counts.missing_are i; up = up i; down = down i; export_up = export_up i; export_down = export_down i }))
-    (subst (λ (b : Bounds). AreWithin b (figures (stored c.self.inside.chains))) (ap (λ (l : Ledger). l.limits) c.self.view_is) (figures_within c.self.inside.limits c.self.inside.changes (content_in c.self.inside.chains c.self.inside.changes) k.reached))
+    (subst (λ (b : Bounds). AreWithin b (figures_by (order_in c.self.inside.sums) (stored c.self.inside.chains))) (ap (λ (l : Ledger). l.limits) c.self.view_is) (figures_within (order_in c.self.inside.sums) c.self.inside.limits c.self.inside.changes (content_in c.self.inside.chains c.self.inside.changes) k.reached))

@@ -1,0 +1,90 @@
+-- The readings of an event listed by rank, one after the other.
+use Rattle.std.proofs.Common.{◌≡◌, ℕ, zero, suc, ◌+◌, ◌^◌, ◌<◌, ◌≤◌, cond, not, List, [], ◌∷◌, ◌++◌, length, take, drop, get_or, refl, sym, ap, subst, ◌∙◌, arith}
+use Rattle.std.specs.List.{AllByRecursion}
+use Rattle.std.proofs.lemmas.Bool.{lt-ltb, le-ltb}
+use Rattle.ledger_model.specs.Event.{MeterReading}
+use Rattle.ledger_model.specs.InTime.{put_in_time}
+use Rattle.ledger_model.specs.Ranges.{most_event_readings}
+use Rattle.ledger_model.proofs.Callers.{AreFrom}
+use Rattle.reading_index.specs.Ranks.{rank}
+use Rattle.reading_index.specs.Timed.{Timed, from_on, in_front, AreBehind, IsRanked}
+use Rattle.station_ledger.specs.ByMoment.{ranked_from}
+use Rattle.station_ledger.proofs.MomentLists.{each_put, from_after, none_has, AreApart, IsAfter}
+use Rattle.station_ledger.proofs.MomentRanks.{at, length-put, put-ranked}
+use Rattle.station_ledger.proofs.MomentWalks.{AreUnder}
+
+-- Where those in front of a place are below a rank and the others are not, the place is the rank's.
+cut : (k : ℕ) (front back : List Timed) → AreUnder k front → AreFrom at k back → (front ≡ in_front k (front ++ back)) × (back ≡ from_on k (front ++ back))
+cut k [] [] under from = (refl, refl)
+cut k [] (t ∷ ts) under from =
+    let rest = cut k [] ts tt from.1 in let over = le-ltb t.0 k from.0 in
+    (rest.0 ∙ sym (ap (λ b. cond b (t ∷ in_front k ts) (in_front k ts)) over), ap (λ us. t ∷ us) rest.1 ∙ sym (ap (λ b. cond (not b) (t ∷ from_on k ts) (from_on k ts)) over))
+cut k (t ∷ ts) back under from =
+    let rest = cut k ts back under.1 from in let below = lt-ltb t.0 k under.0 in let all = ts ++ back in
+    (ap (λ us. t ∷ us) rest.0 ∙ sym (ap (λ b. cond b (t ∷ in_front k all) (in_front k all)) below), rest.1 ∙ sym (ap (λ b. cond (not b) (t ∷ from_on k all) (from_on k all)) below))
+
+take_drop : (n : ℕ) (ts : List Timed) → take n ts ++ drop n ts ≡ ts
+take_drop zero ts = refl
+take_drop (suc n) [] = refl
+take_drop (suc n) (t ∷ ts) = ap (λ us. t ∷ us) (take_drop n ts)
+
+pub placed : (k n : ℕ) (ts : List Timed) → AreUnder k (take n ts) → AreFrom at k (drop n ts) → (take n ts ≡ in_front k ts) × (drop n ts ≡ from_on k ts)
+placed k n ts under from =
+    let parts = cut k (take n ts) (drop n ts) under from in
+    (parts.0 ∙ ap (in_front k) (take_drop n ts), parts.1 ∙ ap (from_on k) (take_drop n ts))
+
+behind_at : (n p : ℕ) (ts : List Timed) (d : Timed) → AreBehind n ts → p < length ts → n < (get_or ts p d).0
+behind_at n p [] d behind lt = absurd (omega (arith, lt))
+behind_at n zero (t ∷ ts) d behind lt = behind.0
+behind_at n (suc p) (t ∷ ts) d behind lt = behind_at n p ts d behind.1 (omega (arith, lt))
+
+under_at : (k p : ℕ) (ts : List Timed) (d : Timed) → IsRanked ts → p < length ts → (get_or ts p d).0 < k → AreUnder k (take (suc p) ts)
+under_at k p [] d up lt below = absurd (omega (arith, lt))
+under_at k zero (t ∷ ts) d up lt below = (below, tt)
+under_at k (suc p) (t ∷ ts) d up lt below =
+    let on = behind_at t.0 p ts d up.0 (omega (arith, lt)) in
+    (omega (arith, on, below), under_at k p ts d up.1 (omega (arith, lt)) below)
+
+-- Ranks rise, so that all in front of one that is below another are.
+pub under-to : (k n : ℕ) (ts : List Timed) (d : Timed) → IsRanked ts → n < length ts → (get_or ts n d).0 < k → AreUnder k (take (n + 1) ts)
+under-to k n ts d up lt below = let on : suc n ≡ n + 1 = omega arith in subst (λ m. AreUnder k (take m ts)) on (under_at k n ts d up lt below)
+
+-- A list by rank, and the readings to come: their ranks are new.
+pub record IsListing (o number place : ℕ) (left : List MeterReading) (listed : List Timed) (capacity : ℕ) : Type 0 where
+  pub ranked : IsRanked listed
+  pub new : AllByRecursion (λ (x : Timed). AreApart x.0 listed) (ranked_from o number place left)
+  pub few : length listed + length left ≤ most_event_readings
+  pub places : place + length left ≤ most_event_readings
+  pub room : most_event_readings ≤ capacity
+
+all_new : (us : List Timed) → AllByRecursion (λ (x : Timed). AreApart x.0 []) us
+all_new [] = tt
+all_new (u ∷ us) = (tt, all_new us)
+
+pub listing-start : (o number : ℕ) (left : List MeterReading) (capacity : ℕ) → length left ≤ most_event_readings → most_event_readings ≤ capacity → IsListing o number 0 left [] capacity
+listing-start o number left capacity few room = record {
+  ranked = tt;
+  new = all_new (ranked_from o number 0 left);
+  few = omega (arith, few);
+  places = omega (arith, few);
+  room = room;
+}
+
+still_new : (x : Timed) (ts us : List Timed) → AllByRecursion (IsAfter x) us → AllByRecursion (λ (u : Timed). AreApart u.0 ts) us → AllByRecursion (λ (u : Timed). AreApart u.0 (put_in_time at x ts)) us
+still_new x ts [] after new = tt
+still_new x ts (u ∷ us) after new =
+    let behind : IsAfter x u = after.0 in
+    (each_put (λ t. t.0 ≡ u.0 → ⊥) x ts (λ same. behind.apart (sym same)) new.0, still_new x ts us after.1 new.1)
+
+pub listing-more : (o number place : ℕ) (r : MeterReading) (left : List MeterReading) (listed : List Timed) (capacity more : ℕ) → number < 2 ^ 31 → capacity ≤ more → IsListing o number place (r ∷ left) listed capacity
+    → IsListing o number (place + 1) left (put_in_time at (rank o r.moment number place, r) listed) more
+listing-more o number place r left listed capacity more small le was =
+    let x : Timed = (rank o r.moment number place, r) in
+    let long = length-put x listed in
+    record {
+      ranked = put-ranked x listed was.ranked (none_has x.0 listed was.new.0);
+      new = still_new x listed (ranked_from o number (place + 1) left) (from_after o number place number (place + 1) r left small (omega (arith, was.places)) small (omega (arith, was.places)) (omega arith)) was.new.1;
+      few = omega (arith, was.few, long);
+      places = omega (arith, was.places);
+      room = omega (arith, was.room, le);
+    }

@@ -1,0 +1,485 @@
+-- The readings of an event and of a transaction by rank.
+use Rattle.std.proofs.Common.{◌≡◌, ℕ, ◌+◌, ◌*◌, ◌^◌, ◌<◌, ◌≤◌, Bool, true, false, cond, not, List, [], ◌∷◌, ◌++◌, length, map, refl, sym, ap, subst, ◌∙◌, ⊎_elim, eqb, nat_lt, bytes_eq, arith}
+use Rattle.std.specs.List.{AllByRecursion, All, filter, flat_map, sum_by}
+use Rattle.std.proofs.lemmas.Bool.{cases_lt, cases_eq, eq-eqb, ne_eqb, lt-ltb, le-ltb, or_from, true≢false}
+use Rattle.std.proofs.lemmas.Grind.{flat_map-append}
+use Rattle.std.proofs.lemmas.List.{map-append}
+use Rattle.std.proofs.lemmas.List.Elements.{filter-append, recursion_from_All}
+use Rattle.std.proofs.lemmas.List.Sums.{sum_by-append, sum_by-cons}
+use Rattle.ledger_model.specs.declared.order.Order.TheVariants.{Moment}
+use Rattle.ledger_model.specs.declared.reading.Direction.{Direction}
+use Rattle.ledger_model.specs.BoardLaws.{AreRising}
+use Rattle.ledger_model.specs.Content.{Entry, live, live_of}
+use Rattle.ledger_model.specs.Deltas.{before_key, behind_key, own_events, IsOneMore}
+use Rattle.ledger_model.specs.Energy.{readings_by}
+use Rattle.ledger_model.specs.Event.{IsMeterReading, MeterReading, same_direction, toward}
+use Rattle.ledger_model.specs.Gaps.{numbers_of}
+use Rattle.ledger_model.specs.InTime.{in_time, put_in_time}
+use Rattle.ledger_model.specs.ReadingOrder.{Numbered, numbered, numbered_by}
+use Rattle.ledger_model.proofs.Callers.{AreEntries, AreForeign, AreOwn, IsEntry, few_toward, foreign_passed, in_time-map, in_time-passed, live_else, live_with, live_without, numbered_readings, own_before_key, own_behind_key, own_passed, put-behind, put-front}
+use Rattle.reading_index.specs.Ranks.{number_of, owner, owner_of, rank}
+use Rattle.reading_index.specs.Timed.{Timed, has_rank, without, AreBehind, IsRanked}
+use Rattle.station_ledger.specs.ByMoment.{bare, live_readings, put_each, ranked, ranked_from, take_each, timed_of}
+use Rattle.station_ledger.specs.Runs.{own_timed}
+use Rattle.station_ledger.proofs.MomentRanks.{at, number_of-rank, owner_of-rank, length-put, put-ranked}
+
+-- What is so of each reading is so of each by rank.
+module _ (P : Timed → Type 0) where
+  pub each_put : (x : Timed) (ts : List Timed) → P x → AllByRecursion P ts → AllByRecursion P (put_in_time at x ts)
+  each_put x [] here all = (here, tt)
+  each_put x (t ∷ ts) here all = ⊎_elim
+      (λ (on : t.0 < x.0). subst (AllByRecursion P) (sym (put-behind at x t ts on)) (all.0, each_put x ts here all.1))
+      (λ (end : x.0 ≤ t.0). subst (AllByRecursion P) (sym (put-front at x t ts end)) (here, all))
+      (cases_lt t.0 x.0)
+
+  pub each_put_each : (xs ts : List Timed) → AllByRecursion P xs → AllByRecursion P ts → AllByRecursion P (put_each xs ts)
+  each_put_each [] ts mine all = all
+  each_put_each (x ∷ xs) ts mine all = each_put_each xs (put_in_time at x ts) mine.1 (each_put x ts mine.0 all)
+
+  each_in_time : (ts : List Timed) → AllByRecursion P ts → AllByRecursion P (in_time at ts)
+  each_in_time [] all = tt
+  each_in_time (t ∷ ts) all = each_put t (in_time at ts) all.0 (each_in_time ts all.1)
+
+  each_append : (xs ys : List Timed) → AllByRecursion P xs → AllByRecursion P ys → AllByRecursion P (xs ++ ys)
+  each_append [] ys all more = more
+  each_append (x ∷ xs) ys all more = (all.0, each_append xs ys all.1 more)
+
+-- None has this rank.
+abbrev pub AreApart : ℕ → List Timed → Type 0
+AreApart n ts = AllByRecursion (λ t. t.0 ≡ n → ⊥) ts
+
+-- No two have one rank.
+abbrev AreDistinct : List Timed → Type 0
+AreDistinct [] = Unit {0}
+AreDistinct (t ∷ ts) = AreApart t.0 ts × AreDistinct ts
+
+pub none_has : (n : ℕ) (ts : List Timed) → AreApart n ts → has_rank n ts ≡ false
+none_has n [] apart = refl
+none_has n (t ∷ ts) apart = or_from (eqb t.0 n) (has_rank n ts) (ne_eqb t.0 n apart.0) (none_has n ts apart.1)
+
+pub behind_apart : (n : ℕ) (ts : List Timed) → AreBehind n ts → AreApart n ts
+behind_apart n [] behind = tt
+behind_apart n (t ∷ ts) behind = (λ same. absurd (let lt : n < t.0 = behind.0 in omega (arith, lt, same)), behind_apart n ts behind.1)
+
+ranked_distinct : (ts : List Timed) → IsRanked ts → AreDistinct ts
+ranked_distinct [] up = tt
+ranked_distinct (t ∷ ts) up = (behind_apart t.0 ts up.0, ranked_distinct ts up.1)
+
+-- Of different ranks, by rank, they stand by rank.
+distinct_ranked : (ts : List Timed) → AreDistinct ts → IsRanked (in_time at ts)
+distinct_ranked [] apart = tt
+distinct_ranked (t ∷ ts) apart = put-ranked t (in_time at ts) (distinct_ranked ts apart.1) (none_has t.0 (in_time at ts) (each_in_time (λ u. u.0 ≡ t.0 → ⊥) ts apart.0))
+
+-- Two readings of different ranks are put in in either order.
+put_lower : (x y : Timed) (ts : List Timed) → x.0 < y.0 → put_in_time at x (put_in_time at y ts) ≡ put_in_time at y (put_in_time at x ts)
+put_lower x y [] lt = put-front at x y [] (omega (arith, lt)) ∙ sym (put-behind at y x [] lt)
+put_lower x y (t ∷ ts) lt = ⊎_elim
+    (λ (on : t.0 < x.0).
+    ap (put_in_time at x) (put-behind at y t ts (omega (arith, on, lt)))
+    ∙ put-behind at x t (put_in_time at y ts) on
+    ∙ ap (λ us. t ∷ us) (put_lower x y ts lt)
+    ∙ sym (ap (put_in_time at y) (put-behind at x t ts on) ∙ put-behind at y t (put_in_time at x ts) (omega (arith, on, lt))))
+    (λ (end : x.0 ≤ t.0).
+    first end ∙ sym (ap (put_in_time at y) (put-front at x t ts end) ∙ put-behind at y x (t ∷ ts) lt))
+    (cases_lt t.0 x.0)
+  where
+    first : x.0 ≤ t.0 → put_in_time at x (put_in_time at y (t ∷ ts)) ≡ x ∷ put_in_time at y (t ∷ ts)
+    first end = ⊎_elim
+        (λ (on : t.0 < y.0). ap (put_in_time at x) (put-behind at y t ts on) ∙ put-front at x t (put_in_time at y ts) end ∙ ap (λ us. x ∷ us) (sym (put-behind at y t ts on)))
+        (λ (over : y.0 ≤ t.0). ap (put_in_time at x) (put-front at y t ts over) ∙ put-front at x y (t ∷ ts) (omega (arith, lt)) ∙ ap (λ us. x ∷ us) (sym (put-front at y t ts over)))
+        (cases_lt t.0 y.0)
+
+put_put : (x y : Timed) (ts : List Timed) → (y.0 ≡ x.0 → ⊥) → put_in_time at x (put_in_time at y ts) ≡ put_in_time at y (put_in_time at x ts)
+put_put x y ts apart = ⊎_elim
+    (λ (lt : x.0 < y.0). put_lower x y ts lt)
+    (λ (le : y.0 ≤ x.0). sym (put_lower y x ts (strictly le apart)))
+    (cases_lt x.0 y.0)
+  where
+    strictly : {m n : ℕ} → m ≤ n → (m ≡ n → ⊥) → m < n
+    strictly {m} {n} le apart = ⊎_elim (λ (same : m ≡ n). absurd (apart same)) (λ (other : m ≡ n → ⊥). omega (arith, le, other)) (cases_eq m n)
+
+pub put_each-put : (xs : List Timed) (x : Timed) (ts : List Timed) → AreApart x.0 xs → put_each xs (put_in_time at x ts) ≡ put_in_time at x (put_each xs ts)
+put_each-put [] x ts apart = refl
+put_each-put (y ∷ ys) x ts apart = ap (put_each ys) (sym (put_put x y ts apart.0)) ∙ put_each-put ys x (put_in_time at y ts) apart.1
+
+-- One after the other, each where its rank stands, is all by rank.
+put_each-in_time : (xs zs : List Timed) → AreDistinct xs → put_each xs (in_time at zs) ≡ in_time at (xs ++ zs)
+put_each-in_time [] zs apart = refl
+put_each-in_time (x ∷ xs) zs apart = put_each-put xs x (in_time at zs) apart.0 ∙ ap (put_in_time at x) (put_each-in_time xs zs apart.1)
+
+-- They may come from the middle.
+put_each-middle : (xs rs zs : List Timed) → AreDistinct rs → AllByRecursion (λ x. AreApart x.0 rs) xs → put_each rs (in_time at (xs ++ zs)) ≡ in_time at (xs ++ (rs ++ zs))
+put_each-middle [] rs zs apart others = put_each-in_time rs zs apart
+put_each-middle (x ∷ xs) rs zs apart others = put_each-put rs x (in_time at (xs ++ zs)) others.0 ∙ ap (put_in_time at x) (put_each-middle xs rs zs apart others.1)
+
+put_each-front : (x : Timed) (xs ts : List Timed) → AreApart x.0 xs → put_each (put_in_time at x xs) ts ≡ put_each xs (put_in_time at x ts)
+put_each-front x [] ts apart = refl
+put_each-front x (y ∷ ys) ts apart = ⊎_elim
+    (λ (on : y.0 < x.0). ap (λ us. put_each us ts) (put-behind at x y ys on) ∙ put_each-front x ys (put_in_time at y ts) apart.1 ∙ ap (put_each ys) (put_put x y ts apart.0))
+    (λ (end : x.0 ≤ y.0). ap (λ us. put_each us ts) (put-front at x y ys end))
+    (cases_lt y.0 x.0)
+
+-- They may be put in by rank.
+put_each-sorted : (xs ts : List Timed) → AreDistinct xs → put_each (in_time at xs) ts ≡ put_each xs ts
+put_each-sorted [] ts apart = refl
+put_each-sorted (x ∷ xs) ts apart = put_each-front x (in_time at xs) ts (each_in_time (λ u. u.0 ≡ x.0 → ⊥) xs apart.0) ∙ put_each-sorted xs (put_in_time at x ts) apart.1
+
+append-none : {X : Type 0} (xs : List X) → xs ++ [] ≡ xs
+append-none [] = refl
+append-none (x ∷ xs) = ap (λ ys. x ∷ ys) (append-none xs)
+
+listed_sorted : (xs : List Timed) → AreDistinct xs → put_each xs [] ≡ in_time at xs
+listed_sorted xs apart = put_each-in_time xs [] apart ∙ ap (in_time at) (append-none xs)
+
+-- What was put in is taken out again.
+without_none : (n : ℕ) (ts : List Timed) → AreApart n ts → without n ts ≡ ts
+without_none n [] apart = refl
+without_none n (t ∷ ts) apart = ap (λ b. cond (not b) (t ∷ without n ts) (without n ts)) (ne_eqb t.0 n apart.0) ∙ ap (λ us. t ∷ us) (without_none n ts apart.1)
+
+pub without_put : (x : Timed) (ts : List Timed) → AreApart x.0 ts → without x.0 (put_in_time at x ts) ≡ ts
+without_put x [] apart = ap (λ b. cond (not b) (x ∷ []) []) (eq-eqb x.0 x.0 refl)
+without_put x (t ∷ ts) apart = ⊎_elim
+    (λ (on : t.0 < x.0).
+    ap (without x.0) (put-behind at x t ts on)
+    ∙ ap (λ b. cond (not b) (t ∷ without x.0 (put_in_time at x ts)) (without x.0 (put_in_time at x ts))) (ne_eqb t.0 x.0 apart.0)
+    ∙ ap (λ us. t ∷ us) (without_put x ts apart.1))
+    (λ (end : x.0 ≤ t.0).
+    ap (without x.0) (put-front at x t ts end)
+    ∙ ap (λ b. cond (not b) (x ∷ without x.0 (t ∷ ts)) (without x.0 (t ∷ ts))) (eq-eqb x.0 x.0 refl)
+    ∙ without_none x.0 (t ∷ ts) apart)
+    (cases_lt t.0 x.0)
+
+taken_back : (xs ts : List Timed) → AreDistinct xs → AllByRecursion (λ x. AreApart x.0 ts) xs → take_each xs (put_each xs ts) ≡ ts
+taken_back [] ts apart others = refl
+taken_back (x ∷ xs) ts apart others =
+    ap (λ us. take_each xs (without x.0 us)) (put_each-put xs x ts apart.0)
+    ∙ ap (take_each xs) (without_put x (put_each xs ts) (each_put_each (λ t. t.0 ≡ x.0 → ⊥) xs ts apart.0 others.0))
+    ∙ taken_back xs ts apart.1 others.1
+
+-- A reading stands behind another: it has another rank, and the ranks stand as the moments do.
+pub record IsAfter (t u : Timed) : Type 0 where
+  pub apart : u.0 ≡ t.0 → ⊥
+  agrees : nat_lt u.0 t.0 ≡ nat_lt u.1.moment t.1.moment
+
+-- Each stands behind those in front of it.
+abbrev AreListed : List Timed → Type 0
+AreListed [] = Unit {0}
+AreListed (t ∷ ts) = AllByRecursion (IsAfter t) ts × AreListed ts
+
+after_apart : (t : Timed) (us : List Timed) → AllByRecursion (IsAfter t) us → AreApart t.0 us
+after_apart t [] all = tt
+after_apart t (u ∷ us) all = (let a : IsAfter t u = all.0 in a.apart, after_apart t us all.1)
+
+listed_distinct : (ts : List Timed) → AreListed ts → AreDistinct ts
+listed_distinct [] all = tt
+listed_distinct (t ∷ ts) all = (after_apart t ts all.0, listed_distinct ts all.1)
+
+put_agrees : (t : Timed) (us : List Timed) → AllByRecursion (IsAfter t) us → put_in_time at t us ≡ put_in_time (λ u. u.1.moment) t us
+put_agrees t [] all = refl
+put_agrees t (u ∷ us) all = let a : IsAfter t u = all.0 in (λ i. cond (a.agrees i) (u ∷ put_agrees t us all.1 i) (t ∷ u ∷ us))
+
+-- By rank they stand as by moment.
+by_rank : (ts : List Timed) → AreListed ts → in_time at ts ≡ in_time (λ u. u.1.moment) ts
+by_rank [] all = refl
+by_rank (t ∷ ts) all = put_agrees t (in_time at ts) (each_in_time (IsAfter t) ts all.0) ∙ ap (put_in_time (λ u. u.1.moment) t) (by_rank ts all.1)
+
+-- Of one owner, a later place stands behind.
+after : (o n p k q : ℕ) (r s : MeterReading) → n < 2 ^ 31 → p < 2 ^ 10 → k < 2 ^ 31 → q < 2 ^ 10 → n * 2 ^ 10 + p < k * 2 ^ 10 + q → IsAfter (rank o r.moment n p, r) (rank o s.moment k q, s)
+after o n p k q r s number place number_2 place_2 lt = ⊎_elim
+    (λ (early : s.moment < r.moment).
+    let under : rank o s.moment k q < rank o r.moment n p = omega (arith, early, number_2, place_2) in
+    record { apart = λ same. absurd (omega (arith, under, same)); agrees = lt-ltb (rank o s.moment k q) (rank o r.moment n p) under ∙ sym (lt-ltb s.moment r.moment early) })
+    (λ (late : r.moment ≤ s.moment).
+    let over : rank o r.moment n p < rank o s.moment k q = omega (arith, late, lt) in
+    record { apart = λ same. absurd (omega (arith, over, same)); agrees = le-ltb (rank o s.moment k q) (rank o r.moment n p) (omega (arith, over)) ∙ sym (le-ltb s.moment r.moment late) })
+    (cases_lt s.moment r.moment)
+
+pub from_after : (o n p k q : ℕ) (r : MeterReading) (ss : List MeterReading) → n < 2 ^ 31 → p < 2 ^ 10 → k < 2 ^ 31 → q + length ss ≤ 2 ^ 10 → n * 2 ^ 10 + p < k * 2 ^ 10 + q
+    → AllByRecursion (IsAfter (rank o r.moment n p, r)) (ranked_from o k q ss)
+from_after o n p k q r [] number place number_2 room lt = tt
+from_after o n p k q r (s ∷ ss) number place number_2 room lt =
+    (after o n p k q r s number place number_2 (omega (arith, room)) lt, from_after o n p k (q + 1) r ss number place number_2 (omega (arith, room)) (omega (arith, lt)))
+
+front_listed : (o n p : ℕ) (rs : List MeterReading) (ts : List Timed) → n < 2 ^ 31 → p + length rs ≤ 2 ^ 10 → ((q : ℕ) (r : MeterReading) → q < 2 ^ 10 → AllByRecursion (IsAfter (rank o r.moment n q, r)) ts) → AreListed ts
+    → AreListed (ranked_from o n p rs ++ ts)
+front_listed o n p [] ts number room behind all = all
+front_listed o n p (r ∷ rs) ts number room behind all = (
+  each_append (IsAfter (rank o r.moment n p, r)) (ranked_from o n (p + 1) rs) ts (from_after o n p n (p + 1) r rs number (omega (arith, room)) number (omega (arith, room)) (omega arith)) (behind p r (omega (arith, room))),
+  front_listed o n (p + 1) rs ts number (omega (arith, room)) behind all,
+)
+
+each_from : (P : Timed → Type 0) (o n p : ℕ) (rs : List MeterReading) → ((q : ℕ) (r : MeterReading) → q < 2 ^ 10 → P (rank o r.moment n q, r)) → p + length rs ≤ 2 ^ 10 → AllByRecursion P (ranked_from o n p rs)
+each_from P o n p [] here room = tt
+each_from P o n p (r ∷ rs) here room = (here p r (omega (arith, room)), each_from P o n (p + 1) rs here (omega (arith, room)))
+
+owned_from : (o n p : ℕ) (rs : List MeterReading) → n < 2 ^ 31 → p + length rs ≤ 2 ^ 10 → AllByRecursion IsMeterReading rs → AllByRecursion (λ t. owner_of t.0 ≡ o) (ranked_from o n p rs)
+owned_from o n p [] number room all = tt
+owned_from o n p (r ∷ rs) number room all =
+    let early = (let it : IsMeterReading r = all.0 in it.moment.1) in
+    (owner_of-rank o r.moment n p (omega (arith, early)) number (omega (arith, room)), owned_from o n (p + 1) rs number (omega (arith, room)) all.1)
+
+length_from : (o n p : ℕ) (rs : List MeterReading) → length (ranked_from o n p rs) ≡ length rs
+length_from o n p [] = refl
+length_from o n p (r ∷ rs) = let rest = length_from o n (p + 1) rs in omega (arith, rest)
+
+length_put_each : (xs ts : List Timed) → length (put_each xs ts) ≡ length xs + length ts
+length_put_each [] ts = omega arith
+length_put_each (x ∷ xs) ts = let rest = length_put_each xs (put_in_time at x ts) in let one = length-put x ts in omega (arith, rest, one)
+
+toward_each : (P : MeterReading → Type 0) (d : Direction) (rs : List MeterReading) → AllByRecursion P rs → AllByRecursion P (toward d rs)
+toward_each P d [] all = tt
+toward_each P d (r ∷ rs) all = elim (same_direction d r.direction) as (λ b. AllByRecursion P (cond b (r ∷ toward d rs) (toward d rs))) [ true ↦ (all.0, toward_each P d rs all.1) | false ↦ toward_each P d rs all.1 ]
+
+are_own : (own : Timed → Bool) (ts : List Timed) → AllByRecursion (λ t. own t ≡ true) ts → AreOwn own ts
+are_own own [] all = tt
+are_own own (t ∷ ts) all = (all.0, are_own own ts all.1)
+
+are_foreign : (own : Timed → Bool) (ts : List Timed) → AllByRecursion (λ t. own t ≡ false) ts → AreForeign own ts
+are_foreign own [] all = tt
+are_foreign own (t ∷ ts) all = (all.0, are_foreign own ts all.1)
+
+-- An event's readings in one direction, by rank.
+module _ (slot : ℕ) (d : Direction) (e : Entry) where
+  abbrev listed : List Timed
+  listed = put_each (ranked slot d e) []
+
+  module _ (number : e.0.seq < 2 ^ 31) (few : length e.1.event.readings ≤ 1024) where
+    room : 0 + length (toward d e.1.event.readings) ≤ 2 ^ 10
+    room = omega (arith, few, few_toward d e.1.event.readings)
+
+    its_distinct : AreDistinct (ranked slot d e)
+    its_distinct = subst AreDistinct (append-none (ranked slot d e)) (listed_distinct _ (front_listed (owner slot d) e.0.seq 0 (toward d e.1.event.readings) [] number room (λ q r lt. tt) tt))
+
+    its_own : AllByRecursion (λ t. own_timed e.0.seq t ≡ true) (ranked slot d e)
+    its_own = each_from (λ t. own_timed e.0.seq t ≡ true) (owner slot d) e.0.seq 0 (toward d e.1.event.readings) (λ q r lt. eq-eqb (number_of (rank (owner slot d) r.moment e.0.seq q)) e.0.seq (number_of-rank (owner slot d) r.moment e.0.seq q number lt)) room
+
+    pub listed-ranked : IsRanked listed
+    listed-ranked = subst IsRanked (sym (listed_sorted (ranked slot d e) its_distinct)) (distinct_ranked (ranked slot d e) its_distinct)
+
+    pub listed_each : AllByRecursion (λ t. own_timed e.0.seq t ≡ true) listed
+    listed_each = each_put_each (λ t. own_timed e.0.seq t ≡ true) (ranked slot d e) [] its_own tt
+
+    pub listed-own : AreOwn (own_timed e.0.seq) listed
+    listed-own = are_own (own_timed e.0.seq) listed listed_each
+
+    pub listed-owned : All IsMeterReading e.1.event.readings → AllByRecursion (λ t. owner_of t.0 ≡ owner slot d) listed
+    listed-owned all =
+        each_put_each (λ t. owner_of t.0 ≡ owner slot d) (ranked slot d e) []
+        (owned_from (owner slot d) e.0.seq 0 (toward d e.1.event.readings) number room (toward_each IsMeterReading d e.1.event.readings (recursion_from_All IsMeterReading e.1.event.readings all))) tt
+
+  pub length-listed : length listed ≡ length (toward d e.1.event.readings)
+  length-listed = let all = length_put_each (ranked slot d e) [] in let flat = length_from (owner slot d) e.0.seq 0 (toward d e.1.event.readings) in omega (arith, all, flat)
+
+-- An event's readings have other ranks than those of other events.
+pub foreign_apart : (seq : ℕ) (x : Timed) (ts : List Timed) → own_timed seq x ≡ true → AllByRecursion (λ t. own_timed seq t ≡ false) ts → AreApart x.0 ts
+foreign_apart seq x [] own all = tt
+foreign_apart seq x (t ∷ ts) own all = (λ same. true≢false (sym own ∙ ap (λ n. eqb (number_of n) seq) (sym same) ∙ all.0), foreign_apart seq x ts own all.1)
+
+own_apart : (seq : ℕ) (x : Timed) (ts : List Timed) → own_timed seq x ≡ false → AllByRecursion (λ t. own_timed seq t ≡ true) ts → AreApart x.0 ts
+own_apart seq x [] foreign all = tt
+own_apart seq x (t ∷ ts) foreign all = (λ same. true≢false (sym all.0 ∙ ap (λ n. eqb (number_of n) seq) same ∙ foreign), own_apart seq x ts foreign all.1)
+
+all_foreign_apart : (seq : ℕ) (xs ts : List Timed) → AllByRecursion (λ t. own_timed seq t ≡ true) xs → AllByRecursion (λ t. own_timed seq t ≡ false) ts → AllByRecursion (λ x. AreApart x.0 ts) xs
+all_foreign_apart seq [] ts own all = tt
+all_foreign_apart seq (x ∷ xs) ts own all = (foreign_apart seq x ts own.0 all, all_foreign_apart seq xs ts own.1 all)
+
+all_own_apart : (seq : ℕ) (xs ts : List Timed) → AllByRecursion (λ t. own_timed seq t ≡ false) xs → AllByRecursion (λ t. own_timed seq t ≡ true) ts → AllByRecursion (λ x. AreApart x.0 ts) xs
+all_own_apart seq [] ts foreign all = tt
+all_own_apart seq (x ∷ xs) ts foreign all = (own_apart seq x ts foreign.0 all, all_own_apart seq xs ts foreign.1 all)
+
+-- Entries in range.
+entries_passed : (p : Entry → Bool) (es : List Entry) → AreEntries es → AreEntries (filter p es)
+entries_passed p [] all = tt
+entries_passed p (e ∷ es) all = elim (p e) as (λ b. AreEntries (cond b (e ∷ filter p es) (filter p es))) [ true ↦ (all.0, entries_passed p es all.1) | false ↦ entries_passed p es all.1 ]
+
+entries_front : (es fs : List Entry) → AreEntries (es ++ fs) → AreEntries es
+entries_front [] fs all = tt
+entries_front (e ∷ es) fs all = (all.0, entries_front es fs all.1)
+
+entries_back : (es fs : List Entry) → AreEntries (es ++ fs) → AreEntries fs
+entries_back [] fs all = all
+entries_back (e ∷ es) fs all = entries_back es fs all.1
+
+few_ranked : (d : Direction) (e : Entry) → IsEntry e → 0 + length (toward d e.1.event.readings) ≤ 2 ^ 10
+few_ranked d e it = let few = it.event.event.0 in omega (arith, few, few_toward d e.1.event.readings)
+
+-- Events of other numbers have readings of other numbers.
+all_foreign : (slot : ℕ) (d : Direction) (seq : ℕ) (es : List Entry) → AreEntries es → AllByRecursion (λ e. e.0.seq ≡ seq → ⊥) es → AllByRecursion (λ t. own_timed seq t ≡ false) (flat_map (ranked slot d) es)
+all_foreign slot d seq [] range others = tt
+all_foreign slot d seq (e ∷ es) range others =
+    let it : IsEntry e = range.0 in
+    each_append (λ t. own_timed seq t ≡ false) (ranked slot d e) (flat_map (ranked slot d) es)
+    (each_from (λ t. own_timed seq t ≡ false) (owner slot d) e.0.seq 0 (toward d e.1.event.readings)
+    (λ q r lt. ne_eqb (number_of (rank (owner slot d) r.moment e.0.seq q)) seq (λ same. others.0 (sym (number_of-rank (owner slot d) r.moment e.0.seq q it.key.number lt) ∙ same)))
+    (few_ranked d e it))
+    (all_foreign slot d seq es range.1 others.1)
+
+below_other : (seq : ℕ) (es : List Entry) → AllByRecursion (λ (e : Entry). e.0.seq ≡ seq → ⊥) (filter (λ e. nat_lt e.0.seq seq) es)
+below_other seq [] = tt
+below_other seq (e ∷ es) = ⊎_elim
+    (λ (lt : e.0.seq < seq). subst (λ b. AllByRecursion (λ (f : Entry). f.0.seq ≡ seq → ⊥) (cond b (e ∷ filter (λ f. nat_lt f.0.seq seq) es) (filter (λ f. nat_lt f.0.seq seq) es))) (sym (lt-ltb e.0.seq seq lt)) ((λ same. absurd (omega (arith, lt, same))), below_other seq es))
+    (λ (ge : seq ≤ e.0.seq). subst (λ b. AllByRecursion (λ (f : Entry). f.0.seq ≡ seq → ⊥) (cond b (e ∷ filter (λ f. nat_lt f.0.seq seq) es) (filter (λ f. nat_lt f.0.seq seq) es))) (sym (le-ltb e.0.seq seq ge)) (below_other seq es))
+    (cases_lt e.0.seq seq)
+
+above_other : (seq : ℕ) (es : List Entry) → AllByRecursion (λ (e : Entry). e.0.seq ≡ seq → ⊥) (filter (λ e. nat_lt seq e.0.seq) es)
+above_other seq [] = tt
+above_other seq (e ∷ es) = ⊎_elim
+    (λ (lt : seq < e.0.seq). subst (λ b. AllByRecursion (λ (f : Entry). f.0.seq ≡ seq → ⊥) (cond b (e ∷ filter (λ f. nat_lt seq f.0.seq) es) (filter (λ f. nat_lt seq f.0.seq) es))) (sym (lt-ltb seq e.0.seq lt)) ((λ same. absurd (omega (arith, lt, same))), above_other seq es))
+    (λ (ge : e.0.seq ≤ seq). subst (λ b. AllByRecursion (λ (f : Entry). f.0.seq ≡ seq → ⊥) (cond b (e ∷ filter (λ f. nat_lt seq f.0.seq) es) (filter (λ f. nat_lt seq f.0.seq) es))) (sym (le-ltb seq e.0.seq ge)) (above_other seq es))
+    (cases_lt seq e.0.seq)
+
+-- A transaction's readings by rank, with one event more.
+module _ (slot : ℕ) (d : Direction) (es new : List Entry) (e : Entry) (one : IsOneMore es new (before_key e.0 es) e (behind_key e.0 es)) (range : AreEntries new) where
+  abbrev here : List Entry
+  here = own_events e.0.tx (before_key e.0 es)
+
+  abbrev there : List Entry
+  there = own_events e.0.tx (behind_key e.0 es)
+
+  all_in_range : AreEntries (before_key e.0 es ++ e ∷ behind_key e.0 es)
+  all_in_range = subst AreEntries one.more_live (entries_passed (λ f. not f.1.voided) new range)
+
+  pub it_in_range : IsEntry e
+  it_in_range = (entries_back (before_key e.0 es) (e ∷ behind_key e.0 es) all_in_range).0
+
+  before_foreign : AllByRecursion (λ t. own_timed e.0.seq t ≡ false) (flat_map (ranked slot d) here)
+  before_foreign = all_foreign slot d e.0.seq here (entries_passed (λ f. bytes_eq e.0.tx f.0.tx) (before_key e.0 es) (entries_front (before_key e.0 es) (e ∷ behind_key e.0 es) all_in_range))
+      (subst (AllByRecursion (λ (f : Entry). f.0.seq ≡ e.0.seq → ⊥)) (sym (own_before_key e.0 es)) (below_other e.0.seq (live_of e.0.tx es)))
+
+  behind_foreign : AllByRecursion (λ t. own_timed e.0.seq t ≡ false) (flat_map (ranked slot d) there)
+  behind_foreign = all_foreign slot d e.0.seq there (entries_passed (λ f. bytes_eq e.0.tx f.0.tx) (behind_key e.0 es) (entries_back (before_key e.0 es) (e ∷ behind_key e.0 es) all_in_range).1)
+      (subst (AllByRecursion (λ (f : Entry). f.0.seq ≡ e.0.seq → ⊥)) (sym (own_behind_key e.0 es)) (above_other e.0.seq (live_of e.0.tx es)))
+
+  with_it : flat_map (ranked slot d) (live_of e.0.tx new) ≡ flat_map (ranked slot d) here ++ (ranked slot d e ++ flat_map (ranked slot d) there)
+  with_it = ap (flat_map (ranked slot d)) (live_with es new (before_key e.0 es) e (behind_key e.0 es) one) ∙ flat_map-append (ranked slot d) here (e ∷ there)
+
+  without_it : flat_map (ranked slot d) (live_of e.0.tx es) ≡ flat_map (ranked slot d) here ++ flat_map (ranked slot d) there
+  without_it = ap (flat_map (ranked slot d)) (live_without es new (before_key e.0 es) e (behind_key e.0 es) one) ∙ flat_map-append (ranked slot d) here there
+
+  distinct : AreDistinct (ranked slot d e)
+  distinct = its_distinct slot d e it_in_range.key.number it_in_range.event.event.0
+
+  own : AllByRecursion (λ t. own_timed e.0.seq t ≡ true) (ranked slot d e)
+  own = its_own slot d e it_in_range.key.number it_in_range.event.event.0
+
+  pub stand_foreign : AllByRecursion (λ t. own_timed e.0.seq t ≡ false) (timed_of slot d e.0.tx es)
+  stand_foreign = each_in_time (λ t. own_timed e.0.seq t ≡ false) (flat_map (ranked slot d) (live_of e.0.tx es))
+      (subst (AllByRecursion (λ t. own_timed e.0.seq t ≡ false)) (sym without_it) (each_append (λ t. own_timed e.0.seq t ≡ false) (flat_map (ranked slot d) here) (flat_map (ranked slot d) there) before_foreign behind_foreign))
+
+  -- its readings put in, each where its rank stands
+  pub come : put_each (put_each (ranked slot d e) []) (timed_of slot d e.0.tx es) ≡ timed_of slot d e.0.tx new
+  come =
+      ap (λ us. put_each us (timed_of slot d e.0.tx es)) (listed_sorted (ranked slot d e) distinct)
+      ∙ put_each-sorted (ranked slot d e) (timed_of slot d e.0.tx es) distinct
+      ∙ ap (λ us. put_each (ranked slot d e) (in_time at us)) without_it
+      ∙ put_each-middle (flat_map (ranked slot d) here) (ranked slot d e) (flat_map (ranked slot d) there) distinct (all_own_apart e.0.seq (flat_map (ranked slot d) here) (ranked slot d e) before_foreign own)
+      ∙ ap (in_time at) (sym with_it)
+
+  -- and taken out
+  pub go : take_each (put_each (ranked slot d e) []) (timed_of slot d e.0.tx new) ≡ timed_of slot d e.0.tx es
+  go =
+      let mine = put_each (ranked slot d e) [] in
+      ap (take_each mine) (sym come)
+      ∙ taken_back mine (timed_of slot d e.0.tx es) (ranked_distinct mine (listed-ranked slot d e it_in_range.key.number it_in_range.event.event.0))
+      (all_foreign_apart e.0.seq mine (timed_of slot d e.0.tx es) (listed_each slot d e it_in_range.key.number it_in_range.event.event.0) stand_foreign)
+
+  pub foreign : AreForeign (own_timed e.0.seq) (timed_of slot d e.0.tx es)
+  foreign = are_foreign (own_timed e.0.seq) (timed_of slot d e.0.tx es) stand_foreign
+
+  -- of the event are those that were put in
+  pub own_are : filter (own_timed e.0.seq) (timed_of slot d e.0.tx new) ≡ put_each (ranked slot d e) []
+  own_are =
+      let p = own_timed e.0.seq in
+      let front = flat_map (ranked slot d) here in
+      let back = flat_map (ranked slot d) there in
+      sym (in_time-passed at p (flat_map (ranked slot d) (live_of e.0.tx new)))
+      ∙ ap (λ us. in_time at (filter p us)) with_it
+      ∙ ap (in_time at) (filter-append p front (ranked slot d e ++ back) ∙ ap (λ us. filter p front ++ us) (filter-append p (ranked slot d e) back))
+      ∙ (λ i. in_time at ((foreign_passed p front (are_foreign p front before_foreign)).0 i ++ ((own_passed p (ranked slot d e) (are_own p (ranked slot d e) own)).0 i ++ (foreign_passed p back (are_foreign p back behind_foreign)).0 i)))
+      ∙ ap (in_time at) (append-none (ranked slot d e))
+      ∙ sym (listed_sorted (ranked slot d e) distinct)
+
+-- An event more brings its readings.
+pub live_readings-more : (es new front : List Entry) (e : Entry) (back : List Entry) → IsOneMore es new front e back → live_readings new ≡ live_readings es + length e.1.event.readings
+live_readings-more es new front e back one =
+    let f = λ (x : Entry). length x.1.event.readings in
+    let more = ap (sum_by f) one.more_live ∙ sum_by-append f front (e ∷ back) in
+    let less = ap (sum_by f) one.less_live ∙ sum_by-append f front back in
+    let cut = sum_by-cons f e back in
+    omega (arith, more, less, cut)
+
+-- The readings of another transaction stay.
+pub timed_else : (slot : ℕ) (d : Direction) (es new front : List Entry) (e : Entry) (back : List Entry) (u : List ℕ) → IsOneMore es new front e back → bytes_eq u e.0.tx ≡ false → timed_of slot d u new ≡ timed_of slot d u es
+timed_else slot d es new front e back u one apart = ap (λ l. in_time at (flat_map (ranked slot d) l)) (live_else es new front e back u one apart)
+
+-- A number is below those of entries.
+above_all : (n : ℕ) (es : List Entry) → AreRising (n ∷ map (λ e. e.0.seq) es) → AllByRecursion (λ (e : Entry). n < e.0.seq) es
+above_all n [] up = tt
+above_all n (e ∷ es) up = (up.0, later n e.0.seq es up.0 (above_all e.0.seq es up.1))
+  where
+    later : (m n : ℕ) (es : List Entry) → m < n → AllByRecursion (λ (e : Entry). n < e.0.seq) es → AllByRecursion (λ (e : Entry). m < e.0.seq) es
+    later m n [] lt all = tt
+    later m n (e ∷ es) lt all = (let over : n < e.0.seq = all.0 in omega (arith, over, lt), later m n es lt all.1)
+
+rising_tail : (n : ℕ) (ns : List ℕ) → AreRising (n ∷ ns) → AreRising ns
+rising_tail n [] up = tt
+rising_tail n (m ∷ ns) up = up.1
+
+entries_behind : (slot : ℕ) (d : Direction) (n q : ℕ) (r : MeterReading) (es : List Entry) → n < 2 ^ 31 → q < 2 ^ 10 → AreEntries es → AllByRecursion (λ (e : Entry). n < e.0.seq) es
+    → AllByRecursion (IsAfter (rank (owner slot d) r.moment n q, r)) (flat_map (ranked slot d) es)
+entries_behind slot d n q r [] number place range above = tt
+entries_behind slot d n q r (e ∷ es) number place range above =
+    let it : IsEntry e = range.0 in let over : n < e.0.seq = above.0 in
+    each_append (IsAfter (rank (owner slot d) r.moment n q, r)) (ranked slot d e) (flat_map (ranked slot d) es)
+    (from_after (owner slot d) n q e.0.seq 0 r (toward d e.1.event.readings) number place it.key.number (few_ranked d e it) (omega (arith, over, place)))
+    (entries_behind slot d n q r es number place range.1 above.1)
+
+entries_listed : (slot : ℕ) (d : Direction) (es : List Entry) → AreEntries es → AreRising (map (λ e. e.0.seq) es) → AreListed (flat_map (ranked slot d) es)
+entries_listed slot d [] range up = tt
+entries_listed slot d (e ∷ es) range up =
+    let it : IsEntry e = range.0 in
+    front_listed (owner slot d) e.0.seq 0 (toward d e.1.event.readings) (flat_map (ranked slot d) es) it.key.number (few_ranked d e it)
+    (λ q r lt. entries_behind slot d e.0.seq q r es it.key.number lt range.1 (above_all e.0.seq es up))
+    (entries_listed slot d es range.1 (rising_tail e.0.seq (map (λ f. f.0.seq) es) up))
+
+-- What a reading by rank shows: the number of its event, and the reading.
+abbrev shown : Timed → Numbered
+shown t = (number_of t.0, t.1)
+
+shown_from : (o n p : ℕ) (rs : List MeterReading) → n < 2 ^ 31 → p + length rs ≤ 2 ^ 10 → map shown (ranked_from o n p rs) ≡ map (λ r. (n, r)) rs
+shown_from o n p [] number room = refl
+shown_from o n p (r ∷ rs) number room = (λ i. (number_of-rank o r.moment n p number (omega (arith, room)) i, r) ∷ shown_from o n (p + 1) rs number (omega (arith, room)) i)
+
+entries_shown : (slot : ℕ) (d : Direction) (es : List Entry) → AreEntries es → map shown (flat_map (ranked slot d) es) ≡ flat_map (numbered d) es
+entries_shown slot d [] range = refl
+entries_shown slot d (e ∷ es) range =
+    let it : IsEntry e = range.0 in
+    map-append shown (ranked slot d e) (flat_map (ranked slot d) es)
+    ∙ (λ i. shown_from (owner slot d) e.0.seq 0 (toward d e.1.event.readings) it.key.number (few_ranked d e it) i ++ entries_shown slot d es range.1 i)
+
+bare_shown : (ts : List Timed) → bare ts ≡ map (λ (n : Numbered). n.1) (map shown ts)
+bare_shown [] = refl
+bare_shown (t ∷ ts) = ap (λ rs. t.1 ∷ rs) (bare_shown ts)
+
+-- The live readings of a transaction, where its numbers rise.
+module _ (slot : ℕ) (d : Direction) (tx : List ℕ) (es : List Entry) (range : AreEntries es) (up : AreRising (numbers_of tx es)) where
+  live_range : AreEntries (live_of tx es)
+  live_range = entries_passed (λ e. bytes_eq tx e.0.tx) (live es) (entries_passed (λ e. not e.1.voided) es range)
+
+  live_listed : AreListed (flat_map (ranked slot d) (live_of tx es))
+  live_listed = entries_listed slot d (live_of tx es) live_range up
+
+  -- no two have one rank
+  pub timed-ranked : IsRanked (timed_of slot d tx es)
+  timed-ranked = distinct_ranked (flat_map (ranked slot d) (live_of tx es)) (listed_distinct _ live_listed)
+
+  -- by rank they stand as by moment, with the numbers of their events
+  pub numbered-timed : map (λ (t : Timed). (number_of t.0, t.1)) (timed_of slot d tx es) ≡ numbered_by Moment d tx es
+  numbered-timed =
+      ap (map shown) (by_rank (flat_map (ranked slot d) (live_of tx es)) live_listed)
+      ∙ sym (in_time-map (λ (n : Numbered). n.1.moment) shown (flat_map (ranked slot d) (live_of tx es)))
+      ∙ ap (in_time (λ (n : Numbered). n.1.moment)) (entries_shown slot d (live_of tx es) live_range)
+
+  -- and without
+  pub bare-timed : bare (timed_of slot d tx es) ≡ readings_by Moment d tx es
+  bare-timed = bare_shown (timed_of slot d tx es) ∙ ap (map (λ (n : Numbered). n.1)) numbered-timed ∙ numbered_readings Moment d tx es

@@ -1,0 +1,306 @@
+-- Readings put into the gaps of others, run by run: what their pairs do to the quarters, and to sums.
+use Rattle.std.proofs.Common.{◌≡◌, ℕ, zero, suc, ◌+◌, ◌-◌, ◌*◌, ◌<◌, ◌≤◌, Bool, true, false, cond, nat_lt, List, [], ◌∷◌, ◌++◌, Option, None, Some, length, slice_get, refl, sym, ap, subst, ◌∙◌, ⊎_elim, arith, length-append}
+use Rattle.std.specs.List.{sum_by}
+use Rattle.std.proofs.lemmas.Bool.{cases_lt, lt-ltb, le-ltb}
+use Rattle.std.proofs.lemmas.List.{map-append, length-map}
+use Rattle.std.proofs.lemmas.List.Elements.{filter-append}
+use Rattle.std.proofs.lemmas.List.Sums.{sum_by-append}
+use Rattle.energy_flow.specs.Flow.{Energy}
+use Rattle.ledger_model.specs.Board.{Flowed}
+use Rattle.ledger_model.specs.Deltas.{across, pairs_between, first_reading, last_reading}
+use Rattle.ledger_model.specs.Energy.{Flows, Pair, energy_over, followed}
+use Rattle.ledger_model.specs.declared.reading.Direction.{Direction}
+use Rattle.ledger_model.specs.declared.reading.Direction.TheVariants.{Import, Export}
+use Rattle.ledger_model.specs.Event.{MeterReading}
+use Rattle.ledger_model.specs.InTime.{put_in_time, runs, runs_behind}
+use Rattle.ledger_model.specs.Ranges.{greatest_reading, most_readings}
+use Rattle.ledger_model.proofs.Callers.{AreForeign, AreOwn, followed_cut, put-behind, put-front, runs_own, runs_foreign}
+use Rattle.quarter_table.specs.Table.{Table}
+use Rattle.quarter_table.specs.Pairs.{rows_of}
+use Rattle.quarter_table.proofs.Made.{made_alike}
+use Rattle.reading_index.specs.Timed.{Timed, first_of, in_front, last_of, AreBehind, IsRanked}
+use Rattle.station_ledger.specs.ByMoment.{bare, bare_one, beyond, fits, fitting, put_each}
+use Rattle.station_ledger.specs.Runs.{AreFew}
+use Rattle.station_ledger.specs.Quarters.{HasRoom, quartered}
+use Rattle.station_ledger.proofs.MomentRanks.{at}
+use Rattle.station_ledger.proofs.Rows.{long, total_quartered}
+use Rattle.station_ledger.proofs.Walks.{energy_over-append, quartered-append}
+
+-- The pairs of readings, with a run of some in a gap and without.
+pub with_run : (front run back : List Timed) → followed (bare (front ++ (run ++ back))) ≡ followed (bare front) ++ (pairs_between (last_reading (bare front)) (bare run) (first_reading (bare back)) ++ followed (bare back))
+with_run front run back =
+    ap followed (map-append (λ (t : Timed). t.1) front (run ++ back) ∙ ap (λ rs. bare front ++ rs) (map-append (λ (t : Timed). t.1) run back))
+    ∙ followed_cut (bare front) (bare run) (bare back)
+
+pub without_run : (front back : List Timed) → followed (bare (front ++ back)) ≡ followed (bare front) ++ (across (last_reading (bare front)) (first_reading (bare back)) ++ followed (bare back))
+without_run front back = with_run front [] back
+
+-- Rows of pairs, some of which stand between others.
+pub moved_in : (period : ℕ) (d : Direction) (a x b : List Pair) (rest : List Flowed) → rows_of (quartered period d (a ++ (x ++ b)) ++ rest) ≡ rows_of (quartered period d x ++ (quartered period d (a ++ b) ++ rest))
+moved_in period d a x b rest =
+    let q = quartered period d in
+    made_alike (q (a ++ (x ++ b)) ++ rest) (q x ++ (q (a ++ b) ++ rest)) (λ measure.
+    let one = sum_by-append measure (q (a ++ (x ++ b))) rest in
+    let two = ap (sum_by measure) (quartered-append period d a (x ++ b)) ∙ sum_by-append measure (q a) (q (x ++ b)) in
+    let three = ap (sum_by measure) (quartered-append period d x b) ∙ sum_by-append measure (q x) (q b) in
+    let four = sum_by-append measure (q x) (q (a ++ b) ++ rest) in
+    let five = sum_by-append measure (q (a ++ b)) rest in
+    let six = ap (sum_by measure) (quartered-append period d a b) ∙ sum_by-append measure (q a) (q b) in
+    omega (arith, one, two, three, four, five, six))
+
+-- Energies with three parts.
+pub three_up : (a x b : List Pair) → (energy_over (a ++ (x ++ b))).up ≡ (energy_over a).up + ((energy_over x).up + (energy_over b).up)
+three_up a x b = ap (λ (e : Energy). e.up) (energy_over-append a (x ++ b)) ∙ ap (λ (e : Energy). (energy_over a).up + e.up) (energy_over-append x b)
+
+pub three_down : (a x b : List Pair) → (energy_over (a ++ (x ++ b))).down ≡ (energy_over a).down + ((energy_over x).down + (energy_over b).down)
+three_down a x b = ap (λ (e : Energy). e.down) (energy_over-append a (x ++ b)) ∙ ap (λ (e : Energy). (energy_over a).down + e.down) (energy_over-append x b)
+
+-- How many pairs readings in a row make.
+pub followed_few : (rs : List MeterReading) → length (followed rs) ≤ length rs
+followed_few [] = omega arith
+followed_few (r ∷ []) = omega arith
+followed_few (r ∷ s ∷ rs) = let rest = followed_few (s ∷ rs) in omega (arith, rest)
+
+pub followed_fewer : (r : MeterReading) (rs : List MeterReading) → length (followed (r ∷ rs)) ≡ length rs
+followed_fewer r [] = refl
+followed_fewer r (s ∷ rs) = let rest = followed_fewer s rs in omega (arith, rest)
+
+-- A little more of it.
+pub few_more : (most more : ℕ) (d : Direction) (e f : Energy) (rest : List Flowed) → AreFew most d e rest → f.up ≤ e.up + greatest_reading * more → f.down ≤ e.down + greatest_reading * more → AreFew (most + more) d f rest
+few_more most more Import e f rest few up down = record {
+  up = omega (arith, few.up, up);
+  down = omega (arith, few.down, down);
+  export_up = omega (arith, few.export_up);
+  export_down = omega (arith, few.export_down);
+}
+few_more most more Export e f rest few up down = record {
+  up = omega (arith, few.up);
+  down = omega (arith, few.down);
+  export_up = omega (arith, few.export_up, up);
+  export_down = omega (arith, few.export_down, down);
+}
+
+-- There is room for pairs beside these.
+pub has_room : (period : ℕ) (d : Direction) (ps : List Pair) (rest : List Flowed) (n most : ℕ) (t : Table) → t.rows ≡ rows_of (quartered period d ps ++ rest) → length ps + length rest + n ≤ t.capacity → t.capacity ≤ most_readings
+    → AreFew most d (energy_over ps) rest → most + n ≤ 2 * most_readings → HasRoom n t
+has_room period d ps rest n most t rows room few_rows few small =
+    let mine = quartered period d ps in
+    let own = total_quartered period d ps in
+    let ups = sum_by-append (λ (f : Flowed). f.1.flow.up) mine rest in
+    let downs = sum_by-append (λ (f : Flowed). f.1.flow.down) mine rest in
+    let export_ups = sum_by-append (λ (f : Flowed). f.1.export.up) mine rest in
+    let export_downs = sum_by-append (λ (f : Flowed). f.1.export.down) mine rest in (
+      mine ++ rest,
+      record {
+        rows = rows;
+        room = omega (arith, room, length-append mine rest, long period d ps);
+        up = omega (arith, ups, ap (λ (e : Flows). e.flow.up) own, few.up, small);
+        down = omega (arith, downs, ap (λ (e : Flows). e.flow.down) own, few.down, small);
+        export_up = omega (arith, export_ups, ap (λ (e : Flows). e.export.up) own, few.export_up, small);
+        export_down = omega (arith, export_downs, ap (λ (e : Flows). e.export.down) own, few.export_down, small);
+        few = few_rows;
+      },
+    )
+
+-- Each is below a rank.
+abbrev pub AreUnder : ℕ → List Timed → Type 0
+AreUnder r [] = Unit {0}
+AreUnder r (t ∷ ts) = (t.0 < r) × AreUnder r ts
+
+-- Each of the second is above all of the first.
+abbrev pub AreOver : List Timed → List Timed → Type 0
+AreOver ts [] = Unit {0}
+AreOver ts (x ∷ xs) = AreUnder x.0 ts × AreOver ts xs
+
+-- Each of the first is below all of the second.
+abbrev pub AreInFront : List Timed → List Timed → Type 0
+AreInFront [] us = Unit {0}
+AreInFront (x ∷ xs) us = AreBehind x.0 us × AreInFront xs us
+
+pub under-more : (m n : ℕ) (ts : List Timed) → m ≤ n → AreUnder m ts → AreUnder n ts
+under-more m n [] le h = tt
+under-more m n (t ∷ ts) le h = (let a = h.0 in omega (arith, a, le), under-more m n ts le h.1)
+
+pub behind-less : (m n : ℕ) (ts : List Timed) → m ≤ n → AreBehind n ts → AreBehind m ts
+behind-less m n [] le h = tt
+behind-less m n (t ∷ ts) le h = (let a = h.0 in omega (arith, a, le), behind-less m n ts le h.1)
+
+pub under-append : (n : ℕ) (ts us : List Timed) → AreUnder n ts → AreUnder n us → AreUnder n (ts ++ us)
+under-append n [] us h k = k
+under-append n (t ∷ ts) us h k = (h.0, under-append n ts us h.1 k)
+
+pub behind-parts : (n : ℕ) (ts us : List Timed) → AreBehind n (ts ++ us) → AreBehind n ts × AreBehind n us
+behind-parts n [] us h = (tt, h)
+behind-parts n (t ∷ ts) us h = let rest = behind-parts n ts us h.1 in ((h.0, rest.0), rest.1)
+
+-- One that stands behind all of a front.
+put-under : (x : Timed) (ts us : List Timed) → AreUnder x.0 ts → put_in_time at x (ts ++ us) ≡ ts ++ put_in_time at x us
+put-under x [] us h = refl
+put-under x (t ∷ ts) us h = put-behind at x t (ts ++ us) h.0 ∙ ap (λ l. t ∷ l) (put-under x ts us h.1)
+
+-- One that stands in front of all.
+put-over : (x : Timed) (us : List Timed) → AreBehind x.0 us → put_in_time at x us ≡ x ∷ us
+put-over x [] h = refl
+put-over x (u ∷ us) h = put-front at x u us (let a = h.0 in omega (arith, a))
+
+-- One that stands in front of all of a back.
+put-before : (x : Timed) (ts us : List Timed) → AreBehind x.0 us → put_in_time at x (ts ++ us) ≡ put_in_time at x ts ++ us
+put-before x [] us h = put-over x us h
+put-before x (t ∷ ts) us h = ⊎_elim
+    (λ (lt : t.0 < x.0). put-behind at x t (ts ++ us) lt ∙ ap (λ l. t ∷ l) (put-before x ts us h) ∙ sym (ap (λ l. l ++ us) (put-behind at x t ts lt)))
+    (λ (ge : x.0 ≤ t.0). put-front at x t (ts ++ us) ge ∙ sym (ap (λ l. l ++ us) (put-front at x t ts ge)))
+    (cases_lt t.0 x.0)
+
+pub put_each-under : (xs ts us : List Timed) → AreOver ts xs → put_each xs (ts ++ us) ≡ ts ++ put_each xs us
+put_each-under [] ts us h = refl
+put_each-under (x ∷ xs) ts us h = ap (put_each xs) (put-under x ts us h.0) ∙ put_each-under xs ts (put_in_time at x us) h.1
+
+pub put_each-before : (xs ts us : List Timed) → AreInFront xs us → put_each xs (ts ++ us) ≡ put_each xs ts ++ us
+put_each-before [] ts us h = refl
+put_each-before (x ∷ xs) ts us h = ap (put_each xs) (put-before x ts us h.0) ∙ put_each-before xs (put_in_time at x ts) us h.1
+
+pub put_each-append : (xs ys ts : List Timed) → put_each (xs ++ ys) ts ≡ put_each ys (put_each xs ts)
+put_each-append [] ys ts = refl
+put_each-append (x ∷ xs) ys ts = put_each-append xs ys (put_in_time at x ts)
+
+over-one : (x : Timed) (xs : List Timed) → AreBehind x.0 xs → AreOver (x ∷ []) xs
+over-one x [] h = tt
+over-one x (y ∷ ys) h = ((h.0, tt), over-one x ys h.1)
+
+-- Several that rise, in front of all.
+pub put_each-row : (xs us : List Timed) → IsRanked xs → AreInFront xs us → put_each xs us ≡ xs ++ us
+put_each-row [] us up h = refl
+put_each-row (x ∷ xs) us up h = ap (put_each xs) (put-over x us h.0) ∙ put_each-under xs (x ∷ []) us (over-one x xs up.0) ∙ ap (λ l. x ∷ l) (put_each-row xs us up.1 h.1)
+
+-- Parts of what rises.
+pub ranked-front : (ts us : List Timed) → IsRanked (ts ++ us) → IsRanked ts
+ranked-front [] us h = tt
+ranked-front (t ∷ ts) us h = ((behind-parts t.0 ts us h.0).0, ranked-front ts us h.1)
+
+pub ranked-back : (ts us : List Timed) → IsRanked (ts ++ us) → IsRanked us
+ranked-back [] us h = h
+ranked-back (t ∷ ts) us h = ranked-back ts us h.1
+
+pub ranked-apart : (ts us : List Timed) → IsRanked (ts ++ us) → AreInFront ts us
+ranked-apart [] us h = tt
+ranked-apart (t ∷ ts) us h = ((behind-parts t.0 ts us h.0).1, ranked-apart ts us h.1)
+
+over-front : (ts us : List Timed) → AreInFront ts us → AreOver ts us
+over-front ts [] h = tt
+over-front ts (u ∷ us) h = (under_first ts us h, over-front ts us (tails ts h))
+  where
+    under_first : (ts us : List Timed) → AreInFront ts (u ∷ us) → AreUnder u.0 ts
+    under_first [] us h = tt
+    under_first (t ∷ ts) us h = (h.0.0, under_first ts us h.1)
+
+    tails : (ts : List Timed) → AreInFront ts (u ∷ us) → AreInFront ts us
+    tails [] h = tt
+    tails (t ∷ ts) h = (h.0.1, tails ts h.1)
+
+-- Those in front of a rank are below it, and those from it on are not.
+pub in_front-under : (k : ℕ) (ts : List Timed) → AreUnder k (in_front k ts)
+in_front-under k [] = tt
+in_front-under k (t ∷ ts) = ⊎_elim
+    (λ (lt : t.0 < k). subst (λ b. AreUnder k (cond b (t ∷ in_front k ts) (in_front k ts))) (sym (lt-ltb t.0 k lt)) (lt, in_front-under k ts))
+    (λ (ge : k ≤ t.0). subst (λ b. AreUnder k (cond b (t ∷ in_front k ts) (in_front k ts))) (sym (le-ltb t.0 k ge)) (in_front-under k ts))
+    (cases_lt t.0 k)
+
+pub in_front-append : (k : ℕ) (ts us : List Timed) → in_front k (ts ++ us) ≡ in_front k ts ++ in_front k us
+in_front-append k ts us = filter-append (λ t. nat_lt t.0 k) ts us
+
+pub in_front-all : (k : ℕ) (ts : List Timed) → AreUnder k ts → in_front k ts ≡ ts
+in_front-all k [] h = refl
+in_front-all k (t ∷ ts) h = ap (λ b. cond b (t ∷ in_front k ts) (in_front k ts)) (lt-ltb t.0 k h.0) ∙ ap (λ l. t ∷ l) (in_front-all k ts h.1)
+
+-- The first readings that fit, and those beyond.
+pub fitting-beyond : (a : Option Timed) (xs : List Timed) → fitting a xs ++ beyond a xs ≡ xs
+fitting-beyond a [] = refl
+fitting-beyond a (x ∷ xs) = elim (fits a x) as (λ b. cond b (x ∷ fitting a xs) [] ++ cond b (beyond a xs) (x ∷ xs) ≡ x ∷ xs) [ true ↦ ap (λ l. x ∷ l) (fitting-beyond a xs) | false ↦ refl ]
+
+-- All that fit stand in front of a row that begins there.
+pub fitting-front : (us xs : List Timed) → IsRanked us → AreInFront (fitting (first_of us) xs) us
+fitting-front [] xs up = nothing (fitting None xs)
+  where
+    nothing : (ys : List Timed) → AreInFront ys []
+    nothing [] = tt
+    nothing (y ∷ ys) = (tt, nothing ys)
+fitting-front (u ∷ us) [] up = tt
+fitting-front (u ∷ us) (x ∷ xs) up = ⊎_elim
+    (λ (lt : x.0 < u.0). subst (λ b. AreInFront (cond b (x ∷ fitting (Some u) xs) []) (u ∷ us)) (sym (lt-ltb x.0 u.0 lt)) ((lt, behind-less x.0 u.0 us (omega (arith, lt)) up.0), fitting-front (u ∷ us) xs up))
+    (λ (ge : u.0 ≤ x.0). subst (λ b. AreInFront (cond b (x ∷ fitting (Some u) xs) []) (u ∷ us)) (sym (le-ltb x.0 u.0 ge)) tt)
+    (cases_lt x.0 u.0)
+
+-- A run in the gap between a front and a back: the front's last reading and the back's first do not pass a test that the run does.
+abbrev pub LastFails : (Timed → Bool) → List Timed → Type 0
+LastFails own [] = Unit {0}
+LastFails own (x ∷ []) = own x ≡ false
+LastFails own (x ∷ y ∷ xs) = LastFails own (y ∷ xs)
+
+abbrev pub FirstFails : (Timed → Bool) → List Timed → Type 0
+FirstFails own [] = Unit {0}
+FirstFails own (x ∷ xs) = own x ≡ false
+
+module _ (own : Timed → Bool) where
+  pub foreign_last : (xs : List Timed) → AreForeign own xs → LastFails own xs
+  foreign_last [] h = tt
+  foreign_last (x ∷ []) h = h.0
+  foreign_last (x ∷ y ∷ xs) h = foreign_last (y ∷ xs) h.1
+
+  pub foreign_first : (xs : List Timed) → AreForeign own xs → FirstFails own xs
+  foreign_first [] h = tt
+  foreign_first (x ∷ xs) h = h.0
+
+  pub last_behind : (xs ys : List Timed) (y : Timed) → LastFails own (y ∷ ys) → LastFails own (xs ++ y ∷ ys)
+  last_behind [] ys y h = h
+  last_behind (x ∷ []) ys y h = h
+  last_behind (x ∷ z ∷ xs) ys y h = last_behind (z ∷ xs) ys y h
+
+  pub foreign_parts : (xs ys : List Timed) → AreForeign own (xs ++ ys) → AreForeign own xs × AreForeign own ys
+  foreign_parts [] ys h = (tt, h)
+  foreign_parts (x ∷ xs) ys h = let rest = foreign_parts xs ys h.1 in ((h.0, rest.0), rest.1)
+
+  pub own_parts : (xs ys : List Timed) → AreOwn own (xs ++ ys) → AreOwn own xs × AreOwn own ys
+  own_parts [] ys h = (tt, h)
+  own_parts (x ∷ xs) ys h = let rest = own_parts xs ys h.1 in ((h.0, rest.0), rest.1)
+
+  -- the run ends at what follows
+  run_ends : (xs back : List Timed) → AreOwn own xs → FirstFails own back → runs_behind true own (xs ++ back) ≡ runs_behind false own back
+  run_ends [] [] mine h = refl
+  run_ends [] (y ∷ ys) mine h = runs_foreign own true y ys h ∙ sym (runs_foreign own false y ys h)
+  run_ends (x ∷ xs) back mine h = let one = runs_own own true x (xs ++ back) mine.0 in let rest = run_ends xs back mine.1 h in omega (arith, one, rest)
+
+  front_runs : (b : Bool) (x : Timed) (front ys zs : List Timed) → LastFails own (x ∷ front) → runs_behind false own ys ≡ runs_behind false own zs + 1 → runs_behind b own (x ∷ (front ++ ys)) ≡ runs_behind b own (x ∷ (front ++ zs)) + 1
+  front_runs b x [] ys zs fails one = runs_foreign own b x ys fails ∙ one ∙ ap (λ n. n + 1) (sym (runs_foreign own b x zs fails))
+  front_runs b x (y ∷ front) ys zs fails one =
+      let rest = front_runs (own x) y front ys zs fails one in
+      omega (arith, rest)
+
+  -- there is one run more
+  pub one_run_more : (front : List Timed) (x : Timed) (xs back : List Timed) → LastFails own front → AreOwn own (x ∷ xs) → FirstFails own back → runs own (front ++ ((x ∷ xs) ++ back)) ≡ runs own (front ++ back) + 1
+  one_run_more [] x xs back fails mine first = let one = runs_own own false x (xs ++ back) mine.0 in let rest = run_ends xs back mine.1 first in omega (arith, one, rest)
+  one_run_more (y ∷ front) x xs back fails mine first =
+      let one : runs_behind false own ((x ∷ xs) ++ back) ≡ runs_behind false own back + 1 = (let a = runs_own own false x (xs ++ back) mine.0 in let b = run_ends xs back mine.1 first in omega (arith, a, b)) in
+      front_runs false y front ((x ∷ xs) ++ back) back fails one
+
+-- The last reading, without its rank.
+pub last_bare : (ts : List Timed) → bare_one (last_of ts) ≡ last_reading (bare ts)
+last_bare ts = got ts (length ts - 1) ∙ ap (λ n. slice_get (bare ts) (n - 1)) (sym (length-map ts (λ (t : Timed). t.1)))
+  where
+    got : (ts : List Timed) (n : ℕ) → bare_one (slice_get ts n) ≡ slice_get (bare ts) n
+    got [] n = refl
+    got (t ∷ ts) zero = refl
+    got (t ∷ ts) (suc n) = got ts n
+
+pub first_bare : (ts : List Timed) → bare_one (first_of ts) ≡ first_reading (bare ts)
+first_bare [] = refl
+first_bare (t ∷ ts) = refl
+
+last_cons : (x y : Timed) (ys : List Timed) → last_of (x ∷ y ∷ ys) ≡ last_of (y ∷ ys)
+last_cons x y ys =
+    let a : length (x ∷ y ∷ ys) - 1 ≡ length (y ∷ ys) = omega arith in let b : length (y ∷ ys) - 1 ≡ length ys = omega arith in
+    ap (slice_get (x ∷ y ∷ ys)) a ∙ sym (ap (slice_get (y ∷ ys)) b)
+
+pub last-append : (xs ys : List Timed) (y : Timed) → last_of (xs ++ y ∷ ys) ≡ last_of (y ∷ ys)
+last-append [] ys y = refl
+last-append (x ∷ []) ys y = last_cons x y ys
+last-append (x ∷ z ∷ xs) ys y = last_cons x z (xs ++ y ∷ ys) ∙ last-append (z ∷ xs) ys y

@@ -1,0 +1,40 @@
+use Rattle.std.proofs.Common.{sym, subst, arith}
+use Rattle.event_chain.specs.Chains.{stored}
+use Rattle.station_ledger.specs.Moved.{IsExchanged}
+use Rattle.station_ledger.specs.Quarters.{IsWork}
+use Rattle.station_ledger.specs.Spent.{most_more}
+use Rattle.station_ledger.specs.Sums.{AreQuarterRows, order_of}
+use Rattle.station_ledger.proofs.Exchanges.{rows_by, comes_in_time, comes_in_turn}
+use Rattle.station_ledger.proofs.Settled.{gone_held, came_room, table_filled, exchanged}
+use Rattle.station_ledger.proofs.sums.add_pairs_of.Goals as goal
+
+pub put_event-requires : goal.put_event-requires
+put_event-requires c = let h = c.requires.to_come in (h.0, comes_in_time c.in-Some.is c.requires.within h.1.1)
+
+pub returns-in-Some-clause-exchanged : goal.returns-in-Some-clause-exchanged
+returns-in-Some-clause-exchanged c es names h =
+    subst (λ b. IsExchanged (order_of b) c.args.key.now.tx es (stored c.args.chains.now) c.put_event.result.less c.put_event.result.more) (sym c.in-Some.is)
+    (c.put_event.ensures.exchanged es (comes_in_time c.in-Some.is c.requires.within h))
+
+pub take_gap-less-requires : goal.take_gap-less-requires
+take_gap-less-requires c = let h = c.requires.to_come.1.1 in gone_held (comes_in_turn c.in-None.is c.requires.within h) (rows_by c.args.sums.now c.in-None.is h.summed.by_quarter)
+
+pub add_own-more-requires-clause-room : goal.add_own-more-requires-clause-room
+add_own-more-requires-clause-room c = let h = c.requires.to_come.1.1 in came_room (comes_in_turn c.in-None.is c.requires.within h) (rows_by c.args.sums.now c.in-None.is h.summed.by_quarter) c.take_gap-less.ensures.quarters
+
+pub returns-in-None-clause-rows : goal.returns-in-None-clause-rows
+returns-in-None-clause-rows c =
+    let h = c.requires.to_come.1.1 in let sums = c.args.sums.now in let chains = c.args.chains.now in
+    subst (λ b. AreQuarterRows (order_of b) chains.limits (stored chains) sums.period c.add_own-more.new.quarters) (sym c.in-None.is)
+    (table_filled (comes_in_turn c.in-None.is c.requires.within h) (rows_by sums c.in-None.is h.summed.by_quarter) c.take_gap-less.ensures.quarters c.add_own-more.ensures.quarters)
+
+pub returns-in-None-clause-exchanged : goal.returns-in-None-clause-exchanged
+returns-in-None-clause-exchanged c es names h =
+    subst (λ b. IsExchanged (order_of b) c.args.key.now.tx es (stored c.args.chains.now) c.take_gap-less.result c.add_own-more.result) (sym c.in-None.is)
+    (exchanged (comes_in_turn c.in-None.is c.requires.within h) c.take_gap-less.ensures.sums c.add_own-more.ensures.sums)
+
+pub returns-in-None-clause-work : goal.returns-in-None-clause-work
+returns-in-None-clause-work c =
+    let ch = comes_in_turn c.in-None.is c.requires.within c.requires.to_come.1.1 in let less = c.take_gap-less.ensures.work in let more = c.add_own-more.ensures.work in
+    subst (λ b. IsWork (most_more (order_of b) c.args.chains.now c.args.key.now) c.args.work.now c.add_own-more.new.work) (sym c.in-None.is)
+    (record { bound = omega (arith, less.bound, more.bound, ch.few); grows = omega (arith, less.grows, more.grows) })

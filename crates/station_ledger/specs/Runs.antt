@@ -1,0 +1,116 @@
+-- An event's readings among the others of its transaction, run by run.
+use Rattle.std.specs.Prelude.{◌≡◌, ◌==◌, ℕ, ◌+◌, ◌*◌, ◌^◌, ◌<◌, ◌≤◌, Bool, List, ◌++◌, length}
+use Rattle.std.specs.List.{AllByRecursion}
+use Rattle.energy_flow.specs.Flow.{Energy}
+use Rattle.ledger_model.specs.Board.{Flowed}
+use Rattle.ledger_model.specs.declared.reading.Direction.{Direction}
+use Rattle.ledger_model.specs.Energy.{Pair, energy_over, flows_toward, followed}
+use Rattle.ledger_model.specs.InTime.{runs}
+use Rattle.ledger_model.specs.Ranges.{greatest_reading, most_event_readings, most_readings}
+use Rattle.ledger_model.proofs.RunLemmas.{AreForeign, AreOwn}
+use Rattle.quarter_table.specs.Pairs.{rows_of, total}
+use Rattle.quarter_table.specs.Table.{Table}
+use Rattle.event_chain.specs.Chains.{Chained}
+use Rattle.ledger_model.specs.Key.{KeyName}
+use Rattle.reading_index.specs.Ranks.{number_of, owner, owner_of}
+use Rattle.reading_index.specs.Timed.{Timed, TimedReadings, IsRanked, owned}
+use Rattle.station_ledger.specs.declared.by_moment.Moved.{Moved}
+use Rattle.station_ledger.specs.ByMoment.{bare, listed_of, put_each, take_each, ArePuttable}
+use Rattle.station_ledger.specs.Quarters.{IsAdded, IsTaken, IsWork, quartered, readings_at}
+
+-- Tells whether a reading is of the event of a number.
+abbrev pub own_timed : ℕ → Timed → Bool
+own_timed seq t = number_of t.0 == seq
+
+-- What the pairs of a direction and others add up to is no more than so many readings can show, in each part.
+pub record AreFew (most : ℕ) (d : Direction) (e : Energy) (rest : List Flowed) : Type 0 where
+  pub up : (flows_toward d e).flow.up + (total rest).flow.up ≤ greatest_reading * most
+  pub down : (flows_toward d e).flow.down + (total rest).flow.down ≤ greatest_reading * most
+  pub export_up : (flows_toward d e).export.up + (total rest).export.up ≤ greatest_reading * most
+  pub export_down : (flows_toward d e).export.down + (total rest).export.down ≤ greatest_reading * most
+
+-- The pairs of readings without their ranks.
+abbrev pub pairs_among : List Timed → List Pair
+pairs_among ts = followed (bare ts)
+
+-- An event's readings by rank, none of which is among the others of their owner; and quarters of these pairs of the owner and the rest.
+pub record AreApart (o seq period : ℕ) (d : Direction) (readings others : List Timed) (ps : List Pair) (t : Table) (rest : List Flowed) : Type 0 where
+  pub owned_by : AllByRecursion (λ r. owner_of r.0 ≡ o) readings
+  pub own : AreOwn (own_timed seq) readings
+  pub foreign : AreForeign (own_timed seq) others
+  pub rising : IsRanked readings
+  pub sorted : IsRanked others
+  pub small : length readings ≤ most_event_readings
+  pub rows : t.rows ≡ rows_of (quartered period d ps ++ rest)
+  pub room : length others + length readings + length rest ≤ t.capacity + 1
+  pub few_rows : t.capacity ≤ most_readings
+  pub few : AreFew most_readings d (energy_over ps) rest
+
+-- The quarters have other pairs of the owner in place of these, and what went and came tells the difference.
+pub record AreExchanged (period : ℕ) (d : Direction) (old new : List Pair) (rest : List Flowed) (next : Table) (m : Moved) : Type 0 where
+  pub rows : next.rows ≡ rows_of (quartered period d new ++ rest)
+  pub up : (energy_over new).up + m.less.up ≡ (energy_over old).up + m.more.up
+  pub down : (energy_over new).down + m.less.down ≡ (energy_over old).down + m.more.down
+  pub more_up : m.more.up ≤ greatest_reading * (2 * most_event_readings)
+  pub more_down : m.more.down ≤ greatest_reading * (2 * most_event_readings)
+
+-- Some pairs of a direction were taken out of the quarters, and then others added.
+pub record AreSwapped (period : ℕ) (d : Direction) (gone came : List Pair) (old new : Table) (before after : ℕ) (m : Moved) : Type 0 where
+  pub left : Table
+  pub meanwhile : ℕ
+  pub taken : IsTaken period d gone old left before meanwhile m.less
+  pub added : IsAdded period d came left new meanwhile after m.more
+
+-- The readings of a transaction's slot and a direction.
+abbrev pub side : ℕ → Direction → TimedReadings → List Timed
+side slot d index = owned (owner slot d) index.entries
+
+-- The same with those of an event.
+abbrev pub with_listed : ℕ → Direction → Chained → KeyName → TimedReadings → List Timed
+with_listed slot d chains key index = put_each (listed_of slot d chains key) (side slot d index)
+
+-- An index without them.
+abbrev pub without_listed : ℕ → Direction → Chained → KeyName → TimedReadings → TimedReadings
+without_listed slot d chains key index = record index { entries = take_each (listed_of slot d chains key) index.entries }
+
+-- An event's readings of a direction are none of a side, and the quarters have these pairs of the side and the rest.
+abbrev pub IsSide : ℕ → ℕ → Direction → Chained → KeyName → List Timed → List Pair → Table → List Flowed → Type 0
+IsSide slot period d chains key others ps t rest = AreApart (owner slot d) key.seq period d (listed_of slot d chains key) others ps t rest
+
+-- The most differences that they evaluate: one for each, and two for each run in which they stand.
+abbrev pub most_listed : ℕ → Direction → Chained → KeyName → TimedReadings → ℕ
+most_listed slot d chains key index = length (listed_of slot d chains key) + 2 * runs (own_timed key.seq) (with_listed slot d chains key index)
+
+-- The readings of a direction of the event of a key were put in under a slot, and their pairs.
+pub record ArePutIn (slot period : ℕ) (d : Direction) (chains : Chained) (key : KeyName) (index next : TimedReadings) (t u : Table) (w v : ℕ) (m : Moved) : Type 0 where
+  pub entries : next.entries ≡ put_each (listed_of slot d chains key) index.entries
+  pub capacity : next.capacity ≡ index.capacity
+  pub room : u.capacity ≡ t.capacity
+  pub moved : (rest : List Flowed) → IsSide slot period d chains key (side slot d index) (pairs_among (side slot d index)) t rest → AreExchanged period d (pairs_among (side slot d index)) (pairs_among (with_listed slot d chains key index)) rest u m
+  pub work : (rest : List Flowed) → IsSide slot period d chains key (side slot d index) (pairs_among (side slot d index)) t rest → IsWork (most_listed slot d chains key index) w v
+
+-- They were taken out, and their pairs.
+pub record AreTakenOut (slot period : ℕ) (d : Direction) (chains : Chained) (key : KeyName) (index next : TimedReadings) (t u : Table) (w v : ℕ) (m : Moved) : Type 0 where
+  pub entries : next.entries ≡ take_each (listed_of slot d chains key) index.entries
+  pub capacity : next.capacity ≡ index.capacity
+  pub room : u.capacity ≡ t.capacity
+  pub moved : (rest : List Flowed) → IsSide slot period d chains key (side slot d next) (pairs_among (with_listed slot d chains key next)) t rest → AreExchanged period d (pairs_among (with_listed slot d chains key next)) (pairs_among (side slot d next)) rest u m
+  pub work : (rest : List Flowed) → IsSide slot period d chains key (side slot d next) (pairs_among (with_listed slot d chains key next)) t rest → IsWork (most_listed slot d chains key next) w v
+
+-- The readings of a direction of the event of a key can be listed.
+pub record CanList (slot : ℕ) (d : Direction) (chains : Chained) (key : KeyName) (room : ℕ) : Type 0 where
+  pub slot_small : slot < 2 ^ 24
+  pub few : length (readings_at d chains key) ≤ most_event_readings
+  pub list_room : most_event_readings ≤ room
+
+-- They can be put in.
+pub record CanPutIn (slot period : ℕ) (d : Direction) (chains : Chained) (key : KeyName) (index : TimedReadings) (t : Table) : Type 0 where
+  pub rest : List Flowed
+  pub apart : IsSide slot period d chains key (side slot d index) (pairs_among (side slot d index)) t rest
+  pub room : length index.entries + length (listed_of slot d chains key) ≤ index.capacity
+  pub puttable : ArePuttable (listed_of slot d chains key) index.entries
+
+-- They can be taken out.
+pub record CanTakeOut (slot period : ℕ) (d : Direction) (chains : Chained) (key : KeyName) (index : TimedReadings) (t : Table) : Type 0 where
+  pub rest : List Flowed
+  pub apart : let next = without_listed slot d chains key index in IsSide slot period d chains key (side slot d next) (pairs_among (with_listed slot d chains key next)) t rest

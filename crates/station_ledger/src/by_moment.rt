@@ -1,0 +1,537 @@
+//! The live readings of a station by moment, and what one event moves among their pairs.
+ghost use Rattle.std.specs.Prelude.{◌≡◌, ◌≤◌, ◌<◌, ◌+◌, ◌*◌, ◌^◌, ℕ, List, [], None, IfOk, drop, length, take, vec_capacity, vec_len};
+ghost use Rattle.event_chain.specs.Chains.{stored};
+ghost use Rattle.event_chain.specs.Table.{row_of};
+ghost use Rattle.ledger_model.specs.Board.{Flowed};
+ghost use Rattle.ledger_model.specs.Content.{Entry};
+ghost use Rattle.ledger_model.specs.Deltas.{across, pairs_between};
+ghost use Rattle.ledger_model.specs.InTime.{put_in_time, runs};
+ghost use Rattle.ledger_model.specs.Ranges.{most_event_readings, most_readings};
+ghost use Rattle.ledger_model.specs.declared.order.Order.TheVariants.{Moment};
+ghost use Rattle.quarter_table.specs.Table.{Table};
+ghost use Rattle.reading_index.specs.Timed.{from_on, in_front, owned, IsRanked};
+ghost use Rattle.station_ledger.specs.ByMoment.{bare, bare_one, beyond, fits, fitting, listed_of, put_each, take_each, IsSlotGiven, AreByMoment, ArePuttable};
+ghost use Rattle.station_ledger.specs.Exchange.{IsComing, IsGoing};
+ghost use Rattle.station_ledger.specs.Moved.{IsExchanged};
+ghost use Rattle.station_ledger.specs.Quarters.{HasRoom, HoldsPairs, IsAdded, IsTaken, IsWithout, IsWork, quartered, readings_at};
+ghost use Rattle.station_ledger.specs.Runs.{own_timed, pairs_among, AreApart, AreExchanged, ArePutIn, AreSwapped, AreTakenOut, CanList, CanPutIn, CanTakeOut};
+ghost use Rattle.station_ledger.specs.Spent.{most_in_runs};
+ghost use Rattle.station_ledger.specs.Sums.{AreQuarterRows};
+
+use crate::pairs::{Energies, add_across, take_across};
+use energy_flow::{Flow, Work};
+use event_chain::{Chains, TransactionTable};
+use ledger_model::{
+    ByDirection, Direction, Key, Limits, MAX_EVENT_READINGS, Period, Reading, TxId,
+};
+use quarter_table::QuarterTable;
+use reading_index::{MomentKey, ReadingIndex};
+use std::alloc::{AllocError, Global};
+
+// A reading with its key.
+pub(crate) type KeyedReading = (MomentKey, Reading);
+
+// The reading of an entry.
+fn reading_of(entry: &Option<KeyedReading>) -> Option<Reading>
+    ensures { result ≡ bare_one entry.now }
+{
+    match entry {
+        Some((_, reading)) => Some(*reading),
+        None => None,
+    }
+}
+
+// Tells whether a key comes in front of an entry, or there is none.
+fn is_in_front(reading: &KeyedReading, behind: &Option<KeyedReading>) -> bool
+    ensures { result ≡ fits behind.now reading.now }
+{
+    match behind {
+        Some((key, _)) => reading.0.is_in_front(*key),
+        None => true,
+    }
+}
+
+// How many of the first readings come in front of an entry.
+fn count_in_front(readings: &[KeyedReading], behind: &Option<KeyedReading>) -> usize
+    ensures within { result ≤ length readings.now }
+    ensures run { take result readings.now ≡ fitting behind.now readings.now }
+    ensures rest { drop result readings.now ≡ beyond behind.now readings.now }
+{
+    for place in 0..readings.len() {
+        if !is_in_front(&readings[place], behind) {
+            return place;
+        }
+    }
+    readings.len()
+}
+
+// Adds the pairs that readings in a row make with one another and with those on either side, and answers
+// what they add up to.
+pub(crate) fn add_row(
+    quarters: &mut QuarterTable,
+    period: Period,
+    direction: Direction,
+    before: Option<Reading>,
+    readings: &[KeyedReading],
+    behind: Option<Reading>,
+    work: &mut Work,
+) -> Flow
+    requires { HasRoom (length (pairs_between before (bare readings.now) behind)) quarters.old }
+    ensures { IsAdded period direction (pairs_between before (bare readings.now) behind) quarters.old quarters.new work.old work.new result }
+{
+    let mut total = Flow::zero();
+    let mut last = before;
+    let mut left = readings;
+    while let [first, more @ ..] = left {
+        let (_, reading) = *first;
+        let flow = add_across(quarters, period, direction, last, Some(reading), work);
+        total = total.plus(flow);
+        last = Some(reading);
+        left = more;
+    }
+    let flow = add_across(quarters, period, direction, last, behind, work);
+    total.plus(flow)
+}
+
+// Takes out the pairs that readings in a row make, and answers what they add up to.
+pub(crate) fn take_row(
+    quarters: &mut QuarterTable,
+    period: Period,
+    direction: Direction,
+    before: Option<Reading>,
+    readings: &[KeyedReading],
+    behind: Option<Reading>,
+    work: &mut Work,
+) -> Flow
+    requires holds { HoldsPairs period direction (pairs_between before (bare readings.now) behind) quarters.old }
+    requires few { length (pairs_between before (bare readings.now) behind) ≤ most_readings }
+    ensures { IsTaken period direction (pairs_between before (bare readings.now) behind) quarters.old quarters.new work.old work.new result }
+{
+    let mut total = Flow::zero();
+    let mut last = before;
+    let mut left = readings;
+    while let [first, more @ ..] = left {
+        let (_, reading) = *first;
+        let flow = take_across(quarters, period, direction, last, Some(reading), work);
+        total = total.plus(flow);
+        last = Some(reading);
+        left = more;
+    }
+    let flow = take_across(quarters, period, direction, last, behind, work);
+    total.plus(flow)
+}
+
+// Puts readings in one after the other.
+pub(crate) fn put_all(index: &mut ReadingIndex, readings: &[KeyedReading])
+    requires room { length index.old.entries + length readings.now ≤ index.old.capacity }
+    requires apart { ArePuttable readings.now index.old.entries }
+    ensures entries { index.new.entries ≡ put_each readings.now index.old.entries }
+    ensures capacity { index.new.capacity ≡ index.old.capacity }
+{
+    let mut left = readings;
+    while let [first, more @ ..] = left {
+        let (key, reading) = *first;
+        index.put(key, reading);
+        left = more;
+    }
+}
+
+// Takes readings out one after the other.
+pub(crate) fn take_all(index: &mut ReadingIndex, readings: &[KeyedReading])
+    ensures entries { index.new.entries ≡ take_each readings.now index.old.entries }
+    ensures capacity { index.new.capacity ≡ index.old.capacity }
+{
+    let mut left = readings;
+    while let [first, more @ ..] = left {
+        let (key, _) = *first;
+        index.take(key);
+        left = more;
+    }
+}
+
+// How many readings of a list by rising rank come in front of a key, searched for from the end: the readings
+// of an event nearly always rise.
+fn place_of(listed: &[KeyedReading], key: MomentKey) -> usize
+    requires ranked { IsRanked listed.now }
+    ensures within { result ≤ length listed.now }
+    ensures front { take result listed.now ≡ in_front key listed.now }
+    ensures rest { drop result listed.now ≡ from_on key listed.now }
+{
+    let mut at = listed.len();
+    while at > 0 {
+        if listed[at - 1].0.is_in_front(key) {
+            return at;
+        }
+        at -= 1;
+    }
+    at
+}
+
+// Puts a reading into a list by rising rank.
+fn enter(listed: &mut Vec<KeyedReading>, entry: KeyedReading)
+    requires room { vec_len listed.old < vec_capacity listed.old }
+    requires ranked { IsRanked listed.old.items }
+    ensures items { listed.new.items ≡ put_in_time (λ t. t.0) entry listed.old.items }
+    ensures capacity { vec_capacity listed.old ≤ vec_capacity listed.new }
+{
+    let at = place_of(listed, entry.0);
+    // There is room, so that nothing is asked for.
+    match listed.insert(at, entry) {
+        Ok(()) => (),
+        Err(_) => unreachable!(),
+    }
+}
+
+// Lists the readings of a direction of the event of a key, by rising rank.
+pub(crate) fn list(
+    listed: &mut Vec<KeyedReading>,
+    chains: &Chains,
+    key: &Key,
+    slot: u32,
+    direction: Direction,
+)
+    requires slot { slot < 2 ^ 24 }
+    requires few { length (readings_at direction chains.now key.now) ≤ most_event_readings }
+    requires room { most_event_readings ≤ vec_capacity listed.old }
+    ensures items { listed.new.items ≡ listed_of slot direction chains.now key.now }
+    ensures room { most_event_readings ≤ vec_capacity listed.new }
+{
+    listed.clear();
+    let number = key.seq();
+    let mut place = 0;
+    let mut left = chains.readings(key, direction);
+    while let Some(reading) = left.next() {
+        let at = MomentKey::new(slot, direction, reading.moment(), number, place);
+        enter(listed, (at, reading));
+        place += 1;
+    }
+}
+
+// What went of the pairs of a direction, and what came.
+#[derive(Clone, Copy)]
+pub(crate) struct Moved {
+    pub(crate) less: Flow,
+    pub(crate) more: Flow,
+}
+
+// Takes the pair across a gap back, and adds those that a run of readings makes in it.
+fn fill_gap(
+    quarters: &mut QuarterTable,
+    period: Period,
+    direction: Direction,
+    before: &Option<KeyedReading>,
+    run: &[KeyedReading],
+    behind: &Option<KeyedReading>,
+    work: &mut Work,
+) -> Moved
+    requires holds { HoldsPairs period direction (across (bare_one before.now) (bare_one behind.now)) quarters.old }
+    requires room { (left : Table) → IsWithout (quartered period direction (across (bare_one before.now) (bare_one behind.now))) quarters.old left → HasRoom (length (pairs_between (bare_one before.now) (bare run.now) (bare_one behind.now))) left }
+    ensures { AreSwapped period direction (across (bare_one before.now) (bare_one behind.now)) (pairs_between (bare_one before.now) (bare run.now) (bare_one behind.now)) quarters.old quarters.new work.old work.new result }
+{
+    let less = take_across(
+        quarters,
+        period,
+        direction,
+        reading_of(before),
+        reading_of(behind),
+        work,
+    );
+    let more = add_row(
+        quarters,
+        period,
+        direction,
+        reading_of(before),
+        run,
+        reading_of(behind),
+        work,
+    );
+    Moved { less, more }
+}
+
+// Takes out the pairs that a run of readings makes in a gap, and adds the one across it.
+fn clear_gap(
+    quarters: &mut QuarterTable,
+    period: Period,
+    direction: Direction,
+    before: &Option<KeyedReading>,
+    run: &[KeyedReading],
+    behind: &Option<KeyedReading>,
+    work: &mut Work,
+) -> Moved
+    requires holds { HoldsPairs period direction (pairs_between (bare_one before.now) (bare run.now) (bare_one behind.now)) quarters.old }
+    requires few { length (pairs_between (bare_one before.now) (bare run.now) (bare_one behind.now)) ≤ most_readings }
+    requires room { (left : Table) → IsWithout (quartered period direction (pairs_between (bare_one before.now) (bare run.now) (bare_one behind.now))) quarters.old left → HasRoom (length (across (bare_one before.now) (bare_one behind.now))) left }
+    ensures { AreSwapped period direction (pairs_between (bare_one before.now) (bare run.now) (bare_one behind.now)) (across (bare_one before.now) (bare_one behind.now)) quarters.old quarters.new work.old work.new result }
+{
+    let less = take_row(
+        quarters,
+        period,
+        direction,
+        reading_of(before),
+        run,
+        reading_of(behind),
+        work,
+    );
+    let more = add_across(
+        quarters,
+        period,
+        direction,
+        reading_of(before),
+        reading_of(behind),
+        work,
+    );
+    Moved { less, more }
+}
+
+// Takes back the pairs across the places of an event's readings, which are not in the index, and adds those
+// that they make there.
+fn come(
+    index: &ReadingIndex,
+    quarters: &mut QuarterTable,
+    period: Period,
+    direction: Direction,
+    readings: &[KeyedReading],
+    work: &mut Work,
+) -> Moved
+    requires { (o : ℕ) × (seq : ℕ) × (rest : List Flowed) × AreApart o seq period direction readings.now (owned o index.now.entries) (pairs_among (owned o index.now.entries)) quarters.old rest }
+    ensures moved { (o seq : ℕ) (rest : List Flowed) → AreApart o seq period direction readings.now (owned o index.now.entries) (pairs_among (owned o index.now.entries)) quarters.old rest → AreExchanged period direction (pairs_among (owned o index.now.entries)) (pairs_among (put_each readings.now (owned o index.now.entries))) rest quarters.new result }
+    ensures capacity { quarters.new.capacity ≡ quarters.old.capacity }
+    ensures work { (o seq : ℕ) (rest : List Flowed) → AreApart o seq period direction readings.now (owned o index.now.entries) (pairs_among (owned o index.now.entries)) quarters.old rest → IsWork (length readings.now + 2 * runs (own_timed seq) (put_each readings.now (owned o index.now.entries))) work.old work.new }
+{
+    let mut less = Flow::zero();
+    let mut more = Flow::zero();
+    let mut left = readings;
+    while let [first, ..] = left {
+        let (key, _) = *first;
+        let (before, behind) = index.around(key);
+        let count = count_in_front(left, &behind);
+        let (run, beyond) = left.split_at(count);
+        let moved = fill_gap(quarters, period, direction, &before, run, &behind, work);
+        less = less.plus(moved.less);
+        more = more.plus(moved.more);
+        left = beyond;
+    }
+    Moved { less, more }
+}
+
+// Takes out the pairs that an event's readings, which are no more in the index, made, and adds those across
+// their places.
+fn go(
+    index: &ReadingIndex,
+    quarters: &mut QuarterTable,
+    period: Period,
+    direction: Direction,
+    readings: &[KeyedReading],
+    work: &mut Work,
+) -> Moved
+    requires { (o : ℕ) × (seq : ℕ) × (rest : List Flowed) × AreApart o seq period direction readings.now (owned o index.now.entries) (pairs_among (put_each readings.now (owned o index.now.entries))) quarters.old rest }
+    ensures moved { (o seq : ℕ) (rest : List Flowed) → AreApart o seq period direction readings.now (owned o index.now.entries) (pairs_among (put_each readings.now (owned o index.now.entries))) quarters.old rest → AreExchanged period direction (pairs_among (put_each readings.now (owned o index.now.entries))) (pairs_among (owned o index.now.entries)) rest quarters.new result }
+    ensures capacity { quarters.new.capacity ≡ quarters.old.capacity }
+    ensures work { (o seq : ℕ) (rest : List Flowed) → AreApart o seq period direction readings.now (owned o index.now.entries) (pairs_among (put_each readings.now (owned o index.now.entries))) quarters.old rest → IsWork (length readings.now + 2 * runs (own_timed seq) (put_each readings.now (owned o index.now.entries))) work.old work.new }
+{
+    let mut less = Flow::zero();
+    let mut more = Flow::zero();
+    let mut left = readings;
+    while let [first, ..] = left {
+        let (key, _) = *first;
+        let (before, behind) = index.around(key);
+        let count = count_in_front(left, &behind);
+        let (run, beyond) = left.split_at(count);
+        let moved = clear_gap(quarters, period, direction, &before, run, &behind, work);
+        less = less.plus(moved.less);
+        more = more.plus(moved.more);
+        left = beyond;
+    }
+    Moved { less, more }
+}
+
+// Puts in the readings of a direction of the event of a key under a slot, and their pairs.
+fn put_side(
+    chains: &Chains,
+    index: &mut ReadingIndex,
+    listed: &mut Vec<KeyedReading>,
+    quarters: &mut QuarterTable,
+    period: Period,
+    slot: u32,
+    direction: Direction,
+    key: &Key,
+    work: &mut Work,
+) -> Moved
+    requires list { CanList slot direction chains.now key.now (vec_capacity listed.old) }
+    requires put { CanPutIn slot period direction chains.now key.now index.old quarters.old }
+    ensures put { ArePutIn slot period direction chains.now key.now index.old index.new quarters.old quarters.new work.old work.new result }
+    ensures room { most_event_readings ≤ vec_capacity listed.new }
+{
+    list(listed, chains, key, slot, direction);
+    let moved = come(index, quarters, period, direction, listed, work);
+    put_all(index, listed);
+    moved
+}
+
+// Takes them out, and their pairs.
+fn take_side(
+    chains: &Chains,
+    index: &mut ReadingIndex,
+    listed: &mut Vec<KeyedReading>,
+    quarters: &mut QuarterTable,
+    period: Period,
+    slot: u32,
+    direction: Direction,
+    key: &Key,
+    work: &mut Work,
+) -> Moved
+    requires list { CanList slot direction chains.now key.now (vec_capacity listed.old) }
+    requires take { CanTakeOut slot period direction chains.now key.now index.old quarters.old }
+    ensures taken { AreTakenOut slot period direction chains.now key.now index.old index.new quarters.old quarters.new work.old work.new result }
+    ensures room { most_event_readings ≤ vec_capacity listed.new }
+{
+    list(listed, chains, key, slot, direction);
+    take_all(index, listed);
+    go(index, quarters, period, direction, listed, work)
+}
+
+// The slot of a transaction; where it has none, one is given.
+fn slot_of(slots: &mut TransactionTable, tx: &TxId) -> u32
+    requires { row_of tx.now slots.old.rows ≡ None → length slots.old.rows < slots.old.capacity }
+    ensures { IsSlotGiven tx.now slots.old slots.new result }
+{
+    slots.rows_rise();
+    match slots.get(tx) {
+        Some(row) => row.slot,
+        None => slots.add(tx).slot,
+    }
+}
+
+// What went and came in each direction.
+fn exchange_of(import: Moved, export: Moved) -> Exchange
+    ensures less { result.less ≡ record { import = import.less; export = export.less } }
+    ensures more { result.more ≡ record { import = import.more; export = export.more } }
+{
+    Exchange {
+        less: ByDirection {
+            import: import.less,
+            export: export.less,
+        },
+        more: ByDirection {
+            import: import.more,
+            export: export.more,
+        },
+    }
+}
+
+// The live readings by moment: a slot for each transaction that has a live event, and an index of the
+// readings by slot, direction, moment, number and place. An event's readings are listed before they are
+// moved.
+#[derive(Drop)]
+pub(crate) struct ByMoment {
+    pub(crate) slots: TransactionTable,
+    pub(crate) index: ReadingIndex,
+    pub(crate) listed: Vec<(MomentKey, Reading)>,
+}
+
+// What went and what came, in each direction.
+pub(crate) struct Exchange {
+    pub(crate) less: Energies,
+    pub(crate) more: Energies,
+}
+
+impl ByMoment {
+    // No readings, with room for those of these limits.
+    pub(crate) fn open(alloc: Global, limits: &Limits) -> Result<Self, AllocError>
+        ensures { IfOk result (AreByMoment limits.now []) }
+    {
+        Ok(ByMoment {
+            slots: TransactionTable::open(alloc, limits.transactions())?,
+            index: ReadingIndex::open(alloc, limits.readings())?,
+            listed: Vec::with_capacity(alloc, MAX_EVENT_READINGS)?,
+        })
+    }
+}
+
+// Puts in the readings of a live event that the chains have more, and their pairs.
+pub(crate) fn put_event(
+    chains: &Chains,
+    by_moment: &mut ByMoment,
+    quarters: &mut QuarterTable,
+    period: Period,
+    key: &Key,
+    work: &mut Work,
+) -> Exchange
+    requires { (es : List Entry) × IsComing es chains.now key.now by_moment.old period quarters.old }
+    ensures exchanged { (es : List Entry) → IsComing es chains.now key.now by_moment.old period quarters.old → IsExchanged Moment key.now.tx es (stored chains.now) result.less result.more }
+    ensures rows { AreQuarterRows Moment chains.now.limits (stored chains.now) period quarters.new }
+    ensures timed { AreByMoment chains.now.limits (stored chains.now) by_moment.new }
+    ensures work { IsWork (most_in_runs key.now (stored chains.now)) work.old work.new }
+{
+    let slot = slot_of(&mut by_moment.slots, key.tx());
+    by_moment.slots.rows_rise();
+    let import = put_side(
+        chains,
+        &mut by_moment.index,
+        &mut by_moment.listed,
+        quarters,
+        period,
+        slot,
+        Direction::Import,
+        key,
+        work,
+    );
+    let export = put_side(
+        chains,
+        &mut by_moment.index,
+        &mut by_moment.listed,
+        quarters,
+        period,
+        slot,
+        Direction::Export,
+        key,
+        work,
+    );
+    exchange_of(import, export)
+}
+
+// Takes out the readings of a live event that the chains have no more, and their pairs.
+pub(crate) fn take_event(
+    chains: &Chains,
+    by_moment: &mut ByMoment,
+    quarters: &mut QuarterTable,
+    period: Period,
+    key: &Key,
+    work: &mut Work,
+) -> Exchange
+    requires { (es : List Entry) × IsGoing es chains.now key.now by_moment.old period quarters.old }
+    ensures exchanged { (es : List Entry) → IsGoing es chains.now key.now by_moment.old period quarters.old → IsExchanged Moment key.now.tx es (stored chains.now) result.less result.more }
+    ensures rows { AreQuarterRows Moment chains.now.limits (stored chains.now) period quarters.new }
+    ensures timed { AreByMoment chains.now.limits (stored chains.now) by_moment.new }
+    ensures work { (es : List Entry) → IsGoing es chains.now key.now by_moment.old period quarters.old → IsWork (most_in_runs key.now es) work.old work.new }
+{
+    let tx = key.tx();
+    let slot = slot_of(&mut by_moment.slots, tx);
+    by_moment.slots.rows_rise();
+    let import = take_side(
+        chains,
+        &mut by_moment.index,
+        &mut by_moment.listed,
+        quarters,
+        period,
+        slot,
+        Direction::Import,
+        key,
+        work,
+    );
+    let export = take_side(
+        chains,
+        &mut by_moment.index,
+        &mut by_moment.listed,
+        quarters,
+        period,
+        slot,
+        Direction::Export,
+        key,
+        work,
+    );
+    if chains.live_count(tx) == 0 {
+        by_moment.slots.remove(tx);
+    }
+    exchange_of(import, export)
+}
