@@ -134,12 +134,12 @@ struct Pair {
 }
 
 impl Pair {
-    fn open(alloc: Global, limits: (u64, u64, u64, u64)) -> Option<Self> {
+    fn open(alloc: Global, limits: (u64, u64, u64, u64), order: Order) -> Option<Self> {
         let (transactions, events, readings, changes) = limits;
         let bounds = Limits::new(transactions, events, readings, changes)?;
         Some(Pair {
-            ledger: StationLedger::open(alloc, bounds, Period::default(), Order::Sequence).ok()?,
-            scratch: Scratch::open(alloc, limits),
+            ledger: StationLedger::open(alloc, bounds, Period::default(), order).ok()?,
+            scratch: Scratch::open(alloc, limits, order),
         })
     }
 
@@ -158,6 +158,33 @@ impl Pair {
             Ok(answer)
         } else {
             Err("answer")
+        }
+    }
+
+    // The most differences that the event which is meant may cost as it stands.
+    fn most(&self, alloc: Global, asked: Asked) -> Result<u64, &'static str> {
+        let most = self.scratch.most(alloc, asked.tx, asked.seq);
+        most.ok().ok_or("no memory")
+    }
+
+    // The same, and compares how many differences were evaluated with the most that were allowed: those of
+    // the event where it stands live, before the command or behind it, and none where nothing changed.
+    fn apply_within(
+        &mut self,
+        alloc: Global,
+        asked: Asked,
+        work: &mut Work,
+    ) -> Result<Answer, &'static str> {
+        let (most_before, count) = (self.most(alloc, asked)?, work.count());
+        let answer = self.apply(alloc, asked, work)?;
+        let most = match answer {
+            Answer::Accepted(_) => most_before.max(self.most(alloc, asked)?),
+            _ => 0,
+        };
+        if work.count().wrapping_sub(count) <= most {
+            Ok(answer)
+        } else {
+            Err("work")
         }
     }
 
@@ -205,7 +232,7 @@ fn step(
     draws: &mut Draws,
     work: &mut Work,
 ) -> Result<Answer, &'static str> {
-    let answer = pair.apply(alloc, Asked::draw(draws), work)?;
+    let answer = pair.apply_within(alloc, Asked::draw(draws), work)?;
     pair.compare(alloc)?;
     Ok(answer)
 }
@@ -224,15 +251,16 @@ fn steps(
     pair.compare_boards(alloc)
 }
 
-// Runs a thousand drawn commands, and marks the answers that came.
+// Runs five thousand drawn commands, and marks the answers that came.
 fn run(
     alloc: Global,
     draws: &mut Draws,
     limits: (u64, u64, u64, u64),
+    order: Order,
     seen: &mut [bool; 10],
     work: &mut Work,
 ) -> Result<(), &'static str> {
-    let mut pair = Pair::open(alloc, limits).ok_or("no ledger")?;
+    let mut pair = Pair::open(alloc, limits, order).ok_or("no ledger")?;
     run_on(&mut pair, alloc, draws, seen, work)
 }
 
@@ -244,26 +272,41 @@ fn run_on(
     seen: &mut [bool; 10],
     work: &mut Work,
 ) -> Result<(), &'static str> {
-    for _ in 0..50 {
+    for _ in 0..250 {
         steps(pair, alloc, draws, seen, work)?;
     }
     Ok(())
 }
 
-#[test]
-fn drawn_commands_against_sums_from_scratch(rt: HostRuntime) -> Result<(), Fail> {
-    let mut work = Work::open(&rt);
+// Twenty thousand commands, under four limits: of transactions, events, readings and changes. Five
+// transactions with thirty keys are drawn.
+fn run_all(
+    alloc: Global,
+    order: Order,
+    seen: &mut [bool; 10],
+    work: &mut Work,
+) -> Result<(), &'static str> {
     let mut draws = Draws::from_seed(2_026);
-    let mut seen = [false; 10];
-    // Transactions, events, readings and changes; five transactions with thirty keys are drawn.
     for limits in [
         (5, 30, 100, 1 << 63),
         (3, 30, 60, 150),
         (5, 12, 120, 1 << 63),
         (4, 40, 20, 1 << 63),
     ] {
-        run(rt.alloc(), &mut draws, limits, &mut seen, &mut work)?;
+        run(alloc, &mut draws, limits, order, seen, work)?;
     }
-    assert_eq!(rt; seen, [true; 10]);
+    Ok(())
+}
+
+// Repeats, several readings of one moment, clocks that go back, late events, conflicts, voids, restorations
+// and erasures, by sequence and by moment: answers, sums, boards, and how many differences are evaluated.
+#[test]
+fn drawn_commands_against_sums_from_scratch(rt: HostRuntime) -> Result<(), Fail> {
+    let mut work = Work::open(&rt);
+    for order in [Order::Sequence, Order::Moment] {
+        let mut seen = [false; 10];
+        run_all(rt.alloc(), order, &mut seen, &mut work)?;
+        assert_eq!(rt; seen, [true; 10]);
+    }
     Ok(())
 }

@@ -75,12 +75,22 @@ fn kind(place: u8, drawn: u8) -> Kind {
     }
 }
 
-// A reading of 0 to 7 watt-hours at some minute of four hours; one of three is of the export register.
-fn draw_reading(draws: &mut Draws) -> Told {
+// A reading of 0 to 7 watt-hours at some minute of an hour; one of three is of the export register.
+fn draw_told(draws: &mut Draws) -> Told {
     Told {
-        minute: draws.next(),
+        minute: draws.next() % 60,
         watt_hours: draws.next() % 8,
         exported: draws.next() % 3 == 0,
+    }
+}
+
+// A reading of an event of a transaction. One of four is one of four that its events list again and again.
+fn draw_reading(draws: &mut Draws, tx: u8) -> Told {
+    if draws.next() % 4 == 0 {
+        let listed = draws.next() % 4;
+        draw_told(&mut Draws::from_seed(tx as u64 * 4 + listed as u64))
+    } else {
+        draw_told(draws)
     }
 }
 
@@ -94,9 +104,9 @@ fn draw_event(tx: u8, place: u8, version: u8) -> Sent {
         evse: draws.next() % 4,
         count: draws.next() % 4,
         readings: [
-            draw_reading(&mut draws),
-            draw_reading(&mut draws),
-            draw_reading(&mut draws),
+            draw_reading(&mut draws, tx),
+            draw_reading(&mut draws, tx),
+            draw_reading(&mut draws, tx),
         ],
     }
 }

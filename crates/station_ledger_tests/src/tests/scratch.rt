@@ -1,6 +1,6 @@
 //! A station's events in a plain list, of which all that a ledger shows is summed up from scratch.
 use super::drawn::{Asked, Sent, Told, Wish};
-use ledger_model::{Answer, Kind, Refusal};
+use ledger_model::{Answer, Kind, Order, Refusal};
 use std::alloc::{AllocError, Global};
 
 // Rise and fall of the import register, and of the export register, in milliwatt-hours.
@@ -18,19 +18,28 @@ struct Stored {
     voided: bool,
 }
 
-// The stored events by transaction and number, the limits of transactions, events, readings and changes,
-// and how many commands were accepted.
+// A live reading of a transaction, with the number of its event.
+#[derive(Clone, Copy)]
+struct Placed {
+    seq: u32,
+    told: Told,
+}
+
+// The stored events by transaction and number, the order of readings, the limits of transactions, events,
+// readings and changes, and how many commands were accepted.
 #[derive(Drop)]
 pub(crate) struct Scratch {
     rows: Vec<Stored>,
+    order: Order,
     limits: (u64, u64, u64, u64),
     pub(crate) changes: u64,
 }
 
 impl Scratch {
-    pub(crate) fn open(alloc: Global, limits: (u64, u64, u64, u64)) -> Self {
+    pub(crate) fn open(alloc: Global, limits: (u64, u64, u64, u64), order: Order) -> Self {
         Scratch {
             rows: Vec::new(alloc),
+            order,
             limits,
             changes: 0,
         }
@@ -145,6 +154,25 @@ impl Scratch {
         Ok(answer)
     }
 
+    // The live readings of a transaction in one direction, in their order.
+    fn readings(&self, alloc: Global, tx: u8, exported: bool) -> Result<Vec<Placed>, AllocError> {
+        let mut readings = Vec::new(alloc);
+        for row in &self.rows {
+            if row.tx == tx && !row.voided {
+                put_readings(&mut readings, row, exported, self.order)?;
+            }
+        }
+        Ok(readings)
+    }
+
+    // The most differences that the live event of a number may cost, 0 where there is none: one for each
+    // of its readings, and two for each run in which they stand.
+    pub(crate) fn most(&self, alloc: Global, tx: u8, seq: u32) -> Result<u64, AllocError> {
+        let imported = self.readings(alloc, tx, false)?;
+        let exported = self.readings(alloc, tx, true)?;
+        Ok(most_in_runs(&imported, seq).wrapping_add(most_in_runs(&exported, seq)))
+    }
+
     // What is shown of these events.
     pub(crate) fn sums(&self, alloc: Global) -> Result<Sums, AllocError> {
         let mut sums = Sums::none(alloc);
@@ -155,8 +183,57 @@ impl Scratch {
                 sums.see(alloc, row)?;
             }
         }
+        for line in &mut sums.lines {
+            for exported in [false, true] {
+                let readings = self.readings(alloc, line.tx, exported)?;
+                see_readings(&mut sums.quarters, line, &readings);
+            }
+        }
         Ok(sums)
     }
+}
+
+// How many readings stand in front of the place of one of this minute: by sequence all of them, and by
+// moment those that are not later.
+fn stand_before(readings: &[Placed], minute: u8, order: Order) -> usize {
+    let mut place: usize = 0;
+    for placed in readings {
+        if order == Order::Moment && placed.told.minute > minute {
+            return place;
+        }
+        place = place.wrapping_add(1);
+    }
+    place
+}
+
+// Puts in the readings of a direction of the next event.
+fn put_readings(
+    readings: &mut Vec<Placed>,
+    row: &Stored,
+    exported: bool,
+    order: Order,
+) -> Result<(), AllocError> {
+    for told in row.sent.readings.iter().take(row.sent.count as usize) {
+        let place = stand_before(readings, told.minute, order);
+        if told.exported == exported && place <= readings.len() {
+            let (seq, told) = (row.seq, *told);
+            readings.insert(place, Placed { seq, told })?;
+        }
+    }
+    Ok(())
+}
+
+// One for each reading of the event of a number, and two for each run of them.
+fn most_in_runs(readings: &[Placed], seq: u32) -> u64 {
+    let (mut most, mut is_in_run) = (0u64, false);
+    for placed in readings {
+        let is_own = placed.seq == seq;
+        if is_own {
+            most = most.wrapping_add(if is_in_run { 1 } else { 3 });
+        }
+        is_in_run = is_own;
+    }
+    most
 }
 
 // Tells whether both events are the same; readings that do not count are not compared.
@@ -167,7 +244,7 @@ fn is_same(one: &Sent, other: &Sent) -> bool {
         && one.readings.get(..count) == other.readings.get(..count)
 }
 
-// What is shown of a transaction, its last readings so far, and how many of its events are no Updated.
+// What is shown of a transaction, and how many of its events are no Updated.
 #[derive(Drop)]
 pub(crate) struct Line {
     pub(crate) tx: u8,
@@ -181,8 +258,6 @@ pub(crate) struct Line {
     pub(crate) gaps: Vec<(u32, u32)>,
     started: bool,
     ends: u64,
-    imported: Option<Told>,
-    exported: Option<Told>,
 }
 
 impl Line {
@@ -200,8 +275,6 @@ impl Line {
             gaps: Vec::new(alloc),
             started: row.sent.kind == Kind::Started,
             ends: 0,
-            imported: None,
-            exported: None,
         }
     }
 
@@ -275,7 +348,6 @@ impl Sums {
         }
         if let Some(line) = self.lines.last_mut() {
             line.see(row)?;
-            see_readings(&mut self.quarters, line, &row.sent);
         }
         Ok(())
     }
@@ -313,24 +385,17 @@ impl Sums {
     }
 }
 
-// Takes the readings of a transaction's next event into account.
-fn see_readings(quarters: &mut [Option<Energy>; 18], line: &mut Line, sent: &Sent) {
-    for told in sent.readings.iter().take(sent.count as usize) {
-        let last = if told.exported {
-            line.exported
-        } else {
-            line.imported
-        };
+// Takes the readings of a transaction in one direction into account.
+fn see_readings(quarters: &mut [Option<Energy>; 18], line: &mut Line, readings: &[Placed]) {
+    let mut last: Option<Told> = None;
+    for placed in readings {
+        let told = placed.told;
         if let Some(last) = last {
-            let energy = between(last, *told);
+            let energy = between(last, told);
             line.energy = plus(line.energy, energy);
             let quarter = &mut quarters[told.minute as usize / 15];
             *quarter = Some(plus(quarter.unwrap_or(NO_ENERGY), energy));
         }
-        if told.exported {
-            line.exported = Some(*told);
-        } else {
-            line.imported = Some(*told);
-        }
+        last = Some(told);
     }
 }
