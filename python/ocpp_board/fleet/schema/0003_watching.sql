@@ -1,0 +1,1 @@
+-- Version 3: what an operator watches, roles for each tool, and what is kept.
