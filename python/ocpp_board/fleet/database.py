@@ -270,9 +270,17 @@ def wakes(firsts: Mapping[int, int]) -> Iterator[str]:
 
 
 def woken_by(payload: str) -> dict[int, int]:
-    """The shards that such a payload wakes, each with the number of its first line."""
-    pairs = (word.split(":") for word in payload.split())
-    return {int(shard): int(first) for shard, first in pairs}
+    """The shards that such a payload wakes, each with the number of its first line. Anybody may notify, so what is
+    none is left."""
+    pairs = (word.partition(":") for word in payload.split())
+    return {
+        int(shard): int(first) for shard, _, first in pairs if is_number(shard) and is_number(first)
+    }
+
+
+def is_number(text: str) -> bool:
+    """Whether a text is a number from 0 on that PostgreSQL has room for."""
+    return text.isascii() and text.isdigit() and len(text) < 19
 
 
 def password_or_fault() -> None:

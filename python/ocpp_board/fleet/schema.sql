@@ -7,8 +7,9 @@
 -- What stands here up to "Versions" is version 1, and stays as it is; each later version is a file of schema/, which is
 -- applied once. With `-v to=1` it goes no further than version 1.
 -- The passwords of the roles come from the environment:
--- GATEWAY_PASSWORD, FEED_PASSWORD, WORKER_PASSWORD, READER_PASSWORD, OPERATOR_PASSWORD and PROVISIONER_PASSWORD; a role
--- whose variable is not set gets none.
+-- GATEWAY_PASSWORD, FEED_PASSWORD, WORKER_PASSWORD, READER_PASSWORD, OPERATOR_PASSWORD, PROVISIONER_PASSWORD,
+-- CLOSER_PASSWORD, COMPACTOR_PASSWORD, MOVER_PASSWORD, KEEPER_PASSWORD and BACKUP_PASSWORD; a role whose variable is not
+-- set gets none, or keeps its own.
 --
 -- shard, site, station, log and board are tables over all cells; what lies in this one is own_shard, own_site, own_station,
 -- own_log and own_board, and `see_cell` adds another one's. Gateways and workers use the own ones alone, so that a cell
@@ -1056,6 +1057,11 @@ select :to >= 4 and not exists (select from schema_version where version = 4) as
 \getenv reader_password READER_PASSWORD
 \getenv operator_password OPERATOR_PASSWORD
 \getenv provisioner_password PROVISIONER_PASSWORD
+\getenv closer_password CLOSER_PASSWORD
+\getenv compactor_password COMPACTOR_PASSWORD
+\getenv mover_password MOVER_PASSWORD
+\getenv keeper_password KEEPER_PASSWORD
+\getenv backup_password BACKUP_PASSWORD
 \if :{?gateway_password}
     alter role ledger_gateway password :'gateway_password';
 \endif
@@ -1073,5 +1079,20 @@ select :to >= 4 and not exists (select from schema_version where version = 4) as
 \endif
 \if :{?provisioner_password}
     alter role ledger_provisioner password :'provisioner_password';
+\endif
+\if :{?closer_password}
+    alter role ledger_closer password :'closer_password';
+\endif
+\if :{?compactor_password}
+    alter role ledger_compactor password :'compactor_password';
+\endif
+\if :{?mover_password}
+    alter role ledger_mover password :'mover_password';
+\endif
+\if :{?keeper_password}
+    alter role ledger_keeper password :'keeper_password';
+\endif
+\if :{?backup_password}
+    alter role ledger_backup password :'backup_password';
 \endif
 commit;
