@@ -19,7 +19,7 @@ import json
 import logging
 import secrets
 import time
-from collections import deque
+from collections import Counter, deque
 from collections.abc import Iterable, Sequence
 from typing import Any, NamedTuple
 from urllib.parse import unquote, urlsplit
@@ -28,7 +28,7 @@ import asyncpg
 from websockets.http11 import Request, Response
 from websockets.server import ServerConnection
 
-from ocpp_board.fleet import parts, passwords, station_tls
+from ocpp_board.fleet import metrics, parts, passwords, station_tls
 from ocpp_board.fleet.database import (
     BY_INDEX,
     FORMER,
@@ -614,6 +614,8 @@ class Gateway:
         # The connection of each station, and how many there were.
         self.served: dict[str, StationLink] = {}
         self.let_in = 0
+        # For who watches.
+        self.counts = Counter[str]()
         self.jobs: set[asyncio.Task[None]] = set()
 
     def spawn(self, job: Any) -> None:
@@ -696,6 +698,7 @@ class Gateway:
         for token, answer in answers_in(payload):
             if wait := self.waiting.pop(token, None):
                 wait.link.accepted(wait.text, answer.encode())
+            self.counts["answers" if wait else "unknown"] += 1
 
     async def give_up(self) -> None:
         """Closes the connections of stations that wait for too long, which come again and send again, and of those
@@ -706,6 +709,7 @@ class Gateway:
             for token, wait in list(self.waiting.items()):
                 if wait.link.is_lost or wait.since < now - self.words.wait:
                     del self.waiting[token]
+                    self.counts["sent_away"] += not wait.link.is_lost
                     wait.link.close(1013, "no answer yet, try again")
             for link in list(self.links):
                 if not link.has_asked and link.began < now - HANDSHAKE:
@@ -719,6 +723,7 @@ class Gateway:
         if self.words.open:
             log.warning("--open: each station of the plan is let in without a password")
         self.certificates.follow()
+        metrics.serve(self.words.metrics, metrics.gateway_watch(self))
         jobs = [
             asyncio.create_task(job)
             for job in (*(cell.run() for cell in self.cells), self.own.run(), self.give_up())
@@ -763,6 +768,7 @@ def main(argv: Sequence[str], prog: str) -> int:
         help="a proxy before it, which tells the address of a station in X-Forwarded-For",
     )
     station_tls.add_options(parser)
+    metrics.add_option(parser)
     parser.add_argument(
         "--open",
         action="store_true",
