@@ -338,7 +338,7 @@ class WorkerSeen:
         shards = list(session.shards.values()) if session else []
         yield family("worker_connected", session is not None)
         yield family("worker_beat_age_seconds", now - self.beat)
-        yield family("worker_shards", len(shards))
+        yield family("worker_shards", len(shards), cell=self.cell.get("cell", ""))
         waits = 0.0 if self.standby_since is None else now - self.standby_since
         yield family("worker_standby_wait_seconds", waits)
         for name in (
