@@ -97,6 +97,7 @@ PARTS = (
     ),
     ("own_archived_lines", "site, closing, station, transaction, lines", "transaction"),
     ("own_compaction", "at, removed", "at"),
+    ("own_forgotten", "site, closing, at", "closing"),
 )
 
 

@@ -136,6 +136,18 @@ grant update (plan) on own_shard to ledger_closer;
 grant update (freed) on numbering to ledger_closer;
 create policy closings on own_log for delete to ledger_closer using (true);
 
+-- Which archives, with the lines that their closing packed, have no token of a driver any more.
+create table own_forgotten (
+    shard integer not null,
+    site text not null,
+    closing integer not null,
+    at timestamptz not null default now(),
+    primary key (shard, site, closing),
+    foreign key (shard, site, closing) references own_closing on delete cascade
+);
+grant select on own_forgotten to ledger_reader;
+grant select, insert on own_forgotten to ledger_keeper;
+
 -- A keeper rewrites lines, and can put none in and take none out.
 grant update (line) on own_log to ledger_keeper;
 create policy kept on own_log for update to ledger_keeper using (true) with check (true);
@@ -143,7 +155,6 @@ grant update (lines) on own_archived_lines to ledger_keeper;
 grant select (shard, id, at, line), update (line) on inbox_kept to ledger_keeper;
 create policy kept on inbox_kept to ledger_keeper using (true) with check (true);
 grant select, update (line) on stray to ledger_keeper;
-grant select, update (what) on own_refusal to ledger_keeper;
 
 -- A move carries all that a shard has.
 do $$
