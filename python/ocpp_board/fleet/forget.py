@@ -4,10 +4,10 @@
     PGPASSWORD=.. ocpp-board forget --db postgresql://ledger_keeper@a/ledger --archive FOLDER --token 04A2F7C1
 
 --after takes all tokens out of what came so many days ago or was archived then, and is for a timer; --token one of
-them out of all, at once, whatever its letters. Of a message all else stays as it was written. The ledger looks into no token,
-so before anything is changed a replay of what was and one of what will be have to give the same answers and the same
-boards. A station that sends the original once more is answered as before; that repeat has the token again, until the
-next compaction, closing or run of --after.
+them out of all, at once, whatever its letters. Of a message all else stays as it was written. The ledger looks into no
+token, so before anything is changed a replay of what was and one of what will be have to give the same answers and the
+same boards. A station that sends the original once more is answered as before; that repeat has the token again, until
+the next compaction, closing or run of --after.
 
 It may end at any time: call it again. Backups have tokens until they are removed.
 """

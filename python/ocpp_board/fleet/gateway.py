@@ -8,7 +8,7 @@ no answer the gateway appends again where its session with the database ends. Wh
 a `replay` of the gateway's own and not kept. It keeps nothing: stations send again what has no answer.
 
 A station is let in by HTTP Basic, with its name and the password that `ocpp-board password` set; with --open each one
-of the plan is, and with --client-ca who has a certificate of its name.
+of the plan is, and with --client-ca or --client-header who has a certificate of its name.
 """
 
 import argparse
@@ -323,7 +323,7 @@ class Cell:
                 found = {row["station"]: row["shard"] for row in rows}
                 self.gateway.move_in(self, found, set())
                 stored = dict[str, list[Any]]()
-                if not (self.gateway.words.open or self.gateway.words.client_ca):
+                if not (self.gateway.words.open or station_tls.is_asked(self.gateway.words)):
                     for row in await within(ANSWER, session, "fetch", PASSWORDS, list(sought)):
                         stored.setdefault(row["station"], []).append(row)
             except BaseException:
@@ -444,9 +444,9 @@ class StationLink(Link):
         self.name = station_in(event.path)
         given = passwords.taken_from(event.headers, self.name)
         is_open = self.gateway.words.open
-        if self.gateway.words.client_ca:
-            certificate = self.transport.get_extra_info("peercert")
-            if station_tls.common_name(certificate) != self.name:
+        if station_tls.is_asked(self.gateway.words):
+            own = station_tls.name_of(self.gateway.words, self.transport, event.headers)
+            if own != self.name:
                 return self.reject(
                     http.HTTPStatus.FORBIDDEN, "the certificate is of another name\n"
                 )
@@ -778,6 +778,7 @@ def main(argv: Sequence[str], prog: str) -> int:
 
     async def run() -> None:
         known_lines(words.program)  # A program that is not there is told before anything begins.
+        station_tls.header_or_fault(words)
         await Gateway(words).run()
 
     parts.use_uvloop()
