@@ -4,8 +4,9 @@
 
 It starts PostgreSQL 15 in a temporary folder, makes certificates by `openssl`, and plays stations by TLS 1.2 and 1.3,
 without TLS, while the gateway's certificate is changed, and with certificates of their own, of others and of another
-authority. Where nginx is installed the same goes by way of it, which hands on whose certificate a station has: a station
-or a stranger beside it that says so by itself is not believed. The status is 1 where something is not as it must be.
+authority. Where nginx is installed the same goes by way of it, which hands on whose certificate a station has: a
+station or a stranger beside it that says so by itself is not believed. The status is 1 where something is not as it
+must be.
 """
 
 import argparse

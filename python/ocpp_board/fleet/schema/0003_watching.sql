@@ -35,17 +35,24 @@ begin
     end loop;
 end $$;
 
--- What a role of version 1 may call is granted to it.
-revoke execute on function begin_numbering(), check_zone(), plan_changed(), keep_station(), password_changed(), keep_line(),
-    free_places(), retire_station(text, date), add_station(integer, text, text, boolean),
-    operate(text, text, text, bigint, text, bigint), living_workers(), hold_shard(integer), release_shard(integer),
-    reserve_shard(integer), show_board(integer, text, bigint, bigint, bigint, text, text[]),
-    show_stations(integer, text, bigint, bigint, jsonb) from public;
-revoke execute on procedure see_cell(smallint, text, text, text, text) from public;
-grant execute on function operate(text, text, text, bigint, text, bigint) to ledger_operator;
-grant execute on function living_workers(), hold_shard(integer), release_shard(integer),
-    show_board(integer, text, bigint, bigint, bigint, text, text[]), show_stations(integer, text, bigint, bigint, jsonb)
-    to ledger_worker;
+-- Of the schema's own functions nobody may call one that is not granted to it.
+do $$
+declare
+    one regprocedure;
+    role_name text;
+begin
+    for one in select p.oid::regprocedure from pg_proc p, aclexplode(coalesce(proacl, acldefault('f', proowner))) a
+            where pronamespace = 'public'::regnamespace and a.grantee = 0
+                and not exists (select from pg_depend d where d.objid = p.oid and d.deptype = 'e') loop
+        execute format('revoke execute on routine %s from public', one);
+        role_name := case one::oid::regproc::text when 'operate' then 'ledger_operator' when 'living_workers' then 'ledger_worker'
+            when 'hold_shard' then 'ledger_worker' when 'release_shard' then 'ledger_worker'
+            when 'show_board' then 'ledger_worker' when 'show_stations' then 'ledger_worker' end;
+        if role_name is not null then
+            execute format('grant execute on function %s to %I', one, role_name);
+        end if;
+    end loop;
+end $$;
 grant execute on function reserve_shard(integer) to ledger_worker, ledger_closer, ledger_compactor, ledger_mover, ledger_keeper;
 
 -- Holding a shard ----------------------------------------------------------------------------------------------------
