@@ -99,7 +99,7 @@ class Demo(ClosingTrial):
             and all(answer.startswith("[4,") for answer in answers[-3:]),
             f"sessions with tokens, and what is refused: {odd}",
         )
-        await self.closed("a day", "2026-03-01", "2 transactions archived")
+        await self.closed("a day", "2026-03-02", "2 transactions archived")
         # More comes for an archived session, and waits for the next closing.
         late = session("A", "TX-1", local("2026-03-01 08:00"), 5)
         late[4] = with_token(late[4].replace("Ended", "Updated"), OLD)
@@ -135,7 +135,7 @@ class Demo(ClosingTrial):
             f"the originals once more are repeats, and no conflicts: {answers}",
         )
         where = await self.having(OLD)
-        status, said = await self.close_day("2026-03-02")
+        status, said = await self.close_day("2026-03-03")
         self.check(status == 0, f"a closing: {said}")
         left = await self.having(OLD)
         self.check(
@@ -240,7 +240,7 @@ class Demo(ClosingTrial):
         answers = await self.came(going[3])
         self.check(answers[0].startswith("[3,"), f"its worker goes on: {answers}")
         await self.closed(
-            "and a closing, with what came late", "2026-03-03", "1 transactions archived"
+            "and a closing, with what came late", "2026-03-04", "1 transactions archived"
         )
 
     async def spoiled(self, backup: Path) -> None:

@@ -1080,6 +1080,8 @@ select :to >= 4 and not exists (select from schema_version where version = 4) as
 \if :{?provisioner_password}
     alter role ledger_provisioner password :'provisioner_password';
 \endif
+select :to >= 3 as has_roles_of_tools \gset
+\if :has_roles_of_tools
 \if :{?closer_password}
     alter role ledger_closer password :'closer_password';
 \endif
@@ -1094,5 +1096,6 @@ select :to >= 4 and not exists (select from schema_version where version = 4) as
 \endif
 \if :{?backup_password}
     alter role ledger_backup password :'backup_password';
+\endif
 \endif
 commit;
