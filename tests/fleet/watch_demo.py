@@ -30,8 +30,8 @@ from tests.fleet.trials import MISTAKEN, RIGHT, Trial, parsed, parser_of, skippe
 
 PROMETHEUS = "/usr/bin/prometheus"
 RULES = TOP / "examples/thousands-of-stations/alerts.yml"
-# Times of the rules here are so many times shorter, and those that parts tell so many.
-SHORTER, TOLD = 30, 10
+# Times of the rules here are so many times shorter; what parts tell in seconds is compared with less by other factors.
+SHORTER = 30
 # Seconds in which an alert fires, and in which one ends.
 FIRES, ENDS = 40, 90
 # Each fault, and the alerts of which one has to fire for it.
@@ -76,7 +76,8 @@ def shortened(text: str) -> str:
 
     def told(found: "re.Match[str]") -> str:
         seconds = int(found[2])
-        return f"{found[1]}{seconds / (TOLD if seconds < 100 else 100 * TOLD if seconds > 5000 else 100):g}"
+        part = 10 if seconds < 100 else 1000 if 1000 <= seconds < 5000 else 100
+        return f"{found[1]}{seconds / part:g}"
 
     text = re.sub(r"(\[|for: |offset )(\d+)([smh])", shorter, text)
     return re.sub(r"(_seconds\)? > )(\d+)", told, text)
@@ -177,8 +178,10 @@ class Demo(Trial):
             for place, station in enumerate(self.stations):
                 if station.is_lost:
                     self.stations[place] = await self.station(f"CS-{place:05}")
-                elif number < 60:
-                    moment = f"2026-03-01T08:{number:02}:00Z"
+                else:
+                    moment = (
+                        f"2026-03-01T{number // 3600:02}:{number // 60 % 60:02}:{number % 60:02}Z"
+                    )
                     kind = "Started" if number == 0 else "Updated"
                     station.send(event("TX-1", number, kind, moment, 1000 + number).encode())
             number += 1
