@@ -117,7 +117,7 @@ class Demo(Trial):
         (self.root / "usr/bin/ocpp-board").symlink_to("../share/ocpp-board/ocpp-board")
         for path in UNITS.iterdir():
             if path.suffix in (".service", ".timer"):
-                text = re.sub("/(usr|etc)/", rf"{self.root}/\1/", path.read_text())
+                text = re.sub("/(usr/bin/ocpp|etc/)", rf"{self.root}/\1", path.read_text())
                 (self.root / "etc/systemd/system" / path.name).write_text(text)
             elif path.name in SETTINGS:
                 shutil.copy(path, self.root / "etc/ocpp-board" / path.name)
@@ -293,8 +293,8 @@ class Demo(Trial):
             "the unit's page has 330 events",
         )
         await self.watched()
-        await self.once()
         await self.backup()
+        await self.once()
         for name in ("page", "feed", "gateway", "worker@"):
             parts[name].terminate()
             status = await asyncio.to_thread(parts[name].wait, 20)
@@ -328,6 +328,8 @@ class Demo(Trial):
         ):
             status, said = await ended(self.run_unit(f"ocpp-board-{unit}.service", "site-0"))
             self.check(status == 0 and wanted in said, f"{unit}: {status}, {said}")
+        status, _ = await ended(self.run_unit("ocpp-board-close-day@.service", "nowhere"))
+        self.check(status == 2, f"close-day of a site that is not there fails: {status}")
 
     async def backup(self) -> None:
         """A copy while all runs, rows that are deleted, and the copy in the place of what lost them."""
