@@ -192,7 +192,7 @@ class Demo(Trial):
             ("ledger", f"select add_station({self.shards - 1}, 'open', 'CS-OPEN')"),
             ("ledger", void),
         ):
-            sessions.append(await connect(self.fleet.dsn("owner", database=database)))
+            sessions.append(await asyncpg.connect(self.fleet.dsn("owner", database=database)))
             await sessions[-1].execute("set idle_in_transaction_session_timeout = 0; begin")
             await sessions[-1].execute(query)
         await asyncio.sleep(4)

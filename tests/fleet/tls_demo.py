@@ -44,7 +44,7 @@ http {{
     listen 127.0.0.1:{port} ssl;
     ssl_certificate {folder}/second.pem;
     ssl_certificate_key {folder}/second.key;
-    ssl_client_certificate {folder}/authority.pem;
+    ssl_client_certificate {folder}/proxy-authority.pem;
     ssl_verify_client on;
     location /ocpp/ {{
       proxy_pass http://127.0.0.1:{gateway};
@@ -279,6 +279,8 @@ class Demo(Trial):
         self.make("second", "gateway", RSA)
         self.make("authority", "stations")
         self.make("other", "stations")
+        # The gateway's one is changed.
+        self.file("proxy-authority.pem").write_bytes(self.file("authority.pem").read_bytes())
         for name, subject, by in (
             ("station-a", A, "authority"),
             ("station-b", B, "authority"),
