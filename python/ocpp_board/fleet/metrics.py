@@ -14,7 +14,9 @@ from collections import Counter
 from collections.abc import Awaitable, Callable, Iterable, Iterator, Mapping
 from typing import TYPE_CHECKING, Any, NamedTuple
 
-from ocpp_board.fleet.database import Fault
+import asyncpg
+
+from ocpp_board.fleet.database import LOST, Fault, said
 from ocpp_board.limits import LONGEST_SCRIPT
 from ocpp_board.near_limits import NAMES as LIMITS
 from ocpp_board.version import version
@@ -81,6 +83,8 @@ HELP = {
 }
 # Seconds between looks at the database, after which an event loop that did not run is not well, and for a request.
 LOOKS, STUCK, REQUEST = 5.0, 10.0, 10.0
+# Seconds until a look that was refused is tried again.
+FAULTY = 60.0
 TEXT = "text/plain; version=0.0.4; charset=utf-8"
 CELL = "select * from watched_cell()"
 SITES = "select * from watched_sites()"
@@ -308,18 +312,25 @@ class WorkerSeen:
     async def look(
         self, ask: Callable[..., Awaitable[Any]], shards: Callable[[], list[int]]
     ) -> None:
-        """Looks into the database again and again."""
+        """Looks into the database again and again. What can't be seen ends nothing, but for a session that is lost."""
         while True:
             own = shards()
-            cell, sites, inboxes, refusals = [
-                [dict(row) for row in await ask(query, *values)]
-                for query, values in (
-                    (CELL, ()),
-                    (SITES, ()),
-                    (INBOXES, (own,)),
-                    (REFUSALS, (own,)),
-                )
-            ]
+            try:
+                cell, sites, inboxes, refusals = [
+                    [dict(row) for row in await ask(query, *values)]
+                    for query, values in (
+                        (CELL, ()),
+                        (SITES, ()),
+                        (INBOXES, (own,)),
+                        (REFUSALS, (own,)),
+                    )
+                ]
+            except LOST:
+                raise
+            except asyncpg.PostgresError as fault:
+                log.error("what is watched of the database can't be seen: %s", said(fault))
+                await asyncio.sleep(FAULTY)
+                continue
             self.cell, self.sites, self.inboxes, self.refusals = cell[0], sites, inboxes, refusals
             await asyncio.sleep(LOOKS)
 
