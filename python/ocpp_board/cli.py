@@ -40,6 +40,9 @@ TOOLS = {
     "compact": Tool("fleet.compact", "fleet: removes repeats from a shard's log"),
     "move": Tool("fleet.move", "fleet: moves a shard to another cell"),
     "password": Tool("fleet.set_password", "fleet: sets the password of a station"),
+    "forget": Tool("fleet.forget", "fleet: takes drivers' tokens out of log and archives"),
+    "backup": Tool("fleet.backup", "fleet: backs up a cell with its archives"),
+    "restore": Tool("fleet.restore", "fleet: brings a backup of a cell back"),
 }
 
 
