@@ -1,7 +1,8 @@
 // What no clause says: which events are found ahead of their lines, and that threads find them.
 use ledger_model::Moment;
-use message_ahead::{Chunk, Lookahead, MessageLines};
+use message_ahead::{Chunk, Lookahead, MessageLines, Pieces};
 use std::alloc::Global;
+use std::sync::Arc;
 use std::test::Fail;
 use std::thread;
 use std::thread::Threads;
@@ -56,6 +57,12 @@ fn lines(alloc: Global) -> Result<(Vec<u8>, Vec<usize>), Fail> {
     Ok((bytes, rooms))
 }
 
+// What is read of these lines, as one piece.
+fn chunk_of(alloc: Global, bytes: &[u8]) -> Result<Chunk, Fail> {
+    let pieces = Arc::new(alloc, Pieces::cut(alloc, bytes, 65_536)?)?;
+    Ok(Chunk::read::<Marked>(alloc, pieces, 0, 100_000))
+}
+
 // Whether the events of the first line and the fifth are given, each once, and none of the others.
 fn gives_events(chunk: &mut Chunk, rooms: &[usize]) -> bool {
     let [first, comment, heartbeat, fault, last, empty] = rooms else {
@@ -71,9 +78,31 @@ fn gives_events(chunk: &mut Chunk, rooms: &[usize]) -> bool {
 #[test]
 fn events_are_found_at_their_lines(rt: HostRuntime) -> Result<(), Fail> {
     let (bytes, rooms) = lines(rt.alloc())?;
-    let mut chunk = Chunk::read::<Marked>(rt.alloc(), bytes, 100_000);
+    let mut chunk = chunk_of(rt.alloc(), &bytes)?;
     assert!(rt; gives_events(&mut chunk, &rooms));
     assert!(rt; !chunk.is_short());
+    Ok(())
+}
+
+// Whether there is a piece for each of these lines, which stand one behind the other, and each is claimed once.
+fn are_claimed(pieces: &Pieces, rooms: &[usize], end: usize) -> bool {
+    let mut begin = 0;
+    for line in 0..rooms.len() {
+        let bounds = pieces.bounds(line);
+        if pieces.claim() != Some(line) || bounds.0 != begin || bounds.1 <= begin {
+            return false;
+        }
+        begin = bounds.1;
+    }
+    begin == end && pieces.claim().is_none()
+}
+
+#[test]
+fn each_piece_is_claimed_once(rt: HostRuntime) -> Result<(), Fail> {
+    let (bytes, rooms) = lines(rt.alloc())?;
+    let pieces = Pieces::cut(rt.alloc(), &bytes, 1)?;
+    assert!(rt; pieces.count() == rooms.len());
+    assert!(rt; are_claimed(&pieces, &rooms, bytes.len()));
     Ok(())
 }
 
@@ -91,7 +120,7 @@ fn gives_no_other(chunk: &mut Chunk, rooms: &[usize]) -> bool {
 #[test]
 fn events_of_other_lines_are_not_given(rt: HostRuntime) -> Result<(), Fail> {
     let (bytes, rooms) = lines(rt.alloc())?;
-    let mut chunk = Chunk::read::<Marked>(rt.alloc(), bytes, 100_000);
+    let mut chunk = chunk_of(rt.alloc(), &bytes)?;
     assert!(rt; gives_no_other(&mut chunk, &rooms));
     Ok(())
 }
