@@ -242,7 +242,15 @@ class Fleet:
         """The passwords that schema.sql takes from the environment."""
         return {
             f"{role}_PASSWORD": self.password
-            for role in ("GATEWAY", "FEED", "WORKER", "READER", "OPERATOR", "PROVISIONER", "ADMINISTRATOR")
+            for role in (
+                "GATEWAY",
+                "FEED",
+                "WORKER",
+                "READER",
+                "OPERATOR",
+                "PROVISIONER",
+                "ADMINISTRATOR",
+            )
         }
 
     def start(self, *command: object, **more: Any) -> subprocess.Popen[bytes]:

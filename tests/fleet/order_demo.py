@@ -223,7 +223,7 @@ class Demo(ClosingTrial):
         self.fleet.worker("--boards", 0.2, dsn=self.fleet.dsn("ledger_worker", database="second"))
         # Of an archived session and of one that is in the log: their ends have what these read.
         for name, number in (("TX-2", 2), ("TX-3", 1), ("TX-3", 2)):
-            await second.execute("select operate('void', 'D', $1, $2)", name, number)
+            await second.execute("select operate('void', 'D', $1, $2, 'a test')", name, number)
         await self.until(
             "select count(*) from board where cell = 2 and text like '% voided=2 %'", 1
         )

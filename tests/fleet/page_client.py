@@ -56,9 +56,7 @@ class Client:
     cookie: str = ""
     heads: dict[str, str] = field(default_factory=dict)
 
-    def asked(
-        self, method: str, path: str, data: bytes | None = None, **heads: str
-    ) -> Answer:
+    def asked(self, method: str, path: str, data: bytes | None, heads: dict[str, str]) -> Answer:
         parts = urlsplit(self.url)
         line = http.client.HTTPConnection(parts.hostname or "", parts.port, timeout=PATIENCE)
         all_heads = dict(self.heads) | {key.replace("_", "-"): one for key, one in heads.items()}
@@ -75,16 +73,18 @@ class Client:
         return Answer(answer.status, text, answer.headers)
 
     def get(self, path: str, **heads: str) -> Answer:
-        return self.asked("GET", path, **heads)
+        return self.asked("GET", path, None, heads)
 
     def post(self, path: str, fields: dict[str, str], **heads: str) -> Answer:
         kind = {"Content_Type": "application/x-www-form-urlencoded"}
-        return self.asked("POST", path, urlencode(fields).encode(), **(kind | heads))
+        return self.asked("POST", path, urlencode(fields).encode(), kind | heads)
 
     def login(self, name: str, password: str = PASSWORD) -> Answer:
         return self.post("/login", {"name": name, "password": password, "next": "/"})
 
-    def question(self, command: str, station: str, transaction: str, number: object, reason: str) -> Answer:
+    def question(
+        self, command: str, station: str, transaction: str, number: object, reason: str
+    ) -> Answer:
         """Asks for the question that a void and the like asks again."""
         names = ("command", "station", "transaction", "number", "reason")
         values = (command, station, transaction, str(number), reason)
@@ -98,7 +98,7 @@ class Client:
 
     def api(self, path: str, token: str | None = None) -> Answer:
         heads = {"Authorization": f"Bearer {token}"} if token is not None else {}
-        return self.asked("GET", f"/api/v1{path}", **heads)
+        return self.asked("GET", f"/api/v1{path}", None, heads)
 
     def all(self, path: str, name: str, token: str, limit: int) -> list[Any]:
         """The rows of a list, page by page."""
@@ -116,7 +116,9 @@ class Client:
                 return rows
 
 
-def operator(fleet: Fleet, *words: str, password: str = PASSWORD, login: str = "ledger_administrator") -> tuple[int, str]:
+def operator(
+    fleet: Fleet, *words: str, password: str = PASSWORD, login: str = "ledger_administrator"
+) -> tuple[int, str]:
     """Runs `ocpp-board operator`, and gives its status and what it wrote."""
     made = subprocess.run(
         [*tool("operator"), "--db", fleet.dsn(login), *words],

@@ -33,6 +33,8 @@ from ocpp_board.session_times import Registers
 # Rows of a page, where nothing is told and at most; stations that one id is looked for at.
 ROWS, MOST_ROWS, MOST_STATIONS = 200, 1000, 10
 FIRST, LAST = (datetime(year, 1, 1, tzinfo=timezone.utc) for year in (2000, 2100))
+# For how long periods are asked for, where only the end is told, and at most.
+DAY, SPAN, LONGEST = timedelta(days=1), timedelta(days=31), timedelta(days=366)
 
 Json = dict[str, Any]
 View = Callable[[Asked], Awaitable[Response]]
@@ -255,8 +257,14 @@ async def periods(asked: Asked) -> Response:
     summary: The energy of a site's stations by settlement period
     parameters:
       - {$ref: '#/components/parameters/site'}
-      - {name: from, in: query, schema: {type: string}, description: A day of the site's zone or a time with its offset}
-      - {name: to, in: query, schema: {type: string}, description: 'A day, which is included, or a time, which is not'}
+      - name: from
+        in: query
+        schema: {type: string}
+        description: A day of the site's zone or a time with its offset; 31 days before `to` where it is not told
+      - name: to
+        in: query
+        schema: {type: string}
+        description: A day, which is included, or a time, which is not; now where it is not told; 366 days at most
       - {$ref: '#/components/parameters/limit'}
       - {$ref: '#/components/parameters/cursor'}
     responses:
@@ -266,12 +274,19 @@ async def periods(asked: Asked) -> Response:
     name, paging = asked.path("site"), Paging.of(asked, [FIRST.isoformat(), ""])
     rows, faults = await asked.desk.cells.site(asked.operator, name)
     zone = rows[0][1]["zone"]
-    begin = moment_word(asked.word("from"), "from", zone, FIRST, 0)
-    end = moment_word(asked.word("to"), "to", zone, LAST, 1)
+    begin, end = span_of(asked, zone)
     behind = (moment_key(paging.key[0]), paging.key[1])
+    found = list[Any]()
     begin = max(begin, behind[0])
-    found = await merged(rows, api_queries.PERIODS, name, begin, end, *behind, paging.rows + 1)
-    found.sort(key=lambda row: (row["starts"], row["station"]))
+    # A day at a time, so that a page costs no more where there are many days.
+    while len(found) <= paging.rows and begin < end:
+        until = min(begin + DAY, end)
+        rest = paging.rows + 1 - len(found)
+        found += sorted(
+            await merged(rows, api_queries.PERIODS, name, begin, until, *behind, rest),
+            key=itemgetter("starts", "station"),
+        )
+        begin = until
     lines = [
         {
             "site": name,
@@ -286,6 +301,16 @@ async def periods(asked: Asked) -> Response:
     ]
     page = paging.page("periods", lines, lambda row: [row["starts"], row["station"]])
     return answer({"site": name, "zone": zone, **page}, faults)
+
+
+def span_of(asked: Asked, zone: str) -> tuple[datetime, datetime]:
+    """From when to when periods are asked for. Raises Wrong."""
+    now = datetime.now(timezone.utc)
+    end = moment_word(asked.word("to"), "to", zone, now, 1)
+    begin = moment_word(asked.word("from"), "from", zone, max(end - SPAN, FIRST), 0)
+    if end - begin > LONGEST:
+        raise Wrong(HTTPStatus.BAD_REQUEST, f"from and to are {LONGEST.days} days apart at most")
+    return begin, end
 
 
 def moment_word(text: str, name: str, zone: str, default: datetime, days: int) -> datetime:

@@ -7,8 +7,11 @@ select t.station, t.retired, b.at, b.place, coalesce(b.events, 0) as events, coa
     coalesce(b.transactions, 0) + a.transactions as transactions, coalesce(b.complete, 0) + a.complete as complete,
     coalesce(b.missing, 0) + a.missing as missing, coalesce(b.up, 0) + f.up as up, coalesce(b.down, 0) + f.down as down,
     coalesce(b.export_up, 0) + f.export_up as export_up, coalesce(b.export_down, 0) + f.export_down as export_down,
-    s.settled_up, s.settled_down, s.settled_export_up, s.settled_export_down, s.settled_rows, s.corrections
+    coalesce(s.up, 0) as settled_up, coalesce(s.down, 0) as settled_down, coalesce(s.export_up, 0) as settled_export_up,
+    coalesce(s.export_down, 0) as settled_export_down, coalesce(s.rows, 0) as settled_rows,
+    coalesce(s.corrections, 0) as corrections
 from own_station t left join own_board_station b using (shard, site, station)
+left join own_settled s using (shard, site, station)
 cross join lateral (
     select count(*) as transactions, count(*) filter (where x.complete) as complete,
         coalesce(sum(x.missing), 0)::bigint as missing
@@ -19,12 +22,6 @@ cross join lateral (
         coalesce(sum(x.export_up), 0)::bigint as export_up, coalesce(sum(x.export_down), 0)::bigint as export_down
     from own_archived_period x join own_closing c using (shard, site, closing)
     where x.shard = t.shard and x.site = t.site and x.station = t.station and {GONE}) f
-cross join lateral (
-    select coalesce(sum(x.up), 0)::bigint as settled_up, coalesce(sum(x.down), 0)::bigint as settled_down,
-        coalesce(sum(x.export_up), 0)::bigint as settled_export_up,
-        coalesce(sum(x.export_down), 0)::bigint as settled_export_down, count(*) as settled_rows,
-        count(*) - count(distinct x.starts) as corrections
-    from own_closed_period x where x.shard = t.shard and x.site = t.site and x.station = t.station) s
 where t.site = $1 and t.shard = any($2) and t.station collate "C" > $3
 order by t.station collate "C" limit $4
 """
@@ -43,7 +40,8 @@ with flow as (
     from flow group by shard, station, starts
 ), settled as (
     select x.shard, x.station, x.starts, max(c.at) as at, sum(x.up)::bigint as up, sum(x.down)::bigint as down,
-        sum(x.export_up)::bigint as export_up, sum(x.export_down)::bigint as export_down, count(*) as rows
+        sum(x.export_up)::bigint as export_up, sum(x.export_down)::bigint as export_down, count(*) as rows,
+        count(*) filter (where is_correction(x.shard, x.site, x.closing, x.day)) as corrections
     from own_closed_period x join own_closing c using (shard, site, closing)
     where x.site = $1 and x.shard = any($2) and x.starts >= $3 and x.starts < $4
     group by x.shard, x.station, x.starts
@@ -52,7 +50,7 @@ select station, starts, coalesce(h.at, s.at) as at, coalesce(h.up, 0) as up, coa
     coalesce(h.export_up, 0) as export_up, coalesce(h.export_down, 0) as export_down,
     coalesce(s.up, 0) as settled_up, coalesce(s.down, 0) as settled_down,
     coalesce(s.export_up, 0) as settled_export_up, coalesce(s.export_down, 0) as settled_export_down,
-    coalesce(s.rows, 0) as settled_rows, greatest(coalesce(s.rows, 0) - 1, 0) as corrections
+    coalesce(s.rows, 0) as settled_rows, coalesce(s.corrections, 0) as corrections
 from has h full join settled s using (shard, station, starts)
 where (starts, station collate "C") > ($5::timestamptz, $6::text)
 order by starts, station collate "C" limit $7

@@ -42,9 +42,11 @@ def page(name: str, row: str, **more: Any) -> dict[str, Any]:
     return thing(**more, **{name: rows}, next=nullable(TEXT), faults=faults)
 
 
-COUNTS: dict[str, Any] = dict.fromkeys(("events", "voided", "transactions", "complete", "missing"), INTEGER)
+COUNTS: dict[str, Any] = dict.fromkeys(
+    ("events", "voided", "transactions", "complete", "missing"), INTEGER
+)
 TOLD = {"state": STATE, "corrections": INTEGER}
-SITE = {
+SITE: dict[str, Any] = {
     "site": TEXT,
     "zone": TEXT,
     "period": {"type": "integer", "description": "Seconds of a settlement period"},
@@ -57,7 +59,7 @@ SITE = {
     "at": MOMENT,
     "board_at": MOMENT,
 }
-TRANSACTION = {
+TRANSACTION: dict[str, Any] = {
     "transaction": TEXT,
     "evse": nullable(INTEGER),
     **dict.fromkeys(("events", "first", "last"), nullable(INTEGER)),

@@ -65,9 +65,9 @@ cross join lateral (
     select coalesce(sum(s.up), 0)::bigint as settled_up, coalesce(sum(s.down), 0)::bigint as settled_down,
            coalesce(sum(s.export_up), 0)::bigint as settled_export_up,
            coalesce(sum(s.export_down), 0)::bigint as settled_export_down,
-           count(*) - count(distinct (s.station, s.starts)) as corrections,
+           coalesce(sum(s.corrections), 0)::bigint as corrections,
            (select max(day) from own_closing c where c.shard = p.shard and c.site = p.site) as settled_to
-    from own_closed_period s where s.shard = p.shard and s.site = p.site) s
+    from own_settled s where s.shard = p.shard and s.site = p.site) s
 where $1::text[] is null or p.site = any($1)
 order by p.site, p.shard
 """

@@ -434,6 +434,42 @@ end $$;
 create or replace trigger free_places after delete on own_log referencing old table as gone
     for each statement execute function free_places();
 
+-- An operator's line, which comes behind all that was answered: operate('void', 'CS-00441', 'TX-2', 3). It gives the number
+-- of the line in inbox_kept; its place in the log comes within moments. Whoever listens on a channel is told its answer
+-- there, with the token.
+create or replace function operate(command text, station_name text, transaction_id text, sequence_number bigint,
+        channel text default null, channel_token bigint default null) returns bigint language plpgsql as $$
+declare
+    shard_number integer;
+    number bigint;
+begin
+    if command not in ('void', 'restore', 'erase') then
+        raise 'a command is void, restore or erase, and not %', command;
+    elsif transaction_id !~ '^[\x21-\x7E]{1,36}$' then
+        raise 'a transaction id has 1 to 36 characters without blanks, and is not "%"', transaction_id;
+    elsif sequence_number not between 0 and 2147483647 then
+        raise 'a sequence number is 0 to 2,147,483,647, and not %', sequence_number;
+    elsif octet_length(channel) not between 1 and 63 then
+        raise 'a channel has 1 to 63 bytes, and not %', octet_length(channel);
+    end if;
+    -- It is on disk once it is told, whatever the server's settings say.
+    perform set_config('synchronous_commit', 'on', true);
+    select s.shard into shard_number from own_station t join own_shard s using (shard)
+        where t.station = station_name and s.moving_to is null;
+    if shard_number is null then
+        raise 'no station % in this cell', station_name;
+    end if;
+    insert into inbox_kept (shard, gateway, token, line)
+        values (shard_number, channel, channel_token,
+            format('%s %s %s %s', command, station_name, transaction_id, sequence_number))
+        returning id into number;
+    if number is null then
+        raise 'shard % moves to another cell', shard_number;
+    end if;
+    perform pg_notify('wake_kept', shard_number || ':' || number);
+    return number;
+end $$;
+
 -- What feed.py took ---------------------------------------------------------------------------------------------------
 
 -- Up to which byte of a file its events are in this cell.
@@ -934,10 +970,14 @@ drop policy if exists messages on inbox_kept;
 create policy messages on inbox_kept for insert to ledger_feed with check (line like 'msg %');
 grant select, insert, update on fed to ledger_feed;
 grant select, insert, delete on stray to ledger_feed;
--- The page reads what a reader reads; what else it may do schema/0002_operators.sql says.
+-- An operator reads what a reader reads, and inserts operators' lines.
 grant ledger_reader to ledger_operator;
+grant insert (shard, gateway, token, line), select (shard, id) on inbox_kept to ledger_operator;
+grant usage on sequence place_in_inbox to ledger_operator;
+drop policy if exists commands on inbox_kept;
+create policy commands on inbox_kept for insert to ledger_operator with check (line !~ '^msg ');
 drop policy if exists numbers on inbox_kept;
-create policy numbers on inbox_kept for select to ledger_feed using (true);
+create policy numbers on inbox_kept for select to ledger_feed, ledger_operator using (true);
 -- A provisioner sets passwords of stations, and sees nothing.
 grant execute on function set_password(text, bytea, bytea, boolean) to ledger_provisioner;
 
@@ -993,5 +1033,5 @@ begin
             name, other, name, other, other, 'own_' || name);
     end loop;
 end $$;
-commit;
 \ir schema/0002_operators.sql
+commit;

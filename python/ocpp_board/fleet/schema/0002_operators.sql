@@ -1,15 +1,17 @@
--- Operators of the page, their sessions and tokens, and who did what, when, from where and why.
+-- Version 2: operators of the page, their sessions and tokens, and who did what, when, from where and why.
 --
--- schema.sql includes it. Operators, sessions and tokens are those of the cell that a page is given first; deeds, changes of
--- the plan and requests of closings lie in the cell that they are of.
+-- Operators, sessions and tokens are those of the cell that a page is given first; deeds, changes of the plan and requests of
+-- closings lie in the cell that they are of.
 \getenv administrator_password ADMINISTRATOR_PASSWORD
-begin;
-set local client_min_messages = warning;
 do $$
+declare
+    role_name text;
 begin
-    if not exists (select from pg_roles where rolname = 'ledger_administrator') then
-        create role ledger_administrator login;
-    end if;
+    foreach role_name in array array['ledger_administrator', 'ledger_closer'] loop
+        if not exists (select from pg_roles where rolname = role_name) then
+            execute format('create role %I login', role_name);
+        end if;
+    end loop;
     execute format('grant connect on database %I to ledger_administrator', current_database());
 end $$;
 \if :{?administrator_password}
@@ -295,7 +297,7 @@ create table if not exists own_plan_change (
     reason text,
     part text not null,                    -- the table
     command text not null,                 -- INSERT, UPDATE or DELETE
-    shard integer,
+    in_shard integer,
     site text,
     station text,
     before jsonb,
@@ -309,7 +311,7 @@ declare
     has jsonb := case when tg_op <> 'DELETE' then to_jsonb(new) - 'hash' - 'salt' end;
     one jsonb := coalesce(has, had);
 begin
-    insert into own_plan_change (operator, address, reason, part, command, shard, site, station, before, after)
+    insert into own_plan_change (operator, address, reason, part, command, in_shard, site, station, before, after)
         values (nullif(current_setting('ledger.operator', true), ''),
             coalesce(nullif(current_setting('ledger.address', true), ''), host(inet_client_addr()), 'local'),
             nullif(current_setting('ledger.reason', true), ''), tg_table_name, tg_op,
@@ -395,6 +397,52 @@ create index if not exists own_archived_transaction_id_idx on own_archived_trans
 create index if not exists own_archived_transaction_station_idx
     on own_archived_transaction (station, transaction collate "C");
 
+-- What is settled of each station, summed up, and how many rows of closings are corrections: they are of a day that an
+-- earlier closing settled. Pages would else sum up all periods of years.
+create or replace function is_correction(shard_number integer, site_name text, closing_number integer, settled_day date)
+    returns boolean language sql stable as $$
+    select exists (select from own_closing e where e.shard = shard_number and e.site = site_name
+        and e.closing < closing_number and e.day >= settled_day);
+$$;
+do $$
+begin
+    if to_regclass('own_settled') is null then
+        create table own_settled (
+            shard integer not null references own_shard on delete cascade,
+            site text not null,
+            station text not null,
+            up bigint not null,
+            down bigint not null,
+            export_up bigint not null,
+            export_down bigint not null,
+            rows bigint not null,
+            corrections bigint not null,
+            primary key (shard, site, station)
+        );
+        insert into own_settled
+            select shard, site, station, sum(up), sum(down), sum(export_up), sum(export_down), count(*),
+                count(*) filter (where is_correction(shard, site, closing, day))
+            from own_closed_period group by 1, 2, 3;
+    end if;
+end $$;
+create or replace function add_settled() returns trigger
+    language plpgsql security definer set search_path = public, pg_temp as $$
+begin
+    insert into own_settled as s
+        select shard, site, station, sum(up), sum(down), sum(export_up), sum(export_down), count(*),
+            count(*) filter (where is_correction(shard, site, closing, day))
+        from fresh group by 1, 2, 3
+        on conflict (shard, site, station) do update set up = s.up + excluded.up, down = s.down + excluded.down,
+            export_up = s.export_up + excluded.export_up, export_down = s.export_down + excluded.export_down,
+            rows = s.rows + excluded.rows, corrections = s.corrections + excluded.corrections;
+    return null;
+end $$;
+create or replace trigger add_settled after insert on own_closed_period referencing new table as fresh
+    for each statement execute function add_settled();
+-- Periods by their time.
+create index if not exists own_closed_period_starts_idx on own_closed_period (site, starts);
+create index if not exists own_archived_period_starts_idx on own_archived_period (site, starts);
+
 -- Since when lines wait for their places, and when a worker beat last: older boards are older than they should be.
 create or replace function waits_since(out waits timestamptz, out beat timestamptz)
     language sql stable security definer set search_path = public, pg_temp as $$
@@ -421,7 +469,10 @@ drop policy if exists commands on inbox_kept;
 -- Who reads sees what was done, without the tokens by which answers are told.
 grant select (shard, form, at, operator, login, address, reason, command, site, station, transaction, number, answer)
     on own_deed to ledger_reader;
-grant select on own_plan_change, own_closing_request to ledger_reader;
+grant select on own_plan_change, own_closing_request, own_settled to ledger_reader;
+grant execute on function is_correction(integer, text, integer, date) to ledger_reader;
+-- Who closes does what was asked for, and says what came of it.
+grant select, update (taken_at, ended_at, status, told) on own_closing_request to ledger_closer;
 grant select on own_archived_lines to ledger_operator;
 -- Who makes operators sees them, and no hash.
 grant select (name, roles, sites, made_at, disabled_at) on operator to ledger_administrator;
@@ -430,4 +481,3 @@ grant select (operator, address, began, seen, ends) on operator_session to ledge
 grant select on sign_in to ledger_administrator;
 grant execute on function set_operator(text, text[], text[], boolean, bytea, bytea), disable_operator(text, boolean),
     make_token(text, text, text[], text[], bytea, timestamptz), revoke_token(bigint) to ledger_administrator;
-commit;
