@@ -285,7 +285,13 @@ def test_what_comes_from_outside_is_no_html() -> None:
     assert "<b>" not in link(f"/session/A/{evil}", evil) and "<b>" not in lines_of(evil, "x")
     values: dict[str, Any] = {
         **{"title": evil, "operator": None, "faults": [evil], "late": [evil], "is_one": False},
-        **{"links": [], "here": "", "drawn": moment(None), "heads": heads_of(evil, f" {evil}")},
+        **{
+            "whole": "",
+            "links": [],
+            "here": "",
+            "drawn": moment(None),
+            "heads": heads_of(evil, f" {evil}"),
+        },
         **{"rows": [Line([evil, evil])], "caption": evil},
     }
     page = rendered(environment(), "refused.html", values)
@@ -297,8 +303,9 @@ def test_a_session_has_a_path_of_its_own() -> None:
 
 
 def test_a_fragment_is_read_as_it_was_written() -> None:
-    assert fragment_of("Site north\none\n<p>\nx") == ("Site north", True, "<p>\nx")
-    assert fragment_of("Site boards\n\n<p>").is_one is False
+    one = fragment_of("Site a&amp;b\nMon 1\none\n<p>\nx")
+    assert tuple(one) == ("Site a&b", "Mon 1", True, "<p>\nx")
+    assert fragment_of("Site boards\n\n\n<p>").is_one is False
 
 
 # The API --------------------------------------------------------------------------------------------------------------
@@ -332,7 +339,10 @@ def test_cursors() -> None:
             key_of(text, 2)
     page = Paging(2, [""]).page("rows", [{"n": n} for n in "abc"], lambda row: [row["n"]])
     assert page["rows"] == [{"n": "a"}, {"n": "b"}] and key_of(page["next"], 1) == ["b"]
-    assert Paging(3, [""]).page("rows", [{"n": n} for n in "abc"], lambda row: [row["n"]])["next"] is None
+    assert (
+        Paging(3, [""]).page("rows", [{"n": n} for n in "abc"], lambda row: [row["n"]])["next"]
+        is None
+    )
 
 
 def test_moments_of_a_query() -> None:

@@ -94,6 +94,7 @@ class Desk:
             "faults": [],
             "late": [],
             "is_one": False,
+            "whole": "",
         }
         front |= {"links": [], "here": "", "drawn": drawn()}
         response = HTMLResponse(rendered(self.templates, name, front | dict(values)), status)

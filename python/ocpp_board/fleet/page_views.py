@@ -28,6 +28,7 @@ from ocpp_board.fleet.site_store import SiteStore
 from ocpp_board.page_sections import UNKNOWN
 from ocpp_board.pages import flow_heads
 from ocpp_board.session_times import duration
+from ocpp_board.transactions import moment as moment_of, seconds_of
 
 FILE = re.compile(
     r"board(\.\d{4}-\d\d-\d\d(\.\d{1,4})?|\.\d{1,4})?\.html|board\.(periods|transactions)\.csv"
@@ -174,8 +175,9 @@ async def site_file(asked: Asked) -> Response:
     title = fragment.title if fragment.is_one else f"Site {name}: {fragment.title}"
     return asked.page(
         "site.html",
-        Markup(title).unescape(),
+        title,
         is_live=file == "board.html",
+        whole=fragment.whole,
         is_one=fragment.is_one,
         body=Markup(fragment.body),
         archived=f"{pages.archived:,}" if pages.archived else "",
@@ -279,7 +281,7 @@ async def lacking(asked: Asked) -> Response:
         "Sessions that lack messages",
         is_live=True,
         parts=parts,
-        heads=heads_of(*heads, *([" "] if voids else [])),
+        heads=heads_of(*heads, *([" Command"] if voids else [])),
         until=until and Markup("{} UTC").format(moment(until)),
         faults=faults,
         late=await cells.behind(),
@@ -309,7 +311,8 @@ def reading_text(entry: Entry) -> str:
 def entry_line(entry: Entry, zone: str) -> Line:
     """The row of a line of a session."""
     message = entry.message or {}
-    at = str(message.get("timestamp") or "")
+    text = str(message.get("timestamp") or "")
+    at = moment(moment_of(seconds_of(text)), zone, text)
     where = "archive" if entry.is_from_archive else f"place {entry.place:,} of the log"
     who = entry.who
     told = f"{who.operator}, {who.address}: {who.reason}" if who else ""
@@ -452,14 +455,20 @@ def change_line(row: Any) -> Line:
     before, after = (parsed(row[name]) for name in ("before", "after"))
     if before and after:
         keys = [key for key in after if after[key] != before.get(key)]
-        told = ", ".join(f"{key}: {before.get(key)} to {after[key]}" for key in keys)
+        pairs = [(key, f"{before.get(key)} to {after[key]}") for key in keys]
     else:
-        told = ", ".join(f"{key}: {value}" for key, value in (after or before).items() if value)
+        pairs = [(key, str(one)) for key, one in (after or before).items() if one]
+    told = Markup(", ").join(Markup("{}: {}").format(key, kept(one)) for key, one in pairs)
     what = f"{row['command'].lower()} {row['part'].removeprefix('own_')}"
     who = f"{row['operator']} as {row['login']}" if row["operator"] else row["login"]
     return Line(
         [moment(row["at"]), who, row["address"] or UNKNOWN, what, told, row["reason"] or UNKNOWN]
     )
+
+
+def kept(text: str) -> str:
+    """A value that is not broken, where it is short."""
+    return Markup('<span class="whole">{}</span>').format(text) if len(text) < 36 else text
 
 
 def parsed(text: Any) -> dict[str, Any]:

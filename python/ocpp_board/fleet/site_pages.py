@@ -3,8 +3,8 @@
     python3 -m ocpp_board.fleet.site_pages FOLDER < JSON
 
 writes into FOLDER what `ocpp-board tables` writes, for the frame that the fleet's page puts around it: the title of a
-page stands in its first line, in the second whether it is of one board, and below what stands between. The JSON has the
-text of the site's boards, its zone, up to when they are, and the findings of its sessions.
+page stands in its first line, its end in the second, in the third whether it is of one board, and below what stands
+between. The JSON has the text of the site's boards, its zone, up to when they are, and the findings of its sessions.
 """
 
 import json
@@ -12,7 +12,7 @@ import sys
 from contextlib import ExitStack
 from dataclasses import dataclass
 from datetime import datetime, timezone
-from html import escape
+from html import escape, unescape
 from pathlib import Path
 from tempfile import TemporaryFile
 from typing import Any, NamedTuple
@@ -32,17 +32,18 @@ KINDS = {kind.label: kind for kind in Kind}
 
 
 class Fragment(NamedTuple):
-    """A page without its frame."""
+    """A page without its frame. `whole`: the end of its title, which is not broken."""
 
     title: str
+    whole: str
     is_one: bool
     body: str
 
 
 def fragment_of(text: str) -> Fragment:
     """The page that a file has."""
-    title, is_one, body = text.split("\n", 2)
-    return Fragment(title, is_one == "one", body)
+    title, whole, is_one, body = text.split("\n", 3)
+    return Fragment(unescape(title), unescape(whole), is_one == "one", body)
 
 
 def session_path(station: str, tx: str) -> str:
@@ -56,8 +57,7 @@ class Fragments(Layout):
 
     def head(self, title: str, said: str, links: str, is_one: bool, whole: str = "") -> str:
         """What `fragment_of` reads, and what stands above."""
-        more = f" {whole}" if whole else ""
-        return f"{title}{more}\n{'one' if is_one else ''}\n{said}{links}"
+        return f"{title}\n{whole}\n{'one' if is_one else ''}\n{said}{links}"
 
     def foot(self) -> str:
         """Nothing: the frame has it."""
