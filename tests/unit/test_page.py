@@ -23,7 +23,7 @@ from ocpp_board.fleet.api import (  # noqa: E402
 )
 from ocpp_board.fleet.api_schema import SCHEMAS  # noqa: E402
 from ocpp_board.fleet.billing import Row, month_in, month_of  # noqa: E402
-from ocpp_board.fleet.cells import Wrong, staying, state_of  # noqa: E402
+from ocpp_board.fleet.cells import Late, Wrong, staying, state_of  # noqa: E402
 from ocpp_board.fleet.close_day import corrections_of  # noqa: E402
 from ocpp_board.fleet.histories import Entry, later, own_lines, without_archived  # noqa: E402
 from ocpp_board.fleet.operators import (  # noqa: E402
@@ -284,7 +284,13 @@ def test_what_comes_from_outside_is_no_html() -> None:
     evil = "<b>\"x\"&'y'</b>"
     assert "<b>" not in link(f"/session/A/{evil}", evil) and "<b>" not in lines_of(evil, "x")
     values: dict[str, Any] = {
-        **{"title": evil, "operator": None, "faults": [evil], "late": [evil], "is_one": False},
+        **{
+            "title": evil,
+            "operator": None,
+            "faults": [evil],
+            "late": [Late(evil, None)],
+            "is_one": False,
+        },
         **{
             "whole": "",
             "links": [],

@@ -7,7 +7,7 @@ sees; a site of others is as one that is not there.
 import asyncio
 import secrets
 from collections.abc import Iterable, Sequence
-from datetime import date, datetime, timedelta, timezone
+from datetime import date, datetime, timedelta
 from http import HTTPStatus
 from typing import Any, NamedTuple
 from weakref import WeakValueDictionary
@@ -226,6 +226,13 @@ class Cell:
             await asyncio.sleep(0.2)
 
 
+class Late(NamedTuple):
+    """Why boards are older than they should be, and since when."""
+
+    text: str
+    since: datetime | None
+
+
 class Found(NamedTuple):
     """Each cell's rows, and what is told of those that do not answer."""
 
@@ -295,16 +302,15 @@ class Cells:
         down = ", or its cell does not answer" if found.faults else ""
         raise Wrong(HTTPStatus.NOT_FOUND, f"no station {name!r}{down}")
 
-    async def behind(self) -> list[str]:
-        """What is told where boards are older than they should be."""
-        found, late = await self.ask_all(WAITS), list[str]()
+    async def behind(self) -> list[Late]:
+        """Why boards are older than they should be."""
+        found, late = await self.ask_all(WAITS), list[Late]()
         for _, row in found.pairs():
             begin = row["now"] - timedelta(seconds=LATE)
             if row["waits"] and row["waits"] < begin:
-                late.append(f"lines wait for a worker since {utc(row['waits'])}")
+                late.append(Late("lines wait for a worker", row["waits"]))
             elif row["has_stations"] and (row["beat"] is None or row["beat"] < begin):
-                since = f"since {utc(row['beat'])}" if row["beat"] else "yet"
-                late.append(f"no worker was seen {since}")
+                late.append(Late("no worker was seen", row["beat"]))
         return late
 
 
@@ -400,8 +406,3 @@ def staying(rows: Sequence[tuple[Cell, Any]]) -> list[tuple[Cell, Any]]:
     return [
         (cell, row) for cell, row in rows if row["moving_to"] is None or row["shard"] not in there
     ]
-
-
-def utc(at: datetime) -> str:
-    """A moment for a reader, in UTC."""
-    return f"{at.astimezone(timezone.utc):%Y-%m-%d %H:%M:%S} UTC"

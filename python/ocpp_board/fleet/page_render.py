@@ -76,6 +76,7 @@ def environment() -> Environment:
     made = Environment(
         loader=FileSystemLoader(TEMPLATES), autoescape=True, undefined=StrictUndefined
     )
+    made.filters["utc"] = moment
     made.globals |= {"style": Markup(re.sub(r"\n+", "\n", STYLE)), "hatches": Markup(FALLS)}
     return made
 
