@@ -574,12 +574,17 @@ class Demo(Trial):
             answer.status == 303 and "waits" in ned.get("/closings").text, "one is asked for"
         )
         command = [*tool("close-requested"), "--db", self.fleet.dsn("owner")]
-        command += ["--program", self.fleet.program, "--archive", str(archives)]
+        command += ["--program", self.fleet.program, "--archives", str(archives)]
         status, said = await ended(self.fleet.start(*command, stdout=-1, stderr=-2))
         row = await self.owner.fetchrow("select * from own_closing_request")
         self.check(
             status == 0 and row["status"] == 0 and "settled up to 2026-03-01" in row["told"],
             f"ocpp-board close-requested: {said}: {row['told'][:60]}",
+        )
+        kept = [path.relative_to(archives).as_posix() for path in archives.rglob("*.script")]
+        self.check(
+            kept == ["north/north.shard-0.1.script"] or not kept,
+            f"its archive lies in a folder of its site: {kept}",
         )
         text = ned.get("/closings").text
         self.check(

@@ -28,7 +28,7 @@ from tests.fleet.trials import Trial, messages, parsed, parser_of, skipped, trie
 
 UNITS = TOP / "packaging/ocpp-board-fleet"
 # The files that units take their variables from.
-SETTINGS = ("gateway", "worker", "page", "feed", "close-day")
+SETTINGS = ("gateway", "worker", "page", "feed", "close-day", "close-requested")
 ANALYZE = "/usr/bin/systemd-analyze"
 
 

@@ -1,10 +1,11 @@
 """Does the closings that operators asked for on the page, and ends.
 
-    PGPASSWORD=.. ocpp-board close-requested --db postgresql://OWNER@HOST:PORT/DATABASE --archive FOLDER
+    PGPASSWORD=.. ocpp-board close-requested --db postgresql://OWNER@HOST:PORT/DATABASE --archives FOLDER
 
 Each request is a row of own_closing_request, with who asked for it, from where and why. It is done by `ocpp-board
 close-day`, as the owner of the database, and what came of it stands in the row. A request whose closing was ended in
-the middle is done again after two hours. A timer calls it each minute. Exit status: 0; 1 where a closing failed.
+the middle is done again after two hours. The archives of a site lie in the folder of its name in FOLDER, as those of
+ocpp-board-close-day@SITE do. A timer calls it each minute. Exit status: 0; 1 where a closing failed.
 """
 
 import argparse
@@ -43,10 +44,14 @@ TOLD = 2_000
 
 async def closed(words: argparse.Namespace, row: Any) -> tuple[int, str]:
     """Closes a day, and gives the status with what was told."""
+    folder = words.archives / row["site"]
+    if folder.parent != words.archives or folder.name in ("", ".", ".."):
+        return Status.MISTAKEN, f"no folder can have the name {row['site']!r}"
+    folder.mkdir(exist_ok=True)
     path = os.pathsep.join(filter(None, [str(PACKAGES), os.environ.get("PYTHONPATH")]))
     process = await asyncio.create_subprocess_exec(
         *(sys.executable, "-P", "-m", "ocpp_board", "close-day"),
-        *("--db", words.db, "--program", words.program, "--archive", str(words.archive)),
+        *("--db", words.db, "--program", words.program, "--archive", str(folder)),
         *("--site", row["site"], "--day", str(row["day"])),
         stdin=asyncio.subprocess.DEVNULL,
         stdout=asyncio.subprocess.PIPE,
@@ -67,8 +72,8 @@ async def closed(words: argparse.Namespace, row: Any) -> tuple[int, str]:
 
 async def run(words: argparse.Namespace) -> int:
     """Does all requests that wait. Raises Fault where archives have no folder."""
-    if not words.archive.is_dir():
-        raise Fault(f"{words.archive}: no folder for archives")
+    if not words.archives.is_dir():
+        raise Fault(f"{words.archives}: no folder for archives")
     session, failed = await connect(words.db, application_name=NAME), 0
     while row := await session.fetchrow(TAKE):
         status, told = await closed(words, row)
@@ -89,7 +94,11 @@ def main(argv: Sequence[str], prog: str) -> int:
     parts.add_cell(parser, "the cell's database, as its owner")
     add_program(parser)
     parser.add_argument(
-        "--archive", required=True, type=Path, metavar="FOLDER", help="where archives are kept"
+        "--archives",
+        required=True,
+        type=Path,
+        metavar="FOLDER",
+        help="where archives are kept, in a folder for each site",
     )
     words = parts.parsed(parser, argv)
     return parts.done(lambda: run(words))

@@ -39,6 +39,7 @@ ROUTES: list[BaseRoute] = [
     Route("/site/{site}/", page_views.site_file),
     Route("/site/{site}/sessions.csv", page_views.month_file),
     Route("/site/{site}/{file}", page_views.site_file),
+    Route("/session", page_views.find),
     Route("/session/{station}/{transaction:path}", page_views.session),
     Route("/lacking", page_views.lacking),
     Route("/refused", page_views.refused),

@@ -11,7 +11,7 @@ from typing import Any, NamedTuple
 from urllib.parse import quote, urlencode
 
 from markupsafe import Markup
-from starlette.responses import Response
+from starlette.responses import RedirectResponse, Response
 
 from ocpp_board.boards import Numbers
 from ocpp_board.energies import flow_of, kwh, share
@@ -25,6 +25,7 @@ from ocpp_board.fleet.page_render import Line, heads_of, lines_of, link, moment
 from ocpp_board.fleet.plans import DEFAULT_ORDER
 from ocpp_board.fleet.site_pages import fragment_of, session_path
 from ocpp_board.fleet.site_store import SiteStore
+from ocpp_board.limits import TRANSACTION, is_name
 from ocpp_board.page_sections import UNKNOWN
 from ocpp_board.pages import flow_heads
 from ocpp_board.session_times import duration
@@ -365,6 +366,17 @@ def session_figures(history: History) -> list[tuple[str, str, bool]]:
 
 
 @view(SEES)
+async def find(asked: Asked) -> Response:
+    """Leads to a session that is told by a form."""
+    station, transaction = asked.word("station"), asked.word("transaction")
+    if not is_name(station) or not TRANSACTION.fullmatch(transaction):
+        raise Wrong(
+            HTTPStatus.BAD_REQUEST, "a session is told by its station and its transaction id"
+        )
+    return RedirectResponse(session_path(station, transaction.lower()), HTTPStatus.SEE_OTHER)
+
+
+@view(SEES)
 async def session(asked: Asked) -> Response:
     """Shows a session's lines with their answers, and who did what to it."""
     desk = asked.desk
@@ -455,15 +467,22 @@ def change_line(row: Any) -> Line:
     before, after = (parsed(row[name]) for name in ("before", "after"))
     if before and after:
         keys = [key for key in after if after[key] != before.get(key)]
-        pairs = [(key, f"{before.get(key)} to {after[key]}") for key in keys]
+        pairs = [(key, f"{plain(before.get(key))} to {plain(after[key])}") for key in keys]
     else:
-        pairs = [(key, str(one)) for key, one in (after or before).items() if one]
+        pairs = [(key, plain(one)) for key, one in (after or before).items() if one]
     told = Markup(", ").join(Markup("{}: {}").format(key, kept(one)) for key, one in pairs)
     what = f"{row['command'].lower()} {row['part'].removeprefix('own_')}"
     who = f"{row['operator']} as {row['login']}" if row["operator"] else row["login"]
     return Line(
         [moment(row["at"]), who, row["address"] or UNKNOWN, what, told, row["reason"] or UNKNOWN]
     )
+
+
+def plain(value: Any) -> str:
+    """A value of a row for a reader."""
+    if value is None:
+        return "none"
+    return ", ".join(map(str, value)) if isinstance(value, list) else str(value)
 
 
 def kept(text: str) -> str:
