@@ -536,7 +536,7 @@ class Demo(Trial):
         ann = Client(self.url)
         ann.login("ann")
         text = ann.get("/changes").text
-        self.check("jo as owner" in text and "period: 900 to 1800" in text, "the page shows them")
+        self.check("jo as owner" in text and "900 to 1800" in text, "the page shows them")
         await self.owner.execute("update own_station set retired = null")
 
     async def closings(self) -> None:
