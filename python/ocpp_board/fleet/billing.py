@@ -32,7 +32,7 @@ from ocpp_board.energies import Flow, flow_of, kwh_of
 from ocpp_board.escapes import csv_cell
 from ocpp_board.fleet import parts
 from ocpp_board.fleet.archives import Late, unpacked
-from ocpp_board.fleet.cells import CORRECTED, PROVISIONAL, SETTLED, Cells, Wrong
+from ocpp_board.fleet.cells import CORRECTED, PROVISIONAL, SETTLED, Cells, Room, Wrong
 from ocpp_board.fleet.close_day import zone_of
 from ocpp_board.fleet.database import Fault, connect
 from ocpp_board.fleet.figures import figures
@@ -53,9 +53,9 @@ HEADS = (
     *("start_date_time", "end_date_time", "session_id", "location_id", "station", "evse_uid"),
     *("total_energy", "exported_energy", "total_time", "complete", "missing", "settled"),
 )
-# Lines that are replayed at once; tables that are made at once for pages, and seconds for one.
-LINES, PATIENCE = 5_000, 150
-ROOM = asyncio.Semaphore(1)
+# Lines that are replayed at once. For pages one table at once, and one that waits; seconds for one.
+LINES, PATIENCE = 5_000, 80
+ROOM = Room(1, 1)
 SITES = """
 select p.shard, p.site, p.zone, p.period, p.reading_order from own_site p join own_shard h using (shard)
 where site = $1 and h.moving_to is null order by shard

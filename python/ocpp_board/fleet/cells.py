@@ -93,8 +93,8 @@ FINDINGS = """
 select station, transaction, finding, times, first, detail from own_finding where shard = $1 and site = $2
 """
 STATION = """
-select t.*, p.zone, p.period, p.reading_order from own_station t join own_site p using (shard, site)
-join own_shard h using (shard) where t.station = $1 and h.moving_to is null
+select t.*, p.zone, p.period, p.reading_order, h.moving_to
+from own_station t join own_site p using (shard, site) join own_shard h using (shard) where t.station = $1
 """
 WAITS = "select waits, beat, now() as now, exists (select from own_station) as has_stations from waits_since()"
 OPERATE = "select operate($1, $2, $3, $4, $5, $6, $7, $8, $9, $10)"
@@ -108,6 +108,27 @@ class Wrong(Exception):
     def __init__(self, status: HTTPStatus, text: str) -> None:
         super().__init__(text)
         self.status = status
+
+
+class Room:
+    """Room for so many jobs at once, and for so many that wait. Whoever comes then is refused."""
+
+    def __init__(self, jobs: int, waiting: int) -> None:
+        self.jobs, self.most, self.waiting = asyncio.Semaphore(jobs), waiting, 0
+
+    async def __aenter__(self) -> None:
+        """Waits for room. Raises Wrong where too many wait."""
+        if self.waiting >= self.most:
+            raise Wrong(HTTPStatus.SERVICE_UNAVAILABLE, "too much is asked at once; try again")
+        self.waiting += 1
+        try:
+            await self.jobs.acquire()
+        finally:
+            self.waiting -= 1
+
+    async def __aexit__(self, *_: object) -> None:
+        """Gives the room back."""
+        self.jobs.release()
 
 
 class Deed(NamedTuple):
@@ -128,9 +149,9 @@ class Cell:
 
     def __init__(self, dsn: str) -> None:
         self.dsn, self.name = dsn, f"page_{secrets.token_hex(6)}"
-        # Sessions that are free, and who waits for one.
+        # Sessions that are free.
         self.free: list[Any] = []
-        self.places, self.waits = asyncio.Semaphore(SESSIONS), 0
+        self.room = Room(SESSIONS, MOST_WAITING)
         # The session that is told answers, by whose tokens they are known; whoever no longer waits is gone from here.
         self.listening: Any = None
         self.operating = asyncio.Lock()
@@ -139,14 +160,8 @@ class Cell:
     async def ask(self, query: str, *values: Any) -> list[Any]:
         """The rows of a query, which is asked once more where its session turns out to have ended. Raises Wrong where
         too much is asked at once."""
-        if self.waits >= MOST_WAITING:
-            raise Wrong(HTTPStatus.SERVICE_UNAVAILABLE, "too much is asked at once; try again")
-        self.waits += 1
-        try:
-            async with self.places:
-                return await self.asked(query, *values)
-        finally:
-            self.waits -= 1
+        async with self.room:
+            return await self.asked(query, *values)
 
     async def asked(self, query: str, *values: Any) -> list[Any]:
         """The rows of a query by a session that is free, or by a new one."""
@@ -296,7 +311,7 @@ class Cells:
         """A station's row with those of its site, and its cell. Raises Wrong where there is none that the operator
         sees."""
         found = await self.ask_all(STATION, name)
-        for cell, row in found.pairs():
+        for cell, row in staying(found.pairs()):
             if operator.sees(row["site"]):
                 return cell, row
         down = ", or its cell does not answer" if found.faults else ""

@@ -17,7 +17,7 @@ from typing import Any, NamedTuple
 from ocpp_board.answered import Answered
 from ocpp_board.boards import Numbers
 from ocpp_board.fleet.archives import LATER, unpacked, widened
-from ocpp_board.fleet.cells import CORRECTED, PROVISIONAL, SETTLED, Cell, Cells, Wrong
+from ocpp_board.fleet.cells import CORRECTED, PROVISIONAL, SETTLED, Cell, Cells, Room, Wrong
 from ocpp_board.fleet.figures import figures
 from ocpp_board.fleet.lines import ODD, may_name, transaction_of
 from ocpp_board.fleet.operators import Operator
@@ -26,9 +26,9 @@ from ocpp_board.fleet.replays import Replay, ReplayEnded
 from ocpp_board.session_times import SessionTimes, times_of
 from ocpp_board.transactions import Transactions
 
-# Bytes of a station's lines that are read, replays at once, and seconds that one may take.
-MOST_BYTES, REPLAYS, PATIENCE = 1 << 26, 2, 20
-ROOM = asyncio.Semaphore(REPLAYS)
+# Bytes of a station's lines that are read, replays at once with those that wait, and seconds that one may take.
+MOST_BYTES, REPLAYS, WAITING, PATIENCE = 1 << 26, 2, 16, 20
+ROOM = Room(REPLAYS, WAITING)
 OWN = "shard = $1 and split_part(line, ' ', 2) = $2"
 SIZE = f"select coalesce(sum(octet_length(line) + 1), 0)::bigint as bytes from own_log where {OWN}"
 LINES = f"select place, at, line from own_log where {OWN} order by place"

@@ -114,21 +114,21 @@ class SignIns:
             raise Busy("too many sign in at once", 5)
         self.waiting += 1
         try:
-            is_right, is_locked = await self.judged(name, password)
+            is_right, what = await self.judged(name, password)
         finally:
             self.waiting -= 1
         if not is_right:
             self.tries.fail(key, time.monotonic())
-            what = "is locked" if is_locked else "a wrong name or password"
-            log.warning("%s: operator %r: %s", address, name[:64], what)
+            log.warning("%s: %s", address, what)
             raise Refused("The name or the password is wrong, or there were too many wrong ones.")
         secret = new_secret()
         await self.ask(BEGIN, name, digest(secret), address)
         log.info("%s: operator %s signed in", address, name)
         return secret
 
-    async def judged(self, name: str, password: str) -> tuple[bool, bool]:
-        """Whether a password is right, and whether the name is locked, of which nobody is told."""
+    async def judged(self, name: str, password: str) -> tuple[bool, str]:
+        """Whether a password is right, and what is told of one that is not. A name that is none is not told: it may be
+        a password."""
         row, hash_, salt = None, None, bytes(SALT)
         if NAME.fullmatch(name) and len(password) <= LONGEST:
             row = (await self.ask(TRY, name))[0]
@@ -137,7 +137,9 @@ class SignIns:
         given = password[:LONGEST].encode("utf-8", "replace")
         found = await loop.run_in_executor(self.pool, hashed, given, salt, OPERATOR)
         is_right = hash_ is not None and hmac.compare_digest(found, hash_)
-        return is_right, bool(row and row["is_locked"])
+        if row and row["is_locked"]:
+            return is_right, f"operator {name}, who is locked"
+        return is_right, f"a wrong password of {name}" if hash_ else "a name of no operator"
 
     async def known(self, secret: str, is_use: bool = True) -> Operator | None:
         """Whose session a secret is, where it has not ended. `is_use`: a person asked, so that it goes on."""

@@ -34,8 +34,8 @@ from ocpp_board.transactions import moment as moment_of, seconds_of
 FILE = re.compile(
     r"board(\.\d{4}-\d\d-\d\d(\.\d{1,4})?|\.\d{1,4})?\.html|board\.(periods|transactions)\.csv"
 )
-# Rows of a table.
-MOST_ROWS = 500
+# Rows of a table, and lines of a session that are shown as they are.
+MOST_ROWS, MOST_LINES = 500, 2_000
 # Sessions that are not complete: first those that lack messages, the oldest first.
 LACKING = """
 select t.shard, h.moving_to, t.site, t.station, t.transaction, t.first, t.last, t.missing, t.at, p.zone,
@@ -406,7 +406,8 @@ async def session(asked: Asked) -> Response:
         rows=rows,
         deed_heads=DEED_HEADS,
         deeds=[deed_line(row, history.zone, True) for row in history.deeds],
-        script="\n".join(script[:2000]),
+        script="\n".join(script[:MOST_LINES]),
+        left=f"{len(script) - MOST_LINES:,}" if len(script) > MOST_LINES else "",
         until=moment(until, history.zone, UNKNOWN),
     )
 

@@ -11,12 +11,12 @@ from http import HTTPStatus
 from pathlib import Path
 from typing import Any, NamedTuple
 
-from ocpp_board.fleet.cells import FINDINGS, Cell, Wrong, board_text
+from ocpp_board.fleet.cells import FINDINGS, Cell, Room, Wrong, board_text
 from ocpp_board.fleet.page_render import zone_of
 from ocpp_board.processes import PACKAGES
 
-# Sites whose pages are kept, processes at once that make some, and seconds that one may take.
-KEPT, MAKERS, PATIENCE = 16, 2, 60
+# Sites whose pages are kept, processes at once that make some with those that wait, and seconds for one.
+KEPT, MAKERS, WAITING, PATIENCE = 16, 2, 16, 60
 MARKS = ("shard", "period", "reading_order", "zone", "place", "at", "closing")
 
 
@@ -34,7 +34,7 @@ class SiteStore:
 
     def __init__(self) -> None:
         self.kept: OrderedDict[str, SitePages] = OrderedDict()
-        self.makers = asyncio.Semaphore(MAKERS)
+        self.makers = Room(MAKERS, WAITING)
         self.making: dict[str, asyncio.Lock] = {}
 
     async def pages(self, name: str, rows: list[tuple[Cell, Any]]) -> SitePages:
