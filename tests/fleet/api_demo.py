@@ -44,6 +44,11 @@ TRANSACTION = """
 select up, missing, complete from own_board_transaction where (station, transaction) = ($1, $2) union all
 select up, missing, complete from own_archived_transaction where (station, transaction) = ($1, $2)
 """
+# The times of T-1 again, which are looked at later.
+TIMES = """
+update own_archived_transaction set begun = '2026-03-01T10:00:00Z', started = '2026-03-01T10:00:00Z',
+    ended = '2026-03-01T10:45:00Z' where station = 'CS-00'
+"""
 MARCH = "from=2026-02-28&to=2026-03-31"
 
 
@@ -359,6 +364,15 @@ class Demo(Trial):
         await self.close_day("north", "2026-03-02")
         await self.transactions("archived")
         await self.billing("archived")
+        # As an earlier version wrote its rows, which had no times.
+        rows = self.month("2026-03")
+        old = "update own_archived_transaction set begun = null, started = null, ended = null returning begun"
+        count = len(await self.owner.fetch(old))
+        self.check(
+            count == 3 and self.month("2026-03") == rows,
+            f"{count} sessions without times have these again",
+        )
+        await self.owner.execute(TIMES)
 
     async def settled(self) -> None:
         """Periods and sessions behind a closing, and what comes since."""
