@@ -43,6 +43,9 @@ TOOLS = {
     "password": Tool("fleet.set_password", "fleet: sets the password of a station"),
     "operator": Tool("fleet.set_operator", "fleet: makes operators of the page, and tokens"),
     "billing": Tool("fleet.billing", "fleet: writes a site's month of sessions as CSV"),
+    "forget": Tool("fleet.forget", "fleet: takes drivers' tokens out of log and archives"),
+    "backup": Tool("fleet.backup", "fleet: backs up a cell with its archives"),
+    "restore": Tool("fleet.restore", "fleet: brings a backup of a cell back"),
 }
 
 

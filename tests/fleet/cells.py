@@ -339,9 +339,9 @@ class Cells(Trial):
         command = (
             *tool("move"),
             "--from",
-            self.dsn("owner", 0),
+            self.dsn("ledger_mover", 0),
             "--to",
-            self.dsn("owner", 1),
+            self.dsn("ledger_mover", 1),
             "--shard",
             0,
         )

@@ -192,7 +192,7 @@ class Demo(Trial):
             ("ledger", f"select add_station({self.shards - 1}, 'open', 'CS-OPEN')"),
             ("ledger", void),
         ):
-            sessions.append(await connect(self.fleet.dsn("owner", database=database)))
+            sessions.append(await asyncpg.connect(self.fleet.dsn("owner", database=database)))
             await sessions[-1].execute("set idle_in_transaction_session_timeout = 0; begin")
             await sessions[-1].execute(query)
         await asyncio.sleep(4)
@@ -368,7 +368,7 @@ class Demo(Trial):
         command = [
             *tool("compact"),
             "--db",
-            self.fleet.dsn("owner"),
+            self.fleet.dsn("ledger_compactor"),
             "--program",
             self.fleet.program,
             "--shard",
@@ -611,10 +611,9 @@ class Demo(Trial):
 
 def own_functions() -> bytes:
     """The schema's own functions of holding, in place of those that were put there."""
-    text = SCHEMA.read_text()
-    parts = re.findall(
-        r"create or replace (function (?:living_workers|hold_shard)\(.*?\$\$;\n)", text, re.DOTALL
-    )
+    files = [SCHEMA, *sorted(SCHEMA.with_name("schema").iterdir())]
+    pattern = r"create or replace (function (?:living_workers|hold_shard)\(.*?\$\$;\n)"
+    parts = [part for file in files for part in re.findall(pattern, file.read_text(), re.DOTALL)]
     return "".join(f"create or replace {part}" for part in parts).encode()
 
 

@@ -624,19 +624,7 @@ class Demo(Trial):
         process.kill()
         process = self.feed(*words)
         await asyncio.sleep(1.5)
-        owner_dsns = [
-            self.fleet.dsn("owner"),
-            self.fleet.dsn("owner").replace("/ledger", "/second"),
-        ]
-        command = (
-            *tool("move"),
-            "--from",
-            owner_dsns[0],
-            "--to",
-            owner_dsns[1],
-            "--shard",
-            shards[1],
-        )
+        command = self.fleet.moving("second", shards[1])
         status, text = await ended(self.fleet.start(*command, stdout=subprocess.PIPE))
         self.check(status == 0, f"cells: ocpp-board move: {text}")
         await asyncio.sleep(0.5)

@@ -49,6 +49,9 @@ select $1, coalesce((select max(place) from own_log where shard = $1), 0) + w.pl
 from unnest($2::text[]) with ordinality as w (line, place)
 """
 BIN = Path("/usr/lib/postgresql/15/bin")
+# The roles of the schema's tools, each of which has a password of its own.
+ROLES = ["GATEWAY", "FEED", "WORKER", "READER", "OPERATOR", "PROVISIONER", "ADMINISTRATOR"]
+ROLES += ["CLOSER", "COMPACTOR", "MOVER", "KEEPER", "BACKUP"]
 
 
 def tool(name: str) -> list[str]:
@@ -240,18 +243,7 @@ class Fleet:
 
     def roles(self) -> dict[str, str]:
         """The passwords that schema.sql takes from the environment."""
-        return {
-            f"{role}_PASSWORD": self.password
-            for role in (
-                "GATEWAY",
-                "FEED",
-                "WORKER",
-                "READER",
-                "OPERATOR",
-                "PROVISIONER",
-                "ADMINISTRATOR",
-            )
-        }
+        return {f"{role}_PASSWORD": self.password for role in ROLES}
 
     def start(self, *command: object, **more: Any) -> subprocess.Popen[bytes]:
         more = dict[str, Any](stdin=subprocess.DEVNULL, stdout=self.log, stderr=self.log) | more
@@ -318,9 +310,14 @@ class Fleet:
 
     def closing(self, site: str, archives: Path, day: object) -> list[str]:
         """The command that closes a day of a site."""
-        owner = ("--db", self.dsn("owner"), "--program", self.program)
+        closer = ("--db", self.dsn("ledger_closer"), "--program", self.program)
         days = ("--site", site, "--archive", str(archives), "--day", str(day))
-        return [*tool("close-day"), *owner, *days]
+        return [*tool("close-day"), *closer, *days]
+
+    def moving(self, database: str, shard: int) -> list[str]:
+        """The command that moves a shard to another database of this server."""
+        cells = [self.dsn("ledger_mover", database=name) for name in ("ledger", database)]
+        return [*tool("move"), "--from", cells[0], "--to", cells[1], "--shard", str(shard)]
 
     def load(
         self, urls: list[str], first: int, stations: int, *more: object

@@ -532,7 +532,11 @@ class Demo(Trial):
         self.check(await self.until(5, is_noted), "and the worker noted how far it told answers")
         before = await self.owner.fetchval(board)
         size = sum(len(text) + 1 for text in texts)
-        words = ("--db", self.fleet.dsn("owner", self.fleet.databases[0].port), "--program")
+        words = (
+            "--db",
+            self.fleet.dsn("ledger_compactor", self.fleet.databases[0].port),
+            "--program",
+        )
         process = self.fleet.patched(
             f"import ocpp_board.fleet.compact as one; one.PIECE = {size // 2}",
             "compact", *words, self.fleet.program, "--shard", 900, stdout=-1, stderr=-2,
@@ -568,7 +572,8 @@ class Demo(Trial):
         size = await self.owner.fetchval(
             "select sum(octet_length(line)) from own_log where shard = 901"
         )
-        command = [*tool("compact"), "--db", self.fleet.dsn("owner", self.fleet.databases[0].port)]
+        login = self.fleet.dsn("ledger_compactor", self.fleet.databases[0].port)
+        command = [*tool("compact"), "--db", login]
         words = ("--program", self.fleet.program, "--shard", 901)
         status, said = await ended(self.fleet.start(*command, *words, stdout=-1, stderr=-2))
         self.check(

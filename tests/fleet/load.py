@@ -4,6 +4,8 @@
 
 Station k is CS-0000k; its events come in sessions of eight, shuffled, one in five sent twice. It sends the next
 message after the answer to the last one; where its connection ends it connects to the next gateway and sends again.
+With --password all come with this one, and with --ca by TLS. With --together all are connected, so many at a time,
+before the first one sends: how many a second that were is told.
 Each message is recorded once its answer is there, as a line of a script. A message's wait is from when it was first
 sent to its answer, whatever happened in between. The status is 1 where an answer was not the one of an event that
 is taken, or where not all were answered in time.
@@ -14,6 +16,7 @@ import asyncio
 import json
 import logging
 import random
+import ssl
 import sys
 import time
 from typing import TextIO
@@ -44,6 +47,24 @@ class Load:
         self.began = time.monotonic()
         self.left = words.stations
         self.done = asyncio.Event()
+        self.context = ssl.create_default_context(cafile=words.ca) if words.ca else None
+        # Places for those who connect at a time, and who is still to come before all send.
+        self.places = asyncio.Semaphore(words.together or words.stations)
+        self.coming, self.all_here = words.stations, asyncio.Event()
+
+    def here(self) -> None:
+        """A station is connected; where it was the last one all send from now on."""
+        self.coming -= 1
+        if not self.coming and not self.all_here.is_set():
+            took = time.monotonic() - self.began
+            if self.words.together:
+                stations = self.words.stations
+                print(
+                    f"{stations} connected in {took:.2f} s, {stations / took:.0f} a second",
+                    flush=True,
+                )
+            self.began = time.monotonic()
+            self.all_here.set()
 
     def answered(self, station: "Station", answer: str) -> None:
         now = time.monotonic()
@@ -90,11 +111,14 @@ class Station:
         self.first = 0.0
         self.link: StationEnd | None = None
         self.next: asyncio.TimerHandle | None = None
+        self.beginning: asyncio.Future[None] | None = None
 
     async def play(self) -> None:
         """Keeps a connection until all is answered."""
-        await asyncio.sleep(random.random() * (self.pause or 1.0))
         loop = asyncio.get_running_loop()
+        if not self.load.words.together:
+            await asyncio.sleep(random.random() * (self.pause or 1.0))
+        await self.load.places.acquire()
         while self.rest:
             url = self.load.words.urls[self.turn % len(self.load.words.urls)]
             self.turn += 1
@@ -103,9 +127,10 @@ class Station:
             try:
                 _, self.link = await asyncio.wait_for(
                     loop.create_connection(
-                        lambda: StationEnd(self, f"{url}/{self.name}", ended),
+                        lambda: StationEnd(self, self.address(url), ended),
                         parts.hostname,
                         parts.port,
+                        ssl=self.load.context,
                     ),
                     10,
                 )
@@ -119,6 +144,19 @@ class Station:
         self.load.left -= 1
         if not self.load.left:
             self.load.done.set()
+
+    def address(self, url: str) -> str:
+        """Where the station connects to, with its password where it has one."""
+        if password := self.load.words.password:
+            url = url.replace("://", f"://{self.name}:{password}@")
+        return f"{url}/{self.name}"
+
+    async def begin(self) -> None:
+        """Sends once all are connected."""
+        await self.load.all_here.wait()
+        await asyncio.sleep(random.random() * self.pause)
+        if self.link and not self.link.is_lost and self.rest and not self.first:
+            self.send()
 
     def send(self) -> None:
         assert self.link
@@ -156,7 +194,12 @@ class StationEnd(ClientLink):
             self.transport.abort()
         else:
             self.station.link = self
-            self.station.send()
+            if self.station.load.words.together and not self.station.load.all_here.is_set():
+                self.station.load.places.release()
+                self.station.load.here()
+                self.station.beginning = asyncio.ensure_future(self.station.begin())
+            else:
+                self.station.send()
 
     def text(self, data: bytes) -> None:
         self.station.answered(data.decode())
@@ -206,6 +249,11 @@ def main() -> int:
         "--rate", type=float, default=0, help="messages a second in all (default: all they can)"
     )
     parser.add_argument("--seconds", type=float, default=60, help="until it gives up (default: 60)")
+    parser.add_argument("--password", help="all stations' password (default: none)")
+    parser.add_argument("--ca", help="connect by TLS, and trust this certificate")
+    parser.add_argument(
+        "--together", type=int, default=0, metavar="N", help="connect N at a time before any sends"
+    )
     parser.add_argument("--record", required=True, help="the file of what was answered")
     words = parser.parse_args()
     telling.set_up(parser.prog, named_from=logging.DEBUG)

@@ -5,7 +5,9 @@
     tests/one fleet.measure ocpp_board memory
 
 `load` gives messages a second, waits (median, 99th, longest) and processor time a message by part, and compares
-every board at the end; with --kill a worker, a gateway and a replay are killed on the way. `recovery` fills the log
+every board at the end; with --kill a worker, a gateway and a replay are killed on the way; with --password and --tls
+stations come so, and with --together N all connect, N at a time, before the first one sends, and then once more, which
+a gateway knows that has seen them: how many a second that are is told. `recovery` fills the log
 of some shards and times a worker that takes them. `memory` gives what a replay of 64 stations takes, empty, by its
 limits.
 """
@@ -15,13 +17,16 @@ import asyncio
 import logging
 import os
 import resource
+import secrets
 import signal
+import subprocess
 import sys
 import time
 from pathlib import Path
 from typing import Any
 
 from ocpp_board.fleet.database import Fault, said
+from ocpp_board.fleet.passwords import SALT, hashed
 from ocpp_board.fleet.plans import Plan, Reckoning
 from ocpp_board.fleet.replays import Replay
 from tests.fleet.fleet import FILL, Fleet, children, ended
@@ -29,6 +34,7 @@ from tests.fleet.trials import FAULTS, MISTAKEN, messages, parsed, parser_of
 
 log = logging.getLogger(__name__)
 
+PASSWORD = "a-password-of-a-station"
 TICKS = os.sysconf("SC_CLK_TCK")
 
 
@@ -65,11 +71,14 @@ async def load(fleet: Fleet, words: argparse.Namespace) -> int:
     transactions, events, readings = words.limits
     await fleet.add(owner, words.stations, each, 0, (transactions, events, readings))
     workers = [fleet.worker() for _ in range(words.workers)]
-    gateways = [await asyncio.to_thread(fleet.gateway) for _ in range(words.gateways)]
+    doors, door_words = await door(fleet, owner, words)
+    gateways = [
+        await asyncio.to_thread(fleet.gateway, options=doors) for _ in range(words.gateways)
+    ]
     while await owner.fetchval("select coalesce(sum(shards), 0) from worker") < words.shards:
         await asyncio.sleep(0.2)
     await asyncio.sleep(1)
-    urls = [url for _, url in gateways]
+    urls = [url.replace("ws://", "wss://") if words.tls else url for _, url in gateways]
     assert fleet.databases[0].process
     parts = {
         "gateway": [process.pid for process, _ in gateways],
@@ -83,9 +92,9 @@ async def load(fleet: Fleet, words: argparse.Namespace) -> int:
         ],
     }
     before = {name: spent(pids) for name, pids in parts.items()}
-    rate = ("--rate", words.rate) if words.rate else ()
+    more = (*(("--rate", words.rate) if words.rate else ()), *door_words)
     run = fleet.load(
-        urls, 0, words.stations, "--events", words.events, "--seconds", words.seconds, *rate
+        urls, 0, words.stations, "--events", words.events, "--seconds", words.seconds, *more
     )
     if words.kill:
         await asyncio.sleep(4)
@@ -98,17 +107,61 @@ async def load(fleet: Fleet, words: argparse.Namespace) -> int:
     print(text)
     if not words.kill:
         used = {name: spent(pids) - before[name] for name, pids in parts.items()}
-        count = int(text.split()[0])
+        count = int(text.splitlines()[-1].split()[0])
         own = ", ".join(f"{name} {1e6 * seconds / count:.0f}" for name, seconds in used.items())
         batches = await owner.fetchval("select count(distinct xmin::text) from own_log")
         rows = await owner.fetchval("select count(*) from own_log")
         print(f"processor time a message in us: {own}; {rows / max(1, batches):.1f} lines a commit")
+    if words.together:
+        # Their first event once more is a repeat.
+        again = fleet.load(urls, 0, words.stations, "--events", 1, "--seconds", 60, *door_words)
+        _, text = await ended(again)
+        print(f"known to their gateway: {text.splitlines()[0]}")
     differ = await fleet.compared(owner, seconds=30)
     print(
         f"{words.shards} shards: {'every board equals a replay from scratch' if not differ else differ}"
     )
     await owner.close()
     return 1 if status or differ else 0
+
+
+async def door(
+    fleet: Fleet, owner: Any, words: argparse.Namespace
+) -> tuple[list[str], list[object]]:
+    """The options of gateways by which stations are let in as they are to come, and those of the stations."""
+    options, more = ["--open"], list[object](
+        ["--together", words.together] if words.together else []
+    )
+    if words.password:
+        # One hash for all: it costs a gateway as much.
+        salt = secrets.token_bytes(SALT)
+        await owner.execute(
+            "insert into station_password (station, hash, salt, set_at) select station, $1, $2, now() from own_station",
+            hashed(PASSWORD.encode(), salt),
+            salt,
+        )
+        options, more = [], [*more, "--password", PASSWORD]
+    if words.tls:
+        key, certificate = fleet.folder / "key.pem", fleet.folder / "certificate.pem"
+        subprocess.run(
+            [
+                "openssl",
+                "req",
+                "-x509",
+                "-newkey",
+                "ec",
+                "-pkeyopt",
+                "ec_paramgen_curve:P-256",
+                "-nodes",
+            ]
+            + ["-days", "2", "-subj", "/CN=gateway", "-addext", "subjectAltName=IP:127.0.0.1"]
+            + ["-keyout", str(key), "-out", str(certificate)],
+            check=True,
+            stderr=subprocess.DEVNULL,
+        )
+        options += ["--certificate", str(certificate), "--key", str(key)]
+        more += ["--ca", certificate]
+    return options, more
 
 
 async def recovery(fleet: Fleet, words: argparse.Namespace) -> int:
@@ -185,6 +238,11 @@ def main() -> int:
         nargs=3,
         default=[64, 512, 512],
         help="of a station (default: 64 512 512)",
+    )
+    parser.add_argument("--password", action="store_true", help="stations come with a password")
+    parser.add_argument("--tls", action="store_true", help="stations come by TLS")
+    parser.add_argument(
+        "--together", type=int, default=0, metavar="N", help="connect N at a time before any sends"
     )
     parser.add_argument("--standby", action="store_true", help="with a synchronous standby")
     parser.add_argument("--kill", action="store_true", help="kill a worker, a gateway and a replay")

@@ -1,21 +1,29 @@
-"""Brings a database that an earlier schema made, with data in it, to the schema of today, and goes on with it.
+"""Brings databases that earlier schemas made, with data in them, to the schema of today, and goes on with each.
 
-    tests/one fleet.migrate_demo ocpp_board
+    tests/one fleet.migrate_demo ocpp_board [VERSION..]
 
-It starts PostgreSQL 15 in a temporary folder, makes one database by tests/fleet/old-schema.sql and one by
-schema.sql, fills the first and runs schema.sql there twice. The two then have to be alike, no row may have changed,
-and a closing has to find what the older version archived. The status is 1 where something is not as it must be.
+For each older version (0 is tests/fleet/old-schema.sql, from before versions were counted) it starts PostgreSQL 15 in
+a temporary folder, makes one database of that version and one by schema.sql, and fills the first. A tool has to refuse
+it by name. Then it runs schema.sql there twice: the two have to be alike, no row may have changed, and a closing has to
+find what the older version archived. A database of a later version is refused by tools and by schema.sql. The status
+is 1 where something is not as it must be.
 """
 
+import argparse
 import difflib
+import os
 import re
 import subprocess
 import sys
 from datetime import date
 from typing import Any
 
+import asyncpg
+
+from ocpp_board.fleet.archives import packed
+from ocpp_board.fleet.database import VERSION
 from tests.fleet.closings import ClosingTrial, local, session
-from tests.fleet.fleet import BIN, OLD_SCHEMA
+from tests.fleet.fleet import BIN, FILL, OLD_SCHEMA, SCHEMA, ended, tool
 from tests.fleet.trials import parsed, parser_of, tried
 
 # What each table had before, and has still.
@@ -26,6 +34,28 @@ COLUMNS = """
 select string_agg(attname, ', ' order by attnum) from pg_attribute
 where attrelid = $1::text::regclass and attnum > 0 and not attisdropped and attname not in ('xid', 'taken')
     and (attname <> 'id' or attrelid = 'stray'::regclass)
+"""
+ALL_COLUMNS = """
+select string_agg(attname, ', ' order by attnum) from pg_attribute
+where attrelid = $1::text::regclass and attnum > 0 and not attisdropped
+"""
+# What a database of a numbered version has besides.
+MORE = """
+update numbering set told = 1;
+insert into station_password (station, hash, salt, set_at)
+    values ('A', decode(repeat('ab', 32), 'hex'), decode(repeat('cd', 16), 'hex'), now());
+insert into fed values ('csms.log', 7, 'front');
+insert into stray (source, station, line) values ('csms.log', 'C', 'msg C []');
+insert into own_finding (shard, site, station, transaction, finding, times, detail, meaning)
+    values (0, 'north', 'A', 'tx-1', 'an id used again', 1, 'detail', 'meaning');
+insert into own_refusal values (1, 0, 'B', 'tx-9', '1', 'ConflictingEvent', 'what', 'advice', 1, now(), now(), 1);
+"""
+CLOSING = """
+insert into own_closing (shard, site, closing, day, period, archive) values (0, 'north', 1, '2026-03-02', 900, $1)
+"""
+KEPT = """
+insert into own_archived_lines (shard, site, closing, station, transaction, lines)
+values (0, 'north', 1, 'A', 'tx-1', $1)
 """
 ARCHIVE = "north.shard-0.1.script"
 # Answers were told up to the first line.
@@ -45,30 +75,56 @@ SETTLED = "select station, up, rows, corrections from own_settled"
 class Demo(ClosingTrial):
     STATIONS = ((0, "north", "A"), (0, "north", "B"))
 
+    def __init__(self, words: argparse.Namespace, version: int) -> None:
+        super().__init__(words)
+        self.version = version
+
     async def one_cell(self) -> None:
         database = self.fleet.database()
         database.make()
         database.start()
-        database.fill(1, schema=OLD_SCHEMA)
+        if self.version:
+            database.psql("postgres", "-c", "create database ledger")
+            database.run_schema("ledger", "-v", "cell=1", "-v", f"to={self.version}")
+        else:
+            database.fill(1, schema=OLD_SCHEMA)
         database.fill(1, "fresh")
-        self.owner = await self.fleet.owner()
+        # Tools refuse this database, and so would their session.
+        self.owner = await asyncpg.connect(self.fleet.dsn("owner"))
+
+    async def refused(self, wanted: str) -> None:
+        """Tools refuse the database as it is, by the version."""
+        role = "ledger_worker"
+        for name, more in (
+            ("worker", ("--program", self.fleet.program)),
+            ("compact", ("--program", self.fleet.program, "--shard", 0)),
+        ):
+            command = [*tool(name), "--db", self.fleet.dsn(role if name == "worker" else "owner")]
+            made = self.fleet.start(*command, *more, stdout=-1, stderr=subprocess.STDOUT)
+            status, said = await ended(made)
+            self.check(status == 2 and wanted in said, f"{name}: {status}, {said}")
 
     async def fill(self) -> None:
         """What the older version had: an archived session, one that goes on, and what is settled of both."""
         first = session("A", "TX-1", local("2026-03-01 08:00"), 4)
         second = session("B", "TX-1", local("2026-03-01 08:00"), 4)[:2]
         self.lines[0] = first + second
-        for text in second:
-            await self.owner.execute("insert into own_log (shard, line) values (0, $1)", text)
-        await self.owner.execute(MARK)
         declared = "limits 256 2048 2048 1000000000\nstation north A\nstation north B\n"
         text = declared + "".join(line + "\n" for line in first)
         (self.archives / ARCHIVE).write_text(text)
-        await self.owner.execute(
-            "insert into own_closing (shard, site, closing, day, period, xid, id, archive) "
-            "values (0, 'north', 1, '2026-03-02', 900, '0', 0, $1)",
-            ARCHIVE,
-        )
+        if self.version:
+            await self.owner.execute(FILL, 0, second)
+            await self.owner.execute(MORE)
+            await self.owner.execute(CLOSING, ARCHIVE)
+        else:
+            for text in second:
+                await self.owner.execute("insert into own_log (shard, line) values (0, $1)", text)
+            await self.owner.execute(MARK)
+            await self.owner.execute(
+                "insert into own_closing (shard, site, closing, day, period, xid, id, archive) "
+                "values (0, 'north', 1, '2026-03-02', 900, '0', 0, $1)",
+                ARCHIVE,
+            )
         for number in (1, 2, 3):
             starts = local(f"2026-03-01 08:{15 * number}")
             await self.owner.execute(CLOSED_PERIOD, starts, date(2026, 3, 1), 250_000)
@@ -78,6 +134,8 @@ class Demo(ClosingTrial):
             "(shard, site, closing, station, transaction, complete, missing, up, down) "
             "values (0, 'north', 1, 'A', 'tx-1', true, 0, 750000, 0)"
         )
+        if self.version:
+            await self.owner.execute(KEPT, packed(first))
 
     async def rows(self, columns: dict[str, str]) -> dict[str, list[Any]]:
         """All rows of all tables, by the columns that they had before."""
@@ -104,17 +162,19 @@ class Demo(ClosingTrial):
     async def run(self) -> None:
         await self.open_plan()
         await self.fill()
+        names = ALL_COLUMNS if self.version else COLUMNS
         columns = {
-            row["relname"]: await self.owner.fetchval(COLUMNS, row["relname"])
+            row["relname"]: await self.owner.fetchval(names, row["relname"])
             for row in await self.owner.fetch(TABLES)
-            if row["relname"] != "worker"
+            if row["relname"] not in ("worker", "schema_version")
         }
+        await self.refused(f"has version {self.version}, and these tools are for version {VERSION}")
         before = await self.rows(columns)
         for _ in range(2):
             self.fleet.databases[0].run_schema("ledger")
         self.check(
             await self.rows(columns) == before,
-            f"schema.sql twice over a database of an earlier one: {sum(map(len, before.values()))} rows as before",
+            f"schema.sql twice over version {self.version}: {sum(map(len, before.values()))} rows as before",
         )
         rows = await self.owner.fetch("select line, place from own_log order by place")
         told = await self.owner.fetchval("select told from numbering where shard = 0")
@@ -150,13 +210,29 @@ class Demo(ClosingTrial):
             sum(row[1] for row in settled) == whole and all(row[3] > 0 for row in settled),
             f"and so is what closings correct: {settled}, {whole}",
         )
+        await self.owner.execute("insert into schema_version (version) values (999)")
+        await self.refused(f"has version 999, and these tools are for version {VERSION}")
+        made = subprocess.run(
+            ["psql", "-h", "127.0.0.1", "-p", str(self.fleet.databases[0].port), "-U", "owner"]
+            + ["-qX", "-d", "ledger", "-f", str(SCHEMA)],
+            env=os.environ | self.fleet.roles(),
+            capture_output=True,
+            text=True,
+            check=False,
+        )
+        self.check(
+            made.returncode == 3 and "of a later version than this file" in made.stderr,
+            f"schema.sql refuses it: {made.stderr.strip().splitlines()[:1]}",
+        )
         await self.owner.close()
 
 
 def main() -> int:
-    """Tries it, and gives the exit status."""
-    words = parsed(parser_of(__doc__))
-    return tried("migration", lambda: Demo(words))
+    """Tries each older version, or those of the words, and gives the worst exit status."""
+    parser = parser_of(__doc__)
+    parser.add_argument("versions", nargs="*", type=int, default=range(VERSION), metavar="VERSION")
+    words = parsed(parser)
+    return max(tried(f"migration of {n}", lambda: Demo(words, n)) for n in words.versions)
 
 
 if __name__ == "__main__":

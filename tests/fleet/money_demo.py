@@ -18,7 +18,7 @@ import asyncpg
 
 from tests.fleet.client import Client
 from tests.fleet.closings import ClosingTrial, line, local, session
-from tests.fleet.fleet import ended, tool
+from tests.fleet.fleet import ended
 from tests.fleet.trials import parsed, parser_of, tried
 
 ENERGY = "select coalesce(sum(up_kwh - down_kwh), 0) from energy where site = $1"
@@ -194,7 +194,7 @@ class Demo(ClosingTrial):
         for day in ("2026-03-01", "2026-03-02"):
             await self.close_site(f"a shard that moves, {day}", day, site="moving")
         await self.until(f"select exists ({ENERGY} having sum(up_kwh) = 1)", True, "moving")
-        command = [*tool("move"), "--from", self.fleet.dsn("owner"), "--to", second, "--shard", "3"]
+        command = self.fleet.moving("second", 3)
         for text, table, login in (
             ("before it wrote there", "own_shard", second),
             ("before it removed here", "own_closing", ""),

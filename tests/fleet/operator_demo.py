@@ -19,7 +19,7 @@ from typing import Any
 import asyncpg
 
 from ocpp_board.fleet.database import connect
-from tests.fleet.fleet import ended, tool
+from tests.fleet.fleet import ended, free_port, tool
 from tests.fleet.page_client import (
     PASSWORD,
     Answer,
@@ -162,6 +162,29 @@ class Demo(Trial):
         self.check("locked until" in told, "the list tells who is locked")
         await self.owner.execute("update sign_in set locked_until = now() where name = 'eve'")
         self.check(one.login("eve").status == 303, "once the lock is over eve signs in")
+        await self.owner.execute("delete from sign_in")
+
+    async def watched(self) -> None:
+        """What a page tells who watches it."""
+        port = free_port()
+        _, url = start_page(self.fleet, "--metrics", port)
+        one, figures = Client(url), Client(f"http://127.0.0.1:{port}")
+        for number in range(5):
+            one.login("eve", f"a wrong one {number}")
+        end, text = time.monotonic() + 15, ""
+        while "ocpp_board_page_locked 1.0" not in text and time.monotonic() < end:
+            await asyncio.sleep(0.5)
+            text = figures.get("/metrics").text
+        self.check(
+            "ocpp_board_page_locked 1.0" in text
+            and "ocpp_board_page_wrong_passwords_total 5.0" in text
+            and 'ocpp_board_page_requests_total{status="403"} 5.0' in text,
+            f"figures: {[line for line in text.splitlines() if 'page_' in line and line[0] != '#']}",
+        )
+        answer = figures.get("/health")
+        self.check(
+            answer.status == 200 and answer.json["well"], f"and its health: {answer.text.strip()}"
+        )
         await self.owner.execute("delete from sign_in")
 
     async def at_once(self) -> None:
@@ -573,7 +596,7 @@ class Demo(Trial):
         self.check(
             answer.status == 303 and "waits" in ned.get("/closings").text, "one is asked for"
         )
-        command = [*tool("close-requested"), "--db", self.fleet.dsn("owner")]
+        command = [*tool("close-requested"), "--db", self.fleet.dsn("ledger_closer")]
         command += ["--program", self.fleet.program, "--archives", str(archives)]
         status, said = await ended(self.fleet.start(*command, stdout=-1, stderr=-2))
         row = await self.owner.fetchrow("select * from own_closing_request")
@@ -693,7 +716,7 @@ class Demo(Trial):
         for job in (
             *(self.sign_in, self.locked, self.sessions, self.sites, self.roles, self.reasons),
             *(self.forms, self.bodies, self.plan, self.proxied, self.cookies, self.closings),
-            *(self.doors, self.at_once, self.work),
+            *(self.doors, self.watched, self.at_once, self.work),
         ):
             await job()
         self.check(all(page.poll() is None for page in self.pages), "both pages still run")

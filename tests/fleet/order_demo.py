@@ -191,7 +191,7 @@ class Demo(ClosingTrial):
         again = await self.owner.fetch("select line from own_log where shard = 1")
         await self.fleet.come(self.owner, 1, [row["line"] for row in again])
         await self.fleet.until_told(self.owner)
-        command = [*tool("compact"), "--db", self.fleet.dsn("owner"), "--shard", 1]
+        command = [*tool("compact"), "--db", self.fleet.dsn("ledger_compactor"), "--shard", 1]
         process = self.fleet.start(*command, "--program", self.fleet.program, stdout=-1, stderr=-2)
         status, said = await ended(process)
         await self.until(WRITTEN, 0)
@@ -213,7 +213,7 @@ class Demo(ClosingTrial):
             f"call see_cell(2::smallint, '127.0.0.1', '{port}', 'second', '{password}')"
         )
         await self.owner.execute(DEED)
-        command = [*tool("move"), "--from", self.fleet.dsn("owner"), "--to", login, "--shard", "1"]
+        command = self.fleet.moving("second", 1)
         status, said = await ended(self.fleet.start(*command, stdout=-1, stderr=-2))
         self.check(status == 0, f"a move: {said}")
         second = await connect(login)

@@ -282,13 +282,7 @@ class Demo(Trial):
         database.fill(2, "second")
         second = await connect(self.fleet.dsn("owner", database="second"))
         before = await self.owner.fetch(query)
-        cells = (
-            "--from",
-            self.fleet.dsn("owner"),
-            "--to",
-            self.fleet.dsn("owner", database="second"),
-        )
-        process = self.fleet.start(*tool("move"), *cells, "--shard", 0)
+        process = self.fleet.start(*self.fleet.moving("second", 0))
         status = await asyncio.to_thread(process.wait, 30)
         after = await second.fetch(query)
         left = await self.owner.fetch(query)

@@ -16,7 +16,7 @@ import asyncpg
 
 from ocpp_board.fleet.database import connect
 from tests.fleet.closings import ClosingTrial, line, local, session
-from tests.fleet.fleet import ended, tool
+from tests.fleet.fleet import ended
 from tests.fleet.trials import parsed, parser_of, tried
 
 ROWS = """
@@ -117,7 +117,7 @@ class Demo(ClosingTrial):
         """The rows go with their shard."""
         self.fleet.databases[0].fill(2, "second")
         second = self.fleet.dsn("owner", database="second")
-        command = [*tool("move"), "--from", self.fleet.dsn("owner"), "--to", second, "--shard", "0"]
+        command = self.fleet.moving("second", 0)
         status, said = await ended(self.fleet.start(*command, stdout=-1, stderr=-2))
         there = await connect(second)
         found = [tuple(row) for row in await there.fetch(ROWS)]

@@ -4,11 +4,14 @@
 
 It starts PostgreSQL 15 in a temporary folder, makes certificates by `openssl`, and plays stations by TLS 1.2 and 1.3,
 without TLS, while the gateway's certificate is changed, and with certificates of their own, of others and of another
-authority. The status is 1 where something is not as it must be.
+authority. Where nginx is installed the same goes by way of it, which hands on whose certificate a station has: a
+station or a stranger beside it that says so by itself is not believed. The status is 1 where something is not as it
+must be.
 """
 
 import argparse
 import asyncio
+import os
 import secrets
 import signal
 import ssl
@@ -19,7 +22,7 @@ from pathlib import Path
 
 from ocpp_board.fleet.passwords import SALT, hashed
 from tests.fleet.client import Client
-from tests.fleet.fleet import tool
+from tests.fleet.fleet import free_port, tool
 from tests.fleet.trials import Trial, parsed, parser_of, tried
 
 A, B = "CS-00000", "CS-00001"
@@ -28,6 +31,38 @@ LOGIN = f"{A}:{PASSWORD}"
 ELLIPTIC, RSA = ("ec", "-pkeyopt", "ec_paramgen_curve:P-256"), ("rsa:2048",)
 # A suite of TLS 1.2 that OCPP lets a station have alone, and that Python leaves out.
 SUITE = "AES128-GCM-SHA256"
+NGINX = "/usr/sbin/nginx"
+SECRET, HEADER = "a-secret-of-nginx-and-gateway", "X-Client-Certificate"
+# The lines of docs/fleet.md, in files of its own.
+PROXY = """
+daemon off; worker_processes 1; pid {folder}/nginx.pid; error_log {folder}/nginx.log;
+events {{}}
+http {{
+  access_log off; client_body_temp_path {folder}/body; proxy_temp_path {folder}/proxy; fastcgi_temp_path {folder}/f;
+  uwsgi_temp_path {folder}/u; scgi_temp_path {folder}/s;
+  server {{
+    listen 127.0.0.1:{port} ssl;
+    ssl_certificate {folder}/second.pem;
+    ssl_certificate_key {folder}/second.key;
+    ssl_client_certificate {folder}/proxy-authority.pem;
+    ssl_verify_client on;
+    location /ocpp/ {{
+      proxy_pass http://127.0.0.1:{gateway};
+      proxy_http_version 1.1;
+      proxy_set_header Upgrade $http_upgrade;
+      proxy_set_header Connection "upgrade";
+      proxy_set_header X-Forwarded-For $remote_addr;
+      proxy_set_header {header} "{secret} $ssl_client_verify $ssl_client_s_dn";
+      proxy_read_timeout 660s;
+    }}
+  }}
+}}
+"""
+HANDSHAKE = (
+    "GET /ocpp/{} HTTP/1.1\r\nHost: a\r\nUpgrade: websocket\r\nConnection: Upgrade\r\n"
+    "Sec-WebSocket-Version: 13\r\nSec-WebSocket-Key: AAAAAAAAAAAAAAAAAAAAAA==\r\n"
+    "Sec-WebSocket-Protocol: ocpp2.0.1\r\n{}\r\n"
+)
 # What becomes of a connection that is not let in, beside an answer.
 ENDS = (OSError, asyncio.TimeoutError, EOFError)
 
@@ -170,6 +205,58 @@ class Demo(Trial):
             heard = await self.heard(self.trusting("second", own=own), "", A)
             self.check(heard.startswith(wanted), f"{own}, with another authority: {heard}")
 
+    async def proxied(self) -> None:
+        """Profile 3 behind nginx."""
+        if not os.access(NGINX, os.X_OK):
+            print("not tried: a proxy (apt-get install nginx-light)", flush=True)
+            return
+        os.environ["PROXY_SECRET"] = SECRET
+        options = ("--proxy", "127.0.0.1", "--client-header", HEADER)
+        gateway, url = await asyncio.to_thread(self.fleet.gateway, options=options)
+        behind, port = int(url.rpartition(":")[2].split("/")[0]), free_port()
+        values = {"folder": self.fleet.folder, "port": port, "gateway": behind}
+        text = PROXY.format(header=HEADER, secret=SECRET, **values)
+        self.file("nginx.conf").write_text(text)
+        self.fleet.start(NGINX, "-e", self.file("nginx.log"), "-c", self.file("nginx.conf"))
+        for _ in range(100):
+            try:
+                (await asyncio.open_connection("127.0.0.1", port))[1].close()
+                break
+            except OSError:
+                await asyncio.sleep(0.1)
+        self.url = f"wss://127.0.0.1:{port}/ocpp"
+        for name, own, wanted in (
+            (A, "station-a", "101"),
+            (B, "station-a", "403 "),
+            (A, "twofold", "403 "),
+            ("CS-99999", "stranger", "404 "),
+            (A, "forged", "400 "),
+            (A, "", "400 "),
+        ):
+            heard = await self.heard(self.trusting("second", own=own), "", name)
+            self.check(
+                heard.startswith(wanted),
+                f"nginx: {own or 'no certificate'} on the path of {name}: {heard}",
+            )
+        forged = f"{HEADER}: {SECRET} SUCCESS CN={A}\r\n"
+        for text, by, at, header, wanted in (
+            ("a station that says by itself that it is A", "station-b", port, forged, "403"),
+            ("beside nginx, without the secret", "", behind, forged.replace(SECRET, "x"), "403"),
+            ("beside nginx, without the header", "", behind, "", "403"),
+            ("beside nginx, with the secret, which is nginx's alone", "", behind, forged, "101"),
+        ):
+            context = self.trusting("second", own=by) if by else None
+            reader, writer = await asyncio.open_connection("127.0.0.1", at, ssl=context)
+            writer.write(HANDSHAKE.format(A, header).encode())
+            line = (await asyncio.wait_for(reader.readline(), 10)).decode().strip()
+            writer.close()
+            self.check(f" {wanted} " in line, f"{text}: {line}")
+        link = await Client.open(f"ws://127.0.0.1:{behind}/ocpp", A, LOGIN, "127.0.0.2")
+        heard = await link.said()
+        self.check(heard.startswith("403 "), f"a password in place of a certificate: {heard}")
+        del os.environ["PROXY_SECRET"]
+        gateway.kill()
+
     def ending(self, *more: str) -> str:
         """How a gateway ends with these words."""
         command = [*tool("gateway"), "--db", self.fleet.dsn("ledger_gateway"), "--program"]
@@ -192,11 +279,14 @@ class Demo(Trial):
         self.make("second", "gateway", RSA)
         self.make("authority", "stations")
         self.make("other", "stations")
+        # The gateway's one is changed.
+        self.file("proxy-authority.pem").write_bytes(self.file("authority.pem").read_bytes())
         for name, subject, by in (
             ("station-a", A, "authority"),
             ("station-b", B, "authority"),
             ("stranger", "CS-99999", "authority"),
             ("forged", A, "other"),
+            ("twofold", f"{A}/CN={B}", "authority"),
         ):
             self.make(name, subject, by=by)
         self.use("first")
@@ -206,9 +296,12 @@ class Demo(Trial):
         process.kill()
         self.use("second")
         await self.certificates()
+        await self.proxied()
         for more, wanted in (
             (("--key", "used.key"), "--key and --client-ca need --certificate"),
             (("--certificate", "none.pem"), "none.pem: "),
+            (("--client-header", HEADER), "--client-header needs --proxy"),
+            (("--client-header", HEADER, "--proxy", "127.0.0.1"), "PROXY_SECRET"),
         ):
             text = await asyncio.to_thread(self.ending, *more)
             self.check(text.startswith("2 ") and wanted in text, f"{' '.join(more)}: {text}")

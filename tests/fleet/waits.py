@@ -15,7 +15,8 @@ import subprocess
 import sys
 import time
 
-from ocpp_board.fleet.database import connect
+import asyncpg
+
 from ocpp_board.fleet.plans import Plan
 from tests.fleet.fleet import FILL, ended
 from tests.fleet.trials import Trial, messages, parsed, parser_of, tried
@@ -102,7 +103,7 @@ class Waits(Trial):
         self.fleet.databases[0].psql("postgres", "-c", "create database elsewhere")
         waiting = await self.sent_meanwhile("open", self.words.seconds + 3)
         await asyncio.sleep(1)
-        session = await connect(self.fleet.dsn("owner", database="elsewhere"))
+        session = await asyncpg.connect(self.fleet.dsn("owner", database="elsewhere"))
         await session.execute("set idle_in_transaction_session_timeout = 0; begin")
         await session.execute("create table one as select 1")
         await asyncio.sleep(self.words.seconds)

@@ -1,14 +1,22 @@
 """TLS with stations: words, and names of certificates."""
 
 import argparse
+import asyncio
 from pathlib import Path
+from typing import Any
 
 import pytest
 
 pytest.importorskip("asyncpg")
 
 from ocpp_board.fleet.database import Fault  # noqa: E402
-from ocpp_board.fleet.station_tls import common_name, context_of  # noqa: E402
+from ocpp_board.fleet.station_tls import (  # noqa: E402
+    common_name,
+    context_of,
+    header_or_fault,
+    name_of,
+    pairs_of,
+)
 
 
 def words(
@@ -37,3 +45,59 @@ def test_without_a_certificate_there_is_no_tls(tmp_path: Path) -> None:
     for name in (str(empty), str(tmp_path / "none.pem")):
         with pytest.raises(Fault, match=name):
             context_of(words(name))
+
+
+SECRET, HEADER = "a-secret-of-nginx", "X-Client-Certificate"
+
+
+class Peer(asyncio.Transport):
+    """A connection from an address."""
+
+    def __init__(self, address: str) -> None:
+        super().__init__({"peername": (address, 1)})
+
+
+def handed_on(*values: str, address: str = "127.0.0.1", more: str = "") -> str:
+    """The name that a gateway takes from these headers."""
+    from websockets.datastructures import Headers
+
+    headers: Any = Headers([(HEADER, value) for value in values])
+    own = argparse.Namespace(client_ca=None, client_header=HEADER, proxy=["127.0.0.1"])
+    return name_of(own, Peer(address), headers)
+
+
+def test_a_subject_that_a_proxy_hands_on(monkeypatch: pytest.MonkeyPatch) -> None:
+    monkeypatch.setenv("PROXY_SECRET", SECRET)
+    right = f"{SECRET} SUCCESS CN=CS-A,O=Operator"
+    assert handed_on(right) == handed_on(f"{SECRET} SUCCESS O=Operator,CN=CS-A") == "CS-A"
+    assert handed_on(f"{SECRET} SUCCESS CN=CS\\+A,O=Two words") == "CS+A"
+    for values in (
+        (),
+        (right, right),
+        ("another-secret-12 SUCCESS CN=CS-A",),
+        ("SUCCESS CN=CS-A",),
+        (f"{SECRET} NONE CN=CS-A",),
+        (f"{SECRET} FAILED:expired CN=CS-A",),
+        (f"{SECRET} SUCCESS O=Operator",),
+        (f"{SECRET} SUCCESS CN=CS-A,CN=CS-B",),
+        (f"{SECRET} SUCCESS ",),
+        ("",),
+    ):
+        assert handed_on(*values) == ""
+    assert handed_on(right, address="10.0.0.9") == ""
+    assert handed_on(f"{SECRET} SUCCESS O=x\\,CN=CS-B,CN=CS-A") == "CS-A"
+
+
+def test_parts_of_a_subject() -> None:
+    assert pairs_of("CN=a\\,b+O=\\C3\\A4,C=DE") == [("CN", "a,b"), ("O", "ä"), ("C", "DE")]
+
+
+def test_a_header_needs_who_may_set_it(monkeypatch: pytest.MonkeyPatch) -> None:
+    monkeypatch.setenv("PROXY_SECRET", "short")
+    header_or_fault(argparse.Namespace(client_header=None, proxy=[]))
+    with pytest.raises(Fault, match="needs --proxy"):
+        header_or_fault(argparse.Namespace(client_header=HEADER, proxy=[]))
+    with pytest.raises(Fault, match="PROXY_SECRET"):
+        header_or_fault(argparse.Namespace(client_header=HEADER, proxy=["127.0.0.1"]))
+    monkeypatch.setenv("PROXY_SECRET", SECRET)
+    header_or_fault(argparse.Namespace(client_header=HEADER, proxy=["127.0.0.1"]))

@@ -1,6 +1,6 @@
 """Closes a site's settlement day: its energy becomes rows, and transactions that ended before it leave the log.
 
-    PGPASSWORD=.. ocpp-board close-day --db postgresql://OWNER@HOST:PORT/DATABASE --site north --archive FOLDER
+    PGPASSWORD=.. ocpp-board close-day --db postgresql://ledger_closer@a/ledger --site north --archive FOLDER
 
 Days are those of the site's zone (`zone` of own_site). All periods up to the end of the day become rows of
 closed_period. Where a later closing finds that a period which was settled before is another one, by a late event or
@@ -569,7 +569,7 @@ def day_of(text: str) -> date:
 def main(argv: Sequence[str], prog: str) -> int:
     """Runs the program with these words; gives its exit status."""
     parser = parser_of(prog, __doc__)
-    parts.add_cell(parser, "the cell's database, as its owner")
+    parts.add_cell(parser, "the cell's database, as ledger_closer")
     add_program(parser)
     parser.add_argument("--site", required=True, help="which site")
     parser.add_argument(

@@ -1,9 +1,9 @@
 """Does the closings that operators asked for on the page, and ends.
 
-    PGPASSWORD=.. ocpp-board close-requested --db postgresql://OWNER@HOST:PORT/DATABASE --archives FOLDER
+    PGPASSWORD=.. ocpp-board close-requested --db postgresql://ledger_closer@a:5432,b:5432/ledger --archives FOLDER
 
 Each request is a row of own_closing_request, with who asked for it, from where and why. It is done by `ocpp-board
-close-day`, as the owner of the database, and what came of it stands in the row. A request whose closing was ended in
+close-day`, by the same role, and what came of it stands in the row. A request whose closing was ended in
 the middle is done again after two hours. The archives of a site lie in the folder of its name in FOLDER, as those of
 ocpp-board-close-day@SITE do. A timer calls it each minute. Exit status: 0; 1 where a closing failed.
 """
@@ -91,7 +91,7 @@ async def run(words: argparse.Namespace) -> int:
 def main(argv: Sequence[str], prog: str) -> int:
     """Runs the program with these words; gives its exit status."""
     parser = parser_of(prog, __doc__)
-    parts.add_cell(parser, "the cell's database, as its owner")
+    parts.add_cell(parser, f"the cell's database: {parts.ADDRESS}")
     add_program(parser)
     parser.add_argument(
         "--archives",

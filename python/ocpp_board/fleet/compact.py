@@ -1,6 +1,7 @@
 """Removes the lines of a shard's log that changed nothing: messages that were taken before.
 
-    PGPASSWORD=.. ocpp-board compact --db postgresql://OWNER@HOST:PORT/DATABASE --program ocpp_board --shard 7
+    PGPASSWORD=.. ocpp-board compact --db postgresql://ledger_compactor@a/ledger --program ocpp_board --shard 7
+    PGPASSWORD=.. ocpp-board compact --db postgresql://ledger_compactor@a/ledger --program ocpp_board --all
 
 The log is replayed under the plan's limits, and after each message the station's total is asked for. A message that
 was taken and left the total as it was is a repeat, since each accepted change counts in it. What was refused stays,
@@ -10,17 +11,23 @@ replay reads is replayed in parts.
 """
 
 import argparse
+import logging
 from collections.abc import Iterator, Sequence
-from typing import NamedTuple
+from typing import Any, NamedTuple
+
+import asyncpg
 
 from ocpp_board.fleet import parts
 from ocpp_board.fleet.archives import Late
-from ocpp_board.fleet.database import Fault, connect
+from ocpp_board.fleet.database import Fault, connect, said
 from ocpp_board.fleet.lines import is_repeat, station_of
 from ocpp_board.fleet.plans import Plan, known_lines
-from ocpp_board.fleet.replays import Replay
+from ocpp_board.fleet.replays import Replay, ReplayEnded
 from ocpp_board.limits import LONGEST_SCRIPT
+from ocpp_board.statuses import Status
 from ocpp_board.words import add_program, parser_of
+
+log = logging.getLogger(__name__)
 
 NAME = "ocpp-board compact"
 # Lines come behind these alone, whatever is open elsewhere.
@@ -106,37 +113,62 @@ async def replayed(program: str, plan: Plan, lines: list[str]) -> Replayed:
     return Replayed(found, shown)
 
 
-async def compact(words: argparse.Namespace) -> None:
+async def compact(words: argparse.Namespace, shard: int) -> None:
     """Removes the repeats of a shard's log. Raises Fault where that would change a board."""
     known = known_lines(words.program)
     session = await connect(words.db, application_name=NAME)
-    if not await session.fetchval("select reserve_shard($1)", words.shard):
-        raise Fault(f"shard {words.shard} is being moved or compacted by another program")
-    number = await session.fetchval("select plan from own_shard where shard = $1", words.shard)
+    try:
+        print(await compacted(words.program, known, session, shard), flush=True)
+    finally:
+        await session.close()
+
+
+async def compacted(program: str, known: frozenset[str], session: Any, shard: int) -> str:
+    """The same in this session, and what it was in one line."""
+    if not await session.fetchval("select reserve_shard($1)", shard):
+        raise Fault(f"shard {shard} is being moved, compacted or closed by another program")
+    number = await session.fetchval("select plan from own_shard where shard = $1", shard)
     if number is None:
-        raise Fault(f"no shard {words.shard} in this cell")
-    plan = await Plan.of(session.fetch, words.shard, known)
-    rows = await session.fetch(READ, words.shard)
-    late = await Late(words.shard, plan.rows, True).places(
-        session.fetch, [row["line"] for row in rows]
-    )
+        raise Fault(f"no shard {shard} in this cell")
+    plan = await Plan.of(session.fetch, shard, known)
+    rows = await session.fetch(READ, shard)
+    late = await Late(shard, plan.rows, True).places(session.fetch, [row["line"] for row in rows])
     rows = [row for place, row in enumerate(rows) if place not in late]
-    whole = await replayed(words.program, plan, [row["line"] for row in rows])
+    whole = await replayed(program, plan, [row["line"] for row in rows])
     gone = [row for row, answer in zip(rows, whole.answers) if is_repeat(*answer)]
     places = {row["place"] for row in gone}
     left = [row["line"] for row in rows if row["place"] not in places]
-    if whole.boards != (await replayed(words.program, plan, left)).boards:
-        raise Fault(f"shard {words.shard}: the boards would change, so nothing was removed")
-    await session.execute(REMOVE, words.shard, number, sorted(places))
+    if whole.boards != (await replayed(program, plan, left)).boards:
+        raise Fault(f"shard {shard}: the boards would change, so nothing was removed")
+    await session.execute(REMOVE, shard, number, sorted(places))
+    return f"shard {shard}: {len(rows)} lines, {len(gone)} repeats removed, boards as before"
+
+
+async def run(words: argparse.Namespace) -> int:
+    """Compacts the shard, or all of the cell, one after the other: one that can't be is told, and costs no other."""
+    if not words.all:
+        await compact(words, words.shard)
+        return 0
+    session = await connect(words.db, application_name=NAME)
+    rows = await session.fetch("select shard from own_shard where moving_to is null order by 1")
     await session.close()
-    print(f"shard {words.shard}: {len(rows)} lines, {len(gone)} repeats removed, boards as before")
+    wrong = 0
+    for row in rows:
+        try:
+            await compact(words, row["shard"])
+        except (Fault, ReplayEnded, asyncpg.PostgresError) as fault:
+            log.error("%s", said(fault))
+            wrong += 1
+    return Status.TOLD if wrong else Status.DONE
 
 
 def main(argv: Sequence[str], prog: str) -> int:
     """Runs the program with these words; gives its exit status."""
     parser = parser_of(prog, __doc__)
-    parts.add_cell(parser, "the cell's database, as its owner")
+    parts.add_cell(parser, "the cell's database, as ledger_compactor")
     add_program(parser)
-    parser.add_argument("--shard", type=int, required=True, help="which shard")
+    which = parser.add_mutually_exclusive_group(required=True)
+    which.add_argument("--shard", type=int, help="which shard")
+    which.add_argument("--all", action="store_true", help="each shard of the cell in turn")
     words = parts.parsed(parser, argv)
-    return parts.done(lambda: compact(words))
+    return parts.done(lambda: run(words))

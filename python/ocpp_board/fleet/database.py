@@ -4,6 +4,7 @@ import asyncio
 import os
 import secrets
 from collections.abc import Container, Iterator, Mapping
+from pathlib import Path
 from typing import Any
 from urllib.parse import unquote, urlsplit
 
@@ -40,6 +41,9 @@ HOST = """
 select pg_is_in_recovery() as is_standby, current_setting('fsync') = 'on' as has_fsync,
     current_setting('full_page_writes') = 'on' as has_full_pages, getdatabaseencoding() as encoding
 """
+LAST_VERSION = "select max(version) from schema_version"
+# The version of the schema that the tools are for: that of the last file of schema/.
+VERSION = max(int(path.name[:4]) for path in (Path(__file__).parent / "schema").glob("0*.sql"))
 # Addresses by which a session was had: what a host refuses from then on is no fault of the words.
 LET_IN = set[str]()
 # Seconds in which a host has to let a session in.
@@ -57,6 +61,10 @@ where application_name = $1 and datname = current_database() and usename = curre
 
 class Fault(Exception):
     """What whoever called the program is told, in one sentence."""
+
+
+class WrongVersion(Fault):
+    """The host that takes writes has another version of the schema, so no other host is any better."""
 
 
 class Unreachable(Exception):
@@ -113,18 +121,28 @@ async def enter(host: str, port: int, user: str, database: str, settings: dict[s
         raise Unreachable(f"{host}:{port}: {said(fault)}") from None
     try:
         is_standby, why = await seen_at(session)
+        version = 0 if is_standby or why else await version_of(session)
     except (*LOST, asyncpg.PostgresError) as lost:
         session.terminate()
         raise Unreachable(f"{host}:{port}: {said(lost)}") from None
     except asyncio.CancelledError:
         session.terminate()
         raise
-    if not (is_standby or why):
+    if not (is_standby or why) and version == VERSION:
         return session
     session.terminate()
     if is_standby:
         raise Unreachable(f"{host}:{port}: a standby")
-    raise Fault(f"{host}:{port}: {why}")
+    if why:
+        raise Fault(f"{host}:{port}: {why}")
+    raise WrongVersion(
+        f"{host}:{port}: the schema of {database} has version {version}, and these tools are for version {VERSION}: "
+        + (
+            "run schema.sql once more"
+            if version < VERSION
+            else "install the package of that version"
+        )
+    )
 
 
 async def seen_at(session: Any) -> tuple[bool, str]:
@@ -142,10 +160,19 @@ async def seen_at(session: Any) -> tuple[bool, str]:
     return False, why
 
 
+async def version_of(session: Any) -> int:
+    """The version of a database's schema; 0 where it is from before versions were counted, or there is none."""
+    try:
+        return int(await session.fetchval(LAST_VERSION, timeout=ADMISSION) or 0)
+    except asyncpg.UndefinedTableError:
+        return 0
+
+
 async def connect(dsn: str, **settings: str) -> Any:
     """A session with the host that takes writes. All are asked at once, so that one that hangs costs no time.
 
-    Raises Fault where every host gives one and none let this program in before, and else Unreachable.
+    Raises Fault where every host gives one, or the one that takes writes has another version of the schema, and none
+    let this program in before; and else Unreachable.
     """
     pairs, user, database = places(dsn)
     tries = [
@@ -169,8 +196,10 @@ async def connect(dsn: str, **settings: str) -> Any:
     finally:
         for one in waited:
             one.cancel()
-    if session is None and faults and not reasons and dsn not in LET_IN:
-        raise faults[0]
+    if session is None and dsn not in LET_IN:
+        for one_fault in faults:
+            if isinstance(one_fault, WrongVersion) or not reasons:
+                raise one_fault
     if session is None:
         raise Unreachable("; ".join([*reasons, *map(str, faults)]))
     LET_IN.add(dsn)
@@ -241,9 +270,17 @@ def wakes(firsts: Mapping[int, int]) -> Iterator[str]:
 
 
 def woken_by(payload: str) -> dict[int, int]:
-    """The shards that such a payload wakes, each with the number of its first line."""
-    pairs = (word.split(":") for word in payload.split())
-    return {int(shard): int(first) for shard, first in pairs}
+    """The shards that such a payload wakes, each with the number of its first line. Anybody may notify, so what is
+    none is left."""
+    pairs = (word.partition(":") for word in payload.split())
+    return {
+        int(shard): int(first) for shard, _, first in pairs if is_number(shard) and is_number(first)
+    }
+
+
+def is_number(text: str) -> bool:
+    """Whether a text is a number from 0 on that PostgreSQL has room for."""
+    return text.isascii() and text.isdigit() and len(text) < 19
 
 
 def password_or_fault() -> None:

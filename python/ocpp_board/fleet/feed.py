@@ -31,7 +31,7 @@ import time
 from collections.abc import Sequence
 
 from ocpp_board import logforms
-from ocpp_board.fleet import parts
+from ocpp_board.fleet import metrics, parts
 from ocpp_board.fleet.database import Fault
 from ocpp_board.fleet.feed_log import Counts, Log
 from ocpp_board.fleet.feed_sources import FileSource, MqttSource, RabbitSource, Source
@@ -51,6 +51,7 @@ async def run(words: argparse.Namespace) -> int:
     """Appends what the source has until that or a signal ends it, and gives the exit status. Raises Fault."""
     counts = Counts()
     ledger = Log(words.db, words.name, counts)
+    metrics.serve(words.metrics, metrics.feed_watch(ledger, counts))
     source: Source = SOURCES[words.source](words, counts, ledger)
 
     def end() -> None:
@@ -101,6 +102,7 @@ def arguments(argv: Sequence[str], prog: str) -> argparse.Namespace:
     """The words. Wrong ones end the program with status 2."""
     parser = parser_of(prog, __doc__)
     parts.add_cells(parser)
+    metrics.add_option(parser)
     sources = parser.add_subparsers(dest="source", required=True, metavar="file|rabbitmq|mqtt")
     add_file(sources.add_parser("file", help="a log of messages, one a line"))
     rabbit = sources.add_parser("rabbitmq", help="a queue of RabbitMQ (needs python3-aio-pika)")

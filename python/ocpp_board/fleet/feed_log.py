@@ -2,6 +2,7 @@
 
 import asyncio
 import logging
+import time
 from collections.abc import Awaitable, Callable
 from typing import Any, NamedTuple
 
@@ -160,6 +161,7 @@ class Log:
         self.cells, self.source, self.counts = [Cell(dsn) for dsn in dsns], source, counts
         # How often plans had been read when strays were looked at.
         self.looked = 0
+        self.appended = time.monotonic()
 
     async def open(self) -> None:
         """Has a session with each cell, and its plan as it is now."""
@@ -203,6 +205,7 @@ class Log:
             for cell in set(self.cells) - placed:
                 await cell.until_done(lambda: cell.append([], [], self.source, batch))
         self.counts.taken += len(batch.events)
+        self.appended = time.monotonic()
         await batch.done()
 
     def is_of(self, cell: Cell, station: str) -> bool:

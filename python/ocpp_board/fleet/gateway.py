@@ -8,7 +8,7 @@ no answer the gateway appends again where its session with the database ends. Wh
 a `replay` of the gateway's own and not kept. It keeps nothing: stations send again what has no answer.
 
 A station is let in by HTTP Basic, with its name and the password that `ocpp-board password` set; with --open each one
-of the plan is, and with --client-ca who has a certificate of its name.
+of the plan is, and with --client-ca or --client-header who has a certificate of its name.
 """
 
 import argparse
@@ -19,8 +19,8 @@ import json
 import logging
 import secrets
 import time
-from collections import deque
-from collections.abc import Sequence
+from collections import Counter, deque
+from collections.abc import Iterable, Sequence
 from typing import Any, NamedTuple
 from urllib.parse import unquote, urlsplit
 
@@ -28,7 +28,7 @@ import asyncpg
 from websockets.http11 import Request, Response
 from websockets.server import ServerConnection
 
-from ocpp_board.fleet import parts, passwords, station_tls
+from ocpp_board.fleet import metrics, parts, passwords, station_tls
 from ocpp_board.fleet.database import (
     BY_INDEX,
     FORMER,
@@ -36,6 +36,7 @@ from ocpp_board.fleet.database import (
     Unreachable,
     answers_in,
     connect,
+    is_number,
     new_token,
     said,
     within,
@@ -112,6 +113,15 @@ NAMED = """
 select t.shard, t.station from own_station t join own_shard s using (shard)
 where t.station = any($1) and s.moving_to is null and t.retired is null
 """
+# Who serves these stations from now on. Gateways write in one order, so that none waits for another one in a circle.
+SERVE = """
+with written as (
+    insert into served (station, gateway, number)
+    select w.station, $1, w.number from unnest($2::text[], $3::bigint[]) as w (station, number) order by 1
+    on conflict (station) do update set gateway = excluded.gateway, number = excluded.number returning station)
+select pg_notify('let_in', string_agg(station, ' ')) from written
+"""
+SERVED = "select station, gateway, number from served where station = any($1)"
 # Also of a station whose shard moves: it is told to come again, and not that its password is wrong.
 PASSWORDS = """
 select p.station, hash, salt, seen_at from station_password p join own_station t using (station)
@@ -182,9 +192,11 @@ class Cell:
         self.filled, self.asked = asyncio.Event(), asyncio.Event()
         # Stations that came and were not in the plan when it was read.
         self.sought: dict[str, asyncio.Future[list[Any]]] = {}
-        # Stations that were let in, for gateways to hear of it, each with the number of its connection.
+        # Stations that were let in, for gateways to hear of it, each with the number of its connection; and those of
+        # which another one may have told that.
         self.let_in: dict[str, int] = {}
-        self.has_let_in = asyncio.Event()
+        self.heard = set[str]()
+        self.has_let_in, self.has_heard = asyncio.Event(), asyncio.Event()
         self.second: Any = None
         self.is_up = False
         self.asking = asyncio.Lock()
@@ -208,6 +220,7 @@ class Cell:
                         self.append(sessions[0]),
                         self.look(sessions[2]),
                         self.tell_let_in(),
+                        self.look_at_served(),
                     )
                 ]
                 try:
@@ -238,13 +251,12 @@ class Cell:
         """Listens, reads the plan, and appends again what still waits: of what was appended the outcome is unknown."""
         self.second = second
         await second.add_listener(self.gateway.name, self.gateway.answered)
-        await second.add_listener(
-            "plan", lambda *words: asyncio.ensure_future(self.replan([int(words[3])]))
-        )
+        await second.add_listener("plan", lambda *words: self.heard_plan(words[3]))
         await second.add_listener("password", lambda *words: self.gateway.door.forget(words[3]))
-        await second.add_listener("let_in", lambda *words: self.gateway.heard_let_in(words[3]))
+        await second.add_listener("let_in", lambda *words: self.heard_let_in(words[3].split(" ")))
         self.gateway.door.forget_all()
         self.has_let_in.set()
+        self.heard_let_in(self.gateway.served)
         await self.load(None)
         if self.last_told:
             self.tell_once(f"{self.dsn}: connected")
@@ -269,6 +281,11 @@ class Cell:
         rows = await self.ask("fetch", STATIONS, shards)
         found = {row["station"]: row["shard"] for row in rows}
         self.gateway.move_in(self, found, None if shards is None else set(shards))
+
+    def heard_plan(self, payload: str) -> None:
+        """The plan of a shard changed, as anybody may tell."""
+        if is_number(payload) and len(payload) < 10:
+            self.gateway.spawn(self.replan([int(payload)]))
 
     async def replan(self, shards: list[int]) -> None:
         """The plan of these shards changed."""
@@ -306,7 +323,7 @@ class Cell:
                 found = {row["station"]: row["shard"] for row in rows}
                 self.gateway.move_in(self, found, set())
                 stored = dict[str, list[Any]]()
-                if not (self.gateway.words.open or self.gateway.words.client_ca):
+                if not (self.gateway.words.open or station_tls.is_asked(self.gateway.words)):
                     for row in await within(ANSWER, session, "fetch", PASSWORDS, list(sought)):
                         stored.setdefault(row["station"], []).append(row)
             except BaseException:
@@ -319,23 +336,36 @@ class Cell:
             await asyncio.sleep(LOOKS)
 
     async def tell_let_in(self) -> None:
-        """Tells all gateways, this one too, which stations were let in here, in the order of the database."""
+        """Writes which stations were let in here, and tells all gateways of it."""
         while True:
             await self.has_let_in.wait()
             self.has_let_in.clear()
             while self.let_in:
                 some = list(self.let_in.items())[:LET_IN]
                 # One that is gone is not told: its station may be elsewhere by now.
-                words = [
-                    f"{station}:{number}"
-                    for station, number in some
-                    if self.gateway.is_served(station, number)
-                ]
-                payload = " ".join([self.gateway.name, *words])
-                await self.ask("execute", "select pg_notify('let_in', $1)", payload)
+                there = [one for one in some if self.gateway.is_served(*one)]
+                if there:
+                    await self.ask("execute", SERVE, self.gateway.name, *map(list, zip(*there)))
                 for station, number in some:
                     if self.let_in.get(station) == number:
                         del self.let_in[station]
+                    if self.gateway.is_served(station, number):
+                        self.gateway.served[station].is_told = True
+            await asyncio.sleep(LOOKS)
+
+    def heard_let_in(self, stations: Iterable[str]) -> None:
+        """Somebody tells that these stations were let in by a gateway. Anybody may tell that, so it is looked up."""
+        self.heard.update(name for name in stations if name in self.gateway.served)
+        self.has_heard.set()
+
+    async def look_at_served(self) -> None:
+        """Ends connections of stations that another gateway let in behind them."""
+        while True:
+            await self.has_heard.wait()
+            self.has_heard.clear()
+            names, self.heard = [name for name in self.heard if self.is_home(name)], set()
+            for row in await self.ask("fetch", SERVED, names) if names else ():
+                self.gateway.is_served_by(row["station"], row["gateway"], row["number"])
             await asyncio.sleep(LOOKS)
 
     async def append(self, session: Any) -> None:
@@ -414,9 +444,9 @@ class StationLink(Link):
         self.name = station_in(event.path)
         given = passwords.taken_from(event.headers, self.name)
         is_open = self.gateway.words.open
-        if self.gateway.words.client_ca:
-            certificate = self.transport.get_extra_info("peercert")
-            if station_tls.common_name(certificate) != self.name:
+        if station_tls.is_asked(self.gateway.words):
+            own = station_tls.name_of(self.gateway.words, self.transport, event.headers)
+            if own != self.name:
                 return self.reject(
                     http.HTTPStatus.FORBIDDEN, "the certificate is of another name\n"
                 )
@@ -584,6 +614,8 @@ class Gateway:
         # The connection of each station, and how many there were.
         self.served: dict[str, StationLink] = {}
         self.let_in = 0
+        # For who watches.
+        self.counts = Counter[str]()
         self.jobs: set[asyncio.Task[None]] = set()
 
     def spawn(self, job: Any) -> None:
@@ -608,16 +640,12 @@ class Gateway:
         link = self.served.get(station)
         return link is not None and link.number == number
 
-    def heard_let_in(self, payload: str) -> None:
-        """A gateway let stations in. What was told here before that is older; what is told later is newer."""
-        gateway, *words = payload.split(" ")
-        for word in words:
-            station, _, number = word.rpartition(":")
-            link = self.served.get(station)
-            if link and gateway != self.name and link.is_told:
-                link.replace()
-            elif link and gateway == self.name and self.is_served(station, int(number)):
-                link.is_told = True
+    def is_served_by(self, station: str, gateway: str, number: int) -> None:
+        """A gateway's connection is the last one by which a station was let in. What was written here before that is
+        older; what is written later is newer."""
+        link = self.served.get(station)
+        if link and link.is_told and (gateway, number) != (self.name, link.number):
+            link.replace()
 
     def keep(self, link: StationLink, text: str) -> None:
         """Takes an event, which waits for its answer."""
@@ -670,6 +698,7 @@ class Gateway:
         for token, answer in answers_in(payload):
             if wait := self.waiting.pop(token, None):
                 wait.link.accepted(wait.text, answer.encode())
+            self.counts["answers" if wait else "unknown"] += 1
 
     async def give_up(self) -> None:
         """Closes the connections of stations that wait for too long, which come again and send again, and of those
@@ -680,6 +709,7 @@ class Gateway:
             for token, wait in list(self.waiting.items()):
                 if wait.link.is_lost or wait.since < now - self.words.wait:
                     del self.waiting[token]
+                    self.counts["sent_away"] += not wait.link.is_lost
                     wait.link.close(1013, "no answer yet, try again")
             for link in list(self.links):
                 if not link.has_asked and link.began < now - HANDSHAKE:
@@ -693,6 +723,7 @@ class Gateway:
         if self.words.open:
             log.warning("--open: each station of the plan is let in without a password")
         self.certificates.follow()
+        metrics.serve(self.words.metrics, metrics.gateway_watch(self))
         jobs = [
             asyncio.create_task(job)
             for job in (*(cell.run() for cell in self.cells), self.own.run(), self.give_up())
@@ -737,6 +768,7 @@ def main(argv: Sequence[str], prog: str) -> int:
         help="a proxy before it, which tells the address of a station in X-Forwarded-For",
     )
     station_tls.add_options(parser)
+    metrics.add_option(parser)
     parser.add_argument(
         "--open",
         action="store_true",
@@ -746,6 +778,7 @@ def main(argv: Sequence[str], prog: str) -> int:
 
     async def run() -> None:
         known_lines(words.program)  # A program that is not there is told before anything begins.
+        station_tls.header_or_fault(words)
         await Gateway(words).run()
 
     parts.use_uvloop()

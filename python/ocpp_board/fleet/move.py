@@ -1,6 +1,7 @@
 """Moves a shard to another cell, while its stations go on.
 
-    PGPASSWORD=.. ocpp-board move --from postgresql://OWNER@a/ledger --to postgresql://OWNER@b/ledger --shard 7
+    PGPASSWORD=.. ocpp-board move --shard 7 --from postgresql://ledger_mover@a/ledger \\
+        --to postgresql://ledger_mover@c/ledger
 
 Most of its log is copied while it grows, each line with its place. Then the shard takes no lines: what its stations
 send waits in the gateways; its worker gives it back; the rest of the log, lines of operators and feeds that have no
@@ -101,6 +102,8 @@ PARTS = (
         "token, form, at, operator, login, address, reason, command, site, station, transaction, number, answer",
         "at",
     ),
+    ("own_compaction", "at, removed", "at"),
+    ("own_forgotten", "site, closing, at", "closing"),
 )
 
 
@@ -130,7 +133,7 @@ class Move:
                 "update own_shard set moving_to = $2 where shard = $1", self.shard, cell
             )
             await self.source.execute("select pg_notify('plan', $1)", str(self.shard))
-        await self.source.execute("select pg_advisory_lock(1, $1)", self.shard, timeout=60)
+        await self.source.execute("select take_moving_shard($1)", self.shard, timeout=60)
         await self.source.execute(FENCE, self.shard)
 
     async def land(self) -> None:
@@ -214,7 +217,7 @@ def main(argv: Sequence[str], prog: str) -> int:
             f"--{name}",
             dest=target,
             required=True,
-            help=f"the cell's database where {where}, as its owner",
+            help=f"the cell's database where {where}, as ledger_mover",
         )
     parser.add_argument("--shard", type=int, required=True, help="which shard")
     words = parts.parsed(parser, argv)

@@ -23,16 +23,21 @@ import asyncio
 import logging
 from collections.abc import Sequence
 
+import asyncpg
 from starlette.routing import BaseRoute, Route
 
-from ocpp_board.fleet import api, page_app, page_deeds, page_views, parts
-from ocpp_board.fleet.cells import Cells
-from ocpp_board.fleet.database import Unreachable
+from ocpp_board.fleet import api, metrics, page_app, page_deeds, page_views, parts
+from ocpp_board.fleet.cells import Cells, Wrong
+from ocpp_board.fleet.database import LOST, Fault, Unreachable
 from ocpp_board.fleet.page_server import PageServer, listener_at
 from ocpp_board.fleet.plans import known_lines
 from ocpp_board.words import add_program, parser_of
 
 log = logging.getLogger(__name__)
+
+# Seconds from one look at the cells to the next.
+LOOKING = 5
+LOCKED = "select locked_operators() as locked"
 
 ROUTES: list[BaseRoute] = [
     Route("/", page_views.all_sites),
@@ -56,6 +61,21 @@ ROUTES: list[BaseRoute] = [
 ]
 
 
+async def watch(desk: page_app.Desk) -> None:
+    """Looks again and again at which cells answer, and how many operators are locked."""
+    seen = desk.seen
+    while True:
+        for cell in desk.cells.cells:
+            try:
+                rows = await cell.ask(LOCKED)
+                seen.cells[metrics.cell_of(cell.dsn)] = True
+                if cell is desk.cells.home:
+                    seen.locked = rows[0]["locked"]
+            except (Unreachable, Fault, Wrong, *LOST, asyncpg.PostgresError):
+                seen.cells[metrics.cell_of(cell.dsn)] = False
+        await asyncio.sleep(LOOKING)
+
+
 async def serve(words: argparse.Namespace) -> None:
     """Listens until a signal comes. Raises Fault where a cell lets nobody in, and OSError."""
     cells = Cells(words.db)
@@ -66,8 +86,13 @@ async def serve(words: argparse.Namespace) -> None:
             log.error("%s; tried again with each request", fault)
     desk = page_app.Desk(cells, words.program, known_lines(words.program), words.proxy, words.http)
     app = page_app.application(desk, ROUTES)
+    metrics.serve(words.metrics, desk.seen.watch())
+    watching = asyncio.create_task(watch(desk))
     server = PageServer(app, listener_at(words.host, words.port), words.host)
-    await server.listen()
+    try:
+        await server.listen()
+    finally:
+        watching.cancel()
 
 
 def run(words: argparse.Namespace) -> None:
@@ -84,6 +109,7 @@ def main(argv: Sequence[str], prog: str) -> int:
     parts.add_cells(parser)
     parts.add_place(parser, 9180)
     add_program(parser)
+    metrics.add_option(parser)
     parser.add_argument(
         "--proxy",
         action="append",

@@ -22,6 +22,7 @@ from starlette.types import ASGIApp, Message, Receive, Scope, Send
 
 from ocpp_board.fleet.cells import Cells, Wrong
 from ocpp_board.fleet.database import Fault, Unreachable
+from ocpp_board.fleet.metrics import PageSeen
 from ocpp_board.fleet.operators import (
     CLOSES,
     SEES,
@@ -70,6 +71,7 @@ class Desk:
     ) -> None:
         self.cells, self.program, self.known = cells, program, known
         self.proxies, self.is_plain = proxies, is_plain
+        self.seen = PageSeen()
         self.sign_ins = SignIns(cells.home.ask)
         self.templates = environment()
         self.cookie = "session" if is_plain else "__Host-session"
@@ -278,6 +280,7 @@ async def enter(request: Request) -> Response:
         response.headers["retry-after"] = str(int(why.seconds) + 1)
         return response
     except Refused as why:
+        desk.seen.wrong_passwords += 1
         return login_page(desk, to, str(why), HTTPStatus.FORBIDDEN)
     if before := request.cookies.get(desk.cookie):
         await desk.sign_ins.end(before)
@@ -345,16 +348,17 @@ FAULTS: dict[Any, Any] = {
 
 
 class Headed:
-    """Puts the headers of all answers there."""
+    """Puts the headers of all answers there, and counts them."""
 
-    def __init__(self, app: ASGIApp) -> None:
-        self.app = app
+    def __init__(self, app: ASGIApp, seen: PageSeen) -> None:
+        self.app, self.seen = app, seen
 
     async def __call__(self, scope: Scope, receive: Receive, send: Send) -> None:
         """Hands a request on."""
 
         async def headed(message: Message) -> None:
             if message["type"] == "http.response.start":
+                self.seen.requests[message["status"]] += 1
                 had = {name for name, _ in message["headers"]}
                 message["headers"] += [
                     (name.encode(), value.encode())
@@ -371,4 +375,4 @@ def application(desk: Desk, routes: list[BaseRoute]) -> ASGIApp:
     app = Starlette(routes=routes, exception_handlers=FAULTS)
     app.router.redirect_slashes = False
     app.state.desk = desk
-    return Headed(app)
+    return Headed(app, desk.seen)

@@ -3,7 +3,9 @@
 import argparse
 import asyncio
 import logging
+import os
 from collections.abc import Callable, Coroutine, Sequence
+from pathlib import Path
 from typing import Any
 
 import asyncpg
@@ -15,6 +17,8 @@ from ocpp_board.statuses import Mistaken, Status
 
 log = logging.getLogger(__name__)
 
+# The secrets that parts take, by their names in the environment.
+SECRETS = ("PGPASSWORD", "SOURCE_PASSWORD", "PROXY_SECRET")
 ADDRESS = "postgresql://USER@HOST:PORT,HOST:PORT/DATABASE"
 
 
@@ -42,8 +46,19 @@ def add_place(parser: argparse.ArgumentParser, port: int) -> None:
 
 
 def parsed(parser: argparse.ArgumentParser, argv: Sequence[str]) -> argparse.Namespace:
-    """The words. All that is told has the program's name in front."""
+    """The words. All that is told has the program's name in front. Secrets that systemd hands on come into the
+    environment, where a person puts them."""
+    take_credentials()
     return words.parsed(parser, argv, logging.DEBUG)
+
+
+def take_credentials() -> None:
+    """Takes the secrets that systemd's LoadCredential= put into a folder for this process."""
+    folder = os.environ.get("CREDENTIALS_DIRECTORY")
+    for name in SECRETS if folder else ():
+        path = Path(folder or "") / f"secret_{name}"
+        if name not in os.environ and path.is_file():
+            os.environ[name] = path.read_text().removesuffix("\n")
 
 
 def use_uvloop() -> None:

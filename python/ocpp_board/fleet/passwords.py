@@ -175,7 +175,8 @@ class Passwords:
         self.tries = Tries()
         self.pool = ThreadPoolExecutor(THREADS + 1, "password")
         self.places, self.slow_place = asyncio.Semaphore(THREADS), asyncio.Semaphore(1)
-        self.slowed = 0
+        # Who waits now, and how many failed, for who watches.
+        self.slowed = self.wrong = 0
         # What was right last, by a key of this process, so that a station that comes again costs no hash.
         self.key = secrets.token_bytes(32)
         self.right: dict[str, bytes] = {}
@@ -254,6 +255,7 @@ class Passwords:
     def tell(self, keys: tuple[str, str], what: str) -> None:
         """Counts a failure for the name and the address, and tells it; not each one of who is slowed down."""
         now = time.monotonic()
+        self.wrong += 1
         counts = [self.tries.fail(key, now) for key in keys]
         if max(counts) < FREE:
             log.warning("%s, %s: %s", *keys, what)

@@ -85,6 +85,7 @@ class Plan:
         self.sites = list(dict.fromkeys(row["site"] for row in stations))
         self.stations = [row["station"] for row in stations]
         self.rows = {row["station"]: row for row in stations}
+        self.reckonings = sites
         self.lines = declarations(stations, {site: sites[site] for site in self.sites}, known)
 
     @classmethod

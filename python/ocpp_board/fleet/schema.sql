@@ -4,9 +4,12 @@
 --
 -- Needs PostgreSQL 15, a superuser, and a database that is empty or has the schema of an earlier version, which it
 -- brings to this one in one transaction: all tools are stopped before it, and those of this version started behind it.
+-- What stands here up to "Versions" is version 1, and stays as it is; each later version is a file of schema/, which is
+-- applied once. With `-v to=1` it goes no further than version 1.
 -- The passwords of the roles come from the environment:
--- GATEWAY_PASSWORD, FEED_PASSWORD, WORKER_PASSWORD, READER_PASSWORD, OPERATOR_PASSWORD and PROVISIONER_PASSWORD; a role
--- whose variable is not set gets none.
+-- GATEWAY_PASSWORD, FEED_PASSWORD, WORKER_PASSWORD, READER_PASSWORD, OPERATOR_PASSWORD, PROVISIONER_PASSWORD,
+-- ADMINISTRATOR_PASSWORD, CLOSER_PASSWORD, COMPACTOR_PASSWORD, MOVER_PASSWORD, KEEPER_PASSWORD and BACKUP_PASSWORD; a role whose variable is not
+-- set gets none, or keeps its own.
 --
 -- shard, site, station, log and board are tables over all cells; what lies in this one is own_shard, own_site, own_station,
 -- own_log and own_board, and `see_cell` adds another one's. Gateways and workers use the own ones alone, so that a cell
@@ -16,12 +19,10 @@
 \else
     \set cell 1
 \endif
-\getenv gateway_password GATEWAY_PASSWORD
-\getenv feed_password FEED_PASSWORD
-\getenv worker_password WORKER_PASSWORD
-\getenv reader_password READER_PASSWORD
-\getenv operator_password OPERATOR_PASSWORD
-\getenv provisioner_password PROVISIONER_PASSWORD
+\if :{?to}
+\else
+    \set to 4
+\endif
 
 begin;
 set local client_min_messages = warning;
@@ -31,6 +32,18 @@ begin
         raise 'the encoding of this database is %, and has to be UTF8', getdatabaseencoding();
     end if;
 end $$;
+
+-- The versions that this database has got, one after the other. Each tool asks for the last one.
+create table if not exists schema_version (
+    version integer primary key,
+    at timestamptz not null default now()
+);
+grant select on schema_version to public;
+select count(*) = 0 as is_first, coalesce(max(version), 0) > :to as is_later from schema_version \gset
+\if :is_later
+    do $$ begin raise 'this database has the schema of a later version than this file'; end $$;
+\endif
+\if :is_first
 create extension if not exists postgres_fdw;
 
 do $$
@@ -44,25 +57,6 @@ begin
         end if;
     end loop;
 end $$;
-\if :{?gateway_password}
-    alter role ledger_gateway password :'gateway_password';
-\endif
-\if :{?feed_password}
-    alter role ledger_feed password :'feed_password';
-\endif
-\if :{?worker_password}
-    alter role ledger_worker password :'worker_password';
-\endif
-\if :{?reader_password}
-    alter role ledger_reader password :'reader_password';
-\endif
-\if :{?operator_password}
-    alter role ledger_operator password :'operator_password';
-\endif
-\if :{?provisioner_password}
-    alter role ledger_provisioner password :'provisioner_password';
-\endif
-
 create table if not exists own_cell (
     cell smallint primary key check (cell > 0)
 );
@@ -1033,5 +1027,82 @@ begin
             name, other, name, other, other, 'own_' || name);
     end loop;
 end $$;
-\ir schema/0002_operators.sql
+
+insert into schema_version (version) values (1);
+\endif
+
+-- Versions -----------------------------------------------------------------------------------------------------------
+
+select :to >= 2 and not exists (select from schema_version where version = 2) as is_due \gset
+\if :is_due
+    \ir schema/0002_operators.sql
+    insert into schema_version (version) values (2);
+\endif
+select :to >= 3 and not exists (select from schema_version where version = 3) as is_due \gset
+\if :is_due
+    \ir schema/0003_watching.sql
+    insert into schema_version (version) values (3);
+\endif
+select :to >= 4 and not exists (select from schema_version where version = 4) as is_due \gset
+\if :is_due
+    \ir schema/0004_costs.sql
+    insert into schema_version (version) values (4);
+\endif
+
+-- Passwords of the roles ----------------------------------------------------------------------------------------------
+
+\getenv gateway_password GATEWAY_PASSWORD
+\getenv feed_password FEED_PASSWORD
+\getenv worker_password WORKER_PASSWORD
+\getenv reader_password READER_PASSWORD
+\getenv operator_password OPERATOR_PASSWORD
+\getenv provisioner_password PROVISIONER_PASSWORD
+\getenv administrator_password ADMINISTRATOR_PASSWORD
+\getenv closer_password CLOSER_PASSWORD
+\getenv compactor_password COMPACTOR_PASSWORD
+\getenv mover_password MOVER_PASSWORD
+\getenv keeper_password KEEPER_PASSWORD
+\getenv backup_password BACKUP_PASSWORD
+\if :{?gateway_password}
+    alter role ledger_gateway password :'gateway_password';
+\endif
+\if :{?feed_password}
+    alter role ledger_feed password :'feed_password';
+\endif
+\if :{?worker_password}
+    alter role ledger_worker password :'worker_password';
+\endif
+\if :{?reader_password}
+    alter role ledger_reader password :'reader_password';
+\endif
+\if :{?operator_password}
+    alter role ledger_operator password :'operator_password';
+\endif
+\if :{?provisioner_password}
+    alter role ledger_provisioner password :'provisioner_password';
+\endif
+select :to >= 2 as has_administrator \gset
+\if :has_administrator
+\if :{?administrator_password}
+    alter role ledger_administrator password :'administrator_password';
+\endif
+\endif
+select :to >= 3 as has_roles_of_tools \gset
+\if :has_roles_of_tools
+\if :{?closer_password}
+    alter role ledger_closer password :'closer_password';
+\endif
+\if :{?compactor_password}
+    alter role ledger_compactor password :'compactor_password';
+\endif
+\if :{?mover_password}
+    alter role ledger_mover password :'mover_password';
+\endif
+\if :{?keeper_password}
+    alter role ledger_keeper password :'keeper_password';
+\endif
+\if :{?backup_password}
+    alter role ledger_backup password :'backup_password';
+\endif
+\endif
 commit;

@@ -1,16 +1,28 @@
-"""TLS with stations (OCPP 2.0.1 Part 2, A.1.3, security profiles 2 and 3): 1.2 and 1.3, certificates read again."""
+"""TLS with stations (OCPP 2.0.1 Part 2, A.1.3, security profiles 2 and 3): 1.2 and 1.3, certificates read again.
+
+A station's certificate is seen here, or by a proxy, which hands its subject on in a header with a secret of the two.
+"""
 
 import argparse
 import asyncio
+import hmac
 import logging
+import os
+import re
 import signal
 import ssl
 from typing import Any
+
+from websockets.datastructures import Headers
 
 from ocpp_board.fleet.database import Fault
 
 log = logging.getLogger(__name__)
 
+# Characters of the secret that a proxy and a gateway share.
+SHORTEST = 16
+# A part of a subject, which ends with a comma or a plus that no backslash stands before.
+PART = re.compile(r"(?:[^\\,+]|\\.)+")
 # Of TLS 1.2: those with a key of their own for each connection, and the two with RSA alone that OCPP 2.0.1 lets a
 # station have and nothing else.
 SUITES = "ECDHE+AESGCM:ECDHE+CHACHA20:AES128-GCM-SHA256:AES256-GCM-SHA384"
@@ -29,6 +41,65 @@ def add_options(parser: argparse.ArgumentParser) -> None:
         metavar="FILE",
         help="ask stations for a certificate of these authorities (PEM) in place of a password",
     )
+
+    parser.add_argument(
+        "--client-header",
+        metavar="NAME",
+        help="in place of a password: believe the --proxy, which knows PROXY_SECRET, that a station has the "
+        "certificate whose subject it hands on in this header: 'SECRET $ssl_client_verify $ssl_client_s_dn' of nginx",
+    )
+
+
+def is_asked(words: argparse.Namespace) -> bool:
+    """Whether stations need a certificate."""
+    return bool(words.client_ca or words.client_header)
+
+
+def header_or_fault(words: argparse.Namespace) -> None:
+    """Raises Fault where a header is told and not who may set it."""
+    if not words.client_header:
+        return
+    if not words.proxy:
+        raise Fault("--client-header needs --proxy, which sets it")
+    if len(os.environ.get("PROXY_SECRET", "")) < SHORTEST:
+        raise Fault(
+            f"--client-header: PROXY_SECRET in the environment has {SHORTEST} characters or more"
+        )
+
+
+def name_of(words: argparse.Namespace, transport: asyncio.Transport, headers: Headers) -> str:
+    """The common name of the certificate that a station has; nothing where it has none that counts."""
+    if words.client_ca:
+        return common_name(transport.get_extra_info("peercert"))
+    peer = str((transport.get_extra_info("peername") or ("",))[0])
+    values = headers.get_all(words.client_header)
+    if values:
+        # A request lives as long as its connection.
+        del headers[words.client_header]
+    secret, _, told = values[0].partition(" ") if len(values) == 1 else ("", "", "")
+    is_ours = hmac.compare_digest(secret.encode(), os.environ["PROXY_SECRET"].encode())
+    verdict, _, subject = told.partition(" ")
+    if peer not in words.proxy or not is_ours or verdict != "SUCCESS":
+        return ""
+    names = [value for key, value in pairs_of(subject) if key.upper() in ("CN", "2.5.4.3")]
+    return names[0] if len(names) == 1 else ""
+
+
+def pairs_of(subject: str) -> list[tuple[str, str]]:
+    """The types and values of a subject as RFC 2253 writes it."""
+    pairs = []
+    for part in PART.findall(subject):
+        key, _, value = part.partition("=")
+        octets = re.sub(
+            rb"\\([0-9A-Fa-f]{2}|.)", unescaped, value.encode("utf-8", "surrogateescape")
+        )
+        pairs.append((key.strip(), octets.decode("utf-8", "replace")))
+    return pairs
+
+
+def unescaped(found: "re.Match[bytes]") -> bytes:
+    """What an escape stands for."""
+    return bytes([int(found[1], 16)]) if len(found[1]) == 2 else found[1]
 
 
 def context_of(words: argparse.Namespace) -> ssl.SSLContext | None:

@@ -19,12 +19,13 @@ import logging
 import os
 import random
 import secrets
+import time
 from collections.abc import Coroutine, Mapping, Sequence
 from typing import Any
 
 import asyncpg
 
-from ocpp_board.fleet import parts
+from ocpp_board.fleet import metrics, parts
 from ocpp_board.fleet.archives import HAS_ARCHIVED, Late
 from ocpp_board.fleet.board_writer import Board, BoardWriter, Shown
 from ocpp_board.fleet.database import (
@@ -111,6 +112,7 @@ class Shard:
         self.replay, self.sites, self.late, self.watched = replay, sites, late, watched
         self.shown: dict[str, Shown] = {}
         self.began = asyncio.get_running_loop().time()
+        self.answered = time.monotonic()
         self.lines = self.bytes = 0
         self.changed, self.due = True, 0.0
         self.is_loaded = self.is_answering = self.is_showing = False
@@ -125,6 +127,7 @@ class Session:
 
     def __init__(self, words: argparse.Namespace, databases: Sequence[Any]) -> None:
         self.words, self.databases = words, databases
+        self.seen: metrics.WorkerSeen = words.seen
         # One holds the shards, moves their lines and tells answers; its commits may wait for a standby. So beats have
         # another one, and boards, which are many rows, a third.
         self.holder, self.beats, self.boards = (Asked(one, words.hang) for one in databases)
@@ -163,10 +166,15 @@ class Session:
                 await self.holder.database.add_listener(channel, self.wake)
             await self.holder.database.add_listener("plan", lambda *_: self.planned.set())
             await self.beat_once()
-            for job in (self.beat(), self.keep_share(), self.read(), self.show(), self.note()):
+            self.seen.session = self
+            jobs = [self.beat(), self.keep_share(), self.read(), self.show(), self.note()]
+            if self.words.metrics:
+                jobs.append(self.seen.look(self.boards.ask, lambda: list(self.shards)))
+            for job in jobs:
                 self.spawn(job)
             await self.lost
         finally:
+            self.seen.session = None
             for task in self.jobs:
                 task.cancel()
             for shard in self.shards.values():
@@ -183,12 +191,14 @@ class Session:
         behind it, and one more each time."""
         async with self.holder.using:
             database = self.holder.database
-            job = asyncio.ensure_future(database.fetch(query, *values))
+            job, began = asyncio.ensure_future(database.fetch(query, *values)), time.monotonic()
             job.add_done_callback(seen)
             while not (await asyncio.wait([job], timeout=self.words.hang))[0]:
                 if not await self.beats.ask(WAITS, database.get_server_pid()):
                     raise asyncio.TimeoutError(f"no answer in {self.words.hang:g} seconds")
                 log.warning("commits wait for the synchronous standby")
+                self.seen.waits_since(began)
+            self.seen.standby_since = None
             return job.result()
 
     async def read_state(self, numbers: list[int]) -> dict[int, Any]:
@@ -213,7 +223,7 @@ class Session:
         """Tells that this worker lives, and looks how many do."""
         pid = self.holder.database.get_server_pid()
         rows = await self.beats.ask(BEAT, self.words.name, len(self.shards), pid)
-        self.living = rows[0]["living"]
+        self.living, self.seen.beat = rows[0]["living"], time.monotonic()
 
     async def beat(self) -> None:
         """Tells again and again that this worker lives, and ends those that hang."""
@@ -221,6 +231,7 @@ class Session:
             await self.beat_once()
             if beats % FENCING == 0:
                 for row in await self.beats.ask(FENCE, self.words.hang):
+                    self.seen.counts["fenced"] += 1
                     log.warning(
                         "ended the sessions of the worker %s, which has not beaten", row["worker"]
                     )
@@ -409,6 +420,7 @@ class Session:
         try:
             rows = list(await self.committed(NUMBER[channel], *map(list, columns)))
         except CONTESTED as fault:
+            self.seen.counts["contested"] += 1
             log.warning("shards are held twice, and taken again: %s", said(fault))
             await self.take_again(shards)
             self.wake_all(channel, firsts)
@@ -455,6 +467,7 @@ class Session:
             answers, is_live = await self.replayed(shard, row)
         except (ReplayEnded, OSError, asyncio.TimeoutError) as fault:
             why = str(fault) or "its replay hangs"
+            self.seen.counts["replays_ended"] += 1
             log.warning("shard %d: %s; it begins anew", shard.number, why)
             self.reopen(shard)
             return None
@@ -495,6 +508,7 @@ class Session:
         made = await asyncio.to_thread(run_tool, "compact", words, b"")
         told = made.stderr.decode("utf-8", "replace").strip().splitlines()[-1:]
         if made.returncode:
+            self.seen.counts["compactions_failed"] += 1
             log.error("shard %d: not compacted: %s", number, *(told or ["it ended"]))
         else:
             log.info("shard %d: compacted", number)
@@ -526,8 +540,10 @@ class Session:
         channels, payloads = payloads_of([answer for _, answers in answered for answer in answers])
         if channels:
             await self.notify(channels, payloads)
+        self.seen.counts["answers"] += sum(len(answers) for _, answers in answered)
+        now = time.monotonic()
         for (shard, _), place in zip(answered, places):
-            shard.told = max(shard.told, place)
+            shard.told, shard.answered = max(shard.told, place), now
             shard.is_answering = False
             if not shard.is_loaded and shard.read >= shard.last:
                 self.loaded(shard)
@@ -581,6 +597,7 @@ class Session:
                         for site in shard.sites
                     ]
             except (ReplayEnded, OSError, asyncio.TimeoutError):
+                self.seen.counts["replays_ended"] += self.shards.get(shard.number) is shard
                 self.reopen(shard)
                 return
             for site, text in zip(shard.sites, texts):
@@ -631,6 +648,7 @@ async def opened(words: argparse.Namespace) -> list[Any]:
 
 async def work(words: argparse.Namespace) -> None:
     """Sessions, one after the other: where one is lost the next begins anew."""
+    metrics.serve(words.metrics, words.seen.watch())
     is_first, last = True, ""
     while True:
         try:
@@ -643,6 +661,7 @@ async def work(words: argparse.Namespace) -> None:
             await Session(words, databases).run()
         except (*LOST, Unreachable, asyncpg.PostgresError) as fault:
             text = f"{said(fault)}; tried again and again"
+            words.seen.counts["sessions_lost"] += 1
             if text != last:
                 log.error("%s", text)
             last = text
@@ -662,6 +681,7 @@ def main(argv: Sequence[str], prog: str) -> int:
         parser.add_argument(
             f"--{name}", type=float, default=default, help=f"{what} (default: {default:g})"
         )
+    metrics.add_option(parser)
     words = parts.parsed(parser, argv)
     return parts.ended(lambda: run(words))
 
@@ -672,6 +692,7 @@ def run(words: argparse.Namespace) -> int:
     words.known = known_lines(words.program)
     # What was told once of stations near their limits.
     words.told = set[str]()
+    words.seen = metrics.WorkerSeen(words.hang)
     parts.use_uvloop()
     try:
         asyncio.run(work(words))

@@ -2,7 +2,6 @@
 --
 -- Operators, sessions and tokens are those of the cell that a page is given first; deeds, changes of the plan and requests of
 -- closings lie in the cell that they are of.
-\getenv administrator_password ADMINISTRATOR_PASSWORD
 do $$
 declare
     role_name text;
@@ -14,9 +13,6 @@ begin
     end loop;
     execute format('grant connect on database %I to ledger_administrator', current_database());
 end $$;
-\if :{?administrator_password}
-    alter role ledger_administrator password :'administrator_password';
-\endif
 
 -- Who may come in -----------------------------------------------------------------------------------------------------
 
@@ -180,6 +176,11 @@ end $$;
 create or replace function end_session(session_hash bytea) returns void
     language sql security definer set search_path = public, pg_temp as $$
     delete from operator_session where hash = session_hash;
+$$;
+-- How many are locked.
+create or replace function locked_operators() returns bigint
+    language sql stable security definer set search_path = public, pg_temp as $$
+    select count(*) from sign_in join operator using (name) where locked_until > now();
 $$;
 -- Whose token it is, and what it may: no more than its operator.
 create or replace function use_token(token_hash bytea) returns table (name text, roles text[], sites text[])
@@ -455,12 +456,12 @@ $$;
 revoke execute on function set_operator(text, text[], text[], boolean, bytea, bytea), disable_operator(text, boolean),
     make_token(text, text, text[], text[], bytea, timestamptz), revoke_token(bigint), try_operator(text),
     begin_session(text, bytea, text), use_session(bytea, boolean), end_session(bytea), use_token(bytea),
-    operate(text, text, text, bigint, text, text, text, text, bigint, text), answer_deed(bigint, text),
+    locked_operators(), operate(text, text, text, bigint, text, text, text, text, bigint, text), answer_deed(bigint, text),
     places_of_deeds(integer, bigint[]), request_closing(text, date, text, text, text, text), waits_since() from public;
 -- The page looks at sessions and tokens by these alone: it sees no hash of a password but that of who comes in.
 grant execute on function try_operator(text), begin_session(text, bytea, text), use_session(bytea, boolean),
-    end_session(bytea), use_token(bytea), answer_deed(bigint, text), places_of_deeds(integer, bigint[]),
-    operate(text, text, text, bigint, text, text, text, text, bigint, text),
+    end_session(bytea), use_token(bytea), locked_operators(), answer_deed(bigint, text),
+    places_of_deeds(integer, bigint[]), operate(text, text, text, bigint, text, text, text, text, bigint, text),
     request_closing(text, date, text, text, text, text), waits_since() to ledger_operator;
 -- It appends nothing but what `operate` appends, which asks for a reason.
 revoke insert (shard, gateway, token, line), select (shard, id) on inbox_kept from ledger_operator;

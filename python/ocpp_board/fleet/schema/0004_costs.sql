@@ -1,0 +1,1 @@
+-- Version 4: what a message costs.

@@ -1,0 +1,34 @@
+"""The versions of the fleet's schema: what schema.sql applies, and what the files and the tools call the last one."""
+
+import re
+from pathlib import Path
+
+import pytest
+
+pytest.importorskip("asyncpg")
+
+from ocpp_board.fleet.database import VERSION  # noqa: E402
+
+FLEET = Path(__file__).resolve().parent.parent.parent / "python/ocpp_board/fleet"
+SCHEMA = (FLEET / "schema.sql").read_text()
+STEP = r"""
+select :to >= (\d+) and not exists \(select from schema_version where version = (\d+)\) as is_due \\gset
+\\if :is_due
+    \\ir schema/(\d{4})_(\w+)\.sql
+    insert into schema_version \(version\) values \((\d+)\);
+\\endif
+"""
+
+
+def test_each_file_is_applied_once_in_its_order() -> None:
+    steps = re.findall(STEP.strip(), SCHEMA)
+    files = sorted(path.name for path in (FLEET / "schema").iterdir())
+    assert files == [f"{file}_{name}.sql" for _, _, file, name, _ in steps]
+    for number, (to, had, file, _, noted) in enumerate(steps, 2):
+        assert {int(to), int(had), int(file), int(noted)} == {number}
+    assert SCHEMA.count("\\ir ") == len(steps)
+
+
+def test_the_last_version_is_that_of_the_tools() -> None:
+    assert f"    \\set to {VERSION}\n" in SCHEMA
+    assert VERSION == 1 + len(list((FLEET / "schema").iterdir()))
