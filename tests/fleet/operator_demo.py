@@ -690,6 +690,42 @@ class Demo(Trial):
         process.terminate()
         self.check(await asyncio.to_thread(process.wait, 20) == 0, "a page ends by SIGTERM")
 
+    async def cells(self) -> None:
+        """A site with stations in two cells, of which the first one has the operators."""
+        self.fleet.databases[0].fill(2, "second")
+        second = await connect(self.fleet.dsn("owner", database="second"))
+        await second.execute("select add_station(9, 'north', 'CS-90')")
+        lines = [f"msg CS-90 {text}" for text in session("T-9", "2026-03-02", 3)]
+        await self.fleet.come(second, 9, lines)
+        login = self.fleet.dsn("ledger_worker", database="second")
+        self.fleet.worker("--boards", 0.2, dsn=login)
+        both = [self.fleet.dsn("ledger_operator", database=name) for name in ("ledger", "second")]
+        _, url = start_page(self.fleet, dsns=tuple(both))
+        ann, sue = Client(url), Client(url)
+        ann.login("ann")
+        sue.login("sue")
+        end = time.monotonic() + 15
+        while "CS-90" not in (text := ann.get("/site/north/").text) and time.monotonic() < end:
+            await asyncio.sleep(0.3)
+        self.check("CS-90" in text and "CS-00" in text, "a site of two cells is one page")
+        answer = ann.operate("void", "CS-90", "T-9", 1, "in the second cell")
+        rows = [tuple(row) for row in await second.fetch("select operator, reason from own_deed")]
+        self.check(
+            answer.told.startswith("accepted ") and rows == [("ann", "in the second cell")],
+            f"who did what lies beside the log of its cell: {answer.told}, {rows}",
+        )
+        text = ann.get("/session/CS-90/T-9").text
+        self.check("in the second cell" in text, "the session's history is that of its cell")
+        self.check(
+            ann.get("/changes").text.count("in the second cell") == 1, "and all changes are there"
+        )
+        self.check(
+            sue.get("/session/CS-90/T-9").status == 404, "who sees another site sees none of it"
+        )
+        count = await second.fetchval("select count(*) from operator")
+        self.check(count == 0, f"operators are those of the first cell: {count} in the second")
+        await second.close()
+
     async def cookies(self) -> None:
         """Where TLS is in front a session goes by no other way."""
         process = self.fleet.start(
@@ -715,7 +751,8 @@ class Demo(Trial):
         self.pages = [first, second]
         for job in (
             *(self.sign_in, self.locked, self.sessions, self.sites, self.roles, self.reasons),
-            *(self.forms, self.bodies, self.plan, self.proxied, self.cookies, self.closings),
+            *(self.forms, self.bodies, self.plan),
+            *(self.proxied, self.cells, self.cookies, self.closings),
             *(self.doors, self.watched, self.at_once, self.work),
         ):
             await job()

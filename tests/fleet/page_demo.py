@@ -408,7 +408,10 @@ class Demo(Trial):
             "the page tells what archives have",
         )
         self.shot("site-closed")
-        text = self.go("/session/CS-00/T-1")
+        for field, word in (("station", "CS-00"), ("transaction", "T-1")):
+            self.browser.find_element(By.ID, field).send_keys(word)
+        self.follow(By.CSS_SELECTOR, 'form[action="/session"] button')
+        text = self.text()
         self.check(
             "archive" in text and "Its energy is settled" in text,
             "an archived session has its lines, too",

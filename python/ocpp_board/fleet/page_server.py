@@ -6,13 +6,14 @@ are open the oldest that has sent no whole head ends.
 
 import asyncio
 import socket
+from contextlib import suppress
 from typing import Any
 
 from uvicorn import Config, Server
 from uvicorn.protocols.http.h11_impl import H11Protocol
 
-# Seconds for the head of a request, and for a connection; connections at once.
-HEAD, WHOLE, CONNECTIONS = 10.0, 180.0, 256
+# Seconds for the head of a request, for a connection, and for what is open at the end; connections at once.
+HEAD, WHOLE, ENDING, CONNECTIONS = 10.0, 180.0, 20.0, 256
 
 
 class Patient(H11Protocol):  # type: ignore[misc]
@@ -74,6 +75,11 @@ class PageServer(Server):  # type: ignore[misc]
         """Begins to listen, and tells it."""
         await super().startup(sockets=sockets)
         print(f"listening {self.said}:{self.listener.getsockname()[1]}", flush=True)
+
+    async def shutdown(self, sockets: list[socket.socket] | None = None) -> None:
+        """Ends what is open, which has some seconds."""
+        with suppress(asyncio.TimeoutError):
+            await asyncio.wait_for(super().shutdown(sockets=sockets), ENDING)
 
     async def listen(self) -> None:
         """Serves until a signal comes."""

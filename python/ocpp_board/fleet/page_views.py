@@ -273,7 +273,8 @@ async def lacking(asked: Asked) -> Response:
         rows = [row for _, row in found.pairs() if row["moving_to"] is None]
         rows = sorted(rows, key=itemgetter("at"))[:MOST_ROWS]
         latest += [row["at"] for row in rows]
-        caption = f"{count:,}" if len(rows) == count else f"The oldest {len(rows):,} of {count:,}"
+        what = "1 session" if count == 1 else f"{count:,} sessions"
+        caption = what if len(rows) == count else f"The oldest {len(rows):,} of {what}"
         parts.append(Part(title, caption, [lacking_line(row, voids) for row in rows], none))
     heads = ["Session", "Missing", " Which", "So since", " Site", " Station", "Numbers"]
     until = max(latest, default=None)
@@ -438,9 +439,9 @@ async def refused(asked: Asked) -> Response:
     lines = [
         Line(
             [
-                row["cause"],
+                kept(row["cause"]),
                 row["station"],
-                row["transaction"] or UNKNOWN,
+                session_link(row),
                 row["number"] or UNKNOWN,
                 f"{row['times']:,}",
                 lines_of(moment(row["first"]), moment(row["last"])),
@@ -451,7 +452,8 @@ async def refused(asked: Asked) -> Response:
         )
         for row in rows
     ]
-    caption = f"The last {len(rows):,}" if len(rows) == MOST_ROWS else f"{len(rows):,} rows"
+    count = "1 row" if len(rows) == 1 else f"{len(rows):,} rows"
+    caption = f"The last {count}" if len(rows) == MOST_ROWS else count
     title = f"Refused at {site}" if site else "Refused"
     return asked.page(
         "refused.html",
@@ -461,6 +463,13 @@ async def refused(asked: Asked) -> Response:
         caption=caption,
         faults=found.faults,
     )
+
+
+def session_link(row: Any) -> str:
+    """A link to the session that a message is of, where that can be read."""
+    if not TRANSACTION.fullmatch(row["transaction"]):
+        return str(row["transaction"]) or UNKNOWN
+    return link(session_path(row["station"], row["transaction"].lower()), row["transaction"])
 
 
 def change_line(row: Any) -> Line:

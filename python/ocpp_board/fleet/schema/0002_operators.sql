@@ -223,6 +223,7 @@ create table if not exists own_deed (
     primary key (shard, token)
 );
 create unique index if not exists own_deed_form_idx on own_deed (form);
+create index if not exists own_deed_token_idx on own_deed (token);
 create index if not exists own_deed_transaction_idx on own_deed (station, transaction);
 create index if not exists own_deed_at_idx on own_deed (at);
 
