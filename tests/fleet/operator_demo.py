@@ -728,15 +728,8 @@ class Demo(Trial):
         self.pages = [first, second]
         for job in (
             *(self.sign_in, self.locked, self.sessions, self.sites, self.roles, self.reasons),
-            *(
-                self.forms,
-                self.bodies,
-                self.plan,
-                self.proxied,
-                self.cells,
-                self.cookies,
-                self.closings,
-            ),
+            *(self.forms, self.bodies, self.plan),
+            *(self.proxied, self.cells, self.cookies, self.closings),
             *(self.doors, self.at_once, self.work),
         ):
             await job()
