@@ -6,8 +6,8 @@
 
 `load` gives messages a second, waits (median, 99th, longest) and processor time a message by part, and compares
 every board at the end; with --kill a worker, a gateway and a replay are killed on the way; with --password and --tls
-stations come so, and with --together N all connect, N at a time, before the first one sends, and then once more, which
-a gateway knows that has seen them: how many a second that are is told. `recovery` fills the log
+stations come so, and with --together N all connect, N at a time, before the first one sends, and at the end once
+more, when their gateway knows their passwords: how many a second that are is told. `recovery` fills the log
 of some shards and times a worker that takes them. `memory` gives what a replay of 64 stations takes, empty, by its
 limits.
 """
@@ -112,15 +112,15 @@ async def load(fleet: Fleet, words: argparse.Namespace) -> int:
         batches = await owner.fetchval("select count(distinct xmin::text) from own_log")
         rows = await owner.fetchval("select count(*) from own_log")
         print(f"processor time a message in us: {own}; {rows / max(1, batches):.1f} lines a commit")
+    differ = await fleet.compared(owner, seconds=30)
+    print(
+        f"{words.shards} shards: {'every board equals a replay from scratch' if not differ else differ}"
+    )
     if words.together:
         # Their first event once more is a repeat.
         again = fleet.load(urls, 0, words.stations, "--events", 1, "--seconds", 60, *door_words)
         _, text = await ended(again)
         print(f"known to their gateway: {text.splitlines()[0]}")
-    differ = await fleet.compared(owner, seconds=30)
-    print(
-        f"{words.shards} shards: {'every board equals a replay from scratch' if not differ else differ}"
-    )
     await owner.close()
     return 1 if status or differ else 0
 
