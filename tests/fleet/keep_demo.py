@@ -16,6 +16,7 @@ import asyncio
 import shutil
 import subprocess
 import sys
+from decimal import Decimal
 from pathlib import Path
 from typing import Any
 
@@ -28,6 +29,7 @@ OLD, OTHER, FRESH, STRAY = "04A2F7C1", "04B3F8D2", "04C4F9E3", "04D5FAF4"
 ENERGY = """
 select site, starts, station, up_kwh, down_kwh from energy order by 1, 2, 3
 """
+SUM = "select sum(up_kwh) - sum(down_kwh) from energy"
 SETTLED = "select * from settled_period order by 1, 2, 4"
 # All texts in which a token may be.
 TEXTS = """
@@ -128,7 +130,7 @@ class Demo(ClosingTrial):
 
     async def resent(self) -> None:
         """What a station sends once more, as it was."""
-        before = await self.state()
+        before = await self.owner.fetchval(SUM)
         answers = await self.came(*self.first)
         self.check(
             all(answer.startswith("[3,") for answer in answers),
@@ -142,8 +144,9 @@ class Demo(ClosingTrial):
             len(where) > 0 and not left,
             f"they have the token again until a closing removes them as repeats: {len(where)}, then {left}",
         )
-        after = await self.state()
-        self.check(after[0] == before[0], "energies are as before")
+        # From here on what came late for an archived session counts: one event of 250 Wh.
+        is_right = await self.until(SUM, before + Decimal("0.25"))
+        self.check(is_right, f"energies are {before} kWh, and what came late")
 
     async def old(self) -> None:
         """All tokens that are old, and none that is not."""

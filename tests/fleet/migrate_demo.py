@@ -10,6 +10,7 @@ is 1 where something is not as it must be.
 """
 
 import argparse
+import asyncio
 import difflib
 import os
 import re
@@ -101,8 +102,12 @@ class Demo(ClosingTrial):
         ):
             command = [*tool(name), "--db", self.fleet.dsn(role if name == "worker" else "owner")]
             made = self.fleet.start(*command, *more, stdout=-1, stderr=subprocess.STDOUT)
+            try:
+                await asyncio.to_thread(made.wait, 20)
+            except subprocess.TimeoutExpired:
+                made.kill()
             status, said = await ended(made)
-            self.check(status == 2 and wanted in said, f"{name}: {status}, {said}")
+            self.check(status == 2 and wanted in said, f"{name}: {status}, {said[:200]}")
 
     async def fill(self) -> None:
         """What the older version had: an archived session, one that goes on, and what is settled of both."""

@@ -14,7 +14,7 @@ use Rattle.script_lines.proofs.Cuts.{all_kept, cut-ended, kept_line_of}
 use Rattle.script_ledgers.specs.Script.{Script, line_step}
 use Rattle.journal_script.specs.declared.left_out.LeftOut.{LeftOut}
 use Rattle.journal_script.specs.Journals.{EndsWhole}
-use Rattle.journal_script.specs.Reading.{ReadsLine, Runs, Standing, Stops, read_line, read_lines, standing}
+use Rattle.journal_script.specs.Reading.{ReadsLine, ReadsTo, Runs, Standing, read_line, read_lines, standing}
 use Rattle.journal_script.specs.Restoring.{is_lost, is_marked}
 use Rattle.journal_script.proofs.Whole.{lines_apart}
 
@@ -117,52 +117,15 @@ module _ (most room left : ℕ) (old now : Standing) (r0 r1 : Option (List ℕ))
       consumed = Consumes-trans r0 r1 r2 goes.read bytes goes.consumed consumes;
     }
 
-    -- the line was not, and stands in what was held
-    goes_until : (t : Standing) → t ≡ now → Stops most room left' more old t r0 r2 held
-    goes_until t same = record {
+    -- the line is `listen`
+    pub goes_until : (t : Standing) → t ≡ now → more ≡ false → ReadsTo most old t r0 r2
+    goes_until t same none = record {
       read = goes.read;
-      bytes = bytes;
+      last = bytes;
       runs = record { whole = goes.runs.whole; ran = same ∙ goes.runs.ran; no_listen = goes.runs.no_listen };
-      line = record { raw = reads.raw; feedless = reads.feedless; is = reads.is; kept = reads.kept; counted = refl; last = reads.last; other = reads.other };
-      counted = omega (arith, goes.counted, reads.counted);
+      listens = record { raw = reads.raw; feedless = reads.feedless; is = reads.is; last = reads.last none };
       consumed = Consumes-trans r0 r1 r2 goes.read bytes goes.consumed consumes;
     }
-
-    -- the same where it is known whether the line is `listen`
-    pub goes_until_told : (told : Bool) (t : Standing) → more ≡ told → t ≡ now → Stops most room left' told old t r0 r2 held
-    goes_until_told told t is same = subst (λ m. Stops most room left' m old t r0 r2 held) is (goes_until t same)
-
--- where a loop stopped at a line that is not `listen`, that line was answered after all
-pub stops_on : (most room left : ℕ) (more : Bool) (old now : Standing) (r0 r1 : Option (List ℕ)) (held : List ℕ) → Stops most room left more old now r0 r1 held
-    → (next : Standing) → next ≡ read_line now (line_of Feed most held) → more ≡ true → Goes most room left old next r0 r1
-stops_on most room left more old now r0 r1 held stops next step other = record {
-  read = stops.read ++ stops.bytes;
-  runs = runs_on most old now stops.read stops.runs (length stops.bytes + left) left more stops.bytes held stops.line next step other;
-  counted = omega (arith, stops.counted, length-append stops.read stops.bytes);
-  consumed = stops.consumed;
-}
-
--- another loop went on from there
-pub goes_more : (most room mid left : ℕ) (old now new : Standing) (r0 r1 r2 : Option (List ℕ)) (more : Bool) (last : List ℕ)
-    → Goes most room mid old now r0 r1 → Stops most mid left more now new r1 r2 last → Stops most room left more old new r0 r2 last
-goes_more most room mid left old now new r0 r1 r2 more last goes stops = record {
-  read = goes.read ++ stops.read;
-  bytes = stops.bytes;
-  runs = record {
-    whole = both_whole goes.read stops.read goes.runs.whole stops.runs.whole;
-    ran =
-        stops.runs.ran
-        ∙ ap (λ s. read_lines s (lines_of most stops.read)) goes.runs.ran
-        ∙ sym (both_read old (lines_of most goes.read) (lines_of most stops.read))
-        ∙ ap (read_lines old) (sym (lines_apart most goes.read stops.read goes.runs.whole));
-    no_listen =
-        subst (All (λ line. line ≢ Some (codes "listen"))) (sym (lines_apart most goes.read stops.read goes.runs.whole))
-        (All-append (λ line. line ≢ Some (codes "listen")) (lines_of most goes.read) (lines_of most stops.read) goes.runs.no_listen stops.runs.no_listen);
-  };
-  line = stops.line;
-  counted = omega (arith, goes.counted, stops.counted, length-append goes.read stops.read);
-  consumed = subst (Consumes r0 r2) (sym (append_assoc goes.read stops.read stops.bytes)) (Consumes-trans r0 r1 r2 goes.read (stops.read ++ stops.bytes) goes.consumed stops.consumed);
-}
 
 -- a line has its line feed
 pub one_less : (most room left : ℕ) (more : Bool) (bytes held : List ℕ) → ReadsLine most room left more bytes held → left + 1 ≤ room

@@ -3,4 +3,4 @@ pub mod Journals
 pub mod Cuts
 pub mod Restoring
 pub mod Reading
-pub mod Opened
+pub mod Place

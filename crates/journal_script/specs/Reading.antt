@@ -5,13 +5,14 @@ use Rattle.std.specs.Io.KnownBytes.{Consumes}
 use Rattle.script_lines.specs.declared.line_reader.LineEnd.TheVariants.{Feed}
 use Rattle.script_lines.specs.declared.line_reader.LineReader.{LineReader}
 use Rattle.script_lines.specs.Lines.{HasNoFeed, Line, lines_of}
+use Rattle.script_lines.specs.Ranges.{longest_line}
 use Rattle.script_lines.specs.Reading.{line_of}
 use Rattle.script_ledgers.specs.Script.{Script, line_step, start}
 use Rattle.journal_script.specs.declared.left_out.LeftOut.{LeftOut}
 use Rattle.journal_script.specs.declared.restored.Restored.{Restored}
 use Rattle.journal_script.specs.declared.source.Source.{Source}
 use Rattle.journal_script.specs.Journals.{EndsWhole, Shows}
-use Rattle.journal_script.specs.Restoring.{HasNoListen, is_lost, is_marked}
+use Rattle.journal_script.specs.Restoring.{HasNoListen, IsListen, is_lost, is_marked}
 
 -- Where a script that is read stands: whether its last line ends with `#`, and whether a line is lost.
 pub record Standing : Type 0 where
@@ -50,14 +51,13 @@ pub record Runs (most : ℕ) (old new : Standing) (read : List ℕ) : Type 0 whe
   pub ran : new ≡ read_lines old (lines_of most read)
   pub no_listen : HasNoListen most read
 
--- A loop over lines stopped: it went on by the complete lines that were read, and behind them one line was read more, of which `held` is held. Where `more` is false that line is `listen`.
-pub record Stops (most room left : ℕ) (more : Bool) (old new : Standing) (r0 r1 : Option (List ℕ)) (held : List ℕ) : Type 0 where
+-- A loop over lines ended with `listen`, behind these bytes.
+pub record ReadsTo (most : ℕ) (old new : Standing) (r0 r1 : Option (List ℕ)) : Type 0 where
   pub read : List ℕ
-  pub bytes : List ℕ
+  pub last : List ℕ
   pub runs : Runs most old new read
-  pub line : ReadsLine most (length bytes + left) left more bytes held
-  pub counted : length read + length bytes + left ≡ room
-  pub consumed : Consumes r0 r1 (read ++ bytes)
+  pub listens : IsListen last
+  pub consumed : Consumes r0 r1 (read ++ last)
 
 -- The line that is held.
 abbrev pub held_line : LineReader → Line
@@ -80,17 +80,14 @@ place script source = record { standing = standing script source.left_out; lines
 abbrev pub read_on : Place → Place
 read_on p = record { standing = read_line p.standing (held_line p.lines); lines = p.lines }
 
--- A loop over lines stopped, from place to place.
-abbrev pub StopsAt : Bool → Place → Place → Option (List ℕ) → Option (List ℕ) → Type 0
-StopsAt more p q r0 r1 = Stops p.lines.max_line_bytes p.lines.room q.lines.room more p.standing q.standing r0 r1 q.lines.held.items
-
 -- What a script leaves that stands so: the contents of what is restored, whether a line is lost, and whether the last ends with `#`.
 pub record IsLeft (s : Standing) (r : Restored) (marked : Bool) : Type 0 where
   pub shows : Shows s.script r.draft.sites r.draft.stations r.cells.items
   pub loses : r.has_lost ≡ s.lost
   pub ends : marked ≡ s.marked
 
--- Behind declarations that end at this place, the ledgers are opened and what is left of the script is read: nothing where no line opens them, and else the line that is held and all up to `listen`. What is left then is this.
-abbrev pub GoesOn : Bool → Place → Option (List ℕ) → Option (List ℕ) → (Standing → Type 0) → Type 0
-GoesOn false p r0 r1 leaves = (r1 ≡ r0) × leaves p.standing
-GoesOn true p r0 r1 leaves = (q : Place) × StopsAt false (read_on p) q r0 r1 × leaves q.standing
+-- A script was read up to `listen`, and this is what it leaves.
+pub record Leaves (r0 r1 : Option (List ℕ)) (r : Restored) (marked : Bool) : Type 0 where
+  pub standing : Standing
+  pub reads : ReadsTo longest_line begun standing r0 r1
+  pub left : IsLeft standing r marked

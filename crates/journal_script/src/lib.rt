@@ -10,8 +10,8 @@ mod fault;
 pub mod laws;
 mod left_out;
 mod lines;
-mod opened;
 mod restored;
+mod restored_script;
 mod restoring;
 mod source;
 

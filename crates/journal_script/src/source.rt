@@ -9,7 +9,6 @@ use crate::left_out::LeftOut;
 use script_ledgers::MAX_SCRIPT_BYTES;
 use script_lines::{LineEnd, LineReader, MAX_LINE_BYTES};
 use std::alloc::Global;
-use std::io;
 use std::io::{BufRead, Write};
 
 // The line that ends what is restored.
@@ -43,7 +42,7 @@ impl Source {
         ensures left_out { self.new.left_out ≡ self.old.left_out }
         ensures fails { IfErr result (λ e. e ≢ RestoreFault.NotMarked) }
     {
-        match self.lines.next_line(reader, &mut io::sink())? {
+        match self.lines.next_line(reader)? {
             LineEnd::Feed => Ok(!is_listen(self.lines.line(LineEnd::Feed))),
             LineEnd::Input => Err(RestoreFault::NotRestored),
         }

@@ -19,7 +19,7 @@
 
 mod declared;
 mod fault;
-mod mail;
+mod line_queue;
 mod run;
 mod same;
 mod serve;

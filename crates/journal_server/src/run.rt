@@ -7,7 +7,7 @@ ghost use Rattle.site_desk.specs.Plan.{plan_fault};
 ghost use Rattle.site_desk.specs.Roster.{AreCellsOf, AreNewPlaces};
 ghost use Rattle.journal_server.specs.Served.{IsEnded, IsItsScript, Leaves};
 
-use crate::mail::{Mail, MailOrders, read_all};
+use crate::line_queue::{LineQueue, QueuedOrders, read_all};
 use crate::serving::Serving;
 use crate::speech::ScriptSpeech;
 use desk_report::write_boards;
@@ -17,11 +17,10 @@ use ledger_model::Command;
 use live_server::{Live, Orders, Ran, serve_plan_at};
 use site_book::{Naming, Tables, Viewer};
 use site_desk::{Parts, Pass, Plan, StationCell};
-use site_server::ServiceFault;
+use site_server::{Host, ServiceFault};
 use std::alloc::{AllocError, Global};
 use std::io::{BufRead, BufWriter, Write};
 use std::marker::Brand;
-use std::net::{Net, TcpListener, TcpStream};
 use std::sync::{Arc, Mutex, Wait};
 use std::thread;
 use std::thread::Threads;
@@ -42,15 +41,7 @@ pub struct Served<W: Write + Drop> {
 
 // Serves the stations of a script that was restored until the operator's lines end, which a thread reads from the input.
 pub(crate) fn run_restored<
-    R: AllocGlobal
-        + Threads
-        + Wait
-        + Clock
-        + Clone
-        + Send
-        + Sync
-        + Net<Listener = TcpListener, Stream = TcpStream>
-        + 'static,
+    R: AllocGlobal + Host + Clone + Send + 'static,
     I: BufRead + Send + Drop + 'static,
     W: Write + Send + Drop,
     T: Write,
@@ -80,10 +71,10 @@ pub(crate) fn run_restored<
     } = restored;
     let tables = Tables::make(alloc, draft.plan().sites.len() as u16)?;
     let blank = Blank::new(alloc)?;
-    let mail = mail_box(alloc)?;
-    start_reader(rt, alloc, input, Arc::try_clone(&mail)?)?;
-    let mut orders = MailOrders::open(alloc, &*mail);
-    run_over::<Brand, Brand, R, MailOrders<'_>, W, T, L>(
+    let queue = new_queue(alloc)?;
+    start_reader(rt, alloc, input, Arc::try_clone(&queue)?)?;
+    let mut orders = QueuedOrders::open(alloc, &*queue);
+    run_over::<Brand, Brand, R, QueuedOrders<'_>, W, T, L>(
         rt,
         alloc,
         tables,
@@ -99,10 +90,10 @@ pub(crate) fn run_restored<
     )
 }
 
-// A box that is empty.
-fn mail_box(alloc: Global) -> Result<Arc<Mail, Global>, AllocError> {
+// A queue that is empty.
+fn new_queue(alloc: Global) -> Result<Arc<LineQueue, Global>, AllocError> {
     match Arc::new(alloc, Mutex::new(Vec::new(alloc))) {
-        Ok(mail) => Ok(mail),
+        Ok(queue) => Ok(queue),
         Err(refused) => Err(AllocError::from(refused)),
     }
 }
@@ -111,19 +102,19 @@ fn mail_box(alloc: Global) -> Result<Arc<Mail, Global>, AllocError> {
 fn start_reader<
     R: Threads + Wait + Clock + Clone + Send + 'static,
     I: BufRead + Send + Drop + 'static,
->(rt: &R, alloc: Global, input: I, mail: Arc<Mail, Global>) -> Result<(), ServiceFault> {
+>(rt: &R, alloc: Global, input: I, queue: Arc<LineQueue, Global>) -> Result<(), ServiceFault> {
     let own = rt.clone()?;
-    match thread::spawn(rt, move || read_all(&own, alloc, input, &*mail)) {
+    match thread::spawn(rt, move || read_all(&own, alloc, input, &*queue)) {
         Ok(_reader) => Ok(()),
         Err(_refused) => Err(ServiceFault::OutOfMemory),
     }
 }
 
-// The same, under the naming of the desk's tables and of its journal.
+// Serves what was restored, under the naming of the desk's tables and of its journal.
 fn run_over<
     J: Naming + Send + Sync,
     K: Ties + Opening + Send + Sync,
-    R: Threads + Wait + Clock + Sync + Net<Listener = TcpListener, Stream = TcpStream>,
+    R: Host,
     O: Orders,
     W: Write + Send + Drop,
     T: Write,

@@ -18,13 +18,10 @@ use itoa::Buffer;
 use journal_script::{RestoreFault, Restored, restore};
 use live_server::Live;
 use site_desk::{Plan, StationCell};
-use site_server::ServiceFault;
+use site_server::{Host, ServiceFault};
 use std::io;
 use std::io::{BufRead, BufWriter, Write};
-use std::net::{Net, TcpListener, TcpStream};
-use std::sync::Wait;
 use std::thread::Threads;
-use std::time::Clock;
 
 // What ends a script that is restored.
 const LISTEN: &[u8] = b"listen\n";
@@ -45,15 +42,7 @@ pub struct Restoring {
 ///
 /// A plan with a fault is told before anything is written.
 pub fn serve_journalled<
-    R: AllocGlobal
-        + Threads
-        + Wait
-        + Clock
-        + Clone
-        + Send
-        + Sync
-        + Net<Listener = TcpListener, Stream = TcpStream>
-        + 'static,
+    R: AllocGlobal + Host + Clone + Send + 'static,
     I: BufRead + Send + Drop + 'static,
     W: Write + Send + Drop,
     T: Write,
@@ -92,15 +81,7 @@ pub fn serve_journalled<
 /// written or listened on, unless it is asked to serve all the same: what the stations hold is less than the script tells
 /// then, as where a declaration is missing.
 pub fn serve_restored<
-    R: AllocGlobal
-        + Threads
-        + Wait
-        + Clock
-        + Clone
-        + Send
-        + Sync
-        + Net<Listener = TcpListener, Stream = TcpStream>
-        + 'static,
+    R: AllocGlobal + Host + Clone + Send + 'static,
     I: BufRead + Send + Drop + 'static,
     W: Write + Send + Drop,
     T: Write,

@@ -2,4 +2,4 @@ mod Asking
 pub mod Browsing
 pub mod Told
 pub mod Replied
-pub mod Shelved
+pub mod Pooled

@@ -4,5 +4,5 @@ pub mod Ordered
 pub mod Replied
 pub mod Responses
 pub mod Seated
-pub mod Shelved
+pub mod Pooled
 pub mod Told

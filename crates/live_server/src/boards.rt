@@ -6,13 +6,13 @@ ghost use Rattle.live_server.specs.declared.reply.Status.{Status};
 ghost use Rattle.live_server.specs.Browsing.{IsBoardAnswer, IsBrowsed, site_link, sites_page};
 ghost use Rattle.live_server.specs.Responses.{html, response_bytes, status_bytes};
 
-use crate::crew::Crew;
-use crate::door::Door;
+use crate::acceptor::Acceptor;
+use crate::connection::{Connection, ConnectionStream, Patience};
 use crate::reply::{Status, response};
 use crate::request::{Request, read_request};
 use crate::running::{Running, site_of};
 use crate::serves::Serves;
-use crate::visit::{Patience, Visit, VisitStream};
+use crate::workers::Workers;
 use ledger_model::Name;
 use site_book::Naming;
 use site_desk::{HasCell, Plan};
@@ -50,16 +50,16 @@ const NO_MEMORY: &[u8] =
 pub(crate) fn serve_boards<J: Naming, C: HasCell, S: Serves<J, C>, R: Wait + Clock>(
     rt: &R,
     alloc: Global,
-    door: &Door<'_>,
+    acceptor: &Acceptor<'_>,
     running: &Running<'_, J, C, S>,
-    crew: &Crew,
+    workers: &Workers,
 ) {
     for _ in rt.forever() {
-        let Some(stream) = door.next(rt, &crew.closing) else {
-            door.leave();
+        let Some(stream) = acceptor.next(rt, &workers.closing) else {
+            acceptor.leave();
             return;
         };
-        serve_request(rt, alloc, running, crew, stream);
+        serve_request(rt, alloc, running, workers, stream);
     }
 }
 
@@ -68,35 +68,35 @@ fn serve_request<J: Naming, C: HasCell, S: Serves<J, C>, R: Wait + Clock>(
     rt: &R,
     alloc: Global,
     running: &Running<'_, J, C, S>,
-    crew: &Crew,
+    workers: &Workers,
     stream: TcpStream,
 ) {
     let unmarked = AtomicBool::new(false);
-    let Ok(visit) = Visit::open(rt, &crew.closing, &unmarked, PATIENCE) else {
+    let Ok(connection) = Connection::open(rt, &workers.closing, &unmarked, PATIENCE) else {
         return;
     };
-    if let Ok(mut stream) = VisitStream::open(&visit, stream) {
-        let _ = answer_request(rt, alloc, running, &visit, &mut stream);
+    if let Ok(mut stream) = ConnectionStream::open(&connection, stream) {
+        let _ = answer_request(rt, alloc, running, &connection, &mut stream);
     }
 }
 
-// The same, over the stream of a visit.
+// Answers the request of a connection over its stream.
 fn answer_request<J: Naming, C: HasCell, S: Serves<J, C>, R: Wait + Clock>(
     rt: &R,
     alloc: Global,
     running: &Running<'_, J, C, S>,
-    visit: &Visit<'_, R>,
-    stream: &mut VisitStream<'_, R>,
+    connection: &Connection<'_, R>,
+    stream: &mut ConnectionStream<'_, R>,
 ) -> io::Result<()> {
     let request = request_of(alloc, stream)?;
-    visit.serves();
+    connection.serves();
     put_answer(rt, alloc, running, request, stream)?;
-    visit.leaves();
+    connection.leaves();
     end_answer(stream)
 }
 
 // Tells a browser that nothing more comes.
-fn end_answer<R: Clock>(stream: &mut VisitStream<'_, R>) -> io::Result<()> {
+fn end_answer<R: Clock>(stream: &mut ConnectionStream<'_, R>) -> io::Result<()> {
     stream.shut()?;
     read_rest(stream);
     Ok(())

@@ -1,11 +1,11 @@
 //! A server that lives: connections without end, an operator's lines while stations are served, and a clean end.
 //!
 //! [`serve_live`] opens the desk of a plan, tells where it listens, and starts workers, which accept connections and
-//! serve them for as long as the server lives: `Running` has the desk and the shelf of its passes, `Crew` who has to go,
-//! `Log` where sessions are told, and a `Visit` what one connection knows of its time. Meanwhile the calling thread
+//! serve them for as long as the server lives: `Running` has the desk and the pool of its passes, `Workers` who has to go,
+//! `Log` where sessions are told, and a `Connection` what one connection knows of its time. Meanwhile the calling thread
 //! answers an operator's lines (`operate`), a thread glances at the totals, and another one answers browsers with boards
 //! ([`response`]). At the end it joins them all, closes the desk with all its checks, and writes the board of each site.
-//! A `ShelfDesk` is the running desk with a shelf, where a session lays its pass at its end, and from where a later one
+//! A `PooledDesk` is the running desk with a pool, where a session lays its pass at its end, and from where a later one
 //! of the same station takes it back, so that a station is given no more passes than stood at once. An operator's line
 //! borrows one in the same way. `Seats` tell which worker serves a session of which station, and whom to send away: the
 //! oldest of three sessions of a station, or the oldest handshake.
@@ -24,13 +24,15 @@
 //! ```
 #![tactic(auto)]
 
+mod acceptor;
 mod boards;
-mod crew;
-mod door;
+mod connection;
 mod listeners;
 mod log;
 mod operator;
 mod orders;
+mod pass_pool;
+mod pooled_desk;
 mod reply;
 mod request;
 mod running;
@@ -39,10 +41,8 @@ mod serves;
 mod service;
 mod session;
 mod shared;
-mod shelf;
-mod shelf_desk;
-mod visit;
 mod watch;
+mod workers;
 
 pub use orders::{Came, Orders, ReadOrders, ending_of, fault_of};
 pub use reply::{Status, response};

@@ -7,9 +7,9 @@ use crate::service::Live;
 use arrayvec::ArrayString;
 use desk_report::write_out;
 use itoa::Buffer;
-use site_server::{ServiceFault, address_of, listen, tell_port};
+use site_server::{ServiceFault, Sockets, address_of, listen, tell_port};
 use std::io::Write;
-use std::net::{Net, TcpListener, TcpStream};
+use std::net::TcpListener;
 
 // The listeners of a live server: that of stations, and that of browsers, where it is asked for.
 #[derive(Drop)]
@@ -20,7 +20,7 @@ pub(crate) struct Listeners {
 
 impl Listeners {
     // The listeners that are asked for, once their ports are told.
-    pub(crate) fn open<R: Net<Listener = TcpListener, Stream = TcpStream>, W: Write>(
+    pub(crate) fn open<R: Sockets, W: Write>(
         rt: &R,
         live: Live,
         output: &mut W,
@@ -35,7 +35,7 @@ impl Listeners {
 }
 
 // The listener of browsers, where a port is asked for.
-fn listen_for_browsers<R: Net<Listener = TcpListener, Stream = TcpStream>>(
+fn listen_for_browsers<R: Sockets>(
     rt: &R,
     port: Option<u16>,
 ) -> Result<Option<TcpListener>, ServiceFault> {

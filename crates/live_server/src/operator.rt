@@ -10,14 +10,14 @@ ghost use Rattle.script_lines.specs.ScriptLines.{meaning_of};
 ghost use Rattle.script_lines.specs.Texts.{fault_line};
 ghost use Rattle.site_desk.specs.declared.roster.StationPlace.{StationPlace};
 ghost use Rattle.site_desk.specs.Roster.{IsNamed};
-ghost use Rattle.live_server.specs.declared.shelf_desk.PassFault.{PassFault};
+ghost use Rattle.live_server.specs.declared.pooled_desk.PassFault.{PassFault};
 ghost use Rattle.live_server.specs.Replied.{IsBoard, IsCommandLine, IsCommanded, IsMessageLine, IsReply, IsReplyOrMemory, IsSent, IsTotals, totals_line};
 ghost use Rattle.live_server.specs.Told.{AddsReplies};
 
 use crate::orders::{Came, Orders};
+use crate::pooled_desk::PassFault;
 use crate::running::{Running, site_of};
 use crate::serves::Serves;
-use crate::shelf_desk::PassFault;
 use board_report::{energy_text, export_text, total_text};
 use desk_report::write_out;
 use energy_flow::Flow;

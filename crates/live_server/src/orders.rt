@@ -5,7 +5,6 @@ ghost use Rattle.live_server.specs.Ordered.{came_of, told_as};
 use script_lines::{LineEnd, LineReader, MAX_LINE_BYTES, ReplayFault};
 use site_server::ServiceFault;
 use std::alloc::Global;
-use std::io;
 use std::io::BufRead;
 use std::sync::Wait;
 use std::time::Clock;
@@ -54,7 +53,7 @@ impl<'a, I: BufRead> ReadOrders<'a, I> {
 
 impl<I: BufRead> Orders for ReadOrders<'_, I> {
     fn next<R: Wait + Clock>(&mut self, _rt: &R) -> Result<Came, ServiceFault> {
-        match self.lines.next_line(&mut *self.reader, &mut io::sink()) {
+        match self.lines.next_line(&mut *self.reader) {
             Ok(end) => {
                 self.end = end;
                 Ok(ending_of(&self.lines, end))

@@ -7,8 +7,8 @@ ghost use Rattle.ledger_model.specs.Ranges.{most_plan_readings};
 ghost use Rattle.site_desk.specs.Roster.{AreNewPlaces, IsNamed};
 ghost use Rattle.station_link.specs.Session.{MayLackPass};
 
+use crate::pooled_desk::{PassFault, PooledDesk};
 use crate::serves::Serves;
-use crate::shelf_desk::{PassFault, ShelfDesk};
 use desk_report::running_board;
 use ledger_model::Name;
 use site_book::Naming;
@@ -18,12 +18,12 @@ use std::alloc::Global;
 use std::sync::Wait;
 use std::thread::Threads;
 
-// The desk of a plan while it is served, with the shelf of its passes.
+// The desk of a plan while it is served, with the pool of its passes.
 #[derive(Drop)]
 pub(crate) struct Running<'a, J: Naming, C: HasCell, S: Serves<J, C>> {
     pub(crate) plan: &'a Plan,
     pub(crate) serves: &'a S,
-    pub(crate) desk: ShelfDesk<'a, J, C>,
+    pub(crate) desk: PooledDesk<'a, J, C>,
     ghost same: { desk.desk.now ≡ S.roster serves.now },
     ghost stations: { desk.desk.now.stations ≡ S.stations serves.now },
     ghost opened: { AreNewPlaces plan.now.sites.items plan.now.stations.items desk.desk.now.stations },
@@ -31,14 +31,14 @@ pub(crate) struct Running<'a, J: Naming, C: HasCell, S: Serves<J, C>> {
 }
 
 impl<'a, J: Naming, C: HasCell, S: Serves<J, C>> Running<'a, J, C, S> {
-    // The desk of this plan, with the passes on the shelf that were given out before.
+    // The desk of this plan, with the passes in the pool that were given out before.
     pub(crate) fn open(plan: &'a Plan, serves: &'a S, passes: Vec<Pass>) -> Self
         requires opened { AreNewPlaces plan.now.sites.items plan.now.stations.items (S.roster serves.now).stations }
         requires readings { sum_by (λ s. s.limits.readings) plan.now.stations.items ≤ most_plan_readings }
         ensures plan { result.plan.now ≡ plan.now }
         ensures desk { result.desk.desk.now ≡ S.roster serves.now }
     {
-        let desk = ShelfDesk::open(serves.desk(), passes);
+        let desk = PooledDesk::open(serves.desk(), passes);
         Running { plan, serves, desk }
     }
 

@@ -8,8 +8,8 @@ ghost use Rattle.site_desk.specs.Roster.{AreNewPlaces};
 ghost use Rattle.desk_report.specs.Closed.{AreBoards};
 ghost use Rattle.live_server.specs.Told.{AddsReplies, IsServed, Tells};
 
+use crate::acceptor::{Acceptor, Acceptors};
 use crate::boards::serve_boards;
-use crate::door::{Door, Doors};
 use crate::listeners::Listeners;
 use crate::operator::operate;
 use crate::orders::{Orders, ReadOrders};
@@ -20,11 +20,10 @@ use crate::watch::watch;
 use core::thread::{Anything, Stack};
 use site_book::{Naming, Tables, Viewer};
 use site_desk::{Desk, HasCell, Pass, Plan};
-use site_server::{ServiceFault, close_desk, open_desk};
+use site_server::{Host, ServiceFault, close_desk, open_desk};
 use std::alloc::Global;
 use std::io::{BufRead, Write};
 use std::marker::Brand;
-use std::net::{Net, TcpListener, TcpStream};
 use std::sync::Wait;
 use std::sync::atomic::Ordering;
 use std::thread;
@@ -60,12 +59,7 @@ pub struct Live {
 /// `lines`.
 ///
 /// A plan with a fault is told before anything is listened on.
-pub fn serve_live<
-    R: Threads + Wait + Clock + Sync + Net<Listener = TcpListener, Stream = TcpStream>,
-    I: BufRead,
-    W: Write + Drop,
-    L: Write + Send + Drop,
->(
+pub fn serve_live<R: Host, I: BufRead, W: Write + Drop, L: Write + Send + Drop>(
     rt: &R,
     alloc: Global,
     plan: &Plan,
@@ -80,10 +74,10 @@ pub fn serve_live<
     serve_under::<Brand, R, I, W, L>(rt, alloc, tables, plan, live, input, output, lines)
 }
 
-// The same, under the naming of the desk's tables.
+// Opens the desk of a plan under the naming of its tables, and serves it as `serve_live` does.
 fn serve_under<
     J: Naming + Send + Sync,
-    R: Threads + Wait + Clock + Sync + Net<Listener = TcpListener, Stream = TcpStream>,
+    R: Host,
     I: BufRead,
     W: Write + Drop,
     L: Write + Send + Drop,
@@ -116,14 +110,8 @@ fn serve_under<
     )
 }
 
-// The same, at the desk that was opened.
-fn serve_desk<
-    J: Naming + Send + Sync,
-    R: Threads + Wait + Clock + Sync + Net<Listener = TcpListener, Stream = TcpStream>,
-    O: Orders,
-    W: Write + Drop,
-    L: Write + Send + Drop,
->(
+// Serves a plan at the desk that was opened, closes it, and writes the boards.
+fn serve_desk<J: Naming + Send + Sync, R: Host, O: Orders, W: Write + Drop, L: Write + Send + Drop>(
     rt: &R,
     alloc: Global,
     plan: &Plan,
@@ -187,14 +175,14 @@ pub struct Ran<J: Naming, W: Write + Drop> {
 
 /// Listens, writes `listening 127.0.0.1:<port>` to `output`, and serves a plan's stations as [`serve_live`] does, at the
 /// desk that is handed in, until the operator's lines end or say `close`, or the desk accepts no change any more, which is
-/// a `WriteFault`. The passes that were given out before lie on its shelf.
+/// a `WriteFault`. The passes that were given out before lie in its pool.
 ///
 /// Condition: the desk was opened for this plan, whose limits allow no more than 1,048,576 readings in all.
 pub fn serve_plan_at<
     J: Naming + Send + Sync,
     C: HasCell + Send,
     S: Serves<J, C> + Sync,
-    R: Threads + Wait + Clock + Sync + Net<Listener = TcpListener, Stream = TcpStream>,
+    R: Host,
     O: Orders,
     W: Write + Drop,
     L: Write + Send + Drop,
@@ -235,12 +223,12 @@ fn workers_for(plan: &Plan) -> usize {
     sessions.saturating_add(SPARE_WORKERS)
 }
 
-// Serves until the operator's lines end, and takes the passes from the shelf.
+// Serves until the operator's lines end, and takes the passes from the pool.
 fn serve_all<
     J: Naming + Send + Sync,
     C: HasCell + Send,
     S: Serves<J, C> + Sync,
-    R: Threads + Wait + Clock + Sync + Net<Listener = TcpListener, Stream = TcpStream>,
+    R: Host,
     O: Orders,
     W: Write + Drop,
     L: Write + Send + Drop,
@@ -256,9 +244,9 @@ fn serve_all<
 ) -> Ran<J, W>
     ensures { OnOk result.ended (AddsReplies shared.entry.running.plan.now.sites.items shared.entry.running.desk.desk.now.stations (W.contents output) (W.contents result.output)) }
 {
-    let doors = Doors::open(&listeners.stations, listeners.browsers.as_ref());
+    let acceptors = Acceptors::open(&listeners.stations, listeners.browsers.as_ref());
     let (ended, viewers, output) = serve_beside(
-        rt, alloc, &shared, &doors, glances, viewers, orders, output,
+        rt, alloc, &shared, &acceptors, glances, viewers, orders, output,
     );
     Ran {
         passes: shared.into_passes(),
@@ -276,7 +264,7 @@ fn serve_beside<
     J: Naming + Send + Sync,
     C: HasCell + Send,
     S: Serves<J, C> + Sync,
-    R: Threads + Wait + Clock + Sync + Net<Listener = TcpListener, Stream = TcpStream>,
+    R: Host,
     O: Orders,
     W: Write + Drop,
     L: Write + Send + Drop,
@@ -284,7 +272,7 @@ fn serve_beside<
     rt: &R,
     alloc: Global,
     shared: &Shared<'_, J, C, S, L>,
-    doors: &Doors<'_>,
+    acceptors: &Acceptors<'_>,
     glances: u16,
     viewers: Vec<Viewer<J>>,
     orders: &mut O,
@@ -305,7 +293,7 @@ fn serve_beside<
                 Anything,
                 move || watch(rt, shared, glances, viewers),
             );
-            let ended = serve_until_end(scope, rt, alloc, shared, doors, orders, &mut own);
+            let ended = serve_until_end(scope, rt, alloc, shared, acceptors, orders, &mut own);
             let viewers = match watching {
                 Ok(watching) => watching.join(rt),
                 Err(refused) => (refused.value)(),
@@ -315,14 +303,14 @@ fn serve_beside<
     )
 }
 
-// Starts the threads at both doors, answers the operator's lines, and then waits until the threads have left.
+// Starts the threads at both acceptors, answers the operator's lines, and then waits until the threads have left.
 fn serve_until_end<
     's,
     E: 's,
     J: Naming + Send + Sync,
     C: HasCell + Send,
     S: Serves<J, C> + Sync,
-    R: Threads + Wait + Clock + Sync + Net<Listener = TcpListener, Stream = TcpStream>,
+    R: Host,
     O: Orders,
     W: Write,
     L: Write + Send + Drop,
@@ -331,23 +319,23 @@ fn serve_until_end<
     rt: &'s R,
     alloc: Global,
     shared: &'s Shared<'_, J, C, S, L>,
-    doors: &'s Doors<'_>,
+    acceptors: &'s Acceptors<'_>,
     orders: &mut O,
     output: &mut W,
 ) -> Result<(), ServiceFault>
     ensures { OnOk result (AddsReplies shared.now.running.plan.now.sites.items shared.now.running.desk.desk.now.stations (W.contents output.old) (W.contents output.new)) }
 {
-    let ended = if start_all(scope, rt, alloc, shared, doors) {
+    let ended = if start_all(scope, rt, alloc, shared, acceptors) {
         operate(rt, alloc, &shared.running, orders, output)
     } else {
         Err(ServiceFault::OutOfMemory)
     };
-    shared.crew.closing.store(true, Ordering::SeqCst);
-    doors.call_away(rt);
+    shared.workers.closing.store(true, Ordering::SeqCst);
+    acceptors.call_away(rt);
     ended
 }
 
-// Starts the threads at both doors, and tells whether all could start.
+// Starts the threads at both acceptors, and tells whether all could start.
 fn start_all<
     's,
     E: 's,
@@ -361,15 +349,15 @@ fn start_all<
     rt: &'s R,
     alloc: Global,
     shared: &'s Shared<'_, J, C, S, L>,
-    doors: &'s Doors<'_>,
+    acceptors: &'s Acceptors<'_>,
 ) -> bool {
-    for worker in 0..shared.crew.marks.len() {
-        if !start_worker(scope, rt, alloc, shared, &doors.stations, worker) {
+    for worker in 0..shared.workers.marks.len() {
+        if !start_worker(scope, rt, alloc, shared, &acceptors.stations, worker) {
             return false;
         }
     }
-    match &doors.browsers {
-        Some(door) => start_boards(scope, rt, alloc, shared, door),
+    match &acceptors.browsers {
+        Some(acceptor) => start_boards(scope, rt, alloc, shared, acceptor),
         None => true,
     }
 }
@@ -388,18 +376,18 @@ fn start_worker<
     rt: &'s R,
     alloc: Global,
     shared: &'s Shared<'_, J, C, S, L>,
-    door: &'s Door<'_>,
+    acceptor: &'s Acceptor<'_>,
     worker: usize,
 ) -> bool {
-    let Some(mark) = shared.crew.marks.get(worker) else {
+    let Some(mark) = shared.workers.marks.get(worker) else {
         return false;
     };
     let started = Stack::new().stack_size(SESSION_STACK).spawn_scoped_with(
         scope,
         Anything,
-        move || work(rt, alloc, door, shared, worker, mark),
+        move || work(rt, alloc, acceptor, shared, worker, mark),
     );
-    door.is_entered(started.is_ok())
+    acceptor.is_entered(started.is_ok())
 }
 
 // Starts the thread that answers browsers, and tells whether it could start.
@@ -416,12 +404,12 @@ fn start_boards<
     rt: &'s R,
     alloc: Global,
     shared: &'s Shared<'_, J, C, S, L>,
-    door: &'s Door<'_>,
+    acceptor: &'s Acceptor<'_>,
 ) -> bool {
     let started = Stack::new().stack_size(SMALL_STACK).spawn_scoped_with(
         scope,
         Anything,
-        move || serve_boards(rt, alloc, door, &shared.running, &shared.crew),
+        move || serve_boards(rt, alloc, acceptor, &shared.running, &shared.workers),
     );
-    door.is_entered(started.is_ok())
+    acceptor.is_entered(started.is_ok())
 }

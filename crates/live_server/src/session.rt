@@ -1,8 +1,8 @@
 //! A worker's connections, from accept to end.
-use crate::door::Door;
+use crate::acceptor::Acceptor;
+use crate::connection::{Connection, ConnectionStream, Patience};
 use crate::serves::Serves;
 use crate::shared::Shared;
-use crate::visit::{Patience, Visit, VisitStream};
 use arrayvec::ArrayString;
 use ledger_model::Name;
 use site_book::Naming;
@@ -34,24 +34,24 @@ pub(crate) fn work<
 >(
     rt: &R,
     alloc: Global,
-    door: &Door<'_>,
+    acceptor: &Acceptor<'_>,
     shared: &Shared<'_, J, C, S, L>,
     worker: usize,
     mark: &AtomicBool,
 ) {
     for _ in rt.forever() {
-        let Some(stream) = door.next(rt, &shared.crew.closing) else {
-            door.leave();
+        let Some(stream) = acceptor.next(rt, &shared.workers.closing) else {
+            acceptor.leave();
             return;
         };
-        shared.crew.greet(rt, worker);
-        visit(rt, alloc, shared, worker, mark, stream);
-        shared.crew.end(rt, worker);
+        shared.workers.greet(rt, worker);
+        serve_one(rt, alloc, shared, worker, mark, stream);
+        shared.workers.end(rt, worker);
     }
 }
 
 // Serves a connection: its handshake, and what comes behind it.
-fn visit<J: Naming, C: HasCell, S: Serves<J, C>, R: Threads + Wait + Clock, L: Write + Drop>(
+fn serve_one<J: Naming, C: HasCell, S: Serves<J, C>, R: Threads + Wait + Clock, L: Write + Drop>(
     rt: &R,
     alloc: Global,
     shared: &Shared<'_, J, C, S, L>,
@@ -59,14 +59,14 @@ fn visit<J: Naming, C: HasCell, S: Serves<J, C>, R: Threads + Wait + Clock, L: W
     mark: &AtomicBool,
     stream: TcpStream,
 ) {
-    let Ok(visit) = Visit::open(rt, &shared.crew.closing, mark, PATIENCE) else {
+    let Ok(connection) = Connection::open(rt, &shared.workers.closing, mark, PATIENCE) else {
         return;
     };
-    let Ok(stream) = VisitStream::open(&visit, stream) else {
+    let Ok(stream) = ConnectionStream::open(&connection, stream) else {
         return;
     };
     match greet(alloc, stream) {
-        Ok(greeted) => receive(rt, alloc, shared, worker, &visit, greeted),
+        Ok(greeted) => receive(rt, alloc, shared, worker, &connection, greeted),
         Err(why) => shared.log.tell_refused(rt, why, &ArrayString::new()),
     }
 }
@@ -77,8 +77,8 @@ fn receive<J: Naming, C: HasCell, S: Serves<J, C>, R: Threads + Wait + Clock, L:
     alloc: Global,
     shared: &Shared<'_, J, C, S, L>,
     worker: usize,
-    visit: &Visit<'_, R>,
-    greeted: Greeted<VisitStream<'_, R>>,
+    connection: &Connection<'_, R>,
+    greeted: Greeted<ConnectionStream<'_, R>>,
 ) {
     let Greeted {
         mut socket,
@@ -87,11 +87,11 @@ fn receive<J: Naming, C: HasCell, S: Serves<J, C>, R: Threads + Wait + Clock, L:
     } = greeted;
     match shared.running.let_in(rt, asked) {
         Ok((name, pass)) => {
-            shared.crew.begin(rt, worker, pass.station());
-            attend(rt, alloc, shared, &mut socket, &name, pass, visit);
+            shared.workers.begin(rt, worker, pass.station());
+            attend(rt, alloc, shared, &mut socket, &name, pass, connection);
         }
         Err(why) => {
-            visit.leaves();
+            connection.leaves();
             refuse(&mut socket, why);
             shared.log.tell_refused(rt, why, &shown);
         }
@@ -103,18 +103,18 @@ fn attend<J: Naming, C: HasCell, S: Serves<J, C>, R: Threads + Wait + Clock, L: 
     rt: &R,
     alloc: Global,
     shared: &Shared<'_, J, C, S, L>,
-    socket: &mut WebSocket<VisitStream<'_, R>, NoMask>,
+    socket: &mut WebSocket<ConnectionStream<'_, R>, NoMask>,
     name: &Name,
     pass: Pass,
-    visit: &Visit<'_, R>,
+    connection: &Connection<'_, R>,
 ) {
     shared.log.tell_begun(rt, name);
-    visit.serves();
+    connection.serves();
     let before = pass.changes();
     let desk = shared.running.serves;
     let mut clock = SystemMoments { rt };
     let end = serve_live(
-        rt, alloc, socket, desk, name, pass, &NoGate, &mut clock, visit,
+        rt, alloc, socket, desk, name, pass, &NoGate, &mut clock, connection,
     );
     finish(rt, shared, name, before, end);
 }

@@ -3,10 +3,10 @@ ghost use Rattle.std.specs.Prelude.{◌≡◌, ◌≤◌, IfOk, sum_by};
 ghost use Rattle.ledger_model.specs.Ranges.{most_plan_readings};
 ghost use Rattle.site_desk.specs.Roster.{AreNewPlaces};
 
-use crate::crew::Crew;
 use crate::log::Log;
 use crate::running::Running;
 use crate::serves::Serves;
+use crate::workers::Workers;
 use site_book::Naming;
 use site_desk::{HasCell, Pass, Plan};
 use std::alloc::{AllocError, Global};
@@ -16,12 +16,12 @@ use std::io::Write;
 #[derive(Drop)]
 pub(crate) struct Shared<'a, J: Naming, C: HasCell, S: Serves<J, C>, L: Write + Drop> {
     pub(crate) running: Running<'a, J, C, S>,
-    pub(crate) crew: Crew,
+    pub(crate) workers: Workers,
     pub(crate) log: Log<L>,
 }
 
 impl<'a, J: Naming, C: HasCell, S: Serves<J, C>, L: Write + Drop> Shared<'a, J, C, S, L> {
-    // The desk of this plan, so many workers who serve nobody, and where it is told. The passes lie on the shelf.
+    // The desk of this plan, so many workers who serve nobody, and where it is told. The passes lie in the pool.
     pub(crate) fn open(
         alloc: Global,
         plan: &'a Plan,
@@ -36,10 +36,10 @@ impl<'a, J: Naming, C: HasCell, S: Serves<J, C>, L: Write + Drop> Shared<'a, J, 
         ensures plan { IfOk result (λ s. s.running.plan.now ≡ plan.now) }
         ensures desk { IfOk result (λ s. s.running.desk.desk.now ≡ S.roster serves.now) }
     {
-        let crew = Crew::open(alloc, workers)?;
+        let workers = Workers::open(alloc, workers)?;
         Ok(Shared {
             running: Running::open(plan, serves, passes),
-            crew,
+            workers,
             log: Log::open(lines, is_logged),
         })
     }

@@ -24,7 +24,7 @@ pub(crate) fn watch<J: Naming, C: HasCell, S: Serves<J, C>, R: Wait + Clock, L: 
         if glance > 0 {
             thread::sleep(rt, Duration::from_secs(SECONDS_BETWEEN));
         }
-        if shared.crew.closing.load(Ordering::SeqCst) {
+        if shared.workers.closing.load(Ordering::SeqCst) {
             break;
         }
         let mut lines = shared.log.lines.lock(rt);

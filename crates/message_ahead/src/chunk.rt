@@ -1,12 +1,15 @@
-//! The events of a run of lines, read by one thread.
+//! The events of a piece of lines, read by one thread.
 ghost use Rattle.std.specs.Prelude.{◌≡◌, ◌≤◌, ◌<◌, ◌-◌, ◌+◌, ℕ, [], All, length, IfOk, IfSome, IsTrue, take, drop};
+ghost use Rattle.std.specs.Arc.{arc_value};
 ghost use Rattle.message_ahead.specs.Ahead.{Asks, IsFound};
 
+use crate::pieces::Pieces;
 use arrayvec::ArrayString;
 use ledger_model::Moment;
 use memchr::memrchr;
 use script_lines::without_return;
 use std::alloc::{AllocError, Global};
+use std::sync::Arc;
 use transaction_event::{Asked, Delivery, read_message};
 
 // About how many bytes a line with an event has.
@@ -23,34 +26,40 @@ pub trait MessageLines {
 pub struct FoundEvent {
     /// How many bytes may still be read where its line begins.
     pub room: usize,
-    /// Where its text begins in the chunk.
+    /// Where its text begins among the lines.
     pub from: usize,
-    /// Where its text ends in the chunk.
+    /// Where its text ends among them.
     pub to: usize,
     /// The event.
     pub delivery: Delivery,
 }
 
-/// A run of whole lines, and the events that were found in them.
+/// The events that were found in a piece of lines.
 #[derive(Drop)]
 pub struct Chunk {
-    bytes: Vec<u8>,
+    pieces: Arc<Pieces, Global>,
     // The last first.
     found: Vec<FoundEvent>,
     // Whether a growth was refused.
     is_short: bool,
-    ghost read: { All (IsFound bytes.items) found.items },
+    ghost read: { All (IsFound (arc_value pieces).bytes.items) found.items },
 }
 
 impl Chunk {
-    /// Reads the events of these lines, each of which a line feed ends, before the first of which `room` bytes
-    /// may be read. Where memory runs out, those that were found by then are the last ones.
-    pub fn read<T: MessageLines>(alloc: Global, bytes: Vec<u8>, room: usize) -> Chunk {
+    /// Reads the events of a piece of these lines, before the first of which `room` bytes may be read. Where memory runs
+    /// out, those that were found by then are the last ones.
+    pub fn read<T: MessageLines>(
+        alloc: Global,
+        pieces: Arc<Pieces, Global>,
+        piece: usize,
+        room: usize,
+    ) -> Chunk {
+        let (begin, end) = pieces.bounds(piece);
         let mut found = Vec::new(alloc);
-        let is_short = found.reserve(bytes.len() / USUAL_LINE).is_err()
-            || find::<T>(alloc, &bytes, room, &mut found).is_err();
+        let is_short = found.reserve((end - begin) / USUAL_LINE).is_err()
+            || find::<T>(alloc, &pieces.bytes, begin, end, room, &mut found).is_err();
         Chunk {
-            bytes,
+            pieces,
             found,
             is_short,
         }
@@ -75,7 +84,7 @@ impl Chunk {
                 return None;
             };
             if next.room == room {
-                return with_text(&self.bytes, next, text);
+                return with_text(&self.pieces.bytes, next, text);
             }
         }
     }
@@ -110,19 +119,22 @@ fn is_text_at(bytes: &[u8], from: usize, to: usize, text: &str) -> bool
     }
 }
 
-// Finds the events of lines, the last first.
+// Finds the events of the lines between these places, the last first.
 fn find<T: MessageLines>(
     alloc: Global,
     bytes: &[u8],
+    begin: usize,
+    end: usize,
     room: usize,
     found: &mut Vec<FoundEvent>,
 ) -> Result<(), AllocError>
-    requires { All (IsFound bytes.now) found.old.items }
+    requires within { (begin ≤ end) × (end ≤ length bytes.now) }
+    requires found { All (IsFound bytes.now) found.old.items }
     ensures { All (IsFound bytes.now) found.new.items }
 {
-    let mut end = bytes.len();
-    'lines: while end > 0 {
-        let start = line_start(&bytes[..end - 1]);
+    let mut end = end;
+    'lines: while end > begin {
+        let start = begin + line_start(&bytes[begin..end - 1]);
         if let Some(event) = event_of_line::<T>(alloc, bytes, start, end - 1, room)? {
             found.push(event)?;
         }

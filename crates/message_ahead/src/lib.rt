@@ -1,10 +1,11 @@
 //! TransactionEvents of lines that are still to come, read by threads of their own.
 //!
 //! A message means the same whenever it is read, unless it tells the moment; so what one is can be found out
-//! before its line is reached. [`Lookahead::look`] is shown the bytes that come next, and starts threads that
-//! read the events among them. Where a line is reached, [`Lookahead::take`] gives its event if a thread has
-//! read it by then. It waits for no thread: what is not there yet, the caller reads with
-//! [`message_of`](transaction_event::message_of), as it reads everything where no thread could be started and
+//! before its line is reached. [`Lookahead::look`] is shown the bytes that come next. It cuts their lines into pieces and
+//! starts threads, each of which claims a piece, reads the events in it, hands them over, and claims the next. Where a line
+//! is reached, [`Lookahead::take`] gives its event if it was read by then. The caller waits for no thread: where the piece
+//! that it reaches is not read yet, it claims another and reads that, as a thread would; where nobody has begun its own
+//! piece, or nothing is left to claim, it reads with [`message_of`](transaction_event::message_of), as it reads everything
 //! where there is one processor. [`Lookahead::is_short`] tells where a growth of memory was refused.
 //!
 //! The crate's one contract: an event that `take` gives is what its text means, at any moment. Which events it
@@ -13,8 +14,12 @@
 
 mod chunk;
 mod lookahead;
+mod pieces;
+mod window;
 
 #[doc(hidden)]
 pub use chunk::FoundEvent;
 pub use chunk::{Chunk, MessageLines};
 pub use lookahead::Lookahead;
+#[doc(hidden)]
+pub use pieces::Pieces;

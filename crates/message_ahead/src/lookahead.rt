@@ -1,9 +1,10 @@
-//! Threads that read ahead, and what they found.
-ghost use Rattle.std.specs.Prelude.{◌≤◌, length, IfSome};
+//! Threads that read ahead, and what was found.
+ghost use Rattle.std.specs.Prelude.{◌≤◌, ◌<◌, length, IfSome};
 ghost use Rattle.message_ahead.specs.Ahead.{Asks};
 
 use crate::chunk::{Chunk, MessageLines};
-use memchr::{memchr, memrchr};
+use crate::window::Window;
+use memchr::memrchr;
 use std::alloc::{AllocError, Global};
 use std::sync::Arc;
 use std::sync::atomic::{AtomicBool, Ordering};
@@ -11,26 +12,25 @@ use std::thread;
 use std::thread::{JoinHandle, Threads};
 use transaction_event::Delivery;
 
-// How many bytes of lines one thread reads.
-const CHUNK: usize = 65_536;
+// How many bytes of lines a piece has, at most and at least.
+const MOST_OF_PIECE: usize = 16_384;
 
-// The shortest run of lines for which a thread is started.
-const SHORTEST: usize = 8_192;
+const LEAST_OF_PIECE: usize = 4_096;
 
-// How many bytes are left to the caller before the lines of the first thread, until it is known how long
-// threads take.
-const FIRST_LEAD: usize = 49_152;
+// Of how many pieces a window has at least so many, where its pieces are not the shortest.
+const PIECES: usize = 12;
 
-// How many bytes are left to the caller before the lines of one thread, at most.
-const MAX_LEFT: usize = 131_072;
+// The shortest run of lines for which threads are started, and the shortest for which all are.
+const SHORTEST: usize = 16_384;
 
-// By how much that changes from one thread to the next.
-const STEP: usize = 4_096;
+const LONG: usize = 262_144;
 
-// How many threads read at once, at most.
+// How many threads read at once, at most, and in a window that is not long.
 const MAX_THREADS: usize = 3;
 
-/// Threads that read events of lines to come, and the events that they found.
+const FEW_THREADS: usize = 2;
+
+/// Threads that read events of lines to come, and the events that were found.
 ///
 /// Places in the input are told by how many bytes may still be read there, which falls from line to line.
 #[derive(Drop)]
@@ -40,30 +40,23 @@ pub struct Lookahead {
     room: usize,
     // Where the bytes end that the last look was shown.
     seen: usize,
-    // Where the lines end that threads were given.
-    given: usize,
-    // How many bytes are left to the caller before the lines of a thread, where no lines were given that are
-    // still to come, and behind such lines.
-    lead: usize,
-    gap: usize,
     // How many threads may read at once; None before the first is wanted.
     threads: Option<usize>,
-    // In the order of their lines.
-    flights: Vec<Flight>,
+    // The lines that are read ahead.
+    window: Option<Window>,
+    // What was read of the piece under way.
     ready: Option<Chunk>,
+    // The threads that have not ended, for all that is known.
+    running: Vec<Running>,
     // Whether a growth was refused.
     is_short: bool,
 }
 
-// A thread that reads a chunk.
+// A thread that was started.
 #[derive(Drop)]
-struct Flight {
-    thread: JoinHandle<Chunk>,
+struct Running {
+    thread: JoinHandle<()>,
     is_done: Arc<AtomicBool, Global>,
-    // Where its first line begins.
-    room: usize,
-    // Whether no lines had been given that were still to come.
-    is_first: bool,
 }
 
 impl Lookahead {
@@ -73,12 +66,10 @@ impl Lookahead {
             alloc,
             room: usize::MAX,
             seen: usize::MAX,
-            given: usize::MAX,
-            lead: FIRST_LEAD,
-            gap: 0,
             threads: None,
-            flights: Vec::new(alloc),
+            window: None,
             ready: None,
+            running: Vec::new(alloc),
             is_short: false,
         }
     }
@@ -93,159 +84,153 @@ impl Lookahead {
     /// come is due.
     pub fn is_due(&mut self, room: usize) -> bool {
         self.room = room;
-        room <= self.seen || self.is_landing() || self.has_more()
+        room <= self.seen || self.is_passing()
     }
 
-    // Whether the first thread's lines are reached and read.
-    fn is_landing(&self) -> bool {
-        match self.flights.first() {
-            Some(first) => self.room <= first.room && first.is_done.load(Ordering::SeqCst),
+    // Whether the line under way begins another piece.
+    fn is_passing(&self) -> bool {
+        match &self.window {
+            Some(window) => window.is_passed(self.room),
             None => false,
         }
     }
 
-    // Whether a thread may be started for bytes that were shown.
-    fn has_more(&self) -> bool {
-        self.given > self.seen && self.flights.len() < self.threads.unwrap_or(1)
-    }
-
-    /// Takes over what threads have read, and starts threads for lines in `shown`, the bytes that come next.
+    /// Takes over what was read of the lines from here on, reads some where it is not there yet, and starts threads for
+    /// the lines in `shown`, the bytes that come next, where none of them was shown before.
     pub fn look<T: MessageLines + Send + 'static, X: Threads>(&mut self, rt: &X, shown: &[u8]) {
-        if self.is_landing() {
-            self.land(rt);
+        if self.room <= self.seen {
+            self.open::<T, X>(rt, shown);
         }
+        self.ready = match &mut self.window {
+            Some(window) => window.reach::<T>(self.alloc, self.room),
+            None => None,
+        };
+        self.is_short |= is_short(&self.ready);
+    }
+
+    // Starts threads for the lines in `shown`, if there are enough.
+    fn open<T: MessageLines + Send + 'static, X: Threads>(&mut self, rt: &X, shown: &[u8]) {
         self.seen = self.room.saturating_sub(shown.len());
-        self.given = self.given.min(self.room);
-        for _ in 0..MAX_THREADS {
-            if !self.has_more() {
-                return;
-            }
-            self.give::<T, X>(rt, shown);
-        }
-    }
-
-    // Takes over what the first thread read, which has ended or is about to.
-    fn land<X: Threads>(&mut self, rt: &X) {
-        if self.flights.is_empty() {
-            return;
-        }
-        let flight = self.flights.remove(0);
-        let is_late = self.room < flight.room;
-        if flight.is_first {
-            self.lead = left_after(self.lead, is_late);
-        } else {
-            self.gap = left_after(self.gap, is_late);
-        }
-        let chunk = flight.thread.join(rt);
-        self.is_short |= chunk.is_short();
-        self.ready = Some(chunk);
-    }
-
-    // Starts a thread for the next lines in `shown`, if there are enough.
-    fn give<T: MessageLines + Send + 'static, X: Threads>(&mut self, rt: &X, shown: &[u8]) {
+        self.window = None;
+        self.join(rt);
         let threads = match self.threads {
             Some(threads) => threads,
             None => thread_count(rt),
         };
         self.threads = Some(threads);
-        let is_first = self.given == self.room;
-        let from = self.begin(shown, is_first);
-        let lines = whole_lines(&shown[from..]);
+        let lines = whole_lines(shown);
         if threads == 0 || lines.len() < SHORTEST {
-            self.given = self.seen;
             return;
         }
-        let room = self.room.saturating_sub(from);
-        self.given = room.saturating_sub(lines.len());
-        match self.start::<T, X>(rt, lines, room, is_first) {
-            Ok(true) => {}
-            Ok(false) => self.threads = Some(0),
-            Err(_) => {
-                self.threads = Some(0);
-                self.is_short = true;
+        if self.begin::<T, X>(rt, lines, threads).is_err() {
+            self.threads = Some(0);
+            self.is_short = true;
+        }
+    }
+
+    // Joins the threads that have told that they are done.
+    fn join<X: Threads>(&mut self, rt: &X) {
+        for place in (0..self.running.len()).rev() {
+            let is_done = match self.running.get(place) {
+                Some(running) => running.is_done.load(Ordering::SeqCst),
+                None => false,
+            };
+            if is_done {
+                let running = self.running.swap_remove(place);
+                running.thread.join(rt);
             }
         }
     }
 
-    // Where in `shown` the next thread's lines begin.
-    fn begin(&self, shown: &[u8], is_first: bool) -> usize
-        ensures { result ≤ length shown.now }
-    {
-        let given = self.room.saturating_sub(self.given).min(shown.len());
-        let near = if is_first {
-            given.max(self.lead)
-        } else {
-            given.saturating_add(self.gap)
-        };
-        let near = near.min(shown.len());
-        if near == given {
-            return given;
-        }
-        match memchr(b'\n', &shown[near..]) {
-            Some(feed) => near + feed + 1,
-            None => shown.len(),
-        }
-    }
-
-    // Starts a thread that reads these lines, and tells whether one could be started.
-    fn start<T: MessageLines + Send + 'static, X: Threads>(
+    // Opens a window of lines, and starts its threads.
+    fn begin<T: MessageLines + Send + 'static, X: Threads>(
         &mut self,
         rt: &X,
         lines: &[u8],
-        room: usize,
-        is_first: bool,
+        threads: usize,
+    ) -> Result<(), AllocError> {
+        let size = piece_size(lines.len());
+        let mut window = Window::open(self.alloc, lines, size, self.room)?;
+        let most = if lines.len() < LONG {
+            FEW_THREADS
+        } else {
+            MAX_THREADS
+        };
+        for _ in 0..threads.min(most).min(window.count()) {
+            if !self.start::<T, X>(rt, &mut window)? {
+                break;
+            }
+        }
+        self.window = Some(window);
+        Ok(())
+    }
+
+    // Starts a thread of a window, and tells whether one could be started.
+    fn start<T: MessageLines + Send + 'static, X: Threads>(
+        &mut self,
+        rt: &X,
+        window: &mut Window,
     ) -> Result<bool, AllocError> {
         let alloc = self.alloc;
-        let mut bytes = Vec::with_capacity(alloc, lines.len())?;
-        bytes.extend_from_slice(lines)?;
+        let work = window.work(alloc)?;
         let is_done = Arc::new(alloc, AtomicBool::new(false))?;
         let done = Arc::try_clone(&is_done)?;
-        self.flights.reserve(1)?;
+        self.running.reserve(1)?;
         let started = thread::spawn(rt, move || {
-            let chunk = Chunk::read::<T>(alloc, bytes, room);
+            work.run::<T>(alloc);
             done.store(true, Ordering::SeqCst);
-            chunk
         });
         match started {
             Ok(thread) => {
-                self.flights.push(Flight {
-                    thread,
-                    is_done,
-                    room,
-                    is_first,
-                })?;
+                self.running.push(Running { thread, is_done })?;
                 Ok(true)
             }
             Err(_) => Ok(false),
         }
     }
 
-    /// The event of the line under way, if a thread has read it and its text is this one.
+    /// The event of the line under way, if it was read ahead and its text is this one.
     pub fn take(&mut self, text: &str) -> Option<Delivery>
         ensures { IfSome result (λ d. Asks text.now d) }
     {
+        if self.ready.is_none() {
+            self.take_late();
+        }
         match &mut self.ready {
             Some(chunk) => chunk.take(self.room, text),
             None => None,
         }
     }
-}
 
-// How many bytes to leave the next time, where so many were left: a step more where the caller was at a thread's
-// lines before they were read, else a step less. So a thread is late as often as not, however late it is at times.
-fn left_after(left: usize, is_late: bool) -> usize {
-    if is_late {
-        left.saturating_add(STEP).min(MAX_LEFT)
-    } else {
-        left.saturating_sub(STEP)
+    // Takes over what came of the piece under way since it was reached.
+    fn take_late(&mut self) {
+        self.ready = match &mut self.window {
+            Some(window) => window.arrived(),
+            None => None,
+        };
+        self.is_short |= is_short(&self.ready);
     }
 }
 
-// The lines of at most a chunk that end in `shown`.
+// Whether memory ran out where this was read.
+fn is_short(ready: &Option<Chunk>) -> bool {
+    match ready {
+        Some(chunk) => chunk.is_short(),
+        None => false,
+    }
+}
+
+// How many bytes a piece of so many bytes of lines has.
+fn piece_size(bytes: usize) -> usize
+    ensures { 0 < result }
+{
+    (bytes / PIECES).clamp(LEAST_OF_PIECE, MOST_OF_PIECE)
+}
+
+// The whole lines with which `shown` begins.
 fn whole_lines(shown: &[u8]) -> &[u8] {
-    let near = &shown[..shown.len().min(CHUNK)];
-    match memrchr(b'\n', near) {
-        Some(feed) => &near[..feed + 1],
+    match memrchr(b'\n', shown) {
+        Some(feed) => &shown[..feed + 1],
         None => &[],
     }
 }

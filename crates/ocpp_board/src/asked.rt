@@ -24,7 +24,7 @@ pub enum Asked<'a> {
     Serve(Result<Plan, WordFault<'a>>, Service),
     /// To serve the stations of a plan for as long as an operator's lines come; or what is wrong with their words.
     ServeLive(Result<Plan, WordFault<'a>>, Live),
-    /// The same, with a journal on standard output.
+    /// To serve a plan until the operator's lines end, with a journal on standard output.
     ServeJournalled(Result<Plan, WordFault<'a>>, Live),
     /// To serve the stations of a script that standard input begins with, and whether with a journal.
     ServeRestored(Restoring, bool),

@@ -14,16 +14,12 @@ use ledger_model::{
 use live_server::{Live, serve_live};
 use script_replay::{ReplayFault, replay_buffered};
 use site_desk::Plan;
-use site_server::{Service, ServiceFault, serve_plan, simulate};
+use site_server::{Host, Service, ServiceFault, serve_plan, simulate};
 use std::convert::AsStr;
 use std::fmt::Display;
 use std::io;
 use std::io::{BufRead, BufWriter, Write};
-use std::net::{Net, TcpListener, TcpStream};
 use std::random::RandomSource;
-use std::sync::Wait;
-use std::thread::Threads;
-use std::time::Clock;
 
 /// The exit status where a command stopped before its end.
 pub const STOPPED: u8 = 1;
@@ -34,16 +30,7 @@ pub const MISTAKEN: u8 = 2;
 /// Does what the program's words ask for, the first of which is its name, and gives its exit status. Faults go
 /// to `errors`, and what a server's viewers see to `lines`.
 pub fn run_command_line<
-    X: AllocGlobal
-        + Threads
-        + Wait
-        + Clock
-        + RandomSource
-        + Clone
-        + Send
-        + Sync
-        + Net<Listener = TcpListener, Stream = TcpStream>
-        + 'static,
+    X: AllocGlobal + Host + RandomSource + Clone + Send + 'static,
     S: AsStr,
     R: BufRead + Send + Drop + 'static,
     W: Write + Send + Drop,
@@ -58,16 +45,7 @@ pub fn run_command_line<
 
 // Does what is asked for.
 fn run_asked<
-    X: AllocGlobal
-        + Threads
-        + Wait
-        + Clock
-        + RandomSource
-        + Clone
-        + Send
-        + Sync
-        + Net<Listener = TcpListener, Stream = TcpStream>
-        + 'static,
+    X: AllocGlobal + Host + RandomSource + Clone + Send + 'static,
     R: BufRead + Send + Drop + 'static,
     W: Write + Send + Drop,
     E: Write,
@@ -95,17 +73,7 @@ fn run_asked<
 }
 
 // Serves a plan over so many connections, where its words make one.
-fn serve<
-    X: AllocGlobal
-        + Threads
-        + Wait
-        + Clock
-        + Sync
-        + Net<Listener = TcpListener, Stream = TcpStream>,
-    W: Write,
-    E: Write,
-    L: Write + Send + Drop,
->(
+fn serve<X: AllocGlobal + Host, W: Write, E: Write, L: Write + Send + Drop>(
     rt: &X,
     plan: Result<Plan, WordFault<'_>>,
     service: Service,
@@ -125,18 +93,7 @@ fn serve<
 }
 
 // Serves a plan until the operator's lines end, where its words make one.
-fn live_on<
-    X: AllocGlobal
-        + Threads
-        + Wait
-        + Clock
-        + Sync
-        + Net<Listener = TcpListener, Stream = TcpStream>,
-    R: BufRead,
-    W: Write + Drop,
-    E: Write,
-    L: Write + Send + Drop,
->(
+fn live_on<X: AllocGlobal + Host, R: BufRead, W: Write + Drop, E: Write, L: Write + Send + Drop>(
     rt: &X,
     plan: Result<Plan, WordFault<'_>>,
     live: Live,
@@ -156,15 +113,7 @@ fn live_on<
 
 // Serves a plan as `live_on` does, with a journal.
 fn journalled_on<
-    X: AllocGlobal
-        + Threads
-        + Wait
-        + Clock
-        + Clone
-        + Send
-        + Sync
-        + Net<Listener = TcpListener, Stream = TcpStream>
-        + 'static,
+    X: AllocGlobal + Host + Clone + Send + 'static,
     R: BufRead + Send + Drop + 'static,
     W: Write + Send + Drop,
     E: Write,
@@ -190,15 +139,7 @@ fn journalled_on<
 
 // Serves the stations of the script that the input begins with, with a journal where one is asked for.
 fn restored_on<
-    X: AllocGlobal
-        + Threads
-        + Wait
-        + Clock
-        + Clone
-        + Send
-        + Sync
-        + Net<Listener = TcpListener, Stream = TcpStream>
-        + 'static,
+    X: AllocGlobal + Host + Clone + Send + 'static,
     R: BufRead + Send + Drop + 'static,
     W: Write + Send + Drop,
     E: Write,

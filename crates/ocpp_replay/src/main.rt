@@ -9,10 +9,9 @@ mod words;
 
 use crate::words::{Asked, HELP, VERSION, read_words};
 use script_replay::{ReplayFault, buffered, replay_buffered};
-use std::io::{BufRead, BufWriter, Write};
+use std::io::Write;
 use std::process::ExitCode;
 use std::rt::Env;
-use std::thread::Threads;
 use std::{env, io};
 
 // The exit status where a replay stopped before its end.
@@ -24,7 +23,7 @@ const MISTAKEN: u8 = 2;
 fn main(rt: HostRuntime) -> ExitCode {
     let ended = match program_asked(&rt) {
         Ok(Asked::Replay) => match buffered(&rt, rt.stdin(), rt.stdout()) {
-            Ok((reader, writer)) => replay(&rt, reader, writer),
+            Ok((mut reader, mut writer)) => replay_buffered(&rt, &mut reader, &mut writer),
             Err(_) => Err(ReplayFault::OutOfMemory),
         },
         Ok(Asked::Help) => tell(&mut rt.stdout(), HELP),
@@ -64,15 +63,6 @@ fn tell<W: Write>(writer: &mut W, text: &str) -> Result<(), ReplayFault> {
         Ok(()) => Ok(()),
         Err(_) => Err(ReplayFault::WriteFault),
     }
-}
-
-// Replays the script that the reader has.
-fn replay<X: AllocGlobal + Threads, R: BufRead + Drop, W: Write + Drop>(
-    rt: &X,
-    mut reader: R,
-    mut writer: BufWriter<W>,
-) -> Result<(), ReplayFault> {
-    replay_buffered(rt, &mut reader, &mut writer)
 }
 
 // The exit status of what was asked for; its fault is told.

@@ -1,6 +1,3 @@
-pub mod WrittenReplies
-pub mod AnsweredLines
-pub mod SecondPhase
 pub mod Places
 pub mod Drafting
 pub mod SettledBy
@@ -11,4 +8,3 @@ pub mod Opened
 pub mod Parted
 pub mod Named
 pub mod Boards
-pub mod OpeningLine

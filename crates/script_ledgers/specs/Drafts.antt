@@ -1,16 +1,12 @@
 -- How the declarations of a script are kept, and how they are seen as its state.
-use Rattle.std.specs.Prelude.{◌≡◌, ℕ, ◌<◌, ◌≤◌, true, false, List, [], All, get_or, length, map, sum_by}
+use Rattle.std.specs.Prelude.{◌≡◌, ℕ, ◌<◌, ◌≤◌, false, List, [], All, get_or, length, map, sum_by}
 use Rattle.ledger_model.specs.Limits.{Bounds}
 use Rattle.ledger_model.specs.Ranges.{most_sites, most_stations, most_plan_readings}
 use Rattle.ledger_model.specs.World.{World}
 use Rattle.site_desk.specs.Plan.{has_twice}
 use Rattle.site_desk.specs.declared.plan.SitePlan.{SitePlan}
 use Rattle.site_desk.specs.declared.plan.StationPlan.{StationPlan}
-use Rattle.script_ledgers.specs.declared.machine.LineOutcome.{LineOutcome}
-use Rattle.script_ledgers.specs.declared.machine.LineOutcome.TheVariants.{Answered, Opens}
-use Rattle.script_lines.specs.Lines.{Line}
-use Rattle.script_ledgers.specs.Script.{Script, new_station, line_step, opening}
-use Rattle.script_lines.specs.LineMeaning.{line_meaning}
+use Rattle.script_ledgers.specs.Script.{Script, new_station}
 
 -- The declarations so far: the limits of the stations that follow, the sites and the stations of the plan, and the moment.
 pub record Drafted : Type 0 where
@@ -40,8 +36,3 @@ pub record IsPlan (sites : List SitePlan) (stations : List StationPlan) : Type 0
   pub stations_once : has_twice (map (λ s. s.name) stations) ≡ false
   pub placed : All (λ s. s.site < length sites) stations
   pub unviewed : All (λ s. s.viewers ≡ 0) sites
-
--- A line takes its step, or it opens the ledgers and changes nothing yet.
-abbrev pub DraftAnswers : Script → Script → Line → LineOutcome → List ℕ → Type 0
-DraftAnswers old new line Answered reply = line_step old line ≡ (new, reply)
-DraftAnswers old new line Opens reply = (opening (line_meaning line) ≡ true) × (new ≡ old)

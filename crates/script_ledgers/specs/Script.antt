@@ -250,3 +250,11 @@ opening (asks_energy _) = true
 opening (asks_export _) = true
 opening (asks_total _) = true
 opening (asks_board _) = true
+
+-- with its ledgers opened
+abbrev pub opened_script : Script → Script
+opened_script s = record s { opened = true }
+
+-- with its ledgers opened where a line of this meaning opens them
+abbrev pub opened_for : LineMeaning → Script → Script
+opened_for meaning s = if opening meaning then opened_script s else s

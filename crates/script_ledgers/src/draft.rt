@@ -3,13 +3,12 @@ ghost use Rattle.site_desk.specs.Plan.{sites_by, sites_in};
 ghost use Rattle.std.specs.Option.{is_some};
 ghost use Rattle.std.specs.List.{position};
 ghost use Rattle.std.specs.Str.{bytes_eq};
-ghost use Rattle.script_lines.specs.Lines.{line_bytes};
-ghost use Rattle.script_ledgers.specs.Drafts.{planned, DraftAnswers, IsPlan};
-ghost use Rattle.script_ledgers.specs.Script.{start, declared_to, is_past_plan, is_period, joined_by, limited_to, order_to, period_to};
+ghost use Rattle.script_lines.specs.ScriptLines.{meaning_of};
+ghost use Rattle.script_ledgers.specs.Drafts.{planned, IsPlan};
+ghost use Rattle.script_ledgers.specs.Script.{start, declared_to, is_past_plan, is_period, joined_by, limited_to, opening, order_to, period_to, step_by};
 
-use crate::machine::LineOutcome;
 use ledger_model::{Limits, Moment, Name, Order, Period};
-use script_lines::{LineFault, ScriptLine, put_fault, read_line};
+use script_lines::{LineFault, ScriptLine, put_fault};
 use site_desk::Plan;
 use std::alloc::AllocError;
 use std::marker::Model;
@@ -81,33 +80,38 @@ impl Draft {
         self.plan.site(name)
     }
 
-    /// Answers one line, or tells that it opens the ledgers.
-    pub fn answer(
+    // Puts the answer to a line that says this into the reply.
+    //
+    // Condition: it needs no ledgers.
+    pub(crate) fn take(
         &mut self,
-        line: Option<&[u8]>,
+        asked: ScriptLine<'_>,
         reply: &mut Vec<u8>,
-    ) -> Result<LineOutcome, AllocError>
-        requires { reply.old.items ≡ [] }
-        ensures { IfOk result (λ turn. DraftAnswers (planned self.old) (planned self.new) (line_bytes line.entry) turn reply.new.items) }
+    ) -> Result<(), AllocError>
+        requires empty { reply.old.items ≡ [] }
+        requires declares { opening (meaning_of asked) ≡ false }
+        ensures { OnOk result (step_by (planned self.old) (meaning_of asked.entry) ≡ (planned self.new, reply.new.items)) }
     {
-        match read_line(line) {
-            ScriptLine::Nothing => {}
-            ScriptLine::Fails(fault) => put_fault(reply, fault)?,
+        match asked {
+            ScriptLine::Nothing => Ok(()),
+            ScriptLine::Fails(fault) => put_fault(reply, fault),
             ScriptLine::Limits(transactions, events, readings, changes) => {
-                self.limit(transactions, events, readings, changes, reply)?;
+                self.limit(transactions, events, readings, changes, reply)
             }
-            ScriptLine::Declares(site, name) => self.declare(site, name, reply)?,
-            ScriptLine::SetsPeriod(site, seconds) => self.settle_by(&site, seconds, reply)?,
-            ScriptLine::SetsOrder(site, order) => self.order_by(&site, order, reply)?,
-            ScriptLine::Tells(moment) => self.tell(moment),
+            ScriptLine::Declares(site, name) => self.declare(site, name, reply),
+            ScriptLine::SetsPeriod(site, seconds) => self.period_by(&site, seconds, reply),
+            ScriptLine::SetsOrder(site, order) => self.order_by(&site, order, reply),
+            ScriptLine::Tells(moment) => {
+                self.tell(moment);
+                Ok(())
+            }
             ScriptLine::Sends(_, _)
             | ScriptLine::Commands(_, _)
             | ScriptLine::AsksEnergy(_)
             | ScriptLine::AsksExport(_)
             | ScriptLine::AsksTotal(_)
-            | ScriptLine::AsksBoard(_) => return Ok(LineOutcome::Opens),
+            | ScriptLine::AsksBoard(_) => unreachable!(),
         }
-        Ok(LineOutcome::Answered)
     }
 }
 
@@ -135,7 +139,7 @@ impl Draft {
 
     // Gives a site another settlement period, or puts the fault that it is none, or that there is no
     // such site, into the reply.
-    fn settle_by(
+    fn period_by(
         &mut self,
         site: &Name,
         seconds: u64,

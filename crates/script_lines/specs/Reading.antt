@@ -1,8 +1,5 @@
 -- What a call reads of a script: a piece of a line, or a line.
 use Rattle.std.specs.Prelude.{◌≡◌, ℕ, ◌+◌, ◌-◌, ◌<◌, ◌≤◌, List, [], ◌∷◌, ◌++◌, length, take}
-use Rattle.std.specs.Io.KnownBytes.{Keeps, IsAtEnd}
-use Rattle.std.specs.Prelude.{OnSome}
-use Rattle.std.specs.Prelude.{Option}
 use Rattle.std.specs.declared.result.Result.{Result}
 use Rattle.std.specs.declared.result.Result.TheVariants.{Ok, Err}
 use Rattle.script_lines.specs.declared.fault.ReplayFault.{ReplayFault}
@@ -44,13 +41,3 @@ line_of Input max_line_bytes raw = whole max_line_bytes raw
 abbrev pub line_read : LineEnd → List ℕ → List ℕ
 line_read Feed raw = raw ++ 10 ∷ []
 line_read Input raw = raw
-
--- `raw` is a line that is not too long, and is not empty at the end of the input
-abbrev pub IsReadLine : LineEnd → ℕ → List ℕ → Type 0
-IsReadLine Feed max_line_bytes raw = HasNoFeed raw × (length raw ≤ max_line_bytes)
-IsReadLine Input max_line_bytes raw = HasNoFeed raw × (length raw ≤ max_line_bytes) × (0 < length raw)
-
--- the reader was read to its end, which a line that the input ended had reached already
-abbrev pub ReadToEnd : LineEnd → Option (List ℕ) → Option (List ℕ) → Type 0
-ReadToEnd Feed old new = OnSome old (IsAtEnd new)
-ReadToEnd Input old new = Keeps old new

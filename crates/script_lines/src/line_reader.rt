@@ -9,6 +9,7 @@ mod piece;
 use crate::fault::ReplayFault;
 use crate::line_reader::piece::{Piece, read_piece};
 use std::alloc::Global;
+use std::io;
 use std::io::{BufRead, Write};
 
 /// How many bytes a script's line may have before its line feed.
@@ -51,9 +52,20 @@ impl LineReader {
         }
     }
 
-    /// Reads one line into `held`, which keeps at most one byte more than a line may have. Before the reader
-    /// is asked for bytes that it does not show, what was written is flushed.
-    pub fn next_line<R: BufRead, W: Write>(
+    /// Reads one line into `held`, which keeps at most one byte more than a line may have.
+    pub fn next_line<R: BufRead>(&mut self, reader: &mut R) -> Result<LineEnd, ReplayFault>
+        requires { self.old.max_line_bytes < 2 ^ 62 }
+        ensures takes { (bytes : List ℕ) × Consumes (R.remaining reader.old) (R.remaining reader.new) bytes
+            × TakesLine self.old.max_line_bytes self.old.room self.new.room result bytes self.new.held.items }
+        ensures end { result ≡ Ok LineEnd.Input → OnSome (R.remaining reader.old) (IsAtEnd (R.remaining reader.new)) }
+        ensures max_line_bytes { self.new.max_line_bytes ≡ self.old.max_line_bytes }
+    {
+        self.next_line_flushing(reader, &mut io::sink())
+    }
+
+    /// Reads one line as [`LineReader::next_line`] does. Before the reader is asked for bytes that it does not show, what
+    /// was written is flushed.
+    pub fn next_line_flushing<R: BufRead, W: Write>(
         &mut self,
         reader: &mut R,
         writer: &mut W,

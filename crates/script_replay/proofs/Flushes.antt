@@ -4,7 +4,7 @@ use Rattle.std.specs.Result.{result_and}
 use Rattle.script_lines.specs.declared.fault.ReplayFault.{ReplayFault}
 use Rattle.script_lines.specs.declared.fault.ReplayFault.TheVariants.{WriteFault}
 use Rattle.script_lines.specs.Lines.{Line}
-use Rattle.script_ledgers.specs.Outcome.{Replays}
+use Rattle.script_replay.specs.Outcome.{Replays}
 
 module _ (all_read : Type 0) (text : List Line → List ℕ) (max_line_bytes limit : ℕ) (read written : List ℕ) where
   -- after Ok it is a WriteFault, and after a fault that fault stays

@@ -1,3 +1,5 @@
+mod WrittenReplies
+mod AnsweredLines
 pub mod AdmissibleLines
 pub mod Flushes
 pub mod Faults

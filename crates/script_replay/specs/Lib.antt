@@ -1,1 +1,4 @@
+pub mod Outcome
+pub mod Answering
+pub mod Writing
 pub mod Laws

@@ -1,14 +1,16 @@
-ghost use Rattle.std.specs.Prelude.{◌≡◌, ℕ, List, [], OnOk, OnSome};
+ghost use Rattle.std.specs.Prelude.{ℕ, ◌<◌, ◌≡◌, [], OnOk, OnSome};
 ghost use Rattle.std.specs.Io.Buffered.{writer_buffer, writer_contents};
-ghost use Rattle.std.specs.Io.KnownBytes.{Consumes, Appends, IsAtEnd};
-ghost use Rattle.script_ledgers.specs.Outcome.{Replays};
-ghost use Rattle.script_lines.specs.Ranges.{longest_line};
-ghost use Rattle.script_ledgers.specs.Ranges.{longest_script};
-ghost use Rattle.script_ledgers.specs.Script.{start, script_text};
+ghost use Rattle.std.specs.Io.KnownBytes.{IsAtEnd};
+ghost use Rattle.script_replay.specs.Outcome.{IsReplay};
+ghost use Rattle.site_book.specs.Tables.{HasTable, NamedBy};
 
-use script_ledgers::replay_unflushed;
-use script_lines::ReplayFault;
+use crate::replay::replay_lines;
+use ledger_model::MAX_SITES;
+use script_ledgers::{MAX_SCRIPT_BYTES, ScriptState};
+use script_lines::{LineReader, MAX_LINE_BYTES, ReplayFault};
+use site_book::{Naming, Tables};
 use std::io::{BufRead, BufWriter, Write};
+use std::marker::Brand;
 use std::thread::Threads;
 
 /// Replays a script: reads its lines and writes the text of each.
@@ -21,9 +23,7 @@ pub fn replay_stream<X: AllocGlobal + Threads, R: BufRead, W: Write>(
     reader: &mut R,
     writer: &mut W,
 ) -> Result<(), ReplayFault>
-    ensures run { (read written : List ℕ) × Consumes (R.remaining reader.old) (R.remaining reader.new) read
-        × Appends (W.contents writer.old) (W.contents writer.new) written
-        × Replays (OnSome (R.remaining reader.old) (IsAtEnd (R.remaining reader.new))) (script_text start) longest_line longest_script result read written }
+    ensures run { IsReplay (R.remaining reader.old) (R.remaining reader.new) (W.contents writer.old) (W.contents writer.new) result }
     ensures end { OnOk result (OnSome (R.remaining reader.old) (IsAtEnd (R.remaining reader.new))) }
 {
     let result = replay_unflushed(rt, reader, writer);
@@ -40,9 +40,7 @@ pub fn replay_buffered<X: AllocGlobal + Threads, R: BufRead, W: Write + Drop>(
     reader: &mut R,
     writer: &mut BufWriter<W>,
 ) -> Result<(), ReplayFault>
-    ensures run { (read written : List ℕ) × Consumes (R.remaining reader.old) (R.remaining reader.new) read
-        × Appends (writer_contents W.contents writer.old) (writer_contents W.contents writer.new) written
-        × Replays (OnSome (R.remaining reader.old) (IsAtEnd (R.remaining reader.new))) (script_text start) longest_line longest_script result read written }
+    ensures run { IsReplay (R.remaining reader.old) (R.remaining reader.new) (writer_contents W.contents writer.old) (writer_contents W.contents writer.new) result }
     ensures end { OnOk result (OnSome (R.remaining reader.old) (IsAtEnd (R.remaining reader.new))) }
     ensures handed_on { OnOk result (writer_buffer writer.new ≡ []) }
 {
@@ -52,4 +50,36 @@ pub fn replay_buffered<X: AllocGlobal + Threads, R: BufRead, W: Write + Drop>(
         Ok(()) => replayed,
         Err(_) => replayed.and(Err(ReplayFault::WriteFault)),
     }
+}
+
+// Replays a script; the last flush is left to the caller.
+fn replay_unflushed<X: AllocGlobal + Threads, R: BufRead, W: Write>(
+    rt: &X,
+    reader: &mut R,
+    writer: &mut W,
+) -> Result<(), ReplayFault>
+    ensures run { IsReplay (R.remaining reader.old) (R.remaining reader.new) (W.contents writer.old) (W.contents writer.new) result }
+    ensures end { OnOk result (OnSome (R.remaining reader.old) (IsAtEnd (R.remaining reader.new))) }
+{
+    match Tables::make(rt.alloc(), MAX_SITES as u16) {
+        Ok(tables) => replay_script::<Brand, X, R, W>(rt, tables, reader, writer),
+        Err(_) => Err(ReplayFault::OutOfMemory),
+    }
+}
+
+// Replays a script over tables that J names.
+fn replay_script<J: Naming, X: AllocGlobal + Threads, R: BufRead, W: Write>(
+    rt: &X,
+    tables: Tables,
+    reader: &mut R,
+    writer: &mut W,
+) -> Result<(), ReplayFault>
+    requires named { NamedBy J.table tables }
+    requires there { (site : ℕ) → site < 16 → HasTable tables site }
+    ensures run { IsReplay (R.remaining reader.old) (R.remaining reader.new) (W.contents writer.old) (W.contents writer.new) result }
+    ensures end { OnOk result (OnSome (R.remaining reader.old) (IsAtEnd (R.remaining reader.new))) }
+{
+    let mut script = ScriptState::<J>::begin(tables);
+    let mut lines = LineReader::open(rt.alloc(), MAX_LINE_BYTES, MAX_SCRIPT_BYTES);
+    replay_lines(rt, &mut script, &mut lines, reader, writer)
 }

@@ -20,6 +20,7 @@
 
 mod close;
 mod fault;
+mod host;
 mod moments;
 mod serve;
 mod service;
@@ -28,6 +29,7 @@ mod watch;
 
 pub use close::close_desk;
 pub use fault::ServiceFault;
+pub use host::{Host, Sockets};
 pub use moments::SystemMoments;
 pub use serve::{MAX_CONNECTIONS, serve_many, serve_on};
 pub use service::{

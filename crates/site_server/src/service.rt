@@ -11,6 +11,7 @@ ghost use Rattle.site_server.specs.Written.{listening};
 
 use crate::close::close_desk;
 use crate::fault::ServiceFault;
+use crate::host::{Host, Sockets};
 use crate::serve::serve_many;
 use crate::watch::watch;
 use arrayvec::ArrayString;
@@ -22,7 +23,7 @@ use site_desk::{Desk, NoGate, Pass, Plan};
 use std::alloc::{AllocError, Global};
 use std::io::Write;
 use std::marker::Brand;
-use std::net::{Ipv4Addr, Net, SocketAddr, TcpListener, TcpStream};
+use std::net::{Ipv4Addr, SocketAddr, TcpListener};
 use std::sync::Wait;
 use std::sync::atomic::{AtomicU64, Ordering};
 use std::thread;
@@ -52,11 +53,7 @@ pub struct Service {
 /// A plan with a fault is told before anything is listened on.
 ///
 /// Condition: 1 to 64 connections.
-pub fn serve_plan<
-    R: Threads + Wait + Clock + Sync + Net<Listener = TcpListener, Stream = TcpStream>,
-    W: Write,
-    L: Write + Send + Drop,
->(
+pub fn serve_plan<R: Host, W: Write, L: Write + Send + Drop>(
     rt: &R,
     alloc: Global,
     plan: &Plan,
@@ -75,13 +72,8 @@ pub fn serve_plan<
     serve_under::<Brand, R, W, L>(rt, alloc, tables, plan, service, output, lines)
 }
 
-// The same, under the naming of the desk's tables.
-fn serve_under<
-    J: Naming + Send + Sync,
-    R: Threads + Wait + Clock + Sync + Net<Listener = TcpListener, Stream = TcpStream>,
-    W: Write,
-    L: Write + Send + Drop,
->(
+// Serves a plan under the naming of its desk's tables.
+fn serve_under<J: Naming + Send + Sync, R: Host, W: Write, L: Write + Send + Drop>(
     rt: &R,
     alloc: Global,
     tables: Tables,
@@ -138,10 +130,7 @@ pub fn open_desk<J: Naming>(
 }
 
 /// A listener on this port of 127.0.0.1; for 0 the system chooses one.
-pub fn listen<R: Net<Listener = TcpListener, Stream = TcpStream>>(
-    rt: &R,
-    port: u16,
-) -> Result<TcpListener, ServiceFault> {
+pub fn listen<R: Sockets>(rt: &R, port: u16) -> Result<TcpListener, ServiceFault> {
     match TcpListener::bind(rt, (Ipv4Addr::LOCALHOST, port)) {
         Ok(listener) => Ok(listener),
         Err(error) => Err(ServiceFault::ListenFailed(error.raw_os_error())),

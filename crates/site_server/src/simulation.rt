@@ -10,6 +10,7 @@ ghost use Rattle.site_server.specs.Simulated.{simulated_name, simulated_sites, s
 
 use crate::close::close_desk;
 use crate::fault::ServiceFault;
+use crate::host::{Host, Sockets};
 use crate::serve::serve_many;
 use crate::service::{address_of, listen, open_desk};
 use arrayvec::ArrayString;
@@ -21,7 +22,7 @@ use station_link::{SimFault, SimStation};
 use std::alloc::{AllocError, Global};
 use std::io::Write;
 use std::marker::Brand;
-use std::net::{Net, SocketAddr, TcpListener, TcpStream};
+use std::net::{SocketAddr, TcpListener, TcpStream};
 use std::random::RandomSource;
 use std::sync::Wait;
 use std::thread::{JoinHandle, Scope, Threads};
@@ -41,15 +42,13 @@ type Played = JoinHandle<Result<(), SimFault>>;
 /// have ended.
 ///
 /// Condition: 1 to 64 stations, and 2 to 64 events.
-pub fn simulate<
-    R: Threads
-        + Wait
-        + Clock
-        + RandomSource
-        + Sync
-        + Net<Listener = TcpListener, Stream = TcpStream>,
-    W: Write,
->(rt: &R, alloc: Global, stations: u16, events: u32, output: &mut W) -> Result<(), ServiceFault>
+pub fn simulate<R: Host + RandomSource, W: Write>(
+    rt: &R,
+    alloc: Global,
+    stations: u16,
+    events: u32,
+    output: &mut W,
+) -> Result<(), ServiceFault>
     requires { IsSimulated stations events }
     ensures { OnOk result ((passes : List Held) × (boards : List ℕ)
         × Appends (W.contents output.old) (W.contents output.new) boards
@@ -102,17 +101,8 @@ fn station_name(number: u16) -> Name
     Name::new(text.as_str()).unwrap()
 }
 
-// The same, under the naming of the desk's tables.
-fn simulate_under<
-    J: Naming + Send + Sync,
-    R: Threads
-        + Wait
-        + Clock
-        + RandomSource
-        + Sync
-        + Net<Listener = TcpListener, Stream = TcpStream>,
-    W: Write,
->(
+// Plays the stations of a plan under the naming of its desk's tables.
+fn simulate_under<J: Naming + Send + Sync, R: Host + RandomSource, W: Write>(
     rt: &R,
     alloc: Global,
     tables: Tables,
@@ -142,7 +132,7 @@ fn simulate_under<
 }
 
 // A connection for each station. They wait for the server in the listener's queue.
-fn connect_all<R: Net<Listener = TcpListener, Stream = TcpStream>>(
+fn connect_all<R: Sockets>(
     rt: &R,
     alloc: Global,
     listener: &TcpListener,
@@ -162,10 +152,7 @@ fn connect_all<R: Net<Listener = TcpListener, Stream = TcpStream>>(
 }
 
 // A connection that waits no longer than a station does for its reply.
-fn connect<R: Net<Listener = TcpListener, Stream = TcpStream>>(
-    rt: &R,
-    address: SocketAddr,
-) -> io::Result<TcpStream> {
+fn connect<R: Sockets>(rt: &R, address: SocketAddr) -> io::Result<TcpStream> {
     let stream = TcpStream::connect(rt, address)?;
     stream.set_read_timeout(Some(Duration::from_secs(REPLY_SECONDS)))?;
     stream.set_write_timeout(Some(Duration::from_secs(REPLY_SECONDS)))?;

@@ -1,4 +1,4 @@
-use Rattle.std.proofs.Common.{◌-◌, arith, length-take, subst}
+use Rattle.std.proofs.Common.{◌-◌, arith, length-take, length-drop, drop, subst}
 use Rattle.std.specs.Prelude.{IfSome}
 use Rattle.std.proofs.lemmas.List.Elements.{All-push, All-same}
 use Rattle.message_ahead.specs.Ahead.{IsFound}
@@ -9,5 +9,6 @@ lines-preserved-in_ok-push g c =
     let P = IsFound c.args.bytes.now in
     let one = subst (λ o. IfSome o P) c.in-Some.is c.in_ok-event.ensures in (
       All-same P c.push.new.self.items _ c.in_ok-push.ensures.items (All-push P c.lines.found.items c.in-Some.event c.lines.invariant.0 one),
-      omega (arith, c.line_start-start.ensures, length-take (c.lines.end - 1) c.args.bytes.now, c.lines.invariant.1),
+      omega (arith, c.line_start.ensures, length-take (c.lines.end - 1 - c.args.begin) (drop c.args.begin c.args.bytes.now), length-drop c.args.begin c.args.bytes.now, c.lines.invariant.1, c.lines.invariant.2, c.lines-test.true),
+      omega arith,
     )

@@ -1,6 +1,7 @@
+use site_server::Sockets;
 use std::alloc::Global;
 use std::io::{Read, Write};
-use std::net::{Net, SocketAddr, TcpListener, TcpStream};
+use std::net::{SocketAddr, TcpStream};
 
 // The requests of A's session and of B's.
 pub(super) const A: &[u8] =
@@ -39,7 +40,7 @@ fn is_answered(alloc: Global, stream: &mut TcpStream, sent: &[u8], end: &[u8]) -
 
 // A whole session with a request: the first event, and the close. `None` where the stream fails; else it tells
 // whether all was answered.
-pub(super) fn sends_one<R: Net<Listener = TcpListener, Stream = TcpStream>>(
+pub(super) fn sends_one<R: Sockets>(
     rt: &R,
     alloc: Global,
     address: SocketAddr,

@@ -4,22 +4,14 @@ use super::scenes::{Scene, plays};
 use desk_fixtures::HoldsA;
 use site_book::Naming;
 use site_desk::{Desk, Pass};
-use site_server::serve_many;
+use site_server::{Host, serve_many};
 use std::alloc::Global;
-use std::net::{Net, SocketAddr, TcpListener, TcpStream};
-use std::sync::Wait;
+use std::net::{SocketAddr, TcpListener};
 use std::test::Fail;
 use std::thread;
-use std::thread::Threads;
-use std::time::Clock;
 
 // Tells whether A is answered, and B, which connects once the gate holds A.
-fn ask_both<R: Threads + Wait + Clock + Sync + Net<Listener = TcpListener, Stream = TcpStream>>(
-    rt: &R,
-    alloc: Global,
-    address: SocketAddr,
-    gate: &HoldsA,
-) -> bool {
+fn ask_both<R: Host>(rt: &R, alloc: Global, address: SocketAddr, gate: &HoldsA) -> bool {
     let (a, b) = thread::join(
         rt,
         move || sends_one(rt, alloc, address, A),
@@ -32,10 +24,7 @@ fn ask_both<R: Threads + Wait + Clock + Sync + Net<Listener = TcpListener, Strea
 }
 
 // The passes of both connections, where both were answered, and B while A was held.
-pub(super) fn served_both<
-    J: Naming + Send + Sync,
-    R: Threads + Wait + Clock + Sync + Net<Listener = TcpListener, Stream = TcpStream>,
->(
+pub(super) fn served_both<J: Naming + Send + Sync, R: Host>(
     rt: &R,
     alloc: Global,
     desk: &Desk<J>,

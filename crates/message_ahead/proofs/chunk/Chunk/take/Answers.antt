@@ -1,11 +1,13 @@
-use Rattle.std.proofs.Common.{sym, subst, Some}
+use Rattle.std.proofs.Common.{ap, sym, subst, ◌∙◌, Some}
 use Rattle.std.proofs.lemmas.List.Elements.{All-pop}
+use Rattle.std.specs.Arc.{arc_value}
 use Rattle.message_ahead.specs.Ahead.{IsFound}
+use Rattle.message_ahead.specs.declared.pieces.Pieces.{Pieces}
 use Rattle.message_ahead.proofs.chunk.Chunk.take.Goals as goal
 
 pub with_text-requires : goal.with_text-requires
 with_text-requires c =
-    let bytes = c.stale.self.bytes.items in
+    let bytes = (arc_value c.stale.self.pieces).bytes.items in
     let next = c.in-Some-pop.next in
     let kept = All-pop (IsFound bytes) c.stale.self.found.items c.pop.new.self.items (Some next) (c.in-Some-pop.ensures).items c.stale.invariant in
-    subst (λ bs. IsFound bs next) (sym c.deref-then-next-room-2.ensures.value) kept.1
+    subst (λ bs. IsFound bs next) (ap (λ (p : Pieces). p.bytes.items) (sym c.deref-then-next-room-2.ensures) ∙ sym c.deref-then-next-room-2-2.ensures.value) kept.1

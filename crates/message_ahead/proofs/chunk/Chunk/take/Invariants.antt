@@ -1,9 +1,10 @@
 use Rattle.std.proofs.Common.{All, length}
+use Rattle.std.specs.Arc.{arc_value}
 use Rattle.message_ahead.specs.Ahead.{IsFound}
 use Rattle.message_ahead.proofs.chunk.Chunk.take.Given as goal
 
 abbrev pub invariant-stale : goal.invariant-stale
-invariant-stale l = All (IsFound l.self.bytes.items) l.self.found.items
+invariant-stale l = All (IsFound (arc_value l.self.pieces).bytes.items) l.self.found.items
 
 abbrev pub decreases-stale : goal.decreases-stale
 decreases-stale l = length l.self.found.items

@@ -1,0 +1,122 @@
+//! Where threads wait for connections, and how they are called away from it.
+use site_server::Sockets;
+use std::net::{TcpListener, TcpStream};
+use std::sync::Wait;
+use std::sync::atomic::{AtomicBool, AtomicU64, Ordering};
+use std::thread;
+use std::time::{Clock, Duration};
+
+// How long a thread waits after an accept that failed, as where descriptors run out.
+const PAUSE_MILLIS: u64 = 100;
+
+// How long the end waits between two looks at the threads that have not left.
+const LOOK_MILLIS: u64 = 10;
+
+// How many connections the end makes to a listener at once. More than its queue holds would wait for a second and more.
+const MOST_WAKINGS: u64 = 32;
+
+// The listeners of a live server: that of stations, and that of browsers, where it has one.
+#[derive(Drop)]
+pub(crate) struct Acceptors<'a> {
+    pub(crate) stations: Acceptor<'a>,
+    pub(crate) browsers: Option<Acceptor<'a>>,
+}
+
+impl<'a> Acceptors<'a> {
+    // The acceptors of these listeners, at which nobody waits.
+    pub(crate) fn open(stations: &'a TcpListener, browsers: Option<&'a TcpListener>) -> Self {
+        let browsers = match browsers {
+            Some(listener) => Some(Acceptor::new(listener)),
+            None => None,
+        };
+        Acceptors {
+            stations: Acceptor::new(stations),
+            browsers,
+        }
+    }
+
+    // Waits until all threads have left. The server has to be closing.
+    pub(crate) fn call_away<R: Wait + Clock + Sockets>(&self, rt: &R) {
+        self.stations.call_away(rt);
+        if let Some(acceptor) = &self.browsers {
+            acceptor.call_away(rt);
+        }
+    }
+}
+
+// A listener, and how many threads came to it, wait at it, and have left it for good.
+#[derive(Drop)]
+pub(crate) struct Acceptor<'a> {
+    listener: &'a TcpListener,
+    entered: AtomicU64,
+    waiting: AtomicU64,
+    left: AtomicU64,
+}
+
+impl<'a> Acceptor<'a> {
+    // The acceptor of a listener, at which nobody waits.
+    fn new(listener: &'a TcpListener) -> Self {
+        Acceptor {
+            listener,
+            entered: AtomicU64::new(0),
+            waiting: AtomicU64::new(0),
+            left: AtomicU64::new(0),
+        }
+    }
+
+    // The next connection; `None` once the server closes. A failed accept is tried again.
+    pub(crate) fn next<R: Wait + Clock>(&self, rt: &R, closing: &AtomicBool) -> Option<TcpStream> {
+        for _ in rt.forever() {
+            self.waiting.fetch_add(1, Ordering::SeqCst);
+            let accepted = if closing.load(Ordering::SeqCst) {
+                None
+            } else {
+                Some(self.listener.accept())
+            };
+            self.waiting.fetch_sub(1, Ordering::SeqCst);
+            if closing.load(Ordering::SeqCst) {
+                return None;
+            }
+            match accepted {
+                Some(Ok((stream, _from))) => return Some(stream),
+                _ => thread::sleep(rt, Duration::from_millis(PAUSE_MILLIS)),
+            }
+        }
+        unreachable!()
+    }
+
+    // Notes that a thread was started, where it was, and tells whether.
+    pub(crate) fn is_entered(&self, is_started: bool) -> bool {
+        if is_started {
+            self.entered.fetch_add(1, Ordering::SeqCst);
+        }
+        is_started
+    }
+
+    // Notes that a thread has left for good.
+    pub(crate) fn leave(&self) {
+        self.left.fetch_add(1, Ordering::SeqCst);
+    }
+
+    // Waits until all its threads have left, and wakes by connections those that wait in an accept.
+    fn call_away<R: Wait + Clock + Sockets>(&self, rt: &R) {
+        let _ = self.listener.set_nonblocking(true);
+        for _ in rt.forever() {
+            if self.left.load(Ordering::SeqCst) >= self.entered.load(Ordering::SeqCst) {
+                return;
+            }
+            self.wake(rt);
+            thread::sleep(rt, Duration::from_millis(LOOK_MILLIS));
+        }
+    }
+
+    // Connects to the listener, once for each of the threads that wait there, so that they have something to accept.
+    fn wake<R: Sockets>(&self, rt: &R) {
+        let waiting = self.waiting.load(Ordering::SeqCst);
+        for _ in 0..waiting.min(MOST_WAKINGS) {
+            if let Ok(address) = self.listener.local_addr() {
+                let _ = TcpStream::connect(rt, address);
+            }
+        }
+    }
+}

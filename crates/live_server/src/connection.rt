@@ -1,0 +1,248 @@
+//! The time of one connection: how long its stream is waited for, and whether it is still wanted.
+ghost use Rattle.std.specs.Io.{ReadsAtMost, WritesAtMost};
+
+use station_link::{Attendant, Dismissal};
+use std::cell::Cell;
+use std::io;
+use std::io::{ErrorKind, Read, Write};
+use std::net::{Shutdown, TcpStream};
+use std::sync::atomic::{AtomicBool, Ordering};
+use std::time::{Clock, Duration, Instant};
+
+// How long a read or a write of the stream waits before it looks at the time, and whether the connection is still wanted.
+const TICK_MILLIS: u64 = 250;
+
+// How many ticks a session waits for its station's next bytes, 600 seconds: twice the interval of heartbeats that a
+// BootNotification is answered with.
+const SILENT_TICKS: u64 = 4 * 600;
+
+// More ticks than any other limit has.
+const MOST_TICKS: u64 = 128;
+
+// How long what the peer had sent is read after the last that it is told.
+const LEAVING_SECONDS: u64 = 1;
+
+// How long a connection is waited for, in seconds.
+#[derive(Clone, Copy)]
+pub(crate) struct Patience {
+    // For its opening handshake, or its request.
+    pub(crate) opening: u64,
+    // For a write, from its first byte to its last.
+    pub(crate) writing: u64,
+}
+
+// Where a connection stands.
+#[derive(Clone, Copy)]
+enum Phase {
+    // In its opening handshake, or its request, which began then.
+    Opening(Instant),
+    // In its session, or its answer.
+    Serving,
+    // Behind the last that it was told, which went then.
+    Leaving(Instant),
+}
+
+// One connection, as its stream and its session look at it.
+#[derive(Drop)]
+pub(crate) struct Connection<'a, R: Clock> {
+    rt: &'a R,
+    closing: &'a AtomicBool,
+    // Whether it has to go.
+    mark: &'a AtomicBool,
+    patience: Patience,
+    phase: Cell<Phase>,
+    silent: Cell<u64>,
+    // When the write under way began.
+    writing: Cell<Option<Instant>>,
+}
+
+impl<'a, R: Clock> Connection<'a, R> {
+    // A connection that begins.
+    pub(crate) fn open(
+        rt: &'a R,
+        closing: &'a AtomicBool,
+        mark: &'a AtomicBool,
+        patience: Patience,
+    ) -> io::Result<Self> {
+        let now = Instant::now(rt)?;
+        Ok(Connection {
+            rt,
+            closing,
+            mark,
+            patience,
+            phase: Cell::new(Phase::Opening(now)),
+            silent: Cell::new(0),
+            writing: Cell::new(None),
+        })
+    }
+
+    // The handshake is done, or the request read.
+    pub(crate) fn serves(&self) {
+        self.phase.set(Phase::Serving);
+    }
+
+    // Tells whether it has been so many seconds since then, or the clock can't tell.
+    fn is_over(&self, since: Instant, seconds: u64) -> bool {
+        match since.elapsed(self.rt) {
+            Ok(elapsed) => elapsed >= Duration::from_secs(seconds),
+            Err(_) => true,
+        }
+    }
+
+    // Tells whether a write that began then has to be given up.
+    fn is_write_over(&self, since: Instant) -> bool {
+        match self.phase.get() {
+            Phase::Opening(began) => self.is_over(began, self.patience.opening),
+            _ => self.is_over(since, self.patience.writing),
+        }
+    }
+
+    // When the write under way began.
+    fn writes_since(&self) -> io::Result<Instant> {
+        if let Some(since) = self.writing.get() {
+            return Ok(since);
+        }
+        let now = Instant::now(self.rt)?;
+        self.writing.set(Some(now));
+        Ok(now)
+    }
+
+    // Counts a tick without bytes, and tells whether it was one too many.
+    fn is_silent(&self) -> bool {
+        let ticks = self.silent.get().saturating_add(1);
+        self.silent.set(ticks);
+        ticks >= SILENT_TICKS
+    }
+}
+
+impl<R: Clock> Attendant for Connection<'_, R> {
+    fn dismissal(&self) -> Option<Dismissal> {
+        if self.closing.load(Ordering::SeqCst) {
+            Some(Dismissal::ServerCloses)
+        } else if self.mark.load(Ordering::SeqCst) {
+            Some(Dismissal::Replaced)
+        } else {
+            None
+        }
+    }
+
+    fn leaves(&self) {
+        if let Ok(now) = Instant::now(self.rt) {
+            self.phase.set(Phase::Leaving(now));
+        }
+    }
+}
+
+// Tells whether a read or a write gave up waiting, and may go on.
+fn is_tick(moved: &io::Result<usize>) -> bool {
+    match moved {
+        Ok(_) => false,
+        Err(error) => error.kind() == ErrorKind::WouldBlock,
+    }
+}
+
+// The stream of a connection. A read gives up with `WouldBlock` after a tick where a session may go on, and with another
+// error where the connection has to end.
+#[derive(Drop)]
+pub(crate) struct ConnectionStream<'a, R: Clock> {
+    connection: &'a Connection<'a, R>,
+    stream: TcpStream,
+}
+
+impl<'a, R: Clock> ConnectionStream<'a, R> {
+    // The stream of a connection, with the limits of its waiting.
+    pub(crate) fn open(connection: &'a Connection<'a, R>, stream: TcpStream) -> io::Result<Self> {
+        let tick = Duration::from_millis(TICK_MILLIS);
+        stream.set_read_timeout(Some(tick))?;
+        stream.set_write_timeout(Some(tick))?;
+        stream.set_nodelay(true)?;
+        Ok(ConnectionStream { connection, stream })
+    }
+
+    // Tells the peer that nothing more comes.
+    pub(crate) fn shut(&self) -> io::Result<()> {
+        self.stream.shutdown(Shutdown::Write)
+    }
+
+    // A read of a handshake or a request, which ends where the connection is no longer wanted.
+    fn read_opening(&mut self, since: Instant, buf: &mut [u8]) -> io::Result<usize>
+        ensures { ReadsAtMost result buf.new }
+    {
+        for _ in 0..MOST_TICKS {
+            let seconds = self.connection.patience.opening;
+            if self.connection.dismissal().is_some() || self.connection.is_over(since, seconds) {
+                break;
+            }
+            let read = self.stream.read(buf);
+            if !is_tick(&read) {
+                return read;
+            }
+        }
+        Err(io::Error::from(ErrorKind::TimedOut))
+    }
+
+    // A read of a session.
+    fn read_tick(&mut self, buf: &mut [u8]) -> io::Result<usize>
+        ensures { ReadsAtMost result buf.new }
+    {
+        if self.connection.dismissal().is_some() {
+            return Err(io::Error::from(ErrorKind::WouldBlock));
+        }
+        let read = self.stream.read(buf);
+        if is_tick(&read) {
+            if self.connection.is_silent() {
+                return Err(io::Error::from(ErrorKind::TimedOut));
+            }
+        } else if read.is_ok() {
+            self.connection.silent.set(0);
+        }
+        read
+    }
+
+    // A read of what is left.
+    fn read_last(&mut self, since: Instant, buf: &mut [u8]) -> io::Result<usize>
+        ensures { ReadsAtMost result buf.new }
+    {
+        for _ in 0..MOST_TICKS {
+            if self.connection.is_over(since, LEAVING_SECONDS) {
+                break;
+            }
+            let read = self.stream.read(buf);
+            if !is_tick(&read) {
+                return read;
+            }
+        }
+        Err(io::Error::from(ErrorKind::TimedOut))
+    }
+}
+
+impl<R: Clock> Read for ConnectionStream<'_, R> {
+    fn read(&mut self, buf: &mut [u8]) -> io::Result<usize> {
+        match self.connection.phase.get() {
+            Phase::Opening(since) => self.read_opening(since, buf),
+            Phase::Serving => self.read_tick(buf),
+            Phase::Leaving(since) => self.read_last(since, buf),
+        }
+    }
+}
+
+impl<R: Clock> Write for ConnectionStream<'_, R> {
+    fn write(&mut self, buf: &[u8]) -> io::Result<usize> {
+        let since = self.connection.writes_since()?;
+        for _ in 0..MOST_TICKS {
+            if self.connection.is_write_over(since) {
+                break;
+            }
+            let written = self.stream.write(buf);
+            if !is_tick(&written) {
+                return written;
+            }
+        }
+        Err(io::Error::from(ErrorKind::TimedOut))
+    }
+
+    fn flush(&mut self) -> io::Result<()> {
+        self.connection.writing.set(None);
+        self.stream.flush()
+    }
+}

@@ -1,0 +1,366 @@
+ghost use Rattle.std.specs.Prelude.{◌≡◌, ℕ, ◌+◌, ◌<◌, ◌≤◌, ◌^◌, ◌++◌, ◌∷◌, [], All, length, map, true, OnOk, IfOk, IfSome, slice_get, take, None, Some, refl};
+ghost use Rattle.std.specs.Io.KnownBytes.{Keeps};
+ghost use Rattle.std.specs.List.{position};
+ghost use Rattle.std.specs.Str.{bytes_eq};
+ghost use Rattle.board_report.specs.Texts.{board_text};
+ghost use Rattle.site_book.specs.Tables.{HasTable, NamedBy};
+ghost use Rattle.station_cell.specs.Cell.{Cell, new_pass};
+ghost use Rattle.site_desk.specs.Plan.{plan_fault};
+ghost use Rattle.site_desk.specs.Roster.{AreCellsOf};
+ghost use Rattle.script_ledgers.specs.Drafts.{planned};
+ghost use Rattle.script_lines.specs.ScriptLines.{meaning_of};
+ghost use Rattle.script_ledgers.specs.Received.{ReceivesText, TakesMessage};
+ghost use Rattle.script_ledgers.specs.Running.{IsRunning, Settles, posts_in, running};
+ghost use Rattle.script_ledgers.specs.Script.{board_answer, commanded_to, energy_answer, export_answer, order_named, period_named, sent_to, shown_site, station_named, stations_of, step_by, total_answer};
+ghost use Rattle.transaction_event.specs.MessageMeaning.{HasShortId, asking, with_reply};
+
+use crate::draft::Draft;
+use crate::messages::ScriptMessages;
+use arrayvec::ArrayString;
+use board_report::{energy_text, export_text, total_text};
+use desk_report::site_text;
+use ledger_model::{Answer, Command, Name};
+use message_ahead::Lookahead;
+use script_lines::{LineFault, LineReader, ScriptLine, put_answer, put_fault, put_line};
+use site_book::{Naming, SiteBook, Tables};
+use site_desk::{Parts, Pass, StationCell, enlist_cell, settle};
+use std::alloc::{AllocError, Global};
+use std::io;
+use std::io::BufRead;
+use std::thread::Threads;
+use transaction_event::{Asked, Delivery, put_event_reply, read_message};
+
+// A script whose ledgers are opened: its plan, its stations' cells, its sites' books, and its moment.
+#[derive(Drop)]
+pub(crate) struct OpenedScript<J: Naming> {
+    // The plan, and the moment that the script told last.
+    pub(crate) draft: Draft,
+    // The cell of each station, in the plan's order.
+    pub(crate) cells: Vec<StationCell>,
+    // The book of each site, in the plan's order.
+    pub(crate) books: Vec<SiteBook<J>>,
+    // What threads have read of the lines to come.
+    ahead: Lookahead,
+    // The reply to the message at hand.
+    text: ArrayString<512>,
+    passes: Vec<Pass>,
+    alloc: Global,
+    ghost running: { IsRunning draft.sites draft.stations cells.items books.items passes.items },
+}
+
+impl<J: Naming> OpenedScript<J> {
+    // Opens an empty ledger for each station of the plan, and a book for each site.
+    //
+    // Condition: the tables are those that J names, and each site's is there.
+    pub(crate) fn open<X: AllocGlobal + Threads>(
+        rt: &X,
+        tables: Tables,
+        draft: Draft,
+    ) -> Result<Self, AllocError>
+        requires named { NamedBy J.table tables }
+        requires there { (site : ℕ) → site < length draft.sites → HasTable tables site }
+        ensures script { IfOk result (λ l. running l.draft l.cells.items ≡ record (planned draft) { opened = true }) }
+        ensures none { IfOk result (λ l. posts_in l.books.items ≡ 0) }
+    {
+        let alloc = rt.alloc();
+        match Parts::open(alloc, tables, draft.plan()) {
+            Ok(Parts { cells, books, .. }) => {
+                let mut cells = cells.into_vec();
+                let passes = enlist_all(rt, &mut cells)?;
+                Ok(OpenedScript {
+                    draft,
+                    cells,
+                    books: books.into_vec(),
+                    ahead: Lookahead::new(alloc),
+                    text: ArrayString::new(),
+                    passes,
+                    alloc,
+                })
+            }
+            Err(_) => Err(AllocError),
+        }
+    }
+
+    // The plan and the moment, and for each station, in the plan's order, its cell and the pass that its changes count
+    // for. The plan has no fault, and each cell is where the plan has its station.
+    pub(crate) fn into_parts(self) -> (Draft, Vec<StationCell>, Vec<Pass>)
+        ensures draft { result.0 ≡ self.draft }
+        ensures cells { result.1.items ≡ self.cells.items }
+        ensures faultless { plan_fault result.0.sites result.0.stations ≡ None }
+        ensures placed { AreCellsOf result.0.sites result.0.stations result.1.items }
+    {
+        let OpenedScript {
+            draft,
+            cells,
+            books: _,
+            ahead: _,
+            text: _,
+            passes,
+            alloc: _,
+        } = self;
+        (draft, cells, passes)
+    }
+
+    // Has threads read the lines to come that the reader shows, where that is due. It consumes none and waits for none.
+    // Where the reader fails to show them, its error is the answer.
+    pub(crate) fn look<X: Threads, R: BufRead>(
+        &mut self,
+        rt: &X,
+        lines: &LineReader,
+        reader: &mut R,
+    ) -> io::Result<()>
+        ensures reader { Keeps (R.remaining reader.old) (R.remaining reader.new) }
+        ensures script { running self.new.draft self.new.cells.items ≡ running self.old.draft self.old.cells.items }
+        ensures posts { posts_in self.new.books.items ≡ posts_in self.old.books.items }
+    {
+        let is_due = self.ahead.is_due(lines.room);
+        if lines.is_drained || !is_due {
+            return Ok(());
+        }
+        let shown = reader.fill_buf()?;
+        self.ahead.look::<ScriptMessages, X>(rt, shown);
+        Ok(())
+    }
+
+    // Puts the answer to a line that says this into the reply.
+    pub(crate) fn take(
+        &mut self,
+        asked: ScriptLine<'_>,
+        reply: &mut Vec<u8>,
+    ) -> Result<(), AllocError>
+        requires empty { reply.old.items ≡ [] }
+        requires few { posts_in self.old.books.items < 2 ^ 62 }
+        ensures step { OnOk result (step_by (running self.old.draft self.old.cells.items) (meaning_of asked.entry) ≡ (running self.new.draft self.new.cells.items, reply.new.items)) }
+        ensures posts { OnOk result (posts_in self.new.books.items ≤ posts_in self.old.books.items + 1) }
+    {
+        if self.ahead.is_short() {
+            return Err(AllocError);
+        }
+        match asked {
+            ScriptLine::Nothing => Ok(()),
+            ScriptLine::Fails(fault) => put_fault(reply, fault),
+            ScriptLine::Limits(_, _, _, _)
+            | ScriptLine::Declares(_, _)
+            | ScriptLine::SetsOrder(_, _)
+            | ScriptLine::SetsPeriod(_, _) => put_fault(reply, LineFault::DeclaredLate),
+            ScriptLine::Tells(moment) => {
+                self.draft.tell(moment);
+                Ok(())
+            }
+            ScriptLine::Sends(name, text) => self.receive(&name, text, reply),
+            ScriptLine::Commands(name, command) => self.command(&name, command, reply),
+            ScriptLine::AsksEnergy(name) => self.put_energy(&name, reply),
+            ScriptLine::AsksExport(name) => self.put_export(&name, reply),
+            ScriptLine::AsksTotal(name) => self.put_total(&name, reply),
+            ScriptLine::AsksBoard(name) => self.put_board(&name, reply),
+        }
+    }
+
+    // Delivers a station's message, and puts its reply into the reply.
+    fn receive(&mut self, name: &Name, text: &str, reply: &mut Vec<u8>) -> Result<(), AllocError>
+        requires empty { reply.old.items ≡ [] }
+        requires few { posts_in self.old.books.items < 2 ^ 62 }
+        ensures step { OnOk result (sent_to (station_named name.now (running self.old.draft self.old.cells.items).world) (running self.old.draft self.old.cells.items) text.now ≡ (running self.new.draft self.new.cells.items, reply.new.items)) }
+        ensures posts { OnOk result (posts_in self.new.books.items ≤ posts_in self.old.books.items + 1) }
+    {
+        match self.draft.station(name) {
+            Some(number) => self.receive_at(number, text, reply),
+            None => put_fault(reply, LineFault::UnknownStation),
+        }
+    }
+
+    // Delivers a message to the station of this number, as it was read ahead or is read now, and puts its reply
+    // into the reply.
+    fn receive_at(
+        &mut self,
+        number: usize,
+        text: &str,
+        reply: &mut Vec<u8>,
+    ) -> Result<(), AllocError>
+        requires empty { reply.old.items ≡ [] }
+        requires there { number < length self.old.draft.stations }
+        requires few { posts_in self.old.books.items < 2 ^ 62 }
+        ensures receives { OnOk result (IfSome (slice_get (running self.old.draft self.old.cells.items).world number) (λ s. ReceivesText (running self.old.draft self.old.cells.items) (running self.new.draft self.new.cells.items) s text.now reply.new.items)) }
+        ensures posts { OnOk result (posts_in self.new.books.items ≤ posts_in self.old.books.items + 1) }
+    {
+        match self.ahead.take(text) {
+            Some(delivery) => self.deliver(number, delivery, reply),
+            None => {
+                let asked = read_message(self.alloc, text, self.draft.moment(), &mut self.text);
+                self.take_asked(number, asked, reply)
+            }
+        }
+    }
+
+    // Takes an operator's command on a station, and puts the answer into the reply.
+    fn command(
+        &mut self,
+        name: &Name,
+        command: Command,
+        reply: &mut Vec<u8>,
+    ) -> Result<(), AllocError>
+        requires empty { reply.old.items ≡ [] }
+        requires few { posts_in self.old.books.items < 2 ^ 62 }
+        ensures step { OnOk result (commanded_to (station_named name.now (running self.old.draft self.old.cells.items).world) (running self.old.draft self.old.cells.items) command ≡ (running self.new.draft self.new.cells.items, reply.new.items)) }
+        ensures posts { OnOk result (posts_in self.new.books.items ≤ posts_in self.old.books.items + 1) }
+    {
+        match self.draft.station(name) {
+            Some(number) => {
+                let answer = self.settle(number, command);
+                put_answer(reply, answer)
+            }
+            None => put_fault(reply, LineFault::UnknownStation),
+        }
+    }
+
+    // Delivers the event that a message asks to deliver to the station of this number, if it does, and puts the answer
+    // into the reply. A message for which no memory was found delivers nothing.
+    fn take_asked(
+        &mut self,
+        number: usize,
+        asked: Asked,
+        reply: &mut Vec<u8>,
+    ) -> Result<(), AllocError>
+        requires empty { reply.old.items ≡ [] }
+        requires there { number < length self.old.draft.stations }
+        requires short { HasShortId (with_reply asked self.old.text) }
+        requires few { posts_in self.old.books.items < 2 ^ 62 }
+        ensures takes { OnOk result (IfSome (slice_get (running self.old.draft self.old.cells.items).world number) (λ s. TakesMessage (running self.old.draft self.old.cells.items) (running self.new.draft self.new.cells.items) s (with_reply asked self.old.text) reply.new.items)) }
+        ensures posts { OnOk result (posts_in self.new.books.items ≤ posts_in self.old.books.items + 1) }
+    {
+        match asked {
+            Asked::Event(delivery) => self.deliver(number, delivery, reply),
+            Asked::Reply { memory } => {
+                if memory {
+                    return Err(AllocError);
+                }
+                put_line(reply, self.text.as_str())
+            }
+            Asked::Silent => put_line(reply, "silent"),
+        }
+    }
+
+    // Delivers an event to the station of this number, and puts the reply to it into the reply.
+    fn deliver(
+        &mut self,
+        number: usize,
+        delivery: Delivery,
+        reply: &mut Vec<u8>,
+    ) -> Result<(), AllocError>
+        requires empty { reply.old.items ≡ [] }
+        requires there { number < length self.old.draft.stations }
+        requires short { HasShortId (asking delivery) }
+        requires few { posts_in self.old.books.items < 2 ^ 62 }
+        ensures takes { OnOk result (IfSome (slice_get (running self.old.draft self.old.cells.items).world number) (λ s. TakesMessage (running self.old.draft self.old.cells.items) (running self.new.draft self.new.cells.items) s (asking delivery) reply.new.items)) }
+        ensures posts { OnOk result (posts_in self.new.books.items ≤ posts_in self.old.books.items + 1) }
+    {
+        let Delivery {
+            id,
+            key,
+            event,
+            token,
+        } = delivery;
+        let answer = self.settle(number, Command::Deliver(key, event));
+        put_event_reply(&mut self.text, id.as_str(), token, &answer);
+        put_line(reply, self.text.as_str())
+    }
+
+    // Settles a command on the station of this number.
+    fn settle(&mut self, number: usize, command: Command) -> Answer
+        requires there { number < length self.old.draft.stations }
+        requires few { posts_in self.old.books.items < 2 ^ 62 }
+        ensures settled { IfSome (slice_get (running self.old.draft self.old.cells.items).world number) (λ s. Settles (running self.old.draft self.old.cells.items) (running self.new.draft self.new.cells.items) s command result) }
+        ensures posts { posts_in self.new.books.items ≤ posts_in self.old.books.items + 1 }
+    {
+        let cell = &mut self.cells[number];
+        let site = cell.site() as usize;
+        let pass = &mut self.passes[number];
+        let (answer, _) = settle(cell, &mut self.books[site], pass, command);
+        answer
+    }
+
+    // Puts the energy that a station imported into the reply.
+    fn put_energy(&self, name: &Name, reply: &mut Vec<u8>) -> Result<(), AllocError>
+        ensures { OnOk result (reply.new.items ≡ reply.old.items ++ energy_answer (order_named (running self.now.draft self.now.cells.items)) (station_named name.now (running self.now.draft self.now.cells.items).world)) }
+    {
+        match self.draft.station(name) {
+            Some(number) => {
+                let energy = self.cells[number].ledger().energy();
+                put_line(reply, energy_text(energy).as_str())
+            }
+            None => put_fault(reply, LineFault::UnknownStation),
+        }
+    }
+
+    // Puts the energy that a station exported into the reply.
+    fn put_export(&self, name: &Name, reply: &mut Vec<u8>) -> Result<(), AllocError>
+        ensures { OnOk result (reply.new.items ≡ reply.old.items ++ export_answer (order_named (running self.now.draft self.now.cells.items)) (station_named name.now (running self.now.draft self.now.cells.items).world)) }
+    {
+        match self.draft.station(name) {
+            Some(number) => {
+                let energy = self.cells[number].ledger().export();
+                put_line(reply, export_text(energy).as_str())
+            }
+            None => put_fault(reply, LineFault::UnknownStation),
+        }
+    }
+
+    // Puts the figures of a station into the reply.
+    fn put_total(&self, name: &Name, reply: &mut Vec<u8>) -> Result<(), AllocError>
+        ensures { OnOk result (reply.new.items ≡ reply.old.items ++ total_answer (order_named (running self.now.draft self.now.cells.items)) (station_named name.now (running self.now.draft self.now.cells.items).world)) }
+    {
+        match self.draft.station(name) {
+            Some(number) => {
+                let figures = self.cells[number].ledger().figures();
+                put_line(reply, total_text(&figures).as_str())
+            }
+            None => put_fault(reply, LineFault::UnknownStation),
+        }
+    }
+
+    // Puts the board of a site into the reply.
+    fn put_board(&self, name: &Name, reply: &mut Vec<u8>) -> Result<(), AllocError>
+        requires { reply.old.items ≡ [] }
+        ensures { OnOk result (reply.new.items ≡ board_answer (running self.now.draft self.now.cells.items) name.now) }
+    {
+        match self.draft.site(name) {
+            Some(site) => {
+                *reply = self.board_text(name, site)?;
+                Ok(())
+            }
+            None => put_fault(reply, LineFault::UnknownSite),
+        }
+    }
+
+    // The text of the board of the site of this name and number. Its totals are the book's.
+    fn board_text(&self, name: &Name, site: usize) -> Result<Vec<u8>, AllocError>
+        requires { position (λ s. bytes_eq name.now s.name) self.now.draft.sites ≡ Some site }
+        ensures { IfOk result (λ text. text.items ≡ board_text (shown_site name.now (order_named (running self.now.draft self.now.cells.items) name.now) (period_named (running self.now.draft self.now.cells.items) name.now) (stations_of name.now (running self.now.draft self.now.cells.items).world))) }
+    {
+        let totals = self.books[site].totals();
+        site_text(
+            self.alloc,
+            self.draft.plan(),
+            &self.cells,
+            site,
+            name,
+            totals,
+        )
+    }
+}
+
+// The first pass of each station.
+fn enlist_all<X: AllocGlobal + Threads>(
+    rt: &X,
+    cells: &mut Vec<StationCell>,
+) -> Result<Vec<Pass>, AllocError>
+    requires { All (λ c. c.counts ≡ []) cells.old.items }
+    ensures cells { OnOk result (cells.new.items ≡ map {A = Cell} (λ c. record c { counts = 0 ∷ [] }) cells.old.items) }
+    ensures passes { IfOk result (λ passes. passes.items ≡ map (λ c. new_pass c.station 0) cells.old.items) }
+{
+    let mut passes = Vec::with_capacity(rt.alloc(), cells.len())?;
+    for cell in cells.iter_mut() {
+        passes.push(enlist_cell(rt, cell).unwrap())?;
+    }
+    Ok(passes)
+}

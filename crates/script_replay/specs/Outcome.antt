@@ -1,0 +1,47 @@
+-- What a replay has read and written when it ends.
+use Rattle.std.specs.Prelude.{◌≡◌, ℕ, ◌+◌, ◌-◌, ◌<◌, ◌≤◌, ◌⊎◌, List, [], ◌++◌, length, take, OnSome, Option}
+use Rattle.std.specs.Io.KnownBytes.{Appends, Consumes, IsAtEnd}
+use Rattle.std.specs.declared.result.Result.{Result}
+use Rattle.std.specs.declared.result.Result.TheVariants.{Ok, Err}
+use Rattle.script_lines.specs.declared.fault.ReplayFault.{ReplayFault}
+use Rattle.script_lines.specs.declared.fault.ReplayFault.TheVariants.{ReadFault, WriteFault, TooMuchInput, OutOfMemory}
+use Rattle.script_lines.specs.Lines.{Line, cut, complete_lines, lines_of}
+use Rattle.script_lines.specs.Ranges.{longest_line}
+use Rattle.script_ledgers.specs.Ranges.{longest_script}
+use Rattle.script_ledgers.specs.Script.{start, script_text}
+
+-- `written` is a front of the text of the complete lines, or, where all of the input was read, of that of all lines
+abbrev pub WritesFrontOf : Type 0 → (List Line → List ℕ) → ℕ → List ℕ → List ℕ → Type 0
+WritesFrontOf all_read text max_line_bytes read written =
+    ((rest : List ℕ) × (text (complete_lines max_line_bytes read) ≡ written ++ rest))
+    ⊎ (all_read × ((rest : List ℕ) × (text (lines_of max_line_bytes read) ≡ written ++ rest)))
+
+-- `written` is what a replay writes that ends so after the bytes `read`, of which it reads at most `limit`, and which
+-- are all of the input where `all_read` holds:
+-- the text of all lines; after a ReadFault or TooMuchInput that of the complete lines; after a WriteFault a front of
+-- the text of the complete lines, or of all lines where all of the input was read; after OutOfMemory the text of the
+-- lines before that of the last byte read
+abbrev pub Replays : {T : Type 0} → Type 0 → (List Line → List ℕ) → ℕ → ℕ → Result T ReplayFault → List ℕ → List ℕ → Type 0
+Replays all_read text max_line_bytes limit (Ok _) read written = (length read ≤ limit) × (written ≡ text (lines_of max_line_bytes read))
+Replays all_read text max_line_bytes limit (Err ReadFault) read written = (length read ≤ limit) × (written ≡ text (complete_lines max_line_bytes read))
+Replays all_read text max_line_bytes limit (Err TooMuchInput) read written = (length read ≡ limit + 1) × (written ≡ text (complete_lines max_line_bytes (take limit read)))
+Replays all_read text max_line_bytes limit (Err WriteFault) read written = (length read ≤ limit) × WritesFrontOf all_read text max_line_bytes read written
+Replays all_read text max_line_bytes limit (Err OutOfMemory) read written = (length read ≤ limit) × (written ≡ text (complete_lines max_line_bytes (take (length read - 1) read)))
+
+-- a replay of a script consumed bytes and wrote bytes, and these are what it writes that ends so
+abbrev pub IsReplay : Option (List ℕ) → Option (List ℕ) → Option (List ℕ) → Option (List ℕ) → Result (Unit {0}) ReplayFault → Type 0
+IsReplay r0 r1 w0 w1 result =
+    (read written : List ℕ) × Consumes r0 r1 read × Appends w0 w1 written × Replays (OnSome r0 (IsAtEnd r1)) (script_text start) longest_line longest_script result read written
+
+-- memory ran out after a byte was read
+abbrev pub Began : {T : Type 0} → Result T ReplayFault → List ℕ → Type 0
+Began (Ok _) read = Unit {0}
+Began (Err ReadFault) read = Unit {0}
+Began (Err TooMuchInput) read = Unit {0}
+Began (Err WriteFault) read = Unit {0}
+Began (Err OutOfMemory) read = 0 < length read
+
+-- the lines of `done`, which a line feed ends, are answered by `written`, and `now` is the text of the lines after them
+abbrev pub AnsweredBy : (List Line → List ℕ) → (List Line → List ℕ) → ℕ → List ℕ → List ℕ → Type 0
+AnsweredBy old now max_line_bytes done written =
+    (last : List ℕ → List Line) (more : List ℕ) → old (cut last max_line_bytes [] (done ++ more)) ≡ written ++ now (cut last max_line_bytes [] more)
