@@ -1,7 +1,6 @@
-use site_server::Sockets;
 use std::alloc::Global;
 use std::io::{Read, Write};
-use std::net::{SocketAddr, TcpStream};
+use std::net::{Net, SocketAddr, TcpListener, TcpStream};
 
 // The requests of A's session and of B's.
 pub(super) const A: &[u8] =
@@ -40,7 +39,7 @@ fn is_answered(alloc: Global, stream: &mut TcpStream, sent: &[u8], end: &[u8]) -
 
 // A whole session with a request: the first event, and the close. `None` where the stream fails; else it tells
 // whether all was answered.
-pub(super) fn sends_one<R: Sockets>(
+pub(super) fn sends_one<R: Net<Listener = TcpListener, Stream = TcpStream>>(
     rt: &R,
     alloc: Global,
     address: SocketAddr,

@@ -3,18 +3,23 @@ use super::client::{A, sends_one};
 use super::scenes::{Scene, plays};
 use site_book::{Naming, Viewer};
 use site_desk::{Desk, NoGate, Pass, Plan};
-use site_server::{Host, Served, Service, serve_on, serve_watched};
+use site_server::{Served, Service, serve_on, serve_watched};
 use std::alloc::Global;
-use std::net::{SocketAddr, TcpListener};
+use std::net::{Net, SocketAddr, TcpListener, TcpStream};
+use std::sync::Wait;
 use std::test::Fail;
 use std::thread;
 use std::thread::Threads;
+use std::time::Clock;
 
 // A stack for which no thread starts.
 const TOO_LARGE: usize = usize::MAX / 2;
 
 // The passes of a connection that is dropped, where A was not answered on it.
-pub(super) fn dropped<J: Naming + Send + Sync, R: Host>(
+pub(super) fn dropped<
+    J: Naming + Send + Sync,
+    R: Threads + Wait + Clock + Sync + Net<Listener = TcpListener, Stream = TcpStream>,
+>(
     rt: &R,
     alloc: Global,
     desk: &Desk<J>,
@@ -40,7 +45,10 @@ fn thread_that_cant_start_counts_as_ended(rt: HostRuntime) -> Result<(), Fail> {
 }
 
 // What serving A gives back, and whether A was answered.
-fn watched<J: Naming + Send + Sync, R: Host>(
+fn watched<
+    J: Naming + Send + Sync,
+    R: Threads + Wait + Clock + Sync + Net<Listener = TcpListener, Stream = TcpStream>,
+>(
     rt: &R,
     alloc: Global,
     desk: &Desk<J>,
@@ -67,7 +75,10 @@ fn watched<J: Naming + Send + Sync, R: Host>(
 }
 
 // The station is served all the same, and the viewers come back.
-pub(super) fn no_glance<J: Naming + Send + Sync, R: Host>(
+pub(super) fn no_glance<
+    J: Naming + Send + Sync,
+    R: Threads + Wait + Clock + Sync + Net<Listener = TcpListener, Stream = TcpStream>,
+>(
     rt: &R,
     alloc: Global,
     desk: &Desk<J>,

@@ -8,11 +8,14 @@ use super::sessions_in_turn::served_both;
 use desk_fixtures::plan_of;
 use site_book::{Naming, Tables, Viewer};
 use site_desk::{Desk, Pass, Plan};
-use site_server::{Host, Sockets, open_desk};
+use site_server::open_desk;
 use std::alloc::Global;
 use std::marker::Brand;
-use std::net::{Ipv4Addr, SocketAddr, TcpListener};
+use std::net::{Ipv4Addr, Net, SocketAddr, TcpListener, TcpStream};
+use std::sync::Wait;
 use std::test::Fail;
+use std::thread::Threads;
+use std::time::Clock;
 
 #[derive(Clone, Copy)]
 pub(super) enum Scene {
@@ -23,7 +26,9 @@ pub(super) enum Scene {
 }
 
 // A listener on a port that the system chooses, and its address.
-fn listen<R: Sockets>(rt: &R) -> Option<(TcpListener, SocketAddr)> {
+fn listen<R: Net<Listener = TcpListener, Stream = TcpStream>>(
+    rt: &R,
+) -> Option<(TcpListener, SocketAddr)> {
     let listener = TcpListener::bind(rt, (Ipv4Addr::LOCALHOST, 0)).ok()?;
     let address = listener.local_addr().ok()?;
     Some((listener, address))
@@ -44,7 +49,10 @@ fn changes_at_close<J: Naming>(
 }
 
 // The passes and viewers that are left, or none where something else was seen.
-fn play<J: Naming + Send + Sync, R: Host>(
+fn play<
+    J: Naming + Send + Sync,
+    R: Threads + Wait + Clock + Sync + Net<Listener = TcpListener, Stream = TcpStream>,
+>(
     rt: &R,
     alloc: Global,
     desk: &Desk<J>,
@@ -61,13 +69,10 @@ fn play<J: Naming + Send + Sync, R: Host>(
     }
 }
 
-fn at_desk<J: Naming + Send + Sync, R: Host>(
-    rt: &R,
-    alloc: Global,
-    tables: Tables,
-    plan: &Plan,
-    scene: Scene,
-) -> Option<(u64, u64)>
+fn at_desk<
+    J: Naming + Send + Sync,
+    R: Threads + Wait + Clock + Sync + Net<Listener = TcpListener, Stream = TcpStream>,
+>(rt: &R, alloc: Global, tables: Tables, plan: &Plan, scene: Scene) -> Option<(u64, u64)>
     requires named { NamedBy J.table tables }
     requires there { (site : ℕ) → site < length plan.now.sites.items → HasTable tables site }
 {
@@ -77,11 +82,9 @@ fn at_desk<J: Naming + Send + Sync, R: Host>(
 }
 
 // How many changes A and B made in a scene at a desk of its own.
-pub(super) fn plays<R: Host>(
-    rt: &R,
-    alloc: Global,
-    scene: Scene,
-) -> Result<Option<(u64, u64)>, Fail> {
+pub(super) fn plays<
+    R: Threads + Wait + Clock + Sync + Net<Listener = TcpListener, Stream = TcpStream>,
+>(rt: &R, alloc: Global, scene: Scene) -> Result<Option<(u64, u64)>, Fail> {
     let plan = plan_of(&["north"], &[(0, "A"), (0, "B")], 1).ok_or("no plan")?;
     let tables = Tables::make(alloc, plan.sites.len() as u16)?;
     Ok(at_desk::<Brand, R>(rt, alloc, tables, &plan, scene))

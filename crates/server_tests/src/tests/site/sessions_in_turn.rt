@@ -4,14 +4,22 @@ use super::scenes::{Scene, plays};
 use desk_fixtures::HoldsA;
 use site_book::Naming;
 use site_desk::{Desk, Pass};
-use site_server::{Host, serve_many};
+use site_server::serve_many;
 use std::alloc::Global;
-use std::net::{SocketAddr, TcpListener};
+use std::net::{Net, SocketAddr, TcpListener, TcpStream};
+use std::sync::Wait;
 use std::test::Fail;
 use std::thread;
+use std::thread::Threads;
+use std::time::Clock;
 
 // Tells whether A is answered, and B, which connects once the gate holds A.
-fn ask_both<R: Host>(rt: &R, alloc: Global, address: SocketAddr, gate: &HoldsA) -> bool {
+fn ask_both<R: Threads + Wait + Clock + Sync + Net<Listener = TcpListener, Stream = TcpStream>>(
+    rt: &R,
+    alloc: Global,
+    address: SocketAddr,
+    gate: &HoldsA,
+) -> bool {
     let (a, b) = thread::join(
         rt,
         move || sends_one(rt, alloc, address, A),
@@ -24,7 +32,10 @@ fn ask_both<R: Host>(rt: &R, alloc: Global, address: SocketAddr, gate: &HoldsA) 
 }
 
 // The passes of both connections, where both were answered, and B while A was held.
-pub(super) fn served_both<J: Naming + Send + Sync, R: Host>(
+pub(super) fn served_both<
+    J: Naming + Send + Sync,
+    R: Threads + Wait + Clock + Sync + Net<Listener = TcpListener, Stream = TcpStream>,
+>(
     rt: &R,
     alloc: Global,
     desk: &Desk<J>,
