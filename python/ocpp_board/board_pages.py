@@ -124,6 +124,14 @@ class Layout:
         """A page up to its main part."""
         return head(title, said, links, self.refresh, is_one, whole)
 
+    def foot(self) -> str:
+        """The end of a page."""
+        return FOOT
+
+    def session(self, _station: str, tx: str) -> str:
+        """The name of a session in a table."""
+        return escape(tx)
+
     def stamp(self, until: datetime | None) -> str:
         """Up to when the data is and when the page was written, and a warning where that is too long before. `until`:
         the end of the last period, which tells it where nothing else does."""
@@ -361,7 +369,8 @@ class DayPages:
                 self.names.is_one,
                 f"{weekday(day)} {day}{page_of(number)}",
             )
-            page.frame(begin, series.links(number, "below") + below + explained(BARS) + FOOT)
+            end = series.links(number, "below") + below + explained(BARS)
+            page.frame(begin, end + self.layout.foot())
 
 
 NET_BAR = Column("Net as a bar", "bar wide", True)
@@ -431,7 +440,11 @@ class Index:
         stations = sorted(board.stations, key=trouble_of)
         labels = [f"b{board.number}-{number}" for number in range(1, len(stations) + 1)]
         parts = [
-            list(sections_of(part, label, self.layout.calendar, board.has_export))
+            list(
+                sections_of(
+                    part, label, self.layout.calendar, board.has_export, self.layout.session
+                )
+            )
             for part, label in zip(stations, labels)
         ]
         days, *more = self.days(board.site, board.has_export)
@@ -603,7 +616,7 @@ class Index:
             title = f"{self.names.title()}{page_of(number)}"
             above, below = (self.series.links(number, where) for where in ("above", "below"))
             begin = layout.head(title, said, above, self.names.is_one)
-            end = below + explained(BARS, SESSIONS) + FOOT
+            end = below + explained(BARS, SESSIONS) + layout.foot()
             page.frame(begin + (sites if number == 1 else ""), end)
 
 

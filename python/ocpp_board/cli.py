@@ -39,7 +39,10 @@ TOOLS = {
     "close-day": Tool("fleet.close_day", "fleet: closes a site's settlement day"),
     "compact": Tool("fleet.compact", "fleet: removes repeats from a shard's log"),
     "move": Tool("fleet.move", "fleet: moves a shard to another cell"),
+    "close-requested": Tool("fleet.close_requested", "fleet: does closings that were asked for"),
     "password": Tool("fleet.set_password", "fleet: sets the password of a station"),
+    "operator": Tool("fleet.set_operator", "fleet: makes operators of the page, and tokens"),
+    "billing": Tool("fleet.billing", "fleet: writes a site's month of sessions as CSV"),
     "forget": Tool("fleet.forget", "fleet: takes drivers' tokens out of log and archives"),
     "backup": Tool("fleet.backup", "fleet: backs up a cell with its archives"),
     "restore": Tool("fleet.restore", "fleet: brings a backup of a cell back"),
@@ -51,12 +54,16 @@ PACKAGES = {
     "ocpp_board.fleet": "ocpp-board-fleet",
     "asyncpg": "python3-asyncpg",
     "websockets": "python3-websockets",
+    "starlette": "python3-starlette",
+    "uvicorn": "python3-uvicorn",
+    "jinja2": "python3-jinja2",
+    "yaml": "python3-yaml",
 }
 
 
 def arguments(argv: Sequence[str]) -> argparse.Namespace:
     """The tool that the words name, and the words behind it, which are the tool's own."""
-    tools = "\n".join(f"  {name:15}{tool.about}" for name, tool in TOOLS.items())
+    tools = "\n".join(f"  {name:16}{tool.about}" for name, tool in TOOLS.items())
     parser = argparse.ArgumentParser(
         prog=COMMAND,
         usage=f"{COMMAND} TOOL [WORD..]",

@@ -1,6 +1,6 @@
 """The sections of pages: figures, problems, sessions, and a day's bars with their table."""
 
-from collections.abc import Iterable, Iterator
+from collections.abc import Callable, Iterable, Iterator
 from dataclasses import dataclass, field
 from datetime import date, datetime
 from html import escape
@@ -223,10 +223,10 @@ def session_heads(calendar: Calendar, has_times: bool, has_export: bool) -> list
     return heads + ([" Stopped"] if has_times else [])
 
 
-def session_row(t: Session, calendar: Calendar, has_export: bool) -> Row:
-    """A session's row; one that is not complete or doubtful is marked."""
+def session_row(t: Session, calendar: Calendar, has_export: bool, name: str = "") -> Row:
+    """A session's row; one that is not complete or doubtful is marked. `name`: its id as HTML, such as a link."""
     net, *others = cells_of(t.flow, has_export)
-    cells = [escape(t.tx), state_text(t)]
+    cells = [name or escape(t.tx), state_text(t)]
     if times := t.times:
         both = f"{when(times.start, calendar)}<br>{when(times.end, calendar)}"
         cells += [both, duration(times.seconds) or UNKNOWN]
@@ -259,8 +259,15 @@ def session_order(t: Session) -> tuple[int, float]:
     return rank, -begun.timestamp() if begun else 0.0
 
 
-def sections_of(part: Part, label: str, calendar: Calendar, has_export: bool) -> Iterator[str]:
-    """A station's sections: its figures and EVSEs, and its sessions, so many at a time."""
+def sections_of(
+    part: Part,
+    label: str,
+    calendar: Calendar,
+    has_export: bool,
+    name_of: Callable[[str, str], str] = lambda _station, tx: escape(tx),
+) -> Iterator[str]:
+    """A station's sections: its figures and EVSEs, and its sessions, so many at a time. `name_of`: the id of a session
+    as HTML, by its station and its text."""
     name = escape(part.name)
     warning = (
         ""
@@ -296,7 +303,8 @@ def sections_of(part: Part, label: str, calendar: Calendar, has_export: bool) ->
         "the latest" if has_times else "in the order of their ids"
     )
     first = 0
-    for some in runs_of(session_row(t, calendar, has_export) for t in sessions):
+    rows = (session_row(t, calendar, has_export, name_of(part.name, t.tx)) for t in sessions)
+    for some in runs_of(rows):
         title = f"Sessions of {name}"
         if len(some) < len(sessions):
             title += f", {first + 1:,} to {first + len(some):,} of {len(sessions):,}"

@@ -185,7 +185,7 @@ class Demo(Trial):
     async def open_ones(self) -> None:
         """Transactions that stay open for 4 seconds."""
         self.fleet.databases[0].psql("postgres", "-c", "create database elsewhere")
-        void = f"select operate('void', 'CS-{self.fleet.stations - 1:05}', 'TX-99', 1)"
+        void = f"select operate('void', 'CS-{self.fleet.stations - 1:05}', 'TX-99', 1, 'a test')"
         sessions = []
         for database, query in (
             ("elsewhere", "create table one as select 1"),

@@ -46,7 +46,17 @@ WORK: dict[str, str] = {
     "select token from own_log": "worker mover",
     "select line from inbox": "worker mover",
     "select * from energy": "reader operator",
-    "select operate('void', 'A', 'TX-1', 1)": "operator",
+    "select operate('void', 'A', 'TX-1', 1, 'a test')": "operator",
+    "select request_closing('north', '2026-03-01', 'a test')": "operator",
+    "select * from try_operator('ann')": "operator",
+    "select * from use_token('')": "operator",
+    "select set_operator('ann', '{sees}', null, true, null, null)": "administrator",
+    "select hash from operator": "",
+    "select hash from operator_session": "",
+    "select hash from api_token": "",
+    "update own_closing_request set status = 0": "closer",
+    "update own_deed set reason = 'another'": "mover",
+    "delete from own_plan_change": "",
     "select set_password('A', '', '')": "provisioner",
     "insert into own_closing (shard, site, closing, day, period) values (0, 'north', 9, now(), 900)": "closer mover",
     "delete from own_log": "closer mover",
@@ -75,7 +85,7 @@ WORK: dict[str, str] = {
     "select from own_shard for update": "closer mover",
     "select pg_terminate_backend(pid) from pg_stat_activity where usename <> current_user": "",
 }
-NAMES = "gateway feed worker reader operator provisioner closer compactor mover keeper".split()
+NAMES = "gateway feed worker reader operator provisioner closer compactor mover keeper administrator".split()
 # Functions of the schema that anybody may call, and locks by number that a role may take.
 FOR_ALL = """
 select p.oid::regprocedure::text from pg_proc p, aclexplode(coalesce(proacl, acldefault('f', proowner))) a

@@ -50,7 +50,7 @@ from unnest($2::text[]) with ordinality as w (line, place)
 """
 BIN = Path("/usr/lib/postgresql/15/bin")
 # The roles of the schema's tools, each of which has a password of its own.
-ROLES = ["GATEWAY", "FEED", "WORKER", "READER", "OPERATOR", "PROVISIONER"]
+ROLES = ["GATEWAY", "FEED", "WORKER", "READER", "OPERATOR", "PROVISIONER", "ADMINISTRATOR"]
 ROLES += ["CLOSER", "COMPACTOR", "MOVER", "KEEPER", "BACKUP"]
 
 

@@ -120,7 +120,10 @@ class Demo(Trial):
         """A channel of 64 letters."""
         long = 64 * "c"
         tries: list[tuple[str, tuple[Any, ...]]] = [
-            ("select operate('void', 'CS-00000', 'TX-9', 1, $1, 1)", (long,)),
+            (
+                "select operate('void', 'CS-00000', 'TX-9', 1, 'a test', channel => $1, channel_token => 1)",
+                (long,),
+            ),
             (APPEND, (long, 1)),
             (APPEND, ("", 1)),
         ]
@@ -241,7 +244,9 @@ class Demo(Trial):
         login = self.fleet.dsn("ledger_gateway", self.other.port, database="dumped")
         gateway, self.url = await asyncio.to_thread(self.fleet.gateway, login)
         await self.answered("by the dump", 20, "CS-00007")
-        await copy.execute(f"select operate('void', 'CS-00007', 'T-{self.number - 1}', 0)")
+        await copy.execute(
+            f"select operate('void', 'CS-00007', 'T-{self.number - 1}', 0, 'a test')"
+        )
         board = "select voided, events from own_board_station where station = 'CS-00007'"
 
         async def is_voided() -> bool:

@@ -69,6 +69,8 @@ ARCHIVED_PERIOD = """
 insert into own_archived_period (shard, site, closing, station, starts, up, down)
 values (0, 'north', 1, 'A', $1, $2, 0)
 """
+# What is settled of stations, as the page reads it.
+SETTLED = "select station, up, rows, corrections from own_settled"
 
 
 class Demo(ClosingTrial):
@@ -186,6 +188,10 @@ class Demo(ClosingTrial):
             and told == 1,
             f"the lines of the log have their places, and answers were told up to {told}",
         )
+        settled = [tuple(row) for row in await self.owner.fetch(SETTLED)]
+        self.check(
+            settled == [("A", 750_000, 3, 0)], f"what was settled before is summed up: {settled}"
+        )
         differ = [
             text
             for text in difflib.ndiff(self.schema("fresh"), self.schema("ledger"))
@@ -203,6 +209,12 @@ class Demo(ClosingTrial):
             f"what comes for it: {answers}",
         )
         await self.closed("which takes it", "2026-03-02", "5 late lines for tx-1 of A", "; 1 taken")
+        whole = await self.owner.fetchval("select sum(up)::bigint from own_closed_period")
+        settled = [tuple(row) for row in await self.owner.fetch(SETTLED)]
+        self.check(
+            sum(row[1] for row in settled) == whole and all(row[3] > 0 for row in settled),
+            f"and so is what closings correct: {settled}, {whole}",
+        )
         await self.owner.execute("insert into schema_version (version) values (999)")
         await self.refused(f"has version 999, and these tools are for version {VERSION}")
         made = subprocess.run(

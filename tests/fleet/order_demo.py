@@ -40,6 +40,13 @@ def repeating(station: str, name: str, at: datetime, count: int) -> list[str]:
     return [*lines[:-1], f"msg {station} {json.dumps(frames[-1], separators=(',', ':'))}"]
 
 
+# Something that an operator did before the shard moves.
+DEED = """
+insert into own_deed (shard, token, operator, address, reason, command, site, station, transaction, number)
+values (1, 7, 'jo', '192.0.2.1', 'a reason', 'void', 'north', 'D', 'tx-9', 2)
+"""
+
+
 class Demo(ClosingTrial):
     # The second station of each shard sends what the first one does, and lists nothing again.
     STATIONS = (
@@ -205,6 +212,7 @@ class Demo(ClosingTrial):
         await self.owner.execute(
             f"call see_cell(2::smallint, '127.0.0.1', '{port}', 'second', '{password}')"
         )
+        await self.owner.execute(DEED)
         command = self.fleet.moving("second", 1)
         status, said = await ended(self.fleet.start(*command, stdout=-1, stderr=-2))
         self.check(status == 0, f"a move: {said}")
@@ -218,12 +226,17 @@ class Demo(ClosingTrial):
         )
         count = await second.fetchval("select count(*) from own_finding where station = 'D'")
         self.check(count > 0, f"what is doubtful goes along: {count} rows")
+        deeds = [
+            tuple(row)
+            for row in await second.fetch("select operator, reason, number from own_deed")
+        ]
+        self.check(deeds == [("jo", "a reason", 2)], f"who did what goes along: {deeds}")
         order = await self.owner.fetchval("select reading_order from site where cell = 2")
         self.check(order == "moment", f"the first cell sees it there: {order}")
         self.fleet.worker("--boards", 0.2, dsn=self.fleet.dsn("ledger_worker", database="second"))
         # Of an archived session and of one that is in the log: their ends have what these read.
         for name, number in (("TX-2", 2), ("TX-3", 1), ("TX-3", 2)):
-            await second.execute("select operate('void', 'D', $1, $2)", name, number)
+            await second.execute("select operate('void', 'D', $1, $2, 'a test')", name, number)
         await self.until(
             "select count(*) from board where cell = 2 and text like '% voided=2 %'", 1
         )

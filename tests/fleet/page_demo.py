@@ -1,13 +1,14 @@
-"""Tries the operator's page of a fleet of its own by a browser: Chromium, wide and as wide as a phone.
+"""Tries the operators' page of a fleet of its own by a browser: Chromium, wide, as wide as a phone, light and dark.
 
-    tests/one fleet.page_demo ocpp_board                     in about half a minute
+    tests/one fleet.page_demo ocpp_board                     in about a minute
     tests/one fleet.page_demo ocpp_board --shots FOLDER      keeps pictures of each page
 
-It needs Debian's packages chromium, chromium-driver and python3-selenium besides those of check.sh. Stations send
-events; the browser looks at all sites, a site, its days and what lacks messages; voids, restores and erases an
-event and sees the board change. Then what nobody may do: no password, a wrong one, forms that the page did not
-make, a form carried out twice, words that mean nothing, HTML in names; a day that is closed, a cell that is down.
-The status is 1 where one of these is not as it must be, and 77 where packages are missing.
+It needs Debian's packages chromium, chromium-driver and python3-selenium besides those of check.sh and of the page.
+Stations send events; an operator signs in, looks at all sites, a site, its days, a session and what lacks messages;
+voids, restores and erases an event and sees the board and the history change; asks for a closing. No page may be wider
+than a phone, and labels, links and contrast are as page_check.py wants them. Then a day that is closed, workers that
+are gone, a cell that is down. The status is 1 where one of these is not as it must be, and 77 where packages are
+missing. What nobody may do is tried by operator_demo.py.
 """
 
 import argparse
@@ -18,21 +19,18 @@ import re
 import subprocess
 import sys
 import time
-import urllib.error
-import urllib.request
 from pathlib import Path
 from typing import Any
-from urllib.parse import quote, urlencode
-
-import asyncpg
 
 from ocpp_board.fleet.database import Fault
 from ocpp_board.fleet.figures import joined
 from ocpp_board.fleet.plans import Reckoning
-from tests.fleet.fleet import tool
+from tests.fleet.fleet import ended
+from tests.fleet.page_client import PASSWORD, Client, make_operator, start_page
 from tests.fleet.trials import Trial, event, parsed, parser_of, skipped, tried
 
 try:
+    from selenium.common.exceptions import WebDriverException
     from selenium.webdriver import Chrome, ChromeOptions
     from selenium.webdriver.chrome.service import Service
     from selenium.webdriver.common.by import By
@@ -43,11 +41,24 @@ except ImportError:
     HAS_SELENIUM = False
 
 DRIVER = "/usr/bin/chromedriver"
-PASSWORD = "a page's password"
 # Widths of a desk's screen and of a phone's.
 WIDE, NARROW = 1280, 390
 # A transaction id that would be HTML, were it not escaped.
 EVIL = "<b>\"x\"&'y'</b>"
+# What breaks over two lines of a page and must not: days, times and figures.
+BROKEN = r"""
+const found = [], walk = document.createTreeWalker(document.body, NodeFilter.SHOW_TEXT);
+for (let node; node = walk.nextNode();) {
+  if (node.parentElement.closest('.raw, thead')) continue;
+  for (const one of node.data.matchAll(/\d{4}-\d\d-\d\d|\d\d:\d\d(:\d\d)?|[\d,]*\d\.\d{3}/g)) {
+    const range = document.createRange();
+    range.setStart(node, one.index);
+    range.setEnd(node, one.index + one[0].length);
+    if (new Set([...range.getClientRects()].map(r => Math.round(r.top))).size > 1) found.push(one[0]);
+  }
+}
+return found;
+"""
 
 
 def session(transaction: str, day: str, numbers: list[int], last: int) -> list[str]:
@@ -69,6 +80,9 @@ class Demo(Trial):
         super().__init__(words)
         self.url = ""
         self.browser: Any = None
+        self.worker: Any = None
+        self.kept = self.fleet.folder / "pages"
+        self.kept.mkdir()
 
     async def open(self) -> None:
         await self.one_cell()
@@ -85,8 +99,12 @@ class Demo(Trial):
         await self.append("CS-01", session("T-1", "2026-03-02", [0, 1, 2, 3], 7))
         await self.append("CS-02", session("T-1", "2026-03-03", list(range(6)), 5))
         await self.append("CS-03", session("T-1", "2026-03-01", [0, 2, 3], 3))
-        self.fleet.worker("--boards", 0.3)
+        # One that is refused, with the number of another one.
+        await self.append("CS-02", [event("T-1", 2, "Updated", "2026-03-03T10:30:00Z", 7)])
+        self.worker = self.fleet.worker("--boards", 0.3)
         await self.until(lambda rows: sum(row["events"] for row in rows) == 27, "boards as rows")
+        make_operator(self.fleet, "ann", "sees,voids,closes")
+        make_operator(self.fleet, "eve", "sees", "north")
 
     async def append(self, station: str, texts: list[str]) -> None:
         query = "select shard from own_station where station = $1"
@@ -97,168 +115,11 @@ class Demo(Trial):
         end = time.monotonic() + 15
         while not is_so(await self.owner.fetch("select * from own_board_station")):
             if time.monotonic() > end:
-                raise Fault(f"not within 15 seconds: {what}")
+                rows = await self.owner.fetch(
+                    "select station, complete, events from own_board_station"
+                )
+                raise Fault(f"not within 15 seconds: {what}: {[tuple(row) for row in rows]}")
             await asyncio.sleep(0.1)
-
-    def start_page(self, *more: object, **environment: str) -> subprocess.Popen[bytes]:
-        process = self.fleet.start(
-            *(*tool("page"), "--db", self.fleet.dsn("ledger_operator"), "--port", 0, *more),
-            stdout=subprocess.PIPE,
-            env=os.environ | {"PAGE_PASSWORD": PASSWORD} | environment,
-        )
-        assert process.stdout
-        words = process.stdout.readline().decode().split()
-        if len(words) != 2:
-            raise Fault(f"the page does not start: {self.fleet.folder / 'parts.log'}")
-        self.url = f"http://{words[1]}"
-        return process
-
-    # Without a browser ------------------------------------------------------------------------------------------------
-
-    def asked(
-        self,
-        path: str,
-        login: str | None = f"operator:{PASSWORD}",
-        form: dict[str, str] | None = None,
-        **heads: str,
-    ) -> tuple[int, str, Any]:
-        """A request's status, text and headers."""
-        if login is not None:
-            heads["Authorization"] = "Basic " + base64.b64encode(login.encode()).decode()
-        data = urlencode(form).encode() if form is not None else None
-        try:
-            with urllib.request.urlopen(
-                urllib.request.Request(self.url + path, data, heads), timeout=30
-            ) as answer:
-                return answer.status, answer.read().decode(), answer.headers
-        except urllib.error.HTTPError as fault:
-            return fault.code, fault.read().decode(), fault.headers
-
-    def token(self, **words: str) -> str:
-        _, text, _ = self.asked("/operate?" + urlencode({"ask": "1", **words}))
-        found = re.search(r'name="token" value="([^"]+)"', text)
-        return found[1] if found else ""
-
-    async def logins(self) -> None:
-        made = subprocess.run(
-            [*tool("page"), "--db", self.fleet.dsn("ledger_operator"), "--port", "0"],
-            env={name: value for name, value in os.environ.items() if name != "PAGE_PASSWORD"},
-            stderr=subprocess.PIPE,
-            check=False,
-            timeout=20,
-        )
-        said = made.stderr.decode().strip()
-        self.check(made.returncode == 2 and "the page is off" in said, f"no PAGE_PASSWORD: {said}")
-        made = subprocess.run(
-            [*tool("page"), "--db", self.fleet.dsn("ledger_operator"), "--port", "0"],
-            env=os.environ | {"PAGE_PASSWORD": PASSWORD, "PGPASSWORD": "wrong"},
-            stderr=subprocess.PIPE,
-            check=False,
-            timeout=20,
-        )
-        said = made.stderr.decode().strip()
-        self.check(
-            made.returncode == 2 and said.count("\n") == 0,
-            f"a wrong password of the database: {said}",
-        )
-        for name, login in (
-            ("no password", None),
-            ("a wrong password", "operator:another one"),
-            ("another user", f"root:{PASSWORD}"),
-            ("an empty one", ":"),
-        ):
-            for path in (
-                "/",
-                "/site/north/",
-                "/operate?ask=1&command=void&station=CS-00&transaction=T-1&number=1",
-            ):
-                status, text, heads = self.asked(path, login)
-                if (
-                    status != 401
-                    or "CS-0" in text
-                    or "north" in text
-                    or not heads["WWW-Authenticate"]
-                ):
-                    self.check(False, f"{name}: {path} is answered {status}")
-            self.check(
-                self.asked("/operate", login, {"command": "void"})[0] == 401,
-                f"{name}: 401 on each page",
-            )
-        status, _, heads = self.asked("/")
-        self.check(
-            status == 200 and "default-src 'none'" in heads["Content-Security-Policy"],
-            "the password lets in, no script may",
-        )
-
-    async def forged(self) -> None:
-        """Forms that this page did not make, or not for these words."""
-        words = {"command": "void", "station": "CS-02", "transaction": "T-1", "number": "1"}
-        token = self.token(**words)
-        lines = await self.owner.fetchval("select count(*) from own_log")
-        changed = token[:-1] + ("0" if token[-1] != "0" else "1")
-        late = f"{int(token.split('-')[0]) + 600}-{token.split('-', 1)[1]}"
-        for name, form in (
-            ("no token", words),
-            ("an empty token", words | {"token": ""}),
-            ("a changed token", words | {"token": changed}),
-            ("a token that was made to hold longer", words | {"token": late}),
-            ("a token for another event", words | {"number": "2", "token": token}),
-            ("a token for another command", words | {"command": "erase", "token": token}),
-        ):
-            status, text, _ = self.asked("/operate", form=form)
-            self.check(status == 403 and "nothing was done" in text, f"{name}: {status}")
-        for name, form in (
-            ("a command that is none", words | {"command": "drop", "token": token}),
-            ("a line feed", words | {"transaction": "T-1\nvoid CS-02 T-1 2", "token": token}),
-            ("a number that is none", words | {"number": "1; --", "token": token}),
-            ("a number past the last", words | {"number": "2147483648", "token": token}),
-        ):
-            self.check(self.asked("/operate", form=form)[0] == 400, f"{name}: 400")
-        status, text, _ = self.asked("/operate", form={"x": "y" * 5000})
-        self.check(status == 400, f"a form of 5,000 bytes: {status}")
-        self.check(
-            await self.owner.fetchval("select count(*) from own_log") == lines,
-            "nothing of these is in the log",
-        )
-        answers = [self.asked("/operate", form=words | {"token": token}) for _ in range(2)]
-        found = [re.search(r'id="answer">([^<]*)<', text) for _, text, _ in answers]
-        texts = [one[1] if one else "" for one in found]
-        more = await self.owner.fetchval("select count(*) from own_log") - lines
-        self.check(
-            texts[0].startswith("accepted ") and texts[0] == texts[1] and more == 1,
-            f"a form sent twice is carried out once, and answered alike: {texts}, {more} line",
-        )
-        for path in (
-            "/x",
-            "/site/nowhere/",
-            "/site/north/board.2020-01-01.html",
-            "/site/north/..%2f..%2fetc%2fpasswd",
-        ):
-            self.check(self.asked(path)[0] == 404, f"{path}: 404")
-        _, text, _ = self.asked("/site/%3Cscript%3E/")
-        self.check(
-            "<script" not in text and "&lt;script&gt;" in text,
-            "HTML in an address is shown as text",
-        )
-
-    async def operator_role(self) -> None:
-        """What the page's role of the database may not."""
-        session = await asyncpg.connect(
-            self.fleet.dsn("ledger_operator"), password=self.fleet.password
-        )
-        for query in (
-            "insert into inbox_kept (shard, line) values (0, 'msg CS-00 [2]')",
-            "insert into own_log (shard, place, line) values (0, 1000, 'void CS-00 T-1 1')",
-            "delete from own_log",
-            "update own_board set text = ''",
-            "delete from own_station",
-        ):
-            try:
-                await session.execute(query)
-                self.check(False, f"an operator may: {query}")
-            except asyncpg.PostgresError as fault:
-                self.check(True, f"an operator may not {query[:30]}..: {str(fault)[:60]}")
-        await session.close()
 
     async def joins(self) -> None:
         """A board that is joined of one text is that text."""
@@ -282,14 +143,38 @@ class Demo(Trial):
         ):
             options.add_argument(word)
         options.add_argument(f"--user-data-dir={self.fleet.folder / 'browser'}")
+        # No script may run, and each page has to do without.
+        prefs = {"profile.managed_default_content_settings.javascript": 2}
+        options.add_experimental_option("prefs", prefs)
         self.browser = Chrome(service=Service(DRIVER), options=options)
         self.browser.set_page_load_timeout(30)
-        # As a person does who types the login once: from here on the browser sends it by itself.
-        self.browser.get(self.url.replace("//", f"//operator:{quote(PASSWORD)}@"))
+
+    def enter(self, name: str) -> str:
+        """Signs in as a person does, and gives where that leads."""
+        self.browser.get(self.url + "/site/north/")
+        for field, text in (("name", name), ("password", PASSWORD)):
+            self.browser.find_element(By.ID, field).send_keys(text)
+        self.follow(By.ID, "enter")
+        return str(self.browser.current_url)
+
+    def follow(self, how: str, what: str) -> None:
+        """Clicks, and waits for the page that comes."""
+        page = self.browser.find_element(By.TAG_NAME, "html").id
+        self.browser.find_element(how, what).click()
+        # The page before may be gone while it is looked for.
+        WebDriverWait(self.browser, 30, ignored_exceptions=[WebDriverException]).until(
+            lambda one: one.find_element(By.TAG_NAME, "body")
+            and one.find_element(By.TAG_NAME, "html").id != page
+        )
 
     def width(self, pixels: int) -> None:
         size = {"width": pixels, "height": 900, "deviceScaleFactor": 1, "mobile": pixels < 600}
         self.browser.execute_cdp_cmd("Emulation.setDeviceMetricsOverride", size)
+
+    def dark(self, is_dark: bool) -> None:
+        value = "dark" if is_dark else "light"
+        features = [{"name": "prefers-color-scheme", "value": value}]
+        self.browser.execute_cdp_cmd("Emulation.setEmulatedMedia", {"features": features})
 
     def go(self, path: str) -> str:
         self.browser.get(self.url + path)
@@ -298,47 +183,64 @@ class Demo(Trial):
     def text(self) -> str:
         return str(self.browser.find_element(By.TAG_NAME, "body").text)
 
+    def picture(self, name: str, pixels: int) -> None:
+        if self.words.shots:
+            height = self.browser.execute_script("return document.documentElement.scrollHeight")
+            clip = {"x": 0, "y": 0, "width": pixels, "height": min(height, 2400), "scale": 1}
+            words = {"captureBeyondViewport": True, "clip": clip}
+            made = self.browser.execute_cdp_cmd("Page.captureScreenshot", words)
+            (self.words.shots / f"{name}.png").write_bytes(base64.b64decode(made["data"]))
+
     def shot(self, name: str) -> None:
-        """A picture of the page at both widths, neither of which may need to be moved sideways."""
+        """A picture of the page at both widths, neither of which may need to be moved sideways, and in dark; the page
+        is kept for page_check.py."""
         for pixels, which in ((WIDE, "wide"), (NARROW, "narrow")):
             self.width(pixels)
             over = self.browser.execute_script(
                 "return document.documentElement.scrollWidth - window.innerWidth"
             )
-            if over > 0:
-                self.check(False, f"{name} is {over} pixels wider than {pixels}")
-            if self.words.shots:
-                height = self.browser.execute_script("return document.documentElement.scrollHeight")
-                clip = {"x": 0, "y": 0, "width": pixels, "height": min(height, 2400), "scale": 1}
-                words = {"captureBeyondViewport": True, "clip": clip}
-                made = self.browser.execute_cdp_cmd("Page.captureScreenshot", words)
-                (self.words.shots / f"{name}.{which}.png").write_bytes(
-                    base64.b64decode(made["data"])
-                )
+            broken = self.browser.execute_script(BROKEN)
+            if over > 0 or broken:
+                self.check(False, f"{name}: {over} pixels wider than {pixels}; broken: {broken}")
+            self.picture(f"{name}.{which}", pixels)
+        self.dark(True)
+        self.picture(f"{name}.dark", NARROW)
+        self.dark(False)
         self.width(WIDE)
+        # Those of a site have links to files beside them; site_kept keeps these whole.
+        if "/site/" not in self.browser.current_url:
+            (self.kept / f"{name}.html").write_text(self.browser.page_source)
 
     def operate(
-        self, command: str, station: str, transaction: str, number: int, shot: str = ""
+        self,
+        command: str,
+        station: str,
+        transaction: str,
+        number: int,
+        reason: str = "a try",
+        shot: str = "",
     ) -> str:
         """Fills the form in, says yes, and gives the answer that is shown."""
         self.go("/operate")
         choice: Any = Select(self.browser.find_element(By.ID, "command"))
         choice.select_by_visible_text(command)
-        for name, value in (("station", station), ("transaction", transaction), ("number", number)):
+        fields = (
+            ("station", station),
+            ("transaction", transaction),
+            ("number", number),
+            ("reason", reason),
+        )
+        for name, value in fields:
             self.browser.find_element(By.ID, name).send_keys(str(value))
         if shot:
             self.shot(f"{shot}-form")
-        self.browser.find_element(By.CSS_SELECTOR, "form.operate button").click()
-        WebDriverWait(self.browser, 20).until(
-            lambda one: one.find_elements(By.CSS_SELECTOR, "#yes, .warning")
-        )
+        self.follow(By.ID, "ask")
         buttons = self.browser.find_elements(By.ID, "yes")
         if not buttons:
             return self.text()
         if shot:
             self.shot(f"{shot}-question")
-        buttons[0].click()
-        WebDriverWait(self.browser, 20).until(lambda one: one.find_elements(By.ID, "answer"))
+        self.follow(By.ID, "yes")
         if shot:
             self.shot(f"{shot}-answer")
         return str(self.browser.find_element(By.ID, "answer").text)
@@ -360,12 +262,28 @@ class Demo(Trial):
         self.check(seen == wanted, f"{path}: {name} is {seen} (wanted: {wanted})")
 
     async def looked_at(self) -> None:
+        self.browser.get(self.url + "/")
+        self.shot("sign-in")
+        where = self.enter("ann")
+        self.check(where == f"{self.url}/site/north/", f"who signs in goes on to the page: {where}")
         text = self.go("/")
+        self.check(
+            "for the last 60" not in text and "ann" in text, "each page names who is signed in"
+        )
         sites = [one.text for one in self.browser.find_elements(By.CSS_SELECTOR, "table a")]
         self.check(sites == ["north", "s:o=uth|+@.*"], f"all sites: {sites}")
-        self.check("27" in text.split("All sites")[-1], "the last row sums up")
+        cells = self.browser.find_elements(By.CSS_SELECTOR, "tbody tr:last-child > *")
+        self.check(cells[1].text == "62.500", f"the last row sums up, net first: {cells[1].text}")
+        heads = [one.text for one in self.browser.find_elements(By.CSS_SELECTOR, "thead th")]
+        self.check(
+            "Export up, kWh" not in heads, f"no site has exports, so no column: {heads[1:8]}"
+        )
+        self.check(
+            "Data up to" in text and "Page drawn" in text, "the times of the data and of the page"
+        )
+        self.check("older than it should be" not in text, "no warning where workers work")
         self.shot("all-sites")
-        self.browser.find_element(By.LINK_TEXT, "north").click()
+        self.follow(By.LINK_TEXT, "north")
         # Those with troubles come first.
         stations = [
             one.text
@@ -381,9 +299,10 @@ class Demo(Trial):
             not [b for b in self.browser.find_elements(By.TAG_NAME, "b") if b.text == "\"x\"&'y'"],
             "and is no HTML",
         )
+        self.check("1 message was refused" in self.text(), "what was refused is told")
         self.shot("site")
         days = ["2026-03-01", "2026-03-02", "2026-03-03"]
-        self.browser.find_element(By.LINK_TEXT, days[1]).click()
+        self.follow(By.LINK_TEXT, days[1])
         self.shot("day")
         said = self.text()
         self.check(
@@ -391,28 +310,48 @@ class Demo(Trial):
             in said,
             "a day has its energy",
         )
-        self.browser.find_element(By.PARTIAL_LINK_TEXT, f"\N{LEFTWARDS ARROW} {days[0]}").click()
+        self.follow(By.PARTIAL_LINK_TEXT, f"\N{LEFTWARDS ARROW} {days[0]}")
         self.check(f"Site north on {days[0]}" in self.text(), "the day before")
         for day in days[1:]:
-            self.browser.find_element(By.PARTIAL_LINK_TEXT, f"\N{RIGHTWARDS ARROW} {day}").click()
+            self.follow(By.PARTIAL_LINK_TEXT, f"\N{RIGHTWARDS ARROW} {day}")
         self.check(f"Site north on {days[2]}" in self.text(), "the day after, twice")
-        self.browser.find_element(By.LINK_TEXT, "All sites").click()
-        self.browser.find_element(By.LINK_TEXT, "s:o=uth|+@.*").click()
+        self.follow(By.LINK_TEXT, "All sites")
+        self.follow(By.LINK_TEXT, "s:o=uth|+@.*")
         self.check("CS-03" in self.text(), "a site with other signs in its name has its page")
-        self.browser.find_element(By.LINK_TEXT, "Sessions that lack messages").click()
+        self.follow(By.LINK_TEXT, "Sessions that lack messages")
         rows = [row.text for row in self.browser.find_elements(By.CSS_SELECTOR, "section tbody tr")]
         self.check(
             len(rows) == 3 and EVIL in "".join(rows[:2]) and "3 to 4" in "".join(rows[:2]),
             f"lacking: {rows}",
         )
         self.shot("lacking")
+        self.follow(By.LINK_TEXT, EVIL)
+        said = self.text()
+        self.check(
+            "Updated 5, reads 13500" in said and '[3,"' in said,
+            "a session has its lines with their answers",
+        )
+        self.shot("session")
+        self.follow(By.LINK_TEXT, "Refused")
+        self.check(
+            "ConflictingEvent" in self.text() and "CS-02" in self.text(),
+            "what was refused, and why",
+        )
+        self.shot("refused")
 
     async def operated(self) -> None:
         north = "/site/north/"
         await self.shown_soon(north, "Voided events", "0")
         before = self.figure(north, "Up")
-        answer = self.operate("void", "CS-00", "T-1", 7, "void")
+        answer = self.operate("void", "CS-00", "T-1", 7, "the meter was read twice", "void")
         self.check(answer.startswith("accepted "), f"void: {answer}")
+        self.follow(By.PARTIAL_LINK_TEXT, "history")
+        said = self.text()
+        self.check(
+            "the meter was read twice" in said and "127.0.0.1" in said,
+            "the history tells who and why",
+        )
+        self.shot("session-voided")
         await self.shown_soon(north, "Voided events", "1")
         self.check(
             self.figure(north, "Up") != before,
@@ -439,23 +378,26 @@ class Demo(Trial):
         )
         lines = await self.owner.fetchval("select count(*) from own_log where line !~ '^msg '")
         self.check(lines == 7, f"operators' lines in the log: {lines}")
+        self.go("/changes")
+        self.shot("changes")
 
     async def closed(self) -> None:
         """A day that was closed: its sessions left the log, and its energy stays on the page."""
         archives = self.fleet.folder / "archives"
         archives.mkdir()
         before = self.figure("/site/north/", "Up"), self.figure("/site/north/", "Of these")
-        made = subprocess.run(
-            self.fleet.closing("north", archives, "2026-03-03"),
-            stdout=subprocess.PIPE,
-            stderr=subprocess.STDOUT,
-            check=False,
-        )
+        self.go("/closings?site=north")
+        self.browser.find_element(By.ID, "reason").send_keys("the month ends")
+        self.shot("closings")
+        self.follow(By.ID, "ask")
         self.check(
-            made.returncode == 0, f"ocpp-board close-day: {made.stdout.decode().splitlines()[:1]}"
+            "waits" in self.text() and "the month ends" in self.text(), "a closing is asked for"
         )
+        command = self.fleet.closing("north", archives, "2026-03-03")
+        status, said = await ended(self.fleet.start(*command, stdout=-1, stderr=-2))
+        self.check(status == 0, f"ocpp-board close-day: {said.splitlines()[:1]}")
         await self.until(
-            lambda rows: sum(row["complete"] for row in rows) == 0,
+            lambda rows: sum(row["complete"] for row in rows) == 1,
             "the board without what is archived",
         )
         await self.shown_soon("/site/north/", "Up", before[0])
@@ -466,40 +408,102 @@ class Demo(Trial):
             "the page tells what archives have",
         )
         self.shot("site-closed")
+        for field, word in (("station", "CS-00"), ("transaction", "T-1")):
+            self.browser.find_element(By.ID, field).send_keys(word)
+        self.follow(By.CSS_SELECTOR, 'form[action="/session"] button')
+        text = self.text()
+        self.check(
+            "archive" in text and "Its energy is settled" in text,
+            "an archived session has its lines, too",
+        )
+        self.shot("session-archived")
+        self.go("/")
+        self.check("to 2026-03-03" in self.text(), "all sites tell up to when they are settled")
+        self.shot("all-sites-closed")
+
+    def site_kept(self) -> None:
+        """A site's pages with all that they link to, for page_check.py."""
+        client, folder = Client(self.url), self.kept / "north"
+        client.login("eve")
+        folder.mkdir()
+        names, seen = ["board.html"], set[str]()
+        while names:
+            name = names.pop()
+            seen.add(name)
+            answer = client.get(f"/site/north/{name}")
+            self.check(
+                answer.status == 200,
+                f"/site/north/{name}: {answer.status}, {len(answer.text):,} bytes",
+            )
+            (folder / name).write_text(answer.text)
+            links = set(re.findall(r'href="(board\.[^"#]+)', answer.text))
+            names += sorted(links - seen - set(names))
+
+    async def checked(self) -> None:
+        """Labels, links, contrast, and no script."""
+        self.site_kept()
+        pages = sorted(str(path) for path in self.kept.rglob("*.html"))
+        made = subprocess.run(
+            [sys.executable, "-m", "tests.page_check", *pages],
+            stdout=subprocess.PIPE,
+            stderr=subprocess.STDOUT,
+            check=False,
+        )
+        said = made.stdout.decode().strip().splitlines()
+        self.check(made.returncode == 0, f"page_check of {len(pages)} pages: {said[-8:]}")
+
+    async def idle(self) -> None:
+        """Workers that are gone: the pages tell that boards are older than they should be."""
+        self.worker.kill()
+        self.worker.wait()
+        await self.owner.execute("update worker set beat = now() - interval '60 seconds'")
+        for path in ("/", "/site/north/", "/lacking"):
+            self.check(
+                "older than it should be" in self.go(path), f"{path} tells that no worker works"
+            )
+        self.go("/")
+        self.shot("all-sites-late")
 
     async def down(self) -> None:
         """The database ends, and is there again."""
-        database = self.fleet.databases[0]
+        client, database = Client(self.url), self.fleet.databases[0]
+        client.login("ann")
         database.kill()
-        status, text, _ = self.asked("/")
-        self.check(status == 503 and "no cell answers" in text, f"the database is down: {status}")
+        answer = await asyncio.to_thread(client.get, "/")
+        self.check(
+            answer.status == 503 and "the database does not do it" in answer.told,
+            f"the database is down: {answer.status} {answer.told[:60]}",
+        )
         database.start()
-        status, _, _ = self.asked("/")
-        self.check(status == 200, f"it is there again: {status}")
+        answer = await asyncio.to_thread(client.get, "/")
+        self.check(answer.status == 200, f"it is there again: {answer.status}")
 
     async def run(self) -> None:
         await self.open()
         await self.joins()
-        page = self.start_page()
-        await self.logins()
-        await self.operator_role()
+        page, self.url = start_page(self.fleet)
         self.open_browser()
         await self.looked_at()
         await self.operated()
-        await self.forged()
         await self.closed()
+        await self.idle()
+        await self.checked()
         await self.owner.close()
         await self.down()
         self.check(page.poll() is None, "the page still runs")
         # One of two cells is down.
-        self.start_page("--db", "postgresql://ledger_operator@127.0.0.1:1/ledger")
-        self.browser.get(self.url.replace("//", f"//operator:{quote(PASSWORD)}@"))
+        gone = "postgresql://ledger_operator@127.0.0.1:1/ledger"
+        _, self.url = start_page(self.fleet, dsns=(self.fleet.dsn("ledger_operator"), gone))
+        # It knows who is signed in.
         text = self.go("/")
         self.check(
             "A cell does not answer" in text and "north" in text,
             "one of two cells is down: the other is shown",
         )
         self.shot("cell-down")
+        self.follow(By.ID, "out")
+        self.check("Sign in" in self.text(), "ann signs out")
+        self.check("Sign in" in self.go("/"), "and is asked to sign in")
 
     def close(self) -> None:
         if self.browser:

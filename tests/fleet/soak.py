@@ -131,7 +131,7 @@ class Soak(Trial):
             if str(words) not in voided:
                 voided.add(str(words))
                 # The same line once more changes nothing that it changed.
-                await self.done("select operate('void', $1, $2, $3)", *words)
+                await self.done("select operate('void', $1, $2, $3, 'a test')", *words)
                 self.voids.append(f"void {words[0]} {words[1]} {words[2]}")
 
     async def done(self, query: str, *values: object) -> Any:

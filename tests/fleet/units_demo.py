@@ -15,7 +15,6 @@ without systemd-analyze.
 
 import argparse
 import asyncio
-import base64
 import configparser
 import ctypes
 import importlib
@@ -30,15 +29,25 @@ from pathlib import Path
 
 from ocpp_board.fleet.database import Fault
 from tests.fleet.fleet import BIN, TOP, ended, free_port
+from tests.fleet.page_client import Client, make_operator
 from tests.fleet.trials import Trial, messages, parsed, parser_of, skipped, tried
 
 UNITS = TOP / "packaging/ocpp-board-fleet"
 # The files that units take their variables from.
-SETTINGS = ("gateway", "worker", "page", "feed", "close-day", "compact", "forget", "backup")
+SETTINGS = (
+    "gateway",
+    "worker",
+    "page",
+    "feed",
+    "close-day",
+    "close-requested",
+    "compact",
+    "forget",
+    "backup",
+)
 # What `systemd-analyze security` may say at most, and prctl's word for no memory that is written and executed.
 MOST, NO_WRITE_AND_EXECUTE = 3.0, 65
 ANALYZE = "/usr/bin/systemd-analyze"
-PASSWORD = "a page's password"
 
 
 def free_port_text() -> str:
@@ -231,7 +240,7 @@ class Demo(Trial):
         secret = {"PGPASSWORD": self.fleet.password}
         for unit in SETTINGS:
             self.keep_secret(unit, **secret)
-        self.metrics = {name: str(free_port()) for name in ("gateway", "worker@", "feed")}
+        self.metrics = {name: str(free_port()) for name in ("gateway", "worker@", "feed", "page")}
         self.set_up(
             "gateway", DB=f"--db {self.fleet.dsn('ledger_gateway')}", PORT=ports[0], OPTIONS="--open",
             METRICS=self.metrics["gateway"],
@@ -250,6 +259,7 @@ class Demo(Trial):
         )
         for unit, role in (
             ("close-day", "closer"),
+            ("close-requested", "closer"),
             ("compact", "compactor"),
             ("forget", "keeper"),
             ("backup", "backup"),
@@ -258,9 +268,10 @@ class Demo(Trial):
         page = {
             "DB": f"--db {self.fleet.dsn('ledger_operator')}",
             "PORT": ports[1],
+            "METRICS": self.metrics["page"],
+            "OPTIONS": f"--http --program {self.fleet.program}",
         }
         self.set_up("page", **page)
-        self.keep_secret("page", PAGE_PASSWORD=PASSWORD)
         texts = list(dict.fromkeys(messages(10, 30)))
         log.write_text("".join(f"INFO:ocpp:CS-00010: receive message {text}\n" for text in texts))
         self.fleet.records.append(self.fleet.folder / "fed.script")
@@ -282,15 +293,13 @@ class Demo(Trial):
         self.check(
             not differ, f"what came to the gateway and by the feed is on the boards {differ or ''}"
         )
-        login = base64.b64encode(f"operator:{PASSWORD}".encode()).decode()
-        request = urllib.request.Request(
-            f"http://127.0.0.1:{ports[1]}/", None, {"Authorization": f"Basic {login}"}
-        )
-        with urllib.request.urlopen(request, timeout=30) as answer:
-            shown = answer.read().decode()
+        make_operator(self.fleet, "ann", "sees")
+        client = Client(f"http://127.0.0.1:{ports[1]}")
+        client.login("ann")
+        shown = client.get("/").text
         self.check(
-            "site-0" in shown and "site-1" in shown and "330" in shown,
-            "the unit's page has 330 events",
+            "site-0" in shown and "site-1" in shown,
+            "the unit's page has both sites for an operator",
         )
         await self.watched()
         await self.backup()

@@ -11,7 +11,7 @@ pytest.importorskip("asyncpg")
 pytest.importorskip("websockets")
 
 from ocpp_board.energies import Flow  # noqa: E402
-from ocpp_board.fleet.archives import LATER, Late, packed, unpacked, widened  # noqa: E402
+from ocpp_board.fleet.archives import Late, packed, unpacked, widened  # noqa: E402
 from ocpp_board.fleet.close_day import differences  # noqa: E402
 from ocpp_board.fleet import database, watched as watching  # noqa: E402
 from ocpp_board.fleet.board_writer import Board, chunks  # noqa: E402
@@ -49,14 +49,6 @@ from ocpp_board.fleet.lines import (  # noqa: E402
     may_name,
     readings_of,
     transaction_of,
-)
-from ocpp_board.fleet.page import FILE, fields_of  # noqa: E402
-from ocpp_board.fleet.page_texts import (  # noqa: E402
-    Words,
-    Wrong,
-    answer_page,
-    question_page,
-    with_links,
 )
 from ocpp_board.fleet.plans import Plan, Reckoning, known_lines  # noqa: E402
 from ocpp_board.fleet.worker import payloads_of  # noqa: E402
@@ -325,15 +317,6 @@ def test_the_station_of_a_path() -> None:
         assert station_in(path) == ""
 
 
-def test_the_page_tells_what_a_closing_will_do() -> None:
-    words = Words("void", "A", "T1", "3")
-    row = {"site": "north", "transaction": None, "is_archived": True}
-    assert b"in the archive of a closed day" in question_page(words, row, "token")
-    assert b"no such session" in question_page(words, row | {"is_archived": False}, "token")
-    assert b"next closing does it" in answer_page(words, LATER.decode(), "north")
-    assert b"It is done" in answer_page(words, "accepted 3", "north")
-
-
 def test_a_station_waits_above_its_pace() -> None:
     pace, now = Pace(), 1_000.0
     assert all(pace.wait(100, now) == 0 for _ in range(BURST * EVENTS))
@@ -440,48 +423,3 @@ def test_objects_of_other_systems_become_frames() -> None:
     maeve = '{"type":"call","action":"TransactionEvent","id":"9","request":{"seqNo":1}}'
     event = maeve_event("A", maeve)
     assert event and event.line == 'msg A [2,"9","TransactionEvent",{"seqNo":1}]'
-
-
-@pytest.mark.parametrize(
-    "words",
-    [
-        Words("drop", "A", "T1", "1"),
-        Words("void", "a/b", "T1", "1"),
-        Words("void", "A", "T 1", "1"),
-        Words("void", "A", "T1\nvoid A T1 2", "1"),
-        Words("void", "A", "T1", "2147483648"),
-        Words("void", "A", "T1", "-1"),
-    ],
-)
-def test_an_operators_words_that_mean_nothing(words: Words) -> None:
-    Words("void", "A", "T1", "2147483647").check()
-    with pytest.raises(Wrong):
-        words.check()
-
-
-def test_fields_of_a_form() -> None:
-    assert fields_of("a=1&b=+x+&a=2") == {"a": "2", "b": "x"}
-    with pytest.raises(Wrong):
-        fields_of("&".join(f"a{n}=1" for n in range(17)))
-
-
-@pytest.mark.parametrize(
-    ("name", "is_known"),
-    [
-        ("board.html", True),
-        ("board.2.html", True),
-        ("board.2026-03-01.html", True),
-        ("board.2026-03-01.12.html", True),
-        ("board.periods.csv", True),
-        ("board.2026-03-01.2.3.html", False),
-        ("board..html", False),
-    ],
-)
-def test_files_of_a_site(name: str, is_known: bool) -> None:
-    assert bool(FILE.fullmatch(name)) == is_known
-
-
-def test_a_page_names_its_site_once() -> None:
-    for title in ("Site north, Sun 2026-03-01", "Site boards"):
-        text = with_links(f"<title>{title}</title>", "north", 0, []).decode()
-        assert text.count("Site north") == 1

@@ -23,7 +23,7 @@ import argparse
 import asyncio
 import logging
 import os
-from collections.abc import Collection, Sequence
+from collections.abc import Collection, Mapping, Sequence
 from datetime import date, datetime, time, timedelta
 from pathlib import Path
 from typing import Any, NamedTuple
@@ -46,6 +46,7 @@ from ocpp_board.fleet.lines import (
     transaction_of,
 )
 from ocpp_board.fleet.plans import Plan, Reckoning, known_lines
+from ocpp_board.session_times import SessionTimes
 from ocpp_board.words import add_program, parser_of
 
 log = logging.getLogger(__name__)
@@ -89,13 +90,15 @@ insert into own_archived_period (shard, site, closing, station, starts, up, down
 values ($1, $2, $3, $4, $5, $6, $7, $8, $9)
 """
 # A transaction is archived once, and has figures where it has a live event.
-FORGET = (
-    "delete from own_archived_transaction where shard = $1 and station = $2 and transaction = $3"
-)
+FORGET = """
+delete from own_archived_transaction
+where shard = $1 and (station, transaction) in (select * from unnest($2::text[], $3::text[]))
+returning station, transaction, complete, missing, up, down, export_up, export_down, corrections
+"""
 TRANSACTION = """
 insert into own_archived_transaction (shard, site, closing, station, transaction, complete, missing, up, down,
-    export_up, export_down)
-values ($1, $2, $3, $4, $5, $6, $7, $8, $9, $10, $11)
+    export_up, export_down, evse, events, first, last, begun, started, ended, corrections)
+values ($1, $2, $3, $4, $5, $6, $7, $8, $9, $10, $11, $12, $13, $14, $15, $16, $17, $18, $19)
 """
 PACKED = """
 insert into own_archived_lines (shard, site, closing, station, transaction, lines) values ($1, $2, $3, $4, $5, $6)
@@ -372,8 +375,8 @@ class Closing:
             await self.session.executemany(
                 ARCHIVED_PERIOD, [(*head, *key, *flow) for key, flow in moved.items()]
             )
-            await self.write_findings(log_lines)
-            await self.write_transactions(head, in_file, leaving)
+            found = await self.write_findings(log_lines)
+            await self.write_transactions(head, in_file, leaving, found)
             await self.take_out(plan, removed)
         # Behind the commit: to be told, others would wait for it.
         await self.session.execute("select pg_notify('plan', $1)", str(self.shard))
@@ -392,18 +395,26 @@ class Closing:
             )
 
     async def write_transactions(
-        self, head: tuple[int, str, int], in_file: Figures, leaving: dict[Transaction, list[str]]
+        self,
+        head: tuple[int, str, int],
+        in_file: Figures,
+        leaving: dict[Transaction, list[str]],
+        found: Findings,
     ) -> None:
-        """Writes the archived transactions: their figures, and their lines."""
-        await self.session.executemany(FORGET, [(self.shard, *one) for one in leaving])
+        """Writes the archived transactions: their figures, their times, and their lines."""
+        names = ([one[part] for one in leaving] for part in (0, 1))
+        had = {
+            (row["station"], row["transaction"]): row for row in await self.fetch(FORGET, *names)
+        }
         await self.session.executemany(
-            TRANSACTION, [(*head, *row) for row in transactions(in_file)]
+            TRANSACTION,
+            [(*head, *row) for row in transactions(in_file, had, found.times(in_file))],
         )
         await self.session.executemany(
             PACKED, [(*head, *one, packed(lines)) for one, lines in leaving.items()]
         )
 
-    async def write_findings(self, log_lines: Sorted) -> None:
+    async def write_findings(self, log_lines: Sorted) -> Findings:
         """Writes what is doubtful in the sessions of the log, and in those that come to be archived again."""
         found = Findings(self.site, self.reckoning)
         for lines in log_lines.known.values():
@@ -414,6 +425,7 @@ class Closing:
         await self.session.execute(findings.GONE, self.shard, self.names(), *known, findings.FAR)
         rows = [*found.rows(log_lines.whole), *found.rows(log_lines.now)]
         await self.session.executemany(findings.WRITE, [(self.shard, *row) for row in rows])
+        return found
 
     async def take_out(self, plan: int, removed: list[Any]) -> None:
         """Takes rows out of the log. Raises Fault where that or the plan was changed meanwhile."""
@@ -494,13 +506,28 @@ def differences(new: Flows, old: Flows) -> Flows:
     return found
 
 
-def transactions(part: Figures) -> list[tuple[Any, ...]]:
-    """The rows of archived transactions."""
-    return [
-        (station, name, bool(numbers["complete"]), numbers["missing"], *flow_of(numbers))
-        for (station, kind, name), numbers in part.items()
-        if kind == "tx"
-    ]
+def transactions(
+    part: Figures, had: Mapping[Transaction, Any], times: Mapping[Transaction, SessionTimes]
+) -> list[tuple[Any, ...]]:
+    """The rows of archived transactions. `had`: those that they had before."""
+    rows = []
+    for (station, kind, name), numbers in part.items():
+        if kind == "tx":
+            now = (bool(numbers["complete"]), numbers["missing"], *flow_of(numbers))
+            more = (numbers[key] for key in ("evse", "events", "first", "last"))
+            when = times[station, name]
+            moments = (when.begun, when.start, when.end)
+            corrections = corrections_of(had.get((station, name)), now)
+            rows.append((station, name, *now, *more, *moments, corrections))
+    return rows
+
+
+def corrections_of(had: Any, now: tuple[Any, ...]) -> int:
+    """How often the figures of an archived transaction were found to be others. `had`: its row before."""
+    if had is None:
+        return 0
+    before = (had["complete"], had["missing"], *flow_of(had))
+    return int(had["corrections"]) + (before != now)
 
 
 async def run(words: argparse.Namespace) -> None:

@@ -5,11 +5,13 @@ from contextlib import suppress
 from typing import Any
 
 from ocpp_board.answered import Answered
+from ocpp_board.boards import Numbers
 from ocpp_board.fleet.figures import Figures
 from ocpp_board.fleet.lines import ODD, Transaction
 from ocpp_board.fleet.plans import DEFAULT_ORDER, Reckoning
 from ocpp_board.quality import Kind, findings_of
-from ocpp_board.transactions import Transactions
+from ocpp_board.session_times import SessionTimes, times_of
+from ocpp_board.transactions import Event, Transactions
 
 # Of sessions in the log, and of those that this closing archives again. Rows of other archived sessions stay, and so do
 # those of a clock that is far: when archived lines were heard is not known any more, and what came since is added.
@@ -52,8 +54,8 @@ class Findings:
         for line in lines:
             self.take(line, TAKEN)
 
-    def rows(self, figures: Figures) -> Iterator[tuple[Any, ...]]:
-        """The rows of the sessions that these figures of boards have."""
+    def sessions(self, figures: Figures) -> Iterator[tuple[Transaction, Numbers, list[Event]]]:
+        """The sessions that these figures of boards have, with their numbers and the events that count."""
         gaps = dict[Transaction, list[tuple[int, int]]]()
         for station, kind, name in figures:
             if kind == "gap":
@@ -61,11 +63,19 @@ class Findings:
                 first, last = map(int, ends.split(".."))
                 gaps.setdefault((station, tx), []).append((first, last))
         for (station, kind, tx), numbers in figures.items():
-            if kind != "tx":
-                continue
+            if kind == "tx":
+                whole = self.messages.of(self.site, station, tx)
+                missing = sorted(gaps.get((station, tx), ()))
+                yield (station, tx), numbers, whole.live(numbers["first"], numbers["last"], missing)
+
+    def times(self, figures: Figures) -> dict[Transaction, SessionTimes]:
+        """When the sessions that these figures have began and ended."""
+        return {one: times_of(events) for one, _, events in self.sessions(figures)}
+
+    def rows(self, figures: Figures) -> Iterator[tuple[Any, ...]]:
+        """The rows of the sessions that these figures of boards have."""
+        for (station, tx), numbers, events in self.sessions(figures):
             whole = self.messages.of(self.site, station, tx)
-            missing = sorted(gaps.get((station, tx), ()))
-            events = whole.live(numbers["first"], numbers["last"], missing)
             for one in findings_of(whole, events, bool(numbers["complete"]), self.by_sequence):
                 told = (one.kind.label, one.times, one.first, one.detail, one.kind.meaning)
                 yield (self.site, station, tx, *told)

@@ -92,10 +92,16 @@ PARTS = (
     ),
     (
         "own_archived_transaction",
-        "site, closing, station, transaction, complete, missing, up, down, export_up, export_down",
+        "site, closing, station, transaction, complete, missing, up, down, export_up, export_down, evse, events, "
+        "first, last, begun, started, ended, corrections",
         "transaction",
     ),
     ("own_archived_lines", "site, closing, station, transaction, lines", "transaction"),
+    (
+        "own_deed",
+        "token, form, at, operator, login, address, reason, command, site, station, transaction, number, answer",
+        "at",
+    ),
     ("own_compaction", "at, removed", "at"),
     ("own_forgotten", "site, closing, at", "closing"),
 )

@@ -18,7 +18,7 @@ from ocpp_board.statuses import Mistaken, Status
 log = logging.getLogger(__name__)
 
 # The secrets that parts take, by their names in the environment.
-SECRETS = ("PGPASSWORD", "SOURCE_PASSWORD", "PAGE_PASSWORD", "PROXY_SECRET")
+SECRETS = ("PGPASSWORD", "SOURCE_PASSWORD", "PROXY_SECRET")
 ADDRESS = "postgresql://USER@HOST:PORT,HOST:PORT/DATABASE"
 
 

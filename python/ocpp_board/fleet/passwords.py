@@ -1,4 +1,6 @@
-"""Who may speak as a station: HTTP Basic by hashes of the plan (OCPP 2.0.1 Part 2, A.1.3, profiles 1 and 2)."""
+"""Who may speak as a station: HTTP Basic by hashes of the plan (OCPP 2.0.1 Part 2, A.1.3, profiles 1 and 2).
+
+The hashes, addresses and counted failures are those of operators, too (operators.py)."""
 
 import asyncio
 import base64
@@ -19,9 +21,8 @@ log = logging.getLogger(__name__)
 
 # Characters that a password has (OCPP 2.0.1 Part 2, BasicAuthPassword).
 SHORTEST, LONGEST = 16, 40
-# Of scrypt (RFC 7914), and bytes. A guess need not be dear, since passwords are long and chosen at random; but all
-# stations of a gateway that failed come to another one at once, and each costs it one hash.
-COST, BLOCK, LANES, SALT, HASH = 4096, 8, 1, 16, 32
+# Bytes of a salt and a hash, and of memory that a hash may take.
+SALT, HASH, MEMORY = 16, 32, 1 << 26
 # Passwords that a station may have, for the time in which it changes to another one.
 KEPT = 2
 # Hashes at once, and besides one for those who are slowed down.
@@ -35,9 +36,24 @@ FAILED, SLOWED = 20_000, 100
 TOLD = 100
 
 
-def hashed(password: bytes, salt: bytes) -> bytes:
+class Cost(NamedTuple):
+    """What a hash by scrypt costs (RFC 7914)."""
+
+    n: int
+    r: int
+    p: int
+
+
+# A guess need not be dear, since stations' passwords are long and chosen at random; but all stations of a gateway that
+# failed come to another one at once, and each costs it one hash.
+STATION = Cost(4096, 8, 1)
+
+
+def hashed(password: bytes, salt: bytes, cost: Cost = STATION) -> bytes:
     """The hash of a password, by scrypt."""
-    return hashlib.scrypt(password, salt=salt, n=COST, r=BLOCK, p=LANES, dklen=HASH)
+    return hashlib.scrypt(
+        password, salt=salt, n=cost.n, r=cost.r, p=cost.p, dklen=HASH, maxmem=MEMORY
+    )
 
 
 def fault_of(password: str) -> str:
@@ -101,8 +117,12 @@ def matching(password: bytes, known: Sequence[Stored]) -> Stored | None:
 
 
 def address_of(peer: str, headers: Headers, proxies: Sequence[str]) -> str:
+    """Where a station's connection comes from."""
+    return address_told(peer, headers.get_all("X-Forwarded-For"), proxies)
+
+
+def address_told(peer: str, told: Sequence[str], proxies: Sequence[str]) -> str:
     """Where a connection comes from: what a proxy of ours tells last, where it comes from one."""
-    told = headers.get_all("X-Forwarded-For")
     return told[-1].rpartition(",")[2].strip() if told and peer in proxies else peer
 
 

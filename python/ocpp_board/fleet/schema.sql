@@ -8,7 +8,7 @@
 -- applied once. With `-v to=1` it goes no further than version 1.
 -- The passwords of the roles come from the environment:
 -- GATEWAY_PASSWORD, FEED_PASSWORD, WORKER_PASSWORD, READER_PASSWORD, OPERATOR_PASSWORD, PROVISIONER_PASSWORD,
--- CLOSER_PASSWORD, COMPACTOR_PASSWORD, MOVER_PASSWORD, KEEPER_PASSWORD and BACKUP_PASSWORD; a role whose variable is not
+-- ADMINISTRATOR_PASSWORD, CLOSER_PASSWORD, COMPACTOR_PASSWORD, MOVER_PASSWORD, KEEPER_PASSWORD and BACKUP_PASSWORD; a role whose variable is not
 -- set gets none, or keeps its own.
 --
 -- shard, site, station, log and board are tables over all cells; what lies in this one is own_shard, own_site, own_station,
@@ -1057,6 +1057,7 @@ select :to >= 4 and not exists (select from schema_version where version = 4) as
 \getenv reader_password READER_PASSWORD
 \getenv operator_password OPERATOR_PASSWORD
 \getenv provisioner_password PROVISIONER_PASSWORD
+\getenv administrator_password ADMINISTRATOR_PASSWORD
 \getenv closer_password CLOSER_PASSWORD
 \getenv compactor_password COMPACTOR_PASSWORD
 \getenv mover_password MOVER_PASSWORD
@@ -1079,6 +1080,12 @@ select :to >= 4 and not exists (select from schema_version where version = 4) as
 \endif
 \if :{?provisioner_password}
     alter role ledger_provisioner password :'provisioner_password';
+\endif
+select :to >= 2 as has_administrator \gset
+\if :has_administrator
+\if :{?administrator_password}
+    alter role ledger_administrator password :'administrator_password';
+\endif
 \endif
 select :to >= 3 as has_roles_of_tools \gset
 \if :has_roles_of_tools

@@ -1,0 +1,85 @@
+"""The queries of the API's lists. Each takes a key that rows keep, and gives the rows behind it."""
+
+# What closings took out of the log that a board of a station's plan does not have any more.
+GONE = "(b.plan is null or c.plan <= b.plan)"
+STATIONS = f"""
+select t.station, t.retired, b.at, b.place, coalesce(b.events, 0) as events, coalesce(b.voided, 0) as voided,
+    coalesce(b.transactions, 0) + a.transactions as transactions, coalesce(b.complete, 0) + a.complete as complete,
+    coalesce(b.missing, 0) + a.missing as missing, coalesce(b.up, 0) + f.up as up, coalesce(b.down, 0) + f.down as down,
+    coalesce(b.export_up, 0) + f.export_up as export_up, coalesce(b.export_down, 0) + f.export_down as export_down,
+    coalesce(s.up, 0) as settled_up, coalesce(s.down, 0) as settled_down, coalesce(s.export_up, 0) as settled_export_up,
+    coalesce(s.export_down, 0) as settled_export_down, coalesce(s.rows, 0) as settled_rows,
+    coalesce(s.corrections, 0) as corrections
+from own_station t left join own_board_station b using (shard, site, station)
+left join own_settled s using (shard, site, station)
+cross join lateral (
+    select count(*) as transactions, count(*) filter (where x.complete) as complete,
+        coalesce(sum(x.missing), 0)::bigint as missing
+    from own_archived_transaction x join own_closing c using (shard, site, closing)
+    where x.shard = t.shard and x.site = t.site and x.station = t.station and {GONE}) a
+cross join lateral (
+    select coalesce(sum(x.up), 0)::bigint as up, coalesce(sum(x.down), 0)::bigint as down,
+        coalesce(sum(x.export_up), 0)::bigint as export_up, coalesce(sum(x.export_down), 0)::bigint as export_down
+    from own_archived_period x join own_closing c using (shard, site, closing)
+    where x.shard = t.shard and x.site = t.site and x.station = t.station and {GONE}) f
+where t.site = $1 and t.shard = any($2) and t.station collate "C" > $3
+order by t.station collate "C" limit $4
+"""
+PERIODS = f"""
+with flow as (
+    select shard, station, starts, at, up, down, export_up, export_down from own_board_period
+    where site = $1 and shard = any($2) and starts >= $3 and starts < $4
+    union all
+    select x.shard, x.station, x.starts, c.at, x.up, x.down, x.export_up, x.export_down
+    from own_archived_period x join own_closing c using (shard, site, closing)
+        left join own_board_station b using (shard, site, station)
+    where x.site = $1 and x.shard = any($2) and x.starts >= $3 and x.starts < $4 and {GONE}
+), has as (
+    select shard, station, starts, max(at) as at, sum(up)::bigint as up, sum(down)::bigint as down,
+        sum(export_up)::bigint as export_up, sum(export_down)::bigint as export_down
+    from flow group by shard, station, starts
+), settled as (
+    select x.shard, x.station, x.starts, max(c.at) as at, sum(x.up)::bigint as up, sum(x.down)::bigint as down,
+        sum(x.export_up)::bigint as export_up, sum(x.export_down)::bigint as export_down, count(*) as rows,
+        count(*) filter (where is_correction(x.shard, x.site, x.closing, x.day)) as corrections
+    from own_closed_period x join own_closing c using (shard, site, closing)
+    where x.site = $1 and x.shard = any($2) and x.starts >= $3 and x.starts < $4
+    group by x.shard, x.station, x.starts
+)
+select station, starts, coalesce(h.at, s.at) as at, coalesce(h.up, 0) as up, coalesce(h.down, 0) as down,
+    coalesce(h.export_up, 0) as export_up, coalesce(h.export_down, 0) as export_down,
+    coalesce(s.up, 0) as settled_up, coalesce(s.down, 0) as settled_down,
+    coalesce(s.export_up, 0) as settled_export_up, coalesce(s.export_down, 0) as settled_export_down,
+    coalesce(s.rows, 0) as settled_rows, coalesce(s.corrections, 0) as corrections
+from has h full join settled s using (shard, station, starts)
+where (starts, station collate "C") > ($5::timestamptz, $6::text)
+order by starts, station collate "C" limit $7
+"""
+# A transaction that was archived is shown as its closing has it, also until the board knows that.
+TRANSACTIONS = """
+select distinct on (transaction collate "C") * from (
+    select a.transaction, c.at, a.evse, a.events, a.first, a.last, a.complete, a.missing, a.up, a.down, a.export_up,
+        a.export_down, a.closing, c.day, a.started, a.ended, a.corrections
+    from own_archived_transaction a join own_closing c using (shard, site, closing)
+    where a.shard = $1 and a.station = $2 and a.transaction collate "C" > $3
+    union all
+    select transaction, at, evse, events, first, last, complete, missing, up, down, export_up, export_down, null, null,
+        null, null, 0
+    from own_board_transaction where shard = $1 and station = $2 and transaction collate "C" > $3) as t
+order by transaction collate "C", closing is null limit $4
+"""
+# The transactions that lines of a station in the log name.
+LATE = r"""
+select distinct lower(coalesce((regexp_match(line, '"transactionId"[ \t\r\n]*:[ \t\r\n]*"([^"]*)"'))[1],
+    split_part(line, ' ', 3))) as name
+from own_log where shard = $1 and split_part(line, ' ', 2) = $2
+"""
+REFUSALS = """
+select r.* from own_refusal r join own_station t using (shard, station)
+where t.site = $1 and r.shard = any($2)
+    and (r.station collate "C", r.cause collate "C", r.transaction collate "C", r.number collate "C",
+        r.what collate "C") > ($3::text, $4::text, $5::text, $6::text, $7::text)
+order by r.station collate "C", r.cause collate "C", r.transaction collate "C", r.number collate "C",
+    r.what collate "C"
+limit $8
+"""

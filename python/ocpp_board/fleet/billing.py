@@ -1,0 +1,314 @@
+"""Writes the sessions of a site's month as CSV, for billing: one row a session, with OCPI's names of a CDR's fields.
+
+    PGPASSWORD=.. ocpp-board billing --db postgresql://ledger_operator@a:5432,b:5432/ledger --site north --month 2026-03
+
+`--db` is given once for each cell. A session is of the month in which it began, in the site's zone; where its start did
+not come, by its earliest event. Sessions of the log are replayed for their times; archived ones have theirs as rows.
+
+    start_date_time, end_date_time   UTC; empty where the start or the end did not come
+    session_id, location_id, station, evse_uid (the EVSE's number; empty where none was named)
+    total_energy                     what was imported, in kWh, exactly; exported_energy what was fed back
+    total_time                       hours
+    complete, missing                yes or no; how many messages are missing
+    settled                          provisional: its energy may change until a closing settles it, or something came
+                                     since; settled; corrected: a later closing found another figure
+"""
+
+import argparse
+import asyncio
+import csv
+import io
+import os
+import re
+import sys
+from collections.abc import Sequence
+from contextlib import suppress
+from datetime import date, datetime, time, timezone
+from http import HTTPStatus
+from typing import Any, NamedTuple
+
+from ocpp_board.boards import Numbers
+from ocpp_board.energies import Flow, flow_of, kwh_of
+from ocpp_board.escapes import csv_cell
+from ocpp_board.fleet import parts
+from ocpp_board.fleet.archives import Late, unpacked
+from ocpp_board.fleet.cells import CORRECTED, PROVISIONAL, SETTLED, Cells, Room, Wrong
+from ocpp_board.fleet.close_day import zone_of
+from ocpp_board.fleet.database import Fault, connect
+from ocpp_board.fleet.figures import figures
+from ocpp_board.fleet.findings import Findings
+from ocpp_board.fleet.lines import Transaction
+from ocpp_board.fleet.operators import Operator
+from ocpp_board.fleet.plans import Plan, Reckoning, known_lines
+from ocpp_board.fleet.replays import Replay
+from ocpp_board.limits import MOMENT, is_name
+from ocpp_board.processes import PACKAGES
+from ocpp_board.session_times import times_of
+from ocpp_board.statuses import Status
+from ocpp_board.words import add_program, parser_of
+
+NAME = "ocpp-board billing"
+MONTH = re.compile(r"(20[0-9]{2})-(0[1-9]|1[0-2])")
+HEADS = (
+    *("start_date_time", "end_date_time", "session_id", "location_id", "station", "evse_uid"),
+    *("total_energy", "exported_energy", "total_time", "complete", "missing", "settled"),
+)
+# Lines that are replayed at once. For pages one table at once, and one that waits; seconds for one.
+LINES, PATIENCE = 5_000, 80
+ROOM = Room(1, 1)
+SITES = """
+select p.shard, p.site, p.zone, p.period, p.reading_order from own_site p join own_shard h using (shard)
+where site = $1 and h.moving_to is null order by shard
+"""
+STATIONS = "select * from own_station where shard = $1 and site = $2 order by place"
+LOG = """
+select place, line from own_log
+where shard = $1 and place > $2 and split_part(line, ' ', 2) = any($3) order by place limit $4
+"""
+# Rows that an earlier version wrote have no times: these are in their lines.
+ARCHIVED = """
+select a.*, case when a.begun is null then l.lines end as lines
+from own_archived_transaction a join own_closing c using (shard, site, closing)
+left join own_archived_lines l using (shard, station, transaction)
+where a.shard = $1 and a.site = $2 and (coalesce(a.started, a.begun) >= $3 and coalesce(a.started, a.begun) < $4
+    or a.begun is null and c.day >= $5)
+order by a.station, a.transaction
+"""
+
+
+class Month(NamedTuple):
+    """A month by its first moment and the one behind it, in a zone."""
+
+    begin: datetime
+    end: datetime
+
+    def has(self, at: datetime | None) -> bool:
+        """Whether a moment lies in it."""
+        return at is not None and self.begin <= at < self.end
+
+
+class Row(NamedTuple):
+    """A session."""
+
+    station: str
+    transaction: str
+    evse: int | None
+    flow: Flow
+    complete: bool
+    missing: int
+    start: datetime | None
+    end: datetime | None
+    begun: datetime | None
+    state: str
+
+    def cells(self, site: str) -> list[str]:
+        """The cells of its row."""
+        hours = ""
+        if self.start and self.end:
+            hours = f"{(self.end - self.start).total_seconds() / 3600:.4f}"
+        return [
+            utc(self.start),
+            utc(self.end),
+            csv_cell(self.transaction),
+            csv_cell(site),
+            csv_cell(self.station),
+            f"{self.evse or ''}",
+            signed(self.flow.up - self.flow.down),
+            signed(self.flow.export_up - self.flow.export_down),
+            hours,
+            "yes" if self.complete else "no",
+            f"{self.missing}",
+            self.state,
+        ]
+
+
+def utc(at: datetime | None) -> str:
+    """A moment as OCPI has it; empty where there is none."""
+    return at.astimezone(timezone.utc).strftime(MOMENT) if at else ""
+
+
+def signed(mwh: int) -> str:
+    """An energy in kWh, exactly."""
+    return f"{'-' if mwh < 0 else ''}{kwh_of(abs(mwh))}"
+
+
+def month_of(text: str) -> tuple[int, int]:
+    """The year and the number of a month such as 2026-03. Raises ValueError."""
+    found = MONTH.fullmatch(text)
+    if not found:
+        raise ValueError(f"not a month such as 2026-03: {text!r}")
+    return int(found[1]), int(found[2])
+
+
+def month_in(zone: Any, year: int, number: int) -> Month:
+    """A month in a zone."""
+    begin, end = date(year, number, 1), date(year + number // 12, number % 12 + 1, 1)
+    first, last = (
+        datetime.combine(day, time(), zone).astimezone(timezone.utc) for day in (begin, end)
+    )
+    return Month(first, last)
+
+
+class ShardSessions:
+    """The sessions of a site's stations in a shard."""
+
+    def __init__(self, session: Any, program: str, known: frozenset[str], site: Any) -> None:
+        self.session, self.program, self.known = session, program, known
+        self.shard, self.site = site["shard"], site["site"]
+        self.zone, self.reckoning = zone_of(site), Reckoning.of(site)
+        # Archived sessions that something came for.
+        self.late = set[Transaction]()
+
+    async def rows(self, year: int, number: int) -> list[Row]:
+        """Those of a month. What is archived and what is in the log is of one moment."""
+        month = month_in(self.zone, year, number)
+        async with self.session.transaction(isolation="repeatable_read", readonly=True):
+            first = month.begin.astimezone(self.zone).date()
+            archived = await self.session.fetch(
+                ARCHIVED, self.shard, self.site, month.begin, month.end, first
+            )
+            live = await self.live()
+        rows = [*live, *(self.archived(row) for row in archived)]
+        return [row for row in rows if month.has(row.start or row.begun)]
+
+    async def live(self) -> list[Row]:
+        """Those of the log."""
+        stations = await self.session.fetch(STATIONS, self.shard, self.site)
+        if not stations:
+            return []
+        plan = Plan(list(stations), {self.site: self.reckoning}, self.known)
+        replay, found = await Replay.start(self.program), Findings(self.site, self.reckoning)
+        try:
+            await replay.open(plan)
+            await self.replay(replay, plan, found)
+            board = figures((await replay.board(self.site)).decode())
+        finally:
+            replay.kill()
+        return [self.row(one, numbers, events) for one, numbers, events in found.sessions(board)]
+
+    async def replay(self, replay: Replay, plan: Plan, found: Findings) -> None:
+        """Replays the log's lines, but for those that came for archived sessions."""
+        late, place = Late(self.shard, plan.rows, True), 0
+        while rows := await self.session.fetch(LOG, self.shard, place, plan.stations, LINES):
+            place, texts = rows[-1]["place"], [row["line"] for row in rows]
+            for_archived = await late.places(self.session.fetch, texts)
+            self.late.update(for_archived.values())
+            own = [row for at, row in enumerate(rows) if at not in for_archived]
+            replay.write("".join(row["line"] + "\n" for row in own).encode())
+            for row, answer in zip(own, await replay.answers(len(own))):
+                found.take(row["line"], answer.decode())
+
+    def row(self, one: Transaction, numbers: Numbers, events: list[Any]) -> Row:
+        """The row of a session of the log."""
+        times = times_of(events)
+        return Row(
+            *(*one, numbers["evse"], flow_of(numbers), bool(numbers["complete"])),
+            *(numbers["missing"], times.start, times.end, times.begun, PROVISIONAL),
+        )
+
+    def archived(self, row: Any) -> Row:
+        """The row of an archived session."""
+        one = (row["station"], row["transaction"])
+        state = CORRECTED if row["corrections"] else SETTLED
+        begun, start, end = row["begun"], row["started"], row["ended"]
+        if row["lines"] is not None:
+            begun, start, end = self.times_in(one, unpacked(row["lines"]))
+        return Row(
+            *(*one, row["evse"], flow_of(row), row["complete"], row["missing"]),
+            *(start, end, begun, PROVISIONAL if one in self.late else state),
+        )
+
+    def times_in(self, one: Transaction, lines: list[str]) -> tuple[datetime | None, ...]:
+        """When a session began, started and ended, by all its events."""
+        found = Findings(self.site, self.reckoning)
+        found.archived(lines)
+        events = found.messages.of(self.site, *one).events
+        times = times_of([events[number] for number in sorted(events)])
+        return times.begun, times.start, times.end
+
+
+async def written(words: argparse.Namespace) -> str:
+    """The table. Raises Fault where there is no such site."""
+    known, rows, is_there = known_lines(words.program), list[Row](), False
+    for dsn in words.db:
+        session = await connect(dsn, application_name=NAME)
+        for site in await session.fetch(SITES, words.site):
+            is_there = True
+            one = ShardSessions(session, words.program, known, site)
+            rows += await one.rows(*words.month)
+        await session.close()
+    if not is_there:
+        raise Fault(f"no site {words.site}")
+    text = io.StringIO()
+    table_ = csv.writer(text, lineterminator="\n")
+    table_.writerow(HEADS)
+    first = datetime.min.replace(tzinfo=timezone.utc)
+    rows.sort(key=lambda row: (row.start or row.begun or first, row.station, row.transaction))
+    table_.writerows(row.cells(words.site) for row in rows)
+    return text.getvalue()
+
+
+async def run(words: argparse.Namespace) -> None:
+    """Writes the table to standard output."""
+    sys.stdout.write(await written(words))
+    sys.stdout.flush()
+
+
+async def table(cells: Cells, program: str, operator: Operator, site: str, month: str) -> bytes:
+    """The table, made by a process of its own. Raises Wrong where there is no such site that the operator sees."""
+    try:
+        month_of(month)
+    except ValueError as fault:
+        raise Wrong(HTTPStatus.BAD_REQUEST, str(fault)) from None
+    await cells.site(operator, site)
+    words = [word for cell in cells.cells for word in ("--db", cell.dsn)]
+    words += ["--program", program, "--site", site, "--month", month]
+    path = os.pathsep.join(filter(None, [str(PACKAGES), os.environ.get("PYTHONPATH")]))
+    async with ROOM:
+        process = await asyncio.create_subprocess_exec(
+            *(sys.executable, "-P", "-m", "ocpp_board", "billing", *words),
+            stdin=asyncio.subprocess.DEVNULL,
+            stdout=asyncio.subprocess.PIPE,
+            stderr=asyncio.subprocess.PIPE,
+            env={**os.environ, "PYTHONPATH": path},
+        )
+        try:
+            with suppress(asyncio.TimeoutError):
+                data, told = await asyncio.wait_for(process.communicate(), PATIENCE)
+                if process.returncode == Status.DONE:
+                    return data
+                said = told.decode("utf-8", "replace").strip().splitlines()[-1:]
+                raise Wrong(HTTPStatus.SERVICE_UNAVAILABLE, " ".join(said) or "it ended")
+        finally:
+            if process.returncode is None:
+                process.kill()
+                await process.wait()
+    raise Wrong(
+        HTTPStatus.SERVICE_UNAVAILABLE, f"the table took more than {PATIENCE} seconds to make"
+    )
+
+
+def month_word(text: str) -> tuple[int, int]:
+    """A month of the command line. Raises ArgumentTypeError."""
+    try:
+        return month_of(text)
+    except ValueError as fault:
+        raise argparse.ArgumentTypeError(str(fault)) from None
+
+
+def site_word(text: str) -> str:
+    """A site of the command line. Raises ArgumentTypeError."""
+    if not is_name(text):
+        raise argparse.ArgumentTypeError(f"{text!r} is no name of a site")
+    return text
+
+
+def main(argv: Sequence[str], prog: str) -> int:
+    """Runs the program with these words; gives its exit status."""
+    parser = parser_of(prog, __doc__)
+    parts.add_cells(parser)
+    add_program(parser)
+    parser.add_argument("--site", required=True, type=site_word, help="which site")
+    parser.add_argument("--month", required=True, type=month_word, help="such as 2026-03")
+    words = parts.parsed(parser, argv)
+    return parts.done(lambda: run(words))

@@ -1,0 +1,423 @@
+"""The databases of the cells that pages and the API show: queries with an end to waiting, and operators' lines.
+
+A cell that does not answer is told, and the others are shown. All that is asked here is for sites that the operator
+sees; a site of others is as one that is not there.
+"""
+
+import asyncio
+import secrets
+from collections.abc import Iterable, Sequence
+from datetime import date, datetime, timedelta
+from http import HTTPStatus
+from typing import Any, NamedTuple
+from weakref import WeakValueDictionary
+
+import asyncpg
+
+from ocpp_board.boards import Numbers
+from ocpp_board.energies import FLOW
+from ocpp_board.fleet.database import (
+    LOST,
+    Fault,
+    Unreachable,
+    answers_in,
+    connect,
+    new_token,
+    said,
+    within,
+)
+from ocpp_board.fleet.figures import Figures, joined
+from ocpp_board.fleet.operators import Operator
+from ocpp_board.fleet.plans import Reckoning
+from ocpp_board.limits import MOMENT
+
+# Sessions with a cell's database, and requests that may wait for one.
+SESSIONS, MOST_WAITING = 4, 64
+# Seconds: for the database, and for the ledger's answer.
+PATIENCE, ANSWERED = 15, 15
+# Seconds for which lines may wait, or no worker beat, before boards are older than they should be.
+LATE = 30
+
+# A site's figures, of its stations in this cell and a shard: what is in the log, what archives have, what is settled.
+SITES = """
+select p.shard, p.site, p.zone, p.period, p.reading_order, h.moving_to, b.*, a.*, s.*,
+       (select count(*) from own_station t
+        where t.shard = p.shard and t.site = p.site and t.retired is null) as stations,
+       (select at from own_board o where o.shard = p.shard and o.site = p.site) as board_at
+from own_site p join own_shard h using (shard)
+cross join lateral (
+    select coalesce(sum(events), 0)::bigint as events, coalesce(sum(voided), 0)::bigint as voided,
+           coalesce(sum(transactions), 0)::bigint as transactions, coalesce(sum(complete), 0)::bigint as complete,
+           coalesce(sum(missing), 0)::bigint as missing, coalesce(sum(up), 0)::bigint as up,
+           coalesce(sum(down), 0)::bigint as down, coalesce(sum(export_up), 0)::bigint as export_up,
+           coalesce(sum(export_down), 0)::bigint as export_down, max(at) as at
+    from own_board_station b where b.shard = p.shard and b.site = p.site) b
+cross join lateral (
+    select count(*) as archived, count(*) filter (where a.complete) as archived_complete,
+           coalesce(sum(a.missing), 0)::bigint as archived_missing, coalesce(sum(a.up), 0)::bigint as archived_up,
+           coalesce(sum(a.down), 0)::bigint as archived_down,
+           coalesce(sum(a.export_up), 0)::bigint as archived_export_up,
+           coalesce(sum(a.export_down), 0)::bigint as archived_export_down
+    from own_archived_transaction a join own_closing c using (shard, site, closing)
+    left join own_board_station o using (shard, site, station)
+    where a.shard = p.shard and a.site = p.site and (o.plan is null or c.plan <= o.plan)) a
+cross join lateral (
+    select coalesce(sum(s.up), 0)::bigint as settled_up, coalesce(sum(s.down), 0)::bigint as settled_down,
+           coalesce(sum(s.export_up), 0)::bigint as settled_export_up,
+           coalesce(sum(s.export_down), 0)::bigint as settled_export_down,
+           coalesce(sum(s.corrections), 0)::bigint as corrections,
+           (select max(day) from own_closing c where c.shard = p.shard and c.site = p.site) as settled_to
+    from own_settled s where s.shard = p.shard and s.site = p.site) s
+where $1::text[] is null or p.site = any($1)
+order by p.site, p.shard
+"""
+# Up to which closing the board knows what archives have: it is written anew some seconds after one.
+BOARD = """
+select p.shard, p.site, p.period, p.reading_order, p.zone, h.moving_to, b.text, b.place, b.at,
+       (select max(closing) from own_closing c
+        where c.shard = p.shard and c.site = p.site and c.plan <= b.plan) as closing
+from own_site p join own_shard h using (shard) left join own_board b using (shard, site)
+where p.site = $1 order by p.shard
+"""
+ARCHIVED = """
+select station, count(*) as transactions, count(*) filter (where complete) as complete,
+       coalesce(sum(missing), 0)::bigint as missing
+from own_archived_transaction where shard = $1 and site = $2 and closing <= $3 group by station
+"""
+FLOWS = """
+select station, starts, sum(up)::bigint as up, sum(down)::bigint as down, sum(export_up)::bigint as export_up,
+       sum(export_down)::bigint as export_down
+from own_archived_period where shard = $1 and site = $2 and closing <= $3 group by station, starts
+"""
+FINDINGS = """
+select station, transaction, finding, times, first, detail from own_finding where shard = $1 and site = $2
+"""
+STATION = """
+select t.*, p.zone, p.period, p.reading_order, h.moving_to
+from own_station t join own_site p using (shard, site) join own_shard h using (shard) where t.station = $1
+"""
+WAITS = "select waits, beat, now() as now, exists (select from own_station) as has_stations from waits_since()"
+OPERATE = "select operate($1, $2, $3, $4, $5, $6, $7, $8, $9, $10)"
+TELL = "select answer_deed($1, $2)"
+DONE = "select answer from own_deed where form = $1"
+
+
+class Wrong(Exception):
+    """A request that gets another status than 200, and why in one sentence."""
+
+    def __init__(self, status: HTTPStatus, text: str) -> None:
+        super().__init__(text)
+        self.status = status
+
+
+class Room:
+    """Room for so many jobs at once, and for so many that wait. Whoever comes then is refused."""
+
+    def __init__(self, jobs: int, waiting: int) -> None:
+        self.jobs, self.most, self.waiting = asyncio.Semaphore(jobs), waiting, 0
+
+    async def __aenter__(self) -> None:
+        """Waits for room. Raises Wrong where too many wait."""
+        if self.waiting >= self.most:
+            raise Wrong(HTTPStatus.SERVICE_UNAVAILABLE, "too much is asked at once; try again")
+        self.waiting += 1
+        try:
+            await self.jobs.acquire()
+        finally:
+            self.waiting -= 1
+
+    async def __aexit__(self, *_: object) -> None:
+        """Gives the room back."""
+        self.jobs.release()
+
+
+class Deed(NamedTuple):
+    """What an operator has done to an event: who, from where and why, and the form that asked for it."""
+
+    command: str
+    station: str
+    transaction: str
+    number: int
+    reason: str
+    operator: str
+    address: str
+    form: str
+
+
+class Cell:
+    """A cell's database, and the answers that are waited for."""
+
+    def __init__(self, dsn: str) -> None:
+        self.dsn, self.name = dsn, f"page_{secrets.token_hex(6)}"
+        # Sessions that are free.
+        self.free: list[Any] = []
+        self.room = Room(SESSIONS, MOST_WAITING)
+        # The session that is told answers, by whose tokens they are known; whoever no longer waits is gone from here.
+        self.listening: Any = None
+        self.operating = asyncio.Lock()
+        self.waiting: WeakValueDictionary[int, asyncio.Future[str]] = WeakValueDictionary()
+
+    async def ask(self, query: str, *values: Any) -> list[Any]:
+        """The rows of a query, which is asked once more where its session turns out to have ended. Raises Wrong where
+        too much is asked at once."""
+        async with self.room:
+            return await self.asked(query, *values)
+
+    async def asked(self, query: str, *values: Any) -> list[Any]:
+        """The rows of a query by a session that is free, or by a new one."""
+        while True:
+            had = self.free.pop() if self.free else None
+            session = had or await connect(
+                self.dsn, application_name=self.name, statement_timeout=f"{PATIENCE}s"
+            )
+            try:
+                rows: list[Any] = await within(PATIENCE, session, "fetch", query, *values)
+            except asyncpg.QueryCanceledError:
+                self.free.append(session)
+                raise Wrong(
+                    HTTPStatus.SERVICE_UNAVAILABLE,
+                    f"the database took more than {PATIENCE} seconds",
+                ) from None
+            except LOST as fault:
+                session.terminate()
+                if had is None:
+                    raise Unreachable(f"{self.dsn}: {said(fault)}") from None
+                continue
+            except asyncpg.PostgresError:
+                self.free.append(session)
+                raise
+            self.free.append(session)
+            return rows
+
+    def answered(self, _session: Any, _pid: int, _channel: str, payload: str) -> None:
+        """A worker told answers."""
+        for token, answer in answers_in(payload):
+            wait = self.waiting.get(token)
+            if wait and not wait.done():
+                wait.set_result(answer)
+
+    async def listens(self) -> None:
+        """Begins the session that is told answers, where there is none."""
+        if self.listening is None or self.listening.is_closed():
+            self.listening = await connect(self.dsn, application_name=self.name)
+            await self.listening.add_listener(self.name, self.answered)
+
+    async def operate(self, deed: Deed) -> str:
+        """The ledger's answer to an operator's line, or what is known where none came in time. Never sent again."""
+        async with self.operating:
+            await self.listens()
+            token = new_token(self.waiting)
+            wait = self.waiting[token] = asyncio.get_running_loop().create_future()
+            *what, form = deed
+            try:
+                rows = await within(
+                    PATIENCE, self.listening, "fetch", OPERATE, *what, self.name, token, form
+                )
+            except LOST as fault:
+                self.listening.terminate()
+                return (
+                    f"not known: the database ended before it answered ({said(fault)}). The session's history "
+                    "tells whether the line is in the log; the same line once more changes nothing that it changed"
+                )
+        number = rows[0]["operate"]
+        if number is None:
+            return await self.done_before(deed.form)
+        try:
+            answer: str = await asyncio.wait_for(wait, ANSWERED)
+        except asyncio.TimeoutError:
+            return f"none yet: the line came as number {number}, and no worker answered in {ANSWERED} seconds"
+        await self.ask(TELL, token, answer)
+        return answer
+
+    async def done_before(self, form: str) -> str:
+        """The answer to what a form asked for before."""
+        end = asyncio.get_running_loop().time() + ANSWERED
+        while True:
+            rows = await self.ask(DONE, form)
+            if rows and rows[0]["answer"] is not None:
+                return str(rows[0]["answer"])
+            if asyncio.get_running_loop().time() > end:
+                return "this form was sent before, and has no answer yet; it was not done again"
+            await asyncio.sleep(0.2)
+
+
+class Late(NamedTuple):
+    """Why boards are older than they should be, and since when."""
+
+    text: str
+    since: datetime | None
+
+
+class Found(NamedTuple):
+    """Each cell's rows, and what is told of those that do not answer."""
+
+    rows: list[tuple[Cell, list[Any]]]
+    faults: list[str]
+
+    def pairs(self) -> list[tuple[Cell, Any]]:
+        """All rows with their cells."""
+        return [(cell, row) for cell, rows in self.rows for row in rows]
+
+
+class Cells:
+    """All cells. The first one has the operators."""
+
+    def __init__(self, dsns: Sequence[str]) -> None:
+        self.cells = [Cell(dsn) for dsn in dsns]
+
+    @property
+    def home(self) -> Cell:
+        """The cell that has the operators."""
+        return self.cells[0]
+
+    async def ask_all(self, query: str, *values: Any) -> Found:
+        """Each cell's rows. Raises Wrong where none answers."""
+        found = await asyncio.gather(
+            *(cell.ask(query, *values) for cell in self.cells), return_exceptions=True
+        )
+        rows, faults = list[tuple[Cell, list[Any]]](), list[str]()
+        for cell, answer in zip(self.cells, found):
+            if isinstance(answer, (Unreachable, Fault, asyncpg.PostgresError)):
+                faults.append(str(answer))
+            elif isinstance(answer, BaseException):
+                raise answer
+            else:
+                rows.append((cell, answer))
+        if not rows:
+            raise Wrong(HTTPStatus.SERVICE_UNAVAILABLE, f"no cell answers: {'; '.join(faults)}")
+        return Found(rows, faults)
+
+    async def sites(
+        self, operator: Operator, name: str | None = None
+    ) -> tuple[list["Site"], list[str]]:
+        """The operator's sites by their names, or the one of a name, and what is told of cells that do not answer."""
+        wanted = operator.wanted() if name is None else [name] * operator.sees(name)
+        found = await self.ask_all(SITES, wanted)
+        sites: dict[str, Site] = {}
+        for _, row in staying(found.pairs()):
+            sites.setdefault(row["site"], Site(row["site"])).add(row)
+        return [sites[one] for one in sorted(sites)], found.faults
+
+    async def site(self, operator: Operator, name: str) -> tuple[list[tuple[Cell, Any]], list[str]]:
+        """The boards of a site, with their cells. Raises Wrong where there is none that the operator sees."""
+        found = await self.ask_all(BOARD, name)
+        rows = staying(found.pairs()) if operator.sees(name) else []
+        if not rows:
+            down = ", or its cell does not answer" if found.faults else ""
+            raise Wrong(HTTPStatus.NOT_FOUND, f"no site {name!r}{down}")
+        return rows, found.faults
+
+    async def station(self, operator: Operator, name: str) -> tuple[Cell, Any]:
+        """A station's row with those of its site, and its cell. Raises Wrong where there is none that the operator
+        sees."""
+        found = await self.ask_all(STATION, name)
+        for cell, row in staying(found.pairs()):
+            if operator.sees(row["site"]):
+                return cell, row
+        down = ", or its cell does not answer" if found.faults else ""
+        raise Wrong(HTTPStatus.NOT_FOUND, f"no station {name!r}{down}")
+
+    async def behind(self) -> list[Late]:
+        """Why boards are older than they should be."""
+        found, late = await self.ask_all(WAITS), list[Late]()
+        for _, row in found.pairs():
+            begin = row["now"] - timedelta(seconds=LATE)
+            if row["waits"] and row["waits"] < begin:
+                late.append(Late("lines wait for a worker", row["waits"]))
+            elif row["has_stations"] and (row["beat"] is None or row["beat"] < begin):
+                late.append(Late("no worker was seen", row["beat"]))
+        return late
+
+
+async def board_text(name: str, rows: Iterable[tuple[Cell, Any]]) -> tuple[str, int]:
+    """A site's board for each way in which it is reckoned, with what archives have, and how many sessions these
+    are."""
+    rows, boards, count = list(rows), list[str](), 0
+    for reckoning in dict.fromkeys(Reckoning.of(row) for _, row in rows):
+        same = [(cell, row) for cell, row in rows if Reckoning.of(row) == reckoning]
+        totals: dict[str, Numbers] = {}
+        flows: Figures = {}
+        for cell, row in same:
+            if row["closing"] is None:
+                continue
+            place = (row["shard"], name, row["closing"])
+            for one in await cell.ask(ARCHIVED, *place):
+                keys = ("transactions", "complete", "missing")
+                totals[one["station"]] = {key: one[key] for key in keys}
+                count += one["transactions"]
+            for one in await cell.ask(FLOWS, *place):
+                key = (one["station"], "period", one["starts"].strftime(MOMENT))
+                flows[key] = {part: one[part] for part in FLOW}
+        texts = (row["text"] for _, row in same if row["text"])
+        boards.append(joined(name, reckoning, texts, totals, flows))
+    return "".join(boards), count
+
+
+class Site:
+    """A site's figures, over all shards that have stations of it."""
+
+    def __init__(self, name: str) -> None:
+        self.name, self.zone = name, "UTC"
+        self.period, self.order = 0, ""
+        self.numbers: Numbers = {}
+        self.settled: Numbers = {}
+        self.corrections = 0
+        # The last change of a figure, the time of the boards, and up to which day all of it is settled.
+        self.at: datetime | None = None
+        self.board_at: datetime | None = None
+        self.days: list[date | None] = []
+
+    def add(self, row: Any) -> None:
+        """Adds what a shard has of the site."""
+        self.zone, self.period, self.order = row["zone"], row["period"], row["reading_order"]
+        for name in ("stations", "events", "voided"):
+            self.numbers[name] = self.numbers.get(name, 0) + row[name]
+        for name, more in (
+            ("transactions", "archived"),
+            *((n, f"archived_{n}") for n in ("complete", "missing", *FLOW)),
+        ):
+            self.numbers[name] = self.numbers.get(name, 0) + row[name] + row[more]
+        for name in FLOW:
+            self.settled[name] = self.settled.get(name, 0) + row[f"settled_{name}"]
+        self.corrections += row["corrections"]
+        self.at = max(filter(None, (self.at, row["at"])), default=None)
+        self.board_at = max(filter(None, (self.board_at, row["board_at"])), default=None)
+        self.days.append(row["settled_to"])
+
+    @property
+    def settled_to(self) -> date | None:
+        """Up to which day all shards' stations are settled."""
+        days = [day for day in self.days if day is not None]
+        return min(days) if days and len(days) == len(self.days) else None
+
+    @property
+    def is_troubled(self) -> bool:
+        """Whether something is missing, not complete or voided."""
+        numbers = self.numbers
+        return bool(
+            numbers["complete"] < numbers["transactions"] or numbers["missing"] or numbers["voided"]
+        )
+
+    def state(self) -> str:
+        """Whether its energy is settled."""
+        now = {name: self.numbers[name] for name in FLOW}
+        return state_of(now, self.settled if any(self.days) else None, self.corrections)
+
+
+PROVISIONAL, SETTLED, CORRECTED = "provisional", "settled", "corrected"
+
+
+def state_of(now: Numbers, settled: Numbers | None, corrections: int) -> str:
+    """How an energy is told: it may still change until it is settled, and where something came since; one that a later
+    closing found to be another one is corrected."""
+    if settled is None or any(now[name] != settled[name] for name in FLOW):
+        return PROVISIONAL
+    return CORRECTED if corrections else SETTLED
+
+
+def staying(rows: Sequence[tuple[Cell, Any]]) -> list[tuple[Cell, Any]]:
+    """The rows without those of shards that are in another cell already, and go here."""
+    there = {row["shard"] for _, row in rows if row["moving_to"] is None}
+    return [
+        (cell, row) for cell, row in rows if row["moving_to"] is None or row["shard"] not in there
+    ]

@@ -1,0 +1,104 @@
+"""Does the closings that operators asked for on the page, and ends.
+
+    PGPASSWORD=.. ocpp-board close-requested --db postgresql://ledger_closer@a:5432,b:5432/ledger --archives FOLDER
+
+Each request is a row of own_closing_request, with who asked for it, from where and why. It is done by `ocpp-board
+close-day`, by the same role, and what came of it stands in the row. A request whose closing was ended in
+the middle is done again after two hours. The archives of a site lie in the folder of its name in FOLDER, as those of
+ocpp-board-close-day@SITE do. A timer calls it each minute. Exit status: 0; 1 where a closing failed.
+"""
+
+import argparse
+import asyncio
+import logging
+import os
+import sys
+from collections.abc import Sequence
+from pathlib import Path
+from typing import Any
+
+from ocpp_board.fleet import parts
+from ocpp_board.fleet.database import Fault, connect
+from ocpp_board.processes import PACKAGES
+from ocpp_board.statuses import Status
+from ocpp_board.words import add_program, parser_of
+
+log = logging.getLogger(__name__)
+
+NAME = "ocpp-board close-requested"
+# Seconds for a closing, after which it is ended; it is shorter than that after which it is done again.
+PATIENCE = 3_600
+TAKE = """
+update own_closing_request set taken_at = now() where request = (
+    select request from own_closing_request
+    where ended_at is null and (taken_at is null or taken_at < now() - interval '2 hours')
+    order by request limit 1 for update skip locked)
+returning request, site, day, operator
+"""
+DONE = """
+update own_closing_request set ended_at = now(), status = $2, told = $3 where request = $1
+"""
+# Characters of what a closing tells that are kept.
+TOLD = 2_000
+
+
+async def closed(words: argparse.Namespace, row: Any) -> tuple[int, str]:
+    """Closes a day, and gives the status with what was told."""
+    folder = words.archives / row["site"]
+    if folder.parent != words.archives or folder.name in ("", ".", ".."):
+        return Status.MISTAKEN, f"no folder can have the name {row['site']!r}"
+    folder.mkdir(exist_ok=True)
+    path = os.pathsep.join(filter(None, [str(PACKAGES), os.environ.get("PYTHONPATH")]))
+    process = await asyncio.create_subprocess_exec(
+        *(sys.executable, "-P", "-m", "ocpp_board", "close-day"),
+        *("--db", words.db, "--program", words.program, "--archive", str(folder)),
+        *("--site", row["site"], "--day", str(row["day"])),
+        stdin=asyncio.subprocess.DEVNULL,
+        stdout=asyncio.subprocess.PIPE,
+        stderr=asyncio.subprocess.STDOUT,
+        env={**os.environ, "PYTHONPATH": path},
+    )
+    try:
+        data, _ = await asyncio.wait_for(process.communicate(), PATIENCE)
+    except asyncio.TimeoutError:
+        return Status.TOLD, f"it took more than {PATIENCE} seconds, and was ended"
+    finally:
+        if process.returncode is None:
+            process.kill()
+            await process.wait()
+    text = data.decode("utf-8", "replace").strip()
+    return process.returncode or 0, text[-TOLD:]
+
+
+async def run(words: argparse.Namespace) -> int:
+    """Does all requests that wait. Raises Fault where archives have no folder."""
+    if not words.archives.is_dir():
+        raise Fault(f"{words.archives}: no folder for archives")
+    session, failed = await connect(words.db, application_name=NAME), 0
+    while row := await session.fetchrow(TAKE):
+        status, told = await closed(words, row)
+        await session.execute(DONE, row["request"], status, told)
+        what = f"request {row['request']} of {row['operator']}: {row['site']} up to {row['day']}"
+        if status:
+            log.error("%s: status %d: %s", what, status, told.splitlines()[-1:])
+            failed += 1
+        else:
+            print(f"{what}: done", flush=True)
+    await session.close()
+    return Status.TOLD if failed else Status.DONE
+
+
+def main(argv: Sequence[str], prog: str) -> int:
+    """Runs the program with these words; gives its exit status."""
+    parser = parser_of(prog, __doc__)
+    parts.add_cell(parser, f"the cell's database: {parts.ADDRESS}")
+    add_program(parser)
+    parser.add_argument(
+        "--archives",
+        required=True,
+        type=Path,
+        metavar="FOLDER",
+        help="where archives are kept, in a folder for each site",
+    )
+    words = parts.parsed(parser, argv)
+    return parts.done(lambda: run(words))

@@ -1,0 +1,199 @@
+"""Makes operators of the page, changes and disables them, and makes tokens for programs.
+
+    PGPASSWORD=.. ocpp-board operator --db postgresql://ledger_administrator@a:5432,b:5432/ledger set jo \\
+        --roles sees,voids --sites north,south < FILE
+    .. set jo --roles sees             other roles; what is not told stays
+    .. set jo --password < FILE        another password, which ends the sessions
+    .. disable jo                      ends sessions and tokens; `enable` lets jo in again
+    .. token jo --label billing --roles sees --days 365
+    .. revoke 7                        a token by its number
+    .. list
+
+The database is that of the cell that the page is given first. A new operator's password, 12 to 200 characters, is
+read from standard input: one line. With --no-password there is none, for a program that has tokens alone. Roles:
+`sees` looks at pages and the API, `voids` voids, restores and erases, `closes` asks for closings. Sites: those told,
+or `--all-sites`. A token is written once, to standard output; it may no more than its operator.
+"""
+
+import argparse
+import getpass
+import secrets
+import sys
+from collections.abc import Sequence
+from datetime import datetime, timedelta, timezone
+from typing import Any
+
+from ocpp_board.fleet import parts
+from ocpp_board.fleet.database import Fault, connect
+from ocpp_board.fleet.operators import (
+    NAME,
+    OPERATOR,
+    ROLES,
+    digest,
+    fault_of,
+    new_secret,
+)
+from ocpp_board.fleet.passwords import SALT, hashed
+from ocpp_board.limits import is_name
+from ocpp_board.words import parser_of
+
+PROGRAM = "ocpp-board operator"
+# Characters that are read at most: a longer line is no password.
+LONGEST_READ = 4096
+# Days for which a token is good at most, and where nothing is told.
+MOST_DAYS, DAYS = 1100, 365
+LIST = """
+select name, roles, sites, disabled_at, (select count(*) from operator_session s where s.operator = name) as sessions,
+    (select locked_until from sign_in i where i.name = operator.name and locked_until > now()) as locked_until
+from operator order by name
+"""
+TOKENS = "select token, operator, label, roles, sites, ends, revoked_at, seen_at from api_token order by token"
+
+
+def roles_of(text: str) -> list[str]:
+    """Roles of the command line. Raises ArgumentTypeError."""
+    roles = text.split(",")
+    for role in roles:
+        if role not in ROLES:
+            raise argparse.ArgumentTypeError(f"a role is sees, voids or closes, and not {role!r}")
+    return sorted(set(roles), key=ROLES.index)
+
+
+def sites_of(text: str) -> list[str]:
+    """Sites of the command line. Raises ArgumentTypeError."""
+    sites = text.split(",")
+    for site in sites:
+        if not is_name(site):
+            raise argparse.ArgumentTypeError(f"{site!r} is no name of a site")
+    return sorted(set(sites))
+
+
+def operator_of(text: str) -> str:
+    """An operator's name of the command line. Raises ArgumentTypeError."""
+    if not NAME.fullmatch(text):
+        raise argparse.ArgumentTypeError(
+            f"an operator's name has 1 to 64 small letters, digits and . _ @ + -, and is not {text!r}"
+        )
+    return text
+
+
+def days_of(text: str) -> int:
+    """Days of the command line. Raises ArgumentTypeError."""
+    if not text.isdecimal() or not 1 <= int(text) <= MOST_DAYS:
+        raise argparse.ArgumentTypeError(f"a token is good for 1 to {MOST_DAYS} days")
+    return int(text)
+
+
+def read() -> str:
+    """The password from standard input; a terminal does not show it. Raises Fault where it may not be one."""
+    try:
+        text = getpass.getpass() if sys.stdin.isatty() else sys.stdin.readline(LONGEST_READ)
+    except (EOFError, UnicodeDecodeError):
+        raise Fault("standard input has no password") from None
+    password = text.removesuffix("\n").removesuffix("\r")
+    if fault := fault_of(password):
+        raise Fault(fault)
+    return password
+
+
+async def set_one(session: Any, words: argparse.Namespace) -> None:
+    """Makes an operator, or changes one."""
+    query = "select from operator where name = $1"
+    is_new = not await session.fetch(query, words.operator)
+    is_all = words.all_sites or None
+    if is_new and (words.roles is None or not (words.sites or is_all)):
+        raise Fault(
+            f"no operator {words.operator}: a new one needs --roles, and --sites or --all-sites"
+        )
+    hash_ = salt = None
+    if words.password or is_new and not words.no_password:
+        password, salt = read(), secrets.token_bytes(SALT)
+        hash_ = hashed(password.encode(), salt, OPERATOR)
+    values = (words.operator, words.roles, words.sites, is_all, hash_, salt)
+    await session.execute("select set_operator($1, $2, $3, $4, $5, $6)", *values)
+    print(f"{words.operator}: {'made' if is_new else 'changed'}")
+
+
+async def make_token(session: Any, words: argparse.Namespace) -> None:
+    """Makes a token, and writes it."""
+    secret, until = new_secret(), datetime.now(timezone.utc) + timedelta(days=words.days)
+    number = await session.fetchval(
+        "select make_token($1, $2, $3, $4, $5, $6)",
+        *(words.operator, words.label, words.roles, words.sites, digest(secret), until),
+    )
+    print(f"token {number}, until {until:%Y-%m-%d %H:%M} UTC:", file=sys.stderr)
+    print(secret)
+
+
+async def show(session: Any) -> None:
+    """Writes the operators and the tokens."""
+    for row in await session.fetch(LIST):
+        told = [row["name"], ",".join(row["roles"]), sites_said(row["sites"])]
+        told += [f"sessions={row['sessions']}"]
+        told += ["disabled"] if row["disabled_at"] else []
+        told += [f"locked until {row['locked_until']:%H:%M:%S} UTC"] if row["locked_until"] else []
+        print("  ".join(told))
+    for row in await session.fetch(TOKENS):
+        state = "revoked" if row["revoked_at"] else f"until {row['ends']:%Y-%m-%d %H:%M} UTC"
+        told = [f"token {row['token']}", row["operator"], ",".join(row["roles"])]
+        print("  ".join([*told, sites_said(row["sites"]), state, row["label"]]))
+
+
+def sites_said(sites: list[str] | None) -> str:
+    """Sites for a reader."""
+    return "all sites" if sites is None else ",".join(sites)
+
+
+async def run(words: argparse.Namespace) -> None:
+    """Does what the words say. Raises Fault where that can't be."""
+    session = await connect(words.db, application_name=PROGRAM)
+    if words.job == "set":
+        await set_one(session, words)
+    elif words.job == "token":
+        await make_token(session, words)
+    elif words.job == "revoke":
+        await session.execute("select revoke_token($1)", words.token)
+        print(f"token {words.token}: revoked")
+    elif words.job == "list":
+        await show(session)
+    else:
+        is_off = words.job == "disable"
+        await session.execute("select disable_operator($1, $2)", words.operator, is_off)
+        print(f"{words.operator}: {'disabled' if is_off else 'enabled'}")
+    await session.close()
+
+
+def add_rights(parser: argparse.ArgumentParser, roles: bool) -> None:
+    """The options that say what somebody may do, and where."""
+    parser.add_argument(
+        "--roles", type=roles_of, required=roles, help="sees, voids, closes; with commas between"
+    )
+    parser.add_argument("--sites", type=sites_of, help="names of sites, with commas between")
+
+
+def main(argv: Sequence[str], prog: str) -> int:
+    """Runs the program with these words; gives its exit status."""
+    parser = parser_of(prog, __doc__)
+    parts.add_cell(parser, f"the database that has the operators: {parts.ADDRESS}")
+    jobs = parser.add_subparsers(dest="job", required=True, metavar="JOB")
+    setting = jobs.add_parser("set", help="makes an operator, or changes one")
+    setting.add_argument("operator", type=operator_of)
+    add_rights(setting, False)
+    setting.add_argument("--all-sites", action="store_true", help="all sites, also later ones")
+    for name, text in (("password", "reads a new password"), ("no-password", "has tokens alone")):
+        setting.add_argument(f"--{name}", action="store_true", help=text)
+    for name, text in (("disable", "lets one in no longer"), ("enable", "lets one in again")):
+        jobs.add_parser(name, help=text).add_argument("operator", type=operator_of)
+    token = jobs.add_parser("token", help="makes a token for a program")
+    token.add_argument("operator", type=operator_of)
+    add_rights(token, True)
+    token.add_argument("--label", required=True, help="what it is for")
+    token.add_argument(
+        "--days", type=days_of, default=DAYS, help=f"how long it is good (default: {DAYS})"
+    )
+    jobs.add_parser("revoke", help="a token is good no longer").add_argument("token", type=int)
+    jobs.add_parser("list", help="shows operators and tokens")
+    words = parts.parsed(parser, argv)
+    if words.job == "set" and words.sites and words.all_sites:
+        parser.error("--sites and --all-sites are not both told")
+    return parts.done(lambda: run(words))

@@ -1,0 +1,100 @@
+"""The pages of sites, made by a process of its own each (site_pages.py) and kept while their boards stay."""
+
+import asyncio
+import json
+import os
+import sys
+import tempfile
+from collections import OrderedDict
+from datetime import datetime
+from http import HTTPStatus
+from pathlib import Path
+from typing import Any, NamedTuple
+
+from ocpp_board.fleet.cells import FINDINGS, Cell, Room, Wrong, board_text
+from ocpp_board.fleet.page_render import zone_of
+from ocpp_board.processes import PACKAGES
+
+# Sites whose pages are kept, processes at once that make some with those that wait, and seconds for one.
+KEPT, MAKERS, WAITING, PATIENCE = 16, 2, 16, 60
+MARKS = ("shard", "period", "reading_order", "zone", "place", "at", "closing")
+
+
+class SitePages(NamedTuple):
+    """A site's files, made of the boards that the mark tells, and how many sessions are in archives."""
+
+    mark: Any
+    archived: int
+    until: datetime | None
+    files: dict[str, bytes]
+
+
+class SiteStore:
+    """The pages of sites."""
+
+    def __init__(self) -> None:
+        self.kept: OrderedDict[str, SitePages] = OrderedDict()
+        self.makers = Room(MAKERS, WAITING)
+        self.making: dict[str, asyncio.Lock] = {}
+
+    async def pages(self, name: str, rows: list[tuple[Cell, Any]]) -> SitePages:
+        """A site's pages of these boards. Raises Wrong where they can't be made."""
+        mark = [(cell.dsn, *(row[key] for key in MARKS)) for cell, row in rows]
+        async with self.making.setdefault(name, asyncio.Lock()):
+            if (had := self.kept.get(name)) and had.mark == mark:
+                self.kept.move_to_end(name)
+                return had
+            async with self.makers:
+                made = await self.made(name, mark, rows)
+            self.kept[name] = made
+            self.kept.move_to_end(name)
+            while len(self.kept) > KEPT:
+                gone, _ = self.kept.popitem(last=False)
+                self.making.pop(gone, None)
+            return made
+
+    async def made(self, name: str, mark: Any, rows: list[tuple[Cell, Any]]) -> SitePages:
+        """Makes a site's pages."""
+        text, archived = await board_text(name, rows)
+        until = max(filter(None, (row["at"] for _, row in rows)), default=None)
+        findings = [
+            dict(one) | {"first": one["first"] and one["first"].isoformat()}
+            for cell, row in rows
+            for one in await cell.ask(FINDINGS, row["shard"], name)
+        ]
+        given = {
+            "text": text,
+            "zone": zone_of(rows[0][1]["zone"]).key,
+            "until": until and until.isoformat(),
+            "findings": findings,
+        }
+        with tempfile.TemporaryDirectory(prefix="ocpp-page.") as folder:
+            await run_maker(folder, json.dumps(given).encode())
+            files = {path.name: path.read_bytes() for path in Path(folder).iterdir()}
+        return SitePages(mark, archived, until, files)
+
+
+async def run_maker(folder: str, data: bytes) -> None:
+    """Has the files made in a folder. Raises Wrong where that fails or takes too long."""
+    path = os.pathsep.join(filter(None, [str(PACKAGES), os.environ.get("PYTHONPATH")]))
+    process = await asyncio.create_subprocess_exec(
+        *(sys.executable, "-P", "-m", "ocpp_board.fleet.site_pages", folder),
+        stdin=asyncio.subprocess.PIPE,
+        stderr=asyncio.subprocess.PIPE,
+        env={**os.environ, "PYTHONPATH": path, "PGPASSWORD": ""},
+    )
+    try:
+        _, told = await asyncio.wait_for(process.communicate(data), PATIENCE)
+    except asyncio.TimeoutError:
+        raise Wrong(
+            HTTPStatus.SERVICE_UNAVAILABLE, f"the page took more than {PATIENCE} seconds to make"
+        ) from None
+    finally:
+        if process.returncode is None:
+            process.kill()
+            await process.wait()
+    if process.returncode:
+        said = told.decode("utf-8", "replace").strip().splitlines()[-1:]
+        raise Wrong(
+            HTTPStatus.INTERNAL_SERVER_ERROR, f"the page could not be made: {' '.join(said)}"
+        )

@@ -1,0 +1,452 @@
+"""Operators, forms, and what pages and the API show, without a database."""
+
+import asyncio
+import json
+import time
+from datetime import date, datetime, timezone
+from typing import Any
+from zoneinfo import ZoneInfo
+
+import pytest
+
+for package in ("asyncpg", "starlette", "uvicorn", "jinja2", "yaml"):
+    pytest.importorskip(package)
+
+from ocpp_board.fleet import operators  # noqa: E402
+from ocpp_board.fleet.api import (  # noqa: E402
+    ROUTES,
+    Paging,
+    cursor_of,
+    flow_json,
+    key_of,
+    moment_word,
+)
+from ocpp_board.fleet.api_schema import SCHEMAS  # noqa: E402
+from ocpp_board.fleet.billing import Row, month_in, month_of  # noqa: E402
+from ocpp_board.fleet.cells import Late, Wrong, staying, state_of  # noqa: E402
+from ocpp_board.fleet.close_day import corrections_of  # noqa: E402
+from ocpp_board.fleet.histories import Entry, later, own_lines, without_archived  # noqa: E402
+from ocpp_board.fleet.operators import (  # noqa: E402
+    OPERATOR,
+    THREADS,
+    WAITING,
+    Busy,
+    FormFault,
+    Operator,
+    Refused,
+    SignIns,
+    digest,
+    form_number,
+    form_token,
+    new_secret,
+)
+from ocpp_board.fleet.page_app import local_path  # noqa: E402
+from ocpp_board.fleet.page_deeds import session_said  # noqa: E402
+from ocpp_board.fleet.page_render import (  # noqa: E402
+    Line,
+    environment,
+    heads_of,
+    lines_of,
+    link,
+    moment,
+    rendered,
+)
+from ocpp_board.fleet.page_views import FILE  # noqa: E402
+from ocpp_board.fleet.page_words import Words, meaning_of, reason_of  # noqa: E402
+from ocpp_board.fleet.passwords import FREE, SALT, address_told, hashed  # noqa: E402
+from ocpp_board.fleet.set_operator import days_of, operator_of, roles_of, sites_of  # noqa: E402
+from ocpp_board.fleet.site_pages import fragment_of, session_path  # noqa: E402
+from ocpp_board.energies import FLOW, Flow  # noqa: E402
+
+SALT_OF_ANN = bytes(range(SALT))
+WHERE = "192.0.2.1"
+
+
+class Database:
+    """What functions of the schema do for one operator, as far as signing in goes."""
+
+    def __init__(self, password: bytes) -> None:
+        self.hash = hashed(password, SALT_OF_ANN, OPERATOR)
+        self.failures, self.sessions = 0, list[bytes]()
+
+    async def ask(self, query: str, *values: Any) -> list[Any]:
+        if query == operators.TRY:
+            is_locked = self.failures >= 5
+            self.failures += not is_locked
+            is_known = values[0] == "ann" and not is_locked
+            hash_ = self.hash if is_known else None
+            return [
+                {"is_locked": is_locked, "hash": hash_, "salt": SALT_OF_ANN if is_known else None}
+            ]
+        if query == operators.BEGIN:
+            self.failures = 0
+            self.sessions.append(values[1])
+        return []
+
+
+def begun(database: Database, *tries: tuple[str, str]) -> list[str]:
+    """What becomes of tries to sign in, one after the other."""
+
+    async def run() -> list[str]:
+        sign_ins, found = SignIns(database.ask), list[str]()
+        for name, password in tries:
+            try:
+                secret = await sign_ins.begin(name, password, WHERE)
+                found.append("in" if digest(secret) in database.sessions else "?")
+            except Busy:
+                found.append("busy")
+            except Refused as why:
+                found.append(str(why))
+        return found
+
+    return asyncio.run(run())
+
+
+# Operators ------------------------------------------------------------------------------------------------------------
+
+
+def test_wrong_ones_are_told_alike() -> None:
+    database = Database(b"a right password")
+    told = begun(
+        database,
+        ("ann", "a wrong one"),
+        ("bob", "a right password"),
+        ("Ann!", "x"),
+        ("ann", "y" * 300),
+    )
+    assert len(set(told)) == 1 and told[0] != "in"
+    assert begun(database, ("ann", "a right password")) == ["in"]
+
+
+def test_a_locked_account_is_told_as_a_wrong_password() -> None:
+    database = Database(b"a right password")
+    told = begun(database, *[("ann", "a wrong one")] * 5, ("ann", "a right password"))
+    assert len(set(told)) == 1 and told[0] != "in"
+
+
+def test_an_address_that_failed_often_waits() -> None:
+    database = Database(b"a right password")
+    told = begun(database, *[("bob", "a wrong one")] * (FREE + 1))
+    assert told[-1] == "busy" and "busy" not in told[:-1]
+
+
+def test_hashes_at_once_are_bounded() -> None:
+    database, most = Database(b"a right password"), 0
+
+    async def run() -> list[Any]:
+        nonlocal most
+        sign_ins = SignIns(database.ask)
+
+        async def watched(query: str, *values: Any) -> list[Any]:
+            nonlocal most
+            most = max(most, sign_ins.waiting)
+            return await database.ask(query, *values)
+
+        sign_ins.ask = watched
+        jobs = [sign_ins.begin(f"no{n}", "x", f"192.0.2.{n}") for n in range(WAITING + 15)]
+        return await asyncio.gather(*jobs, return_exceptions=True)
+
+    found = asyncio.run(run())
+    assert most == WAITING and sum(isinstance(one, Busy) for one in found) == 15
+    assert THREADS < WAITING
+
+
+def test_secrets_are_long_and_only_their_hashes_are_kept() -> None:
+    one, other = new_secret(), new_secret()
+    assert one != other and operators.SECRET_TEXT.fullmatch(one) and len(digest(one)) == 32
+    assert one.encode() not in digest(one)
+
+
+def test_what_an_operator_sees() -> None:
+    whole = Operator.of({"name": "ann", "roles": ["sees"], "sites": None})
+    some = Operator.of({"name": "sue", "roles": ["sees"], "sites": ["south"]})
+    none = Operator.of({"name": "eve", "roles": ["sees"], "sites": []})
+    assert whole.sees("north") and whole.wanted() is None
+    assert some.sees("south") and not some.sees("north") and some.wanted() == ["south"]
+    assert not none.sees("south") and none.wanted() == []
+
+
+def test_words_of_the_command() -> None:
+    assert roles_of("voids,sees,sees") == ["sees", "voids"] and sites_of("b,a") == ["a", "b"]
+    assert operator_of("jo.e@example-1") and days_of("1100") == 1100
+    for wrong, texts in (
+        (roles_of, ("", "sees,", "owns")),
+        (sites_of, ("", "a/b", "a,,b")),
+        (operator_of, ("", "Jo", "-jo", "j" * 65)),
+        (days_of, ("0", "1101", "x", "-1")),
+    ):
+        for text in texts:
+            with pytest.raises(Exception, match="."):
+                wrong(text)
+
+
+def test_the_address_is_what_our_proxy_tells_last() -> None:
+    told = ["198.51.100.7, 192.0.2.9"]
+    assert address_told("127.0.0.1", told, ["127.0.0.1"]) == "192.0.2.9"
+    assert address_told("127.0.0.1", told, []) == "127.0.0.1"
+    assert address_told("203.0.113.5", told, ["127.0.0.1"]) == "203.0.113.5"
+
+
+# Forms ----------------------------------------------------------------------------------------------------------------
+
+
+def test_a_form_is_good_for_its_words_and_its_session() -> None:
+    secret, words = new_secret(), ["void", "A", "T1", "3", "why"]
+    token = form_token(secret, words)
+    assert form_number(secret, token, words) == token.rpartition("-")[0]
+    assert form_token(secret, words) != token
+    for other in (
+        (new_secret(), token, words),
+        (secret, token, [*words[:3], "4", "why"]),
+        (secret, token, [*words[:4], "another"]),
+        (secret, token[:-1] + ("0" if token[-1] != "0" else "1"), words),
+        (secret, "", words),
+        (secret, "\u00e4-\u00f6", words),
+        (secret, f"{int(token.split('-')[0]) + 600}-{token.split('-', 1)[1]}", words),
+    ):
+        with pytest.raises(FormFault, match="nothing was done"):
+            form_number(*other)
+
+
+def test_an_old_form_is_none(monkeypatch: pytest.MonkeyPatch) -> None:
+    secret, now = new_secret(), time.time()
+    token = form_token(secret, ["x"])
+    monkeypatch.setattr(time, "time", lambda: now + operators.HOLDS + 2)
+    with pytest.raises(FormFault, match="older than ten minutes"):
+        form_number(secret, token, ["x"])
+
+
+@pytest.mark.parametrize(
+    "words",
+    [
+        Words("drop", "A", "T1", "1", "why"),
+        Words("void", "a/b", "T1", "1", "why"),
+        Words("void", "A", "T 1", "1", "why"),
+        Words("void", "A", "T1\nvoid A T1 2", "1", "why"),
+        Words("void", "A", "T1", "2147483648", "why"),
+        Words("void", "A", "T1", "-1", "why"),
+        Words("void", "A", "T1", "1", ""),
+        Words("void", "A", "T1", "1", " \n "),
+        Words("void", "A", "T1", "1", "x" * 501),
+        Words("void", "A", "T1", "1", "a\x00b"),
+    ],
+)
+def test_an_operators_words_that_mean_nothing(words: Words) -> None:
+    assert Words("void", "A", "T1", "2147483647", " why\nnot ").checked().reason == "why not"
+    with pytest.raises(Wrong):
+        words.checked()
+
+
+def test_a_reason_is_one_line() -> None:
+    assert reason_of("  the meter\r\n was\tread  twice ") == "the meter was read twice"
+
+
+def test_where_a_sign_in_leads() -> None:
+    for text, to in (
+        ("/site/north/?x=1", "/site/north/?x=1"),
+        ("//evil.example/", "/"),
+        ("/\\evil.example", "/"),
+        ("https://evil.example/", "/"),
+        ("site", "/"),
+        ("/a\r\nb", "/"),
+    ):
+        assert local_path(text) == to
+
+
+def test_the_page_tells_what_a_closing_will_do() -> None:
+    row = {"is_archived": True, "events": None}
+    assert "in the archive of a closed day" in session_said(row)
+    assert "no such session" in session_said(row | {"is_archived": False})
+    assert "next closing does it" in meaning_of("accepted at the next closing")
+    assert "It is done" in meaning_of("accepted 3") and not meaning_of("none yet: ..")
+
+
+# Pages ----------------------------------------------------------------------------------------------------------------
+
+
+@pytest.mark.parametrize(
+    ("name", "is_known"),
+    [
+        ("board.html", True),
+        ("board.2.html", True),
+        ("board.2026-03-01.html", True),
+        ("board.2026-03-01.12.html", True),
+        ("board.periods.csv", True),
+        ("board.2026-03-01.2.3.html", False),
+        ("board..html", False),
+    ],
+)
+def test_files_of_a_site(name: str, is_known: bool) -> None:
+    assert bool(FILE.fullmatch(name)) == is_known
+
+
+def test_what_comes_from_outside_is_no_html() -> None:
+    evil = "<b>\"x\"&'y'</b>"
+    assert "<b>" not in link(f"/session/A/{evil}", evil) and "<b>" not in lines_of(evil, "x")
+    values: dict[str, Any] = {
+        **{
+            "title": evil,
+            "operator": None,
+            "faults": [evil],
+            "late": [Late(evil, None)],
+            "is_one": False,
+        },
+        **{
+            "whole": "",
+            "links": [],
+            "here": "",
+            "drawn": moment(None),
+            "heads": heads_of(evil, f" {evil}"),
+        },
+        **{"rows": [Line([evil, evil])], "caption": evil},
+    }
+    page = rendered(environment(), "refused.html", values)
+    assert evil not in page and page.count("&lt;b&gt;") >= 7
+
+
+def test_a_session_has_a_path_of_its_own() -> None:
+    assert session_path("CS:1", 'a/b?c=%41&"#') == "/session/CS%3A1/a%2Fb%3Fc%3D%2541%26%22%23"
+
+
+def test_a_fragment_is_read_as_it_was_written() -> None:
+    one = fragment_of("Site a&amp;b\nMon 1\none\n<p>\nx")
+    assert tuple(one) == ("Site a&b", "Mon 1", True, "<p>\nx")
+    assert fragment_of("Site boards\n\n\n<p>").is_one is False
+
+
+# The API --------------------------------------------------------------------------------------------------------------
+
+
+def test_energies_are_exact_in_both_units() -> None:
+    for mwh in (0, 1, 999_999, 123_456_789_012_345, 10**15 - 1):
+        told = json.dumps(flow_json({"up": mwh, "down": 0, "export_up": 0, "export_down": 0}))
+        whole, part = divmod(mwh, 10**6)
+        digits = told.partition('"up_kwh": ')[2].partition(",")[0]
+        wanted = f"{whole}.{part:06}".rstrip("0")
+        assert float(digits) == float(wanted) and (
+            mwh < 100 or digits == f"{wanted}0"[: len(digits)]
+        )
+    one = flow_json({"up": 5, "down": 7, "export_up": 1, "export_down": 0})
+    assert one["net"] == -3 and set(FLOW) < set(one)
+
+
+def test_a_figure_is_told_by_what_is_settled() -> None:
+    now, other = Flow(5, 1, 0, 0)._asdict(), Flow(6, 1, 0, 0)._asdict()
+    assert state_of(now, None, 0) == "provisional"
+    assert state_of(now, now, 0) == "settled" and state_of(now, now, 1) == "corrected"
+    assert state_of(now, other, 0) == state_of(now, other, 1) == "provisional"
+
+
+def test_cursors() -> None:
+    key = ["2026-03-01T10:00:00+01:00", "CS:1"]
+    assert key_of(cursor_of(key), 2) == key
+    for text in ("x", "", cursor_of(["a"]), "WzEsMl0", "\u00e4"):
+        with pytest.raises(Wrong):
+            key_of(text, 2)
+    page = Paging(2, [""]).page("rows", [{"n": n} for n in "abc"], lambda row: [row["n"]])
+    assert page["rows"] == [{"n": "a"}, {"n": "b"}] and key_of(page["next"], 1) == ["b"]
+    assert (
+        Paging(3, [""]).page("rows", [{"n": n} for n in "abc"], lambda row: [row["n"]])["next"]
+        is None
+    )
+
+
+def test_moments_of_a_query() -> None:
+    default = datetime(2026, 1, 1, tzinfo=timezone.utc)
+
+    def read(text: str, days: int = 0) -> str:
+        return moment_word(text, "from", "Europe/Berlin", default, days).isoformat()
+
+    assert read("2026-03-01") == "2026-02-28T23:00:00+00:00"
+    assert read("2026-03-29", 1) == "2026-03-29T22:00:00+00:00"
+    assert (
+        read("2026-03-01T10:00:00+01:00")
+        == read("2026-03-01T10:00:00 01:00")
+        == read("2026-03-01T09:00:00Z")
+    )
+    for text in ("x", "2026-02-30", "2026-03-01T10:00:00", "1999-01-01", "2026-03-01T25:00:00Z"):
+        with pytest.raises(Wrong):
+            read(text)
+
+
+def test_the_description_has_each_endpoint() -> None:
+    told = SCHEMAS.get_schema(ROUTES)
+    assert len(told["paths"]) == 7 and all("get" in one for one in told["paths"].values())
+    text = json.dumps(told)
+    for name in told["components"]["schemas"]:
+        assert text.count(f"#/components/schemas/{name}") or name in ("Fault",)
+
+
+def test_a_shard_that_moves_is_shown_once() -> None:
+    rows: list[Any] = [("a", {"shard": 1, "moving_to": 2}), ("b", {"shard": 1, "moving_to": None})]
+    assert staying(rows) == [rows[1]] and staying(rows[:1]) == rows[:1]
+
+
+# Histories and billing ------------------------------------------------------------------------------------------------
+
+
+def line(station: str, tx: str, number: int = 0) -> dict[str, Any]:
+    payload = {"transactionInfo": {"transactionId": tx}, "seqNo": number}
+    return {"line": f"msg {station} " + json.dumps([2, "1", "TransactionEvent", payload])}
+
+
+def test_the_lines_of_a_session() -> None:
+    rows = [line("A", "T1"), line("A", "t2"), {"line": "void A t1 0"}, {"line": "msg A x"}]
+    rows.append({"line": rows[0]["line"].replace("T1", "\\u00541")})
+    assert own_lines(rows, "A", "t1") == [rows[0], rows[2], rows[4]]
+    assert without_archived(rows, {"t1"}) == [rows[1], rows[3]]
+    assert without_archived(rows, set()) == rows
+
+
+def test_answers_behind_an_archive() -> None:
+    answers = ["[3,", "accepted 1", "accepted 2", "refused NotVoided"]
+    assert later(answers, 2) == [*answers[:2], "accepted at the next closing", answers[3]]
+
+
+def test_an_event_that_is_none_shows_itself() -> None:
+    for text in ("msg A x", "msg A [2]", 'msg A [2,"1","x",[]]', "void A t1 0"):
+        assert Entry(text, "", None, None, None).message is None
+    assert Entry(line("A", "T1", 7)["line"], "", 1, None, None).message["seqNo"] == 7  # type: ignore[index]
+
+
+def test_months_of_a_zone() -> None:
+    month = month_in(ZoneInfo("Europe/Berlin"), *month_of("2026-03"))
+    assert month.begin.isoformat() == "2026-02-28T23:00:00+00:00"
+    assert month.end.isoformat() == "2026-03-31T22:00:00+00:00"
+    assert month_in(ZoneInfo("UTC"), 2026, 12).end.date() == date(2027, 1, 1)
+    assert month.has(month.begin) and not month.has(month.end) and not month.has(None)
+    for text in ("2026-3", "2026-13", "1999-01", "", "2026-03-01"):
+        with pytest.raises(ValueError, match="not a month"):
+            month_of(text)
+
+
+def test_a_row_for_billing() -> None:
+    at = datetime(2026, 3, 1, 10, tzinfo=timezone.utc)
+    row = Row(
+        "=A",
+        "t1",
+        0,
+        Flow(5_500_000, 7_000_000, 1, 0),
+        True,
+        0,
+        at,
+        at.replace(hour=12),
+        at,
+        "settled",
+    )
+    cells = row.cells("north")
+    assert cells[0] == "2026-03-01T10:00:00Z" and cells[4:9] == [
+        "'=A",
+        "",
+        "-1.5",
+        "0.000001",
+        "2.0000",
+    ]
+    assert row._replace(start=None).cells("north")[8] == ""
+
+
+def test_corrections_are_counted_where_figures_changed() -> None:
+    had = {"complete": True, "missing": 0, "corrections": 2, **Flow(5, 0, 0, 0)._asdict()}
+    assert corrections_of(None, (True, 0, 5, 0, 0, 0)) == 0
+    assert corrections_of(had, (True, 0, 5, 0, 0, 0)) == 2
+    assert corrections_of(had, (True, 0, 6, 0, 0, 0)) == 3
