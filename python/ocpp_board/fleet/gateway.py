@@ -74,9 +74,9 @@ NOTIFICATIONS = {
 UNANSWERED = 16
 # Characters of the id of a message.
 LONGEST_ID = 36
-# A batch has so many lines and bytes at most, and begins so many seconds behind the last one at least: to append what
-# comes one after the other costs more than to append it together.
-BATCH, BATCH_BYTES, GATHERED = 1000, 4_000_000, 0.005
+# A batch has so many lines and bytes at most, and waits for so many seconds for more: to append what comes one by one
+# costs more than to append it together.
+BATCH, BATCH_BYTES, GATHERED = 1000, 4_000_000, 0.015
 # Seconds: for the database to answer, for a handshake from its connection on, and without a byte from a
 # station, twice its heartbeat interval; between looks for stations that the plan did not have.
 ANSWER, HANDSHAKE, SILENCE, LOOKS = 10, 10, 600, 0.05
@@ -379,11 +379,10 @@ class Cell:
                 )
                 continue
             self.filled.clear()
-            clock = asyncio.get_running_loop().time
             while self.queue:
-                began = clock()
+                if len(self.queue) < BATCH:
+                    await asyncio.sleep(GATHERED)
                 await self.append_batch(session)
-                await asyncio.sleep(began + GATHERED - clock())
 
     async def append_batch(self, session: Any) -> None:
         """One insert of what waits, up to the limits of a batch."""

@@ -633,6 +633,12 @@ begin
         from jsonb_to_recordset(parts->'stations') as r (station text, base bigint)
         left join own_board_station b on b.shard = shard_number and b.site = site_name and b.station = r.station
         where r.base = b.written or r.base is null and (b.station is null or b.written <= new_place);
+    -- Here once, where it is needed: a condition of each statement below would hide how many rows there are from its plan.
+    if cardinality(named) > coalesce(cardinality(shown), 0) then
+        select jsonb_object_agg(key, array(select part from jsonb_array_elements(value) as a (part)
+                where part->>'station' = any (shown)))
+            into parts from jsonb_each(parts);
+    end if;
     if whole is not null then
         delete from own_board_period b
             where shard = shard_number and site = site_name and station = any (whole) and (station, starts) not in
@@ -646,14 +652,13 @@ begin
     if parts ? 'gone_periods' then
         delete from own_board_period b
             using jsonb_to_recordset(parts->'gone_periods') as r (station text, starts timestamptz)
-            where b.shard = shard_number and b.site = site_name and b.station = r.station and b.starts = r.starts
-                and r.station = any (shown);
+            where b.shard = shard_number and b.site = site_name and b.station = r.station and b.starts = r.starts;
     end if;
     if parts ? 'gone_transactions' then
         delete from own_board_transaction b
             using jsonb_to_recordset(parts->'gone_transactions') as r (station text, transaction text)
             where b.shard = shard_number and b.site = site_name and b.station = r.station
-                and b.transaction = r.transaction and r.station = any (shown);
+                and b.transaction = r.transaction;
     end if;
     insert into own_board_station as b
             (shard, site, station, place, written, plan, events, voided, transactions, complete, missing, up, down,
@@ -663,7 +668,6 @@ begin
         from jsonb_to_recordset(parts->'stations') as r (station text, events bigint, voided bigint,
             transactions bigint, complete bigint, missing bigint, up bigint, down bigint, export_up bigint,
             export_down bigint)
-        where station = any (shown)
         on conflict (shard, site, station) do update set written = excluded.written, plan = excluded.plan,
             place = case
                 when (b.events, b.voided, b.transactions, b.complete, b.missing, b.up, b.down, b.export_up, b.export_down)
@@ -685,7 +689,6 @@ begin
                 coalesce(export_down, 0)
             from jsonb_to_recordset(parts->'periods') as r (station text, starts timestamptz, up bigint, down bigint,
                 export_up bigint, export_down bigint)
-            where station = any (shown)
             on conflict (shard, site, station, starts) do update set place = excluded.place, at = now(),
                 up = excluded.up, down = excluded.down, export_up = excluded.export_up,
                 export_down = excluded.export_down
@@ -700,7 +703,6 @@ begin
             from jsonb_to_recordset(parts->'transactions') as r (station text, transaction text, evse smallint,
                 events bigint, first bigint, last bigint, complete smallint, missing bigint, up bigint, down bigint,
                 export_up bigint, export_down bigint)
-            where station = any (shown)
             on conflict (shard, site, station, transaction) do update set place = excluded.place, at = now(),
                 evse = excluded.evse, events = excluded.events, first = excluded.first, last = excluded.last,
                 complete = excluded.complete, missing = excluded.missing, up = excluded.up, down = excluded.down,
@@ -711,13 +713,12 @@ begin
         delete from own_board_gap b
             using jsonb_to_recordset(parts->'transactions') as r (station text, transaction text)
             where b.shard = shard_number and b.site = site_name and b.station = r.station
-                and b.transaction = r.transaction and r.station = any (shown);
+                and b.transaction = r.transaction;
     end if;
     if parts ? 'gaps' then
         insert into own_board_gap (shard, site, station, transaction, first, last, place)
             select shard_number, site_name, station, transaction, first, last, new_place
-            from jsonb_to_recordset(parts->'gaps') as r (station text, transaction text, first bigint, last bigint)
-            where station = any (shown);
+            from jsonb_to_recordset(parts->'gaps') as r (station text, transaction text, first bigint, last bigint);
     end if;
     return array(select unnest(named) except select unnest(shown));
 end $$;
@@ -904,7 +905,7 @@ create unlogged table if not exists worker (
 
 -- A worker that was killed has a row until that is too old, and no session.
 create or replace function living_workers() returns bigint language sql as $$
-    select count(*) from worker w join pg_stat_activity a on a.pid = w.pid and a.backend_start = w.began;
+    select count(*) from worker w cross join pg_stat_get_activity(w.pid) a where a.backend_start = w.began;
 $$;
 create or replace function hold_shard(shard_number integer) returns boolean language sql as $$
     select pg_try_advisory_lock(1, shard_number);

@@ -70,7 +70,7 @@ log = logging.getLogger(__name__)
 BEAT = """
 with beat as (
     insert into worker (worker, pid, began, beat, shards)
-    select $1, pid, backend_start, clock_timestamp(), $2 from pg_stat_activity where pid = $3
+    select $1, pid, backend_start, clock_timestamp(), $2 from pg_stat_get_activity($3)
     on conflict (worker) do update
         set pid = excluded.pid, began = excluded.began, beat = excluded.beat, shards = excluded.shards)
 select living_workers() as living
@@ -84,8 +84,9 @@ on a.application_name = worker and a.datname = current_database() and a.usename 
 HOLD = "select shard from unnest($1::int[]) as s (shard) where hold_shard(shard) limit $2"
 # Shards that are read at once, and those among them that still read their log from the start.
 AT_ONCE, OPENING = 64, 2
-# Seconds after which the other shards no longer wait for a slow one, and for which what comes is handled together.
-SLOW, GATHERED = 0.02, 0.005
+# Seconds after which the other shards no longer wait for a slow one, and for which what comes is handled together: each
+# round costs the same, whether it has one line or many.
+SLOW, GATHERED = 0.02, 0.01
 # Beats after which a worker looks at all shards again, whether something changed or not; for which it does so at each
 # beat where something changed, since others have to give back first; and after which it looks for those that hang.
 SWEEP, SETTLING, FENCING = 20, 5, 5
@@ -350,6 +351,8 @@ class Session:
 
     def next_to_read(self) -> list[Shard]:
         """Woken shards that wait for no answer; of those that read their log from the start only some."""
+        if not self.behind and not any(self.woken.values()):
+            return []
         for woken in self.woken.values():
             for number in woken.keys() - self.shards.keys():
                 del woken[number]
@@ -361,42 +364,40 @@ class Session:
         return [shard for shard in ready if shard.is_loaded][: AT_ONCE - OPENING] + opening
 
     async def read(self) -> None:
-        """Gives lines of woken shards their places, has them answered, and tells the answers."""
+        """Gives lines of woken shards their places, has them answered, and tells the answers, round by round."""
         clock = asyncio.get_running_loop().time
         while True:
             await self.waking.wait()
             self.waking.clear()
-            while True:
-                began = clock()
-                shards = self.next_to_read()
-                new = await self.hand_over(shards) if shards else []
-                if new:
-                    await asyncio.wait(new, timeout=SLOW)
-                done = [task for task in self.answering if task.done()]
+            began, shards = clock(), self.next_to_read()
+            if shards:
+                await self.hand_over(shards)
+            if done := [task for task in self.answering if task.done()]:
                 self.answering.difference_update(done)
                 await self.tell([answers for task in done if (answers := task.result())])
+            if shards or done:
+                # Of these shards some may have more, and others may have waited for their turn.
+                self.waking.set()
                 await asyncio.sleep(began + GATHERED - clock())
-                if not shards and not done:
-                    break
 
-    async def hand_over(self, shards: list[Shard]) -> list[asyncio.Task[Answers | None]]:
-        """Reads what is new in these shards, and begins to answer it."""
+    async def hand_over(self, shards: list[Shard]) -> None:
+        """Reads what is new in these shards, and has it answered; slow ones are answered while the next are read."""
         rows = await self.read_behind([shard for shard in shards if not shard.is_loaded])
         for channel in INBOXES:
             had = {row["shard"] for row in rows}
             rows += await self.number(
                 channel, [one for one in shards if one.is_loaded and one.number not in had]
             )
-        new = []
+        new = set[asyncio.Task[Answers | None]]()
         for row in rows:
             shard = self.shards.get(row["shard"])
             if shard and shard in shards:
                 shard.is_answering = True
-                task = self.spawn(self.answer(shard, row))
+                new.add(self.spawn(self.answer(shard, row)))
+        if new:
+            self.answering.update(new)
+            for task in (await asyncio.wait(new, timeout=SLOW))[1]:
                 task.add_done_callback(lambda _: self.waking.set())
-                new.append(task)
-        self.answering.update(new)
-        return new
 
     async def read_behind(self, shards: list[Shard]) -> list[Any]:
         """The next lines of logs that have not been read to their end."""
