@@ -63,6 +63,27 @@ class Counts:
                 yield f"{number:,} {NAMES[place]}, repeats included, and keeps {self.limits[place]:,} at most"
 
 
+class SentByStations:
+    """What stations sent and was taken, beside their limits."""
+
+    def __init__(self, limits: Mapping[str, tuple[int, ...]]) -> None:
+        self.limits = limits
+        self.counts: dict[str, Counts] = {}
+
+    def taken(self, station: str, message: str) -> list[str]:
+        """Counts a message that was taken, and gives what is to be told of limits since."""
+        if '"TransactionEvent"' not in message:
+            return []
+        counts = self.counts.get(station)
+        if counts is None:
+            limits = self.limits.get(station, tuple(DEFAULT_LIMITS.values()))
+            counts = self.counts[station] = Counts.of(limits)
+        counts.take(message)
+        if not counts.is_reached():
+            return []
+        return [f"station {station} sent {said}" for said in counts.reached()]
+
+
 class NearLimits:
     """Takes messages, and tells once of each limit of a station of which nine tenths are reached."""
 
@@ -70,17 +91,10 @@ class NearLimits:
         self, limits: Mapping[str, tuple[int, ...]], tell: Callable[[Answered, str, str], None]
     ) -> None:
         """`limits` are those of the stations; `tell` gets the message that reached it, what is told, and a remedy."""
-        self.limits, self.tell = limits, tell
-        self.counts: dict[str, Counts] = {}
+        self.sent, self.tell = SentByStations(limits), tell
 
     def take(self, answered: Answered) -> None:
         """Takes a message with its answer."""
-        if not answered.is_accepted or '"TransactionEvent"' not in answered.message:
-            return
-        counts = self.counts.get(answered.station)
-        if counts is None:
-            limits = self.limits.get(answered.station, tuple(DEFAULT_LIMITS.values()))
-            counts = self.counts[answered.station] = Counts.of(limits)
-        counts.take(answered.message)
-        for said in counts.reached() if counts.is_reached() else ():
-            self.tell(answered, f"station {answered.station} sent {said}", REMEDY)
+        if answered.is_accepted:
+            for said in self.sent.taken(answered.station, answered.message):
+                self.tell(answered, said, REMEDY)

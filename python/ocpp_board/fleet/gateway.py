@@ -172,10 +172,11 @@ def digest(text: str) -> bytes:
 
 
 class Wait(NamedTuple):
-    """What waits for its answer: whose it is, its text, and since when."""
+    """What waits for its answer: whose it is, its text, by what that is known again, and since when."""
 
     link: "StationLink"
     text: str
+    digest: bytes
     since: float
 
     def line(self) -> str:
@@ -546,11 +547,14 @@ class StationLink(Link):
     def keep(self, text: str) -> None:
         """Has an event appended, or answers one that was accepted right before; above its pace the station waits."""
         known, answer, since = self.last
-        if known == digest(text) and since > time.monotonic() - REPEATED:
+        own, now = digest(text), time.monotonic()
+        if known == own and since > now - REPEATED:
             return self.answer(answer)
-        self.gateway.keep(self, text)
-        pace = self.gateway.paces.setdefault(self.name, Pace())
-        if (wait := pace.wait(len(text), time.monotonic())) > 0 and not self.is_paced:
+        self.gateway.keep(Wait(self, text, own, now))
+        pace = self.gateway.paces.get(self.name)
+        if pace is None:
+            pace = self.gateway.paces[self.name] = Pace()
+        if (wait := pace.wait(len(text), now)) > 0 and not self.is_paced:
             self.is_paced = True
             self.transport.pause_reading()
             asyncio.get_running_loop().call_later(wait, self.paced)
@@ -567,10 +571,10 @@ class StationLink(Link):
         if not (self.is_slow or self.is_paced or is_full or self.is_lost):
             self.transport.resume_reading()
 
-    def accepted(self, text: str, answer: bytes) -> None:
+    def accepted(self, known: bytes, answer: bytes) -> None:
         """Sends what the ledger answered to an event."""
         if answer.startswith(b"[3,"):
-            self.last = (digest(text), answer, time.monotonic())
+            self.last = (known, answer, time.monotonic())
         self.answer(answer)
 
     def answer(self, answer: bytes) -> None:
@@ -646,10 +650,10 @@ class Gateway:
         if link and link.is_told and (gateway, number) != (self.name, link.number):
             link.replace()
 
-    def keep(self, link: StationLink, text: str) -> None:
+    def keep(self, wait: Wait) -> None:
         """Takes an event, which waits for its answer."""
         token = new_token(self.waiting)
-        self.waiting[token] = Wait(link, text, time.monotonic())
+        self.waiting[token] = wait
         self.queue(token)
 
     def queue(self, token: int) -> None:
@@ -696,7 +700,7 @@ class Gateway:
         """A worker told answers."""
         for token, answer in answers_in(payload):
             if wait := self.waiting.pop(token, None):
-                wait.link.accepted(wait.text, answer.encode())
+                wait.link.accepted(wait.digest, answer.encode())
             self.counts["answers" if wait else "unknown"] += 1
 
     async def give_up(self) -> None:

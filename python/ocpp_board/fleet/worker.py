@@ -479,14 +479,15 @@ class Session:
             return None
         shard.read, shard.changed = row["place"], shard.changed or is_live
         shard.lines += row["rows"]
-        for place, text, answer in zip(row["places"], row["text"].split("\n"), answers):
-            shard.watched.take(place, text, answer.decode("utf-8", "replace"))
+        said = [answer.decode("utf-8", "replace") for answer in answers]
+        for place, text, answer in zip(row["places"], row["text"].split("\n"), said):
+            shard.watched.take(place, text, answer)
         self.weigh(shard, len(row["text"].encode()) + 1)
         front = row["silent"]
-        parts = zip(row["gateways"][front:], row["tokens"][front:], answers[front:])
+        parts = zip(row["gateways"][front:], row["tokens"][front:], said[front:])
         told = [
-            (gateway, f"{token} {text.decode()}")
-            for gateway, token, text in parts
+            (gateway, f"{token} {answer}")
+            for gateway, token, answer in parts
             if gateway and token is not None
         ]
         return shard, told
@@ -518,12 +519,12 @@ class Session:
         """The answers to lines, and whether one reached the replay: those for archived transactions do not."""
         texts = row["text"].split("\n")
         late = await shard.late.places(self.ask, texts)
-        live = [text for place, text in enumerate(texts) if place not in late]
+        live = [text for place, text in enumerate(texts) if place not in late] if late else texts
         answers = list[bytes]()
         if live:
-            async with shard.busy:
-                shard.replay.write("".join(text + "\n" for text in live).encode())
-                answers = await asyncio.wait_for(shard.replay.answers(len(live)), self.words.hang)
+            async with shard.busy, asyncio.timeout(self.words.hang):
+                shard.replay.write("\n".join([*live, ""]).encode())
+                answers = await shard.replay.answers(len(live))
         if late:
             job = shard.late.answers(self.words.program, texts, late, row["silent"])
             told, own = await asyncio.wait_for(job, self.words.hang), iter(answers)
