@@ -1,6 +1,7 @@
 """The texts of boards as numbers: each line of a station by what it is of."""
 
-from collections.abc import Iterable, Iterator, Mapping
+import re
+from collections.abc import Iterable, Mapping, Sequence
 from datetime import datetime
 from typing import Any
 
@@ -16,7 +17,8 @@ Row = tuple[Any, ...]
 Parts = dict[str, list[Row]]
 KINDS = ("periods", "transactions", "gaps")
 PARTS = ("stations", *KINDS, *(f"gone_{name}" for name in KINDS))
-# The numbers of a session's row.
+# The numbers of a session's row, and a number as a line of a board has it.
+VALUE = re.compile(r"=([0-9]+)")
 SESSION = ("evse", "events", "first", "last", "complete", "missing", *FLOW)
 # What rose and fell in the periods of stations.
 Flows = dict[tuple[str, datetime], Flow]
@@ -81,20 +83,22 @@ class Rows:
         self.transactions: dict[str, Row] = {}
         self.gaps = set[Row]()
         for line in lines:
-            front, *gaps = line.split(" gap ")
-            kind, *words = front.split(" ")
+            kind, _, rest = line.partition(" ")
+            name, _, words = rest.partition(" ")
             if kind in ("quarter", "period"):
-                starts = datetime.fromisoformat(words[0])
-                self.periods[words[0]] = (station, starts, *columns(words[1:], FLOW))
+                starts = datetime.fromisoformat(name)
+                self.periods[name] = (station, starts, *columns(words, FLOW))
             elif kind == "tx":
-                self.transactions[words[0]] = (station, words[0], *columns(words[1:], SESSION))
-                self.gaps |= {(station, words[0], *map(int, gap.split(".."))) for gap in gaps}
+                words, *gaps = words.split(" gap ")
+                words = words.replace("=yes", "=1").replace("=no", "=0")
+                self.transactions[name] = (station, name, *columns(words, SESSION))
+                self.gaps |= {(station, name, *map(int, gap.split(".."))) for gap in gaps}
 
 
-def columns(words: Iterable[str], names: Iterable[str]) -> Iterator[int]:
-    """The numbers of words such as `events=3`, in the order of these names."""
-    numbers = numbers_of(words)
-    return (numbers.get(name, 0) for name in names)
+def columns(words: str, names: Sequence[str]) -> list[int]:
+    """The numbers of words such as `events=3`, which stand in the order of these names; the last may be left out."""
+    numbers = list(map(int, VALUE.findall(words)))
+    return numbers + [0] * (len(names) - len(numbers))
 
 
 def new_rows(station: str, block: str, base: str, place: int | None = None) -> Parts:
@@ -102,7 +106,7 @@ def new_rows(station: str, block: str, base: str, place: int | None = None) -> P
     is none. Its total is among them in any case."""
     before, after = set(base.split("\n")), set(block.split("\n"))
     new, old = Rows(station, after - before), Rows(station, before - after)
-    total = block.split("\n", 1)[0].split(" ")[1:]
+    total = block.split("\n", 1)[0]
     return {
         "stations": [(station, place, *columns(total, TOTAL))],
         "periods": list(new.periods.values()),

@@ -373,7 +373,8 @@ class Cell:
         """Appends what waits, batch by batch."""
         while True:
             try:
-                await asyncio.wait_for(self.filled.wait(), 5)
+                async with asyncio.timeout(5):
+                    await self.filled.wait()
             except asyncio.TimeoutError:
                 await asyncio.gather(
                     within(ANSWER, session, "execute", "select 1"), self.ask("execute", "select 1")
