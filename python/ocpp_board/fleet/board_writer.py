@@ -6,18 +6,19 @@ never takes the place of a later one, whoever writes it.
 """
 
 import asyncio
-from collections.abc import Mapping
-from typing import Any, NamedTuple
+from collections.abc import Coroutine, Mapping
+from typing import Any, NamedTuple, TypeVar
 
 from ocpp_board.fleet.database import Asked
 from ocpp_board.fleet.figures import PARTS, Parts, blocks, new_rows
 
 BOARD = "select show_board($1, $2, $3, $4, $5, $6, $7) as is_shown"
 STATIONS = "select show_stations($1, $2, $3, $4, $5, $6, $7, $8, $9, $10, $11) as left_out"
+T = TypeVar("T")
 # Rows of one transaction, or of one station where that has more.
 MOST_ROWS = 1000
-# What was written is followed by a pause of so many times what that took: answers come first, and where the machine is
-# busy boards are written less often.
+# What was made or written is followed by a pause of so many times what that took: answers come first, and where the
+# machine is busy boards are written less often.
 PAUSE = 4
 
 
@@ -72,29 +73,33 @@ class BoardWriter:
         self.session = session
         self.turn = asyncio.Lock()
 
-    async def ask(self, query: str, *values: object) -> list[Any]:
-        """A statement in its turn, and the pause behind it."""
+    async def in_turn(self, job: Coroutine[Any, Any, T]) -> T:
+        """What a job gives, which waits for its turn and is followed by a pause."""
         async with self.turn:
             clock = asyncio.get_running_loop().time
             began = clock()
-            rows = await self.session.ask(query, *values)
+            given = await job
             await asyncio.sleep(PAUSE * (clock() - began))
-        return [row[0] for row in rows]
+        return given
+
+    async def ask(self, query: str, *values: object) -> Any:
+        """What a statement gives."""
+        return (await self.in_turn(self.session.ask(query, *values)))[0][0]
 
     async def write(self, board: Board, shown: Shown) -> bool:
         """Writes a board, and notes in `shown` what it wrote. False where not all of it could be."""
-        made = await asyncio.to_thread(chunks, board, dict(shown.stations))
+        made = await self.in_turn(asyncio.to_thread(chunks, board, dict(shown.stations)))
         # Without a base each station is among these.
         names = [name for chunk in made for name in chunk.lines]
         places = (shown.place, board.place, board.plan)
-        if not (await self.ask(BOARD, board.shard, board.site, *places, board.text, names))[0]:
+        if not await self.ask(BOARD, board.shard, board.site, *places, board.text, names):
             shown.place, shown.stations = None, {}
             return False
         shown.place, are_all = board.place, True
         for chunk in made:
             rows = (chunk.rows[name] for name in PARTS)
             values = (board.shard, board.site, board.place, board.plan, *rows)
-            left_out = (await self.ask(STATIONS, *values))[0]
+            left_out = await self.ask(STATIONS, *values)
             for station, lines in chunk.lines.items():
                 shown.stations[station] = (board.place, lines)
             for station in left_out:
