@@ -8,7 +8,7 @@ from dataclasses import dataclass, field
 from ocpp_board.answered import Answered
 from ocpp_board.limits import DEFAULT_LIMITS
 
-TRANSACTION = re.compile(r'"transactionId"\s*:\s*"((?:[^"\\]|\\.)*)"')
+TRANSACTION = re.compile(r'"transactionId"\s*:\s*"([^"\\]*+(?:\\.[^"\\]*+)*+)"')
 NAMES = tuple(DEFAULT_LIMITS)
 # Values of registers have a measurand of these, or none.
 VALUE = '"value"'
@@ -35,17 +35,14 @@ class Counts:
         """Nothing yet, of a station with these limits."""
         return cls(limits, [-(-9 * most // 10) for most in limits])
 
-    def take(self, message: str) -> None:
-        """An event that was taken."""
+    def take(self, message: str) -> bool:
+        """Takes an event. Whether nine tenths of a limit are reached that was not told yet."""
         if transaction := TRANSACTION.search(message):
             self.transactions.add(transaction[1].lower())
         self.events += 1
         self.readings += message.count(VALUE)
         if '"measurand"' in message:
             self.readings -= len(OTHER.findall(message))
-
-    def is_reached(self) -> bool:
-        """Whether nine tenths of a limit are reached that was not told yet."""
         transactions, events, readings, changes = self.marks
         return (
             self.events >= events
@@ -78,8 +75,7 @@ class SentByStations:
         if counts is None:
             limits = self.limits.get(station, tuple(DEFAULT_LIMITS.values()))
             counts = self.counts[station] = Counts.of(limits)
-        counts.take(message)
-        if not counts.is_reached():
+        if not counts.take(message):
             return []
         return [f"station {station} sent {said}" for said in counts.reached()]
 

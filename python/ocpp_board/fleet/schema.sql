@@ -354,10 +354,24 @@ create unlogged table if not exists inbox (
     primary key (shard, id),
     -- Each line has exactly one line of answer, or all answers behind it would be those of others.
     constraint "a line is msg, void, restore or erase without a line feed, of at most 262,400 bytes" check (
-        line ~ '^(msg|void|restore|erase) ' and strpos(line, E'\n') = 0 and octet_length(line) <= 262400),
+        split_part(line, ' ', 1) in ('msg', 'void', 'restore', 'erase') and strpos(line, E'\n') = 0
+        and octet_length(line) <= 262400),
     constraint "a channel has 1 to 63 bytes" check (octet_length(gateway) between 1 and 63)
 ) with (autovacuum_vacuum_scale_factor = 0, autovacuum_vacuum_threshold = 2000, autovacuum_vacuum_cost_delay = 0);
 create table if not exists inbox_kept (like inbox including all);
+-- An earlier version said the same by a pattern, which took a fifth of an insert's time.
+do $$
+declare
+    name text;
+    rule constant text := 'a line is msg, void, restore or erase without a line feed, of at most 262,400 bytes';
+begin
+    for name in select conrelid::regclass from pg_constraint where conrelid in ('inbox'::regclass, 'inbox_kept'::regclass)
+            and conname = rule::name and pg_get_constraintdef(oid) like '%~%' loop
+        execute format('alter table %I drop constraint %I, add constraint %2$I check (split_part(line, %L, 1) in '
+            '(%L, %L, %L, %L) and strpos(line, %L) = 0 and octet_length(line) <= 262400)', name, rule, ' ', 'msg', 'void',
+            'restore', 'erase', E'\n');
+    end loop;
+end $$;
 
 -- A shard that moves takes no line that is kept; whoever moves it waits for those that are under way, and carries them.
 create or replace function keep_line() returns trigger language plpgsql security definer

@@ -68,9 +68,10 @@ class Watched:
 
     def take(self, place: int, line: str, answer: str) -> None:
         """Takes a line of the log with its answer; one whose answer is not known is left."""
-        if not line.startswith("msg ") or not answer:
+        kind, _, rest = line.partition(" ")
+        if kind != "msg" or not answer:
             return
-        _, station, message = (*line.split(" ", 2), "")[:3]
+        station, _, message = rest.partition(" ")
         if answer.startswith(("[4,", "fault ")):
             self.refuse(place, Answered(place, "", station, None, message, answer))
             return

@@ -616,17 +616,22 @@ class Session:
 
 def payloads_of(answers: list[tuple[str, str]]) -> tuple[list[str], list[str]]:
     """The notifications that tell these answers, as their channels and their payloads."""
-    channels, payloads = list[str](), list[str]()
-    texts, sizes = dict[str, list[str]](), dict[str, int]()
+    channels, payloads, texts = list[str](), list[str](), dict[str, list[str]]()
     for gateway, text in answers:
-        size = len(text.encode()) + 1
-        if sizes.setdefault(gateway, 0) + size > PAYLOAD:
-            channels.append(gateway)
-            payloads.append("\n".join(texts.pop(gateway)))
-            sizes[gateway] = 0
         texts.setdefault(gateway, []).append(text)
-        sizes[gateway] += size
-    return channels + list(texts), payloads + ["\n".join(lines) for lines in texts.values()]
+    for gateway, lines in texts.items():
+        part, size = list[str](), 0
+        for line in lines:
+            more = len(line.encode()) + 1
+            if part and size + more > PAYLOAD:
+                channels.append(gateway)
+                payloads.append("\n".join(part))
+                part, size = [], 0
+            part.append(line)
+            size += more
+        channels.append(gateway)
+        payloads.append("\n".join(part))
+    return channels, payloads
 
 
 async def opened(words: argparse.Namespace) -> list[Any]:
