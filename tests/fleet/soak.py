@@ -313,7 +313,8 @@ class Soak(Trial):
         lines: dict[int, list[str]] = {}
         for line in [*self.fleet.sent(), *self.voids]:
             lines.setdefault(int(line.split(" ", 2)[1][3:]) // EACH, []).append(line)
-        end, differ = time.monotonic() + 60, ["not compared"]
+        # A long run takes longer to be replayed.
+        end, differ = time.monotonic() + 60 + self.words.seconds / 20, ["not compared"]
         while differ and time.monotonic() < end:
             await self.close_all(False)
             await asyncio.sleep(3)
