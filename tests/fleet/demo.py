@@ -4,11 +4,11 @@
     tests/one fleet.demo P --faults primary disk     these alone
     tests/one fleet.demo P --faults open stopped --open 60 --stop 60
 
-It starts PostgreSQL 15 in a temporary folder as a user that is not root, 3 workers, 3 gateways and simulated
-stations. Each fault comes while stations send; afterwards every answered message must be in the log, and every
-site's board that of a replay of what stations sent. Then it compacts and compares again; tries bad input; and
-removes a row by hand, after which the comparison must fail. It ends what it started. The status is 1 where one of
-these is not as it must be.
+It starts PostgreSQL 15 in a temporary folder as a user that is not root, 3 workers, of which the clocks of two are
+three days fast and 400 days slow, 3 gateways and simulated stations. Each fault comes while stations send; afterwards
+every answered message must be in the log, and every site's board that of a replay of what stations sent. Then it
+compacts and compares again; tries bad input; and removes a row by hand, after which the comparison must fail. It ends
+what it started. The status is 1 where one of these is not as it must be.
 
     worker       a worker is killed with -9
     gateway      a gateway is killed with -9
@@ -19,7 +19,6 @@ these is not as it must be.
                  one process that serves a worker or a gateway, twice
     stopped      a gateway is stopped, and woken
     twice        stations come to another gateway as well, and send there too
-    clocks       the clocks of workers are three days fast and 400 days slow
     hang         a worker is stopped, fenced by another one, and woken
     two-workers  all workers are made to believe that they hold all shards
     network      what is between the gateways and the database is stopped and goes on, then ends and is there again
@@ -57,15 +56,15 @@ from tests.fleet.fleet import (
 from tests.fleet.trials import MISTAKEN, RIGHT, Trial, messages, parsed, parser_of, tried
 
 # Faults of one fleet, and the two that need one of their own.
-COMMON = ["worker", "gateway", "replay", "order", "open", "server", "stopped", "twice", "clocks"]
-COMMON += ["hang", "two-workers", "network", "plan"]
+COMMON = ["server", "worker", "gateway", "replay", "order", "open", "stopped", "twice", "hang"]
+COMMON += ["two-workers", "network", "plan"]
 OWN = ["primary", "disk"]
 # Waits in seconds that are not passed while a part is killed, besides ten times the run's median, which is long
 # where the machine is busy: less than it takes to see that a worker hangs, so no time ran out.
 LONGEST = {"worker": 2.5, "gateway": 2.5, "replay": 2.5, "open": 1.0}
 EACH = 20
-# Days by which clocks are wrong, and stations that come to another gateway as well.
-CLOCKS, TWICE = (3, -400), 20
+# Days by which the clocks of the first workers are wrong, and stations that come to another gateway as well.
+CLOCKS, TWICE = (0, 3, -400), 20
 # A worker that tells answers late.
 LATE = """
 import asyncio
@@ -99,11 +98,11 @@ class Demo(Trial):
         self.gateways: list[tuple[subprocess.Popen[bytes], str]] = []
         self.shards = 0
 
-    async def open(self, workers: int = 3, gateways: int = 3) -> None:
+    async def open(self) -> None:
         self.owner = self.owner or await self.fleet.owner()
-        self.workers += [self.new_worker() for _ in range(workers)]
+        self.workers += [self.new_worker(CLOCK.format(days)) for days in CLOCKS]
         self.gateways += await asyncio.gather(
-            *(asyncio.to_thread(self.fleet.gateway) for _ in range(gateways))
+            *(asyncio.to_thread(self.fleet.gateway) for _ in range(3))
         )
 
     def new_worker(self, code: str = "") -> subprocess.Popen[bytes]:
@@ -275,12 +274,6 @@ class Demo(Trial):
             answered and all(said.startswith("[3,") or said == "closed 1000" for said in heard),
             f"twice: {answered} of {TWICE} answered at a second gateway, the others closed",
         )
-
-    async def clocks(self) -> None:
-        """Workers whose clocks are wrong take the place of others."""
-        for days in CLOCKS:
-            self.workers.pop(0).kill()
-            self.workers.append(self.new_worker(CLOCK.format(days)))
 
     async def hang(self) -> None:
         self.workers[0].send_signal(signal.SIGSTOP)
