@@ -19,7 +19,7 @@ T = TypeVar("T")
 MOST_ROWS = 1000
 # What was made or written is followed by a pause of so many times what that took: answers come first, and where the
 # machine is busy boards are written less often.
-PAUSE = 4
+PAUSE = 9
 
 
 class Shown:

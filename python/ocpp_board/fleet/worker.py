@@ -86,7 +86,7 @@ HOLD = "select shard from unnest($1::int[]) as s (shard) where hold_shard(shard)
 AT_ONCE, OPENING = 64, 2
 # Seconds after which the other shards no longer wait for a slow one, and for which what comes is handled together: each
 # round costs the same, whether it has one line or many.
-SLOW, GATHERED = 0.02, 0.01
+SLOW, GATHERED = 0.02, 0.02
 # Beats after which a worker looks at all shards again, whether something changed or not; for which it does so at each
 # beat where something changed, since others have to give back first; and after which it looks for those that hang.
 SWEEP, SETTLING, FENCING = 20, 5, 5
