@@ -193,6 +193,9 @@ class Soak(Trial):
             while (pid := await self.done(BACKEND)) is None:
                 await asyncio.sleep(0.1)
             os.kill(pid, signal.SIGKILL)
+            # The server ends all its sessions; until then it answers.
+            while not self.owner.is_closed():
+                await asyncio.sleep(0.05)
         await self.done("select 1")
         self.is_down = False
 
@@ -216,10 +219,8 @@ class Soak(Trial):
 
     async def close_all(self, may_kill: bool) -> None:
         for site in range(-(-self.words.stations // EACH)):
-            command, crashes = (
-                self.fleet.closing(f"site-{site}", self.archives, self.day),
-                self.crashes,
-            )
+            command = self.fleet.closing(f"site-{site}", self.archives, self.day)
+            crashes, was_down = self.crashes, self.is_down
             process = self.fleet.start(*command, stdout=subprocess.PIPE, stderr=subprocess.STDOUT)
             if may_kill and self.chance.random() < 0.25:
                 await asyncio.sleep(self.chance.random())
@@ -228,7 +229,7 @@ class Soak(Trial):
                     self.kills["close_day"] += 1
             status, text = await ended(process)
             # Where the plan or a worker's place changed in between it closed nothing, and is called again next time.
-            is_told = "changed meanwhile" in text or crashes != self.crashes or self.is_down
+            is_told = "changed meanwhile" in text or crashes != self.crashes or was_down
             if status not in (0, -9) and not is_told:
                 self.check(False, f"ocpp-board close-day: {text}")
             self.closings += status == 0
