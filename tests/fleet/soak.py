@@ -192,9 +192,10 @@ class Soak(Trial):
         else:
             while (pid := await self.done(BACKEND)) is None:
                 await asyncio.sleep(0.1)
+            owner = self.owner
             os.kill(pid, signal.SIGKILL)
             # The server ends all its sessions; until then it answers.
-            while not self.owner.is_closed():
+            while not owner.is_closed():
                 await asyncio.sleep(0.05)
         await self.done("select 1")
         self.is_down = False
