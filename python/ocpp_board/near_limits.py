@@ -8,7 +8,7 @@ from dataclasses import dataclass, field
 from ocpp_board.answered import Answered
 from ocpp_board.limits import DEFAULT_LIMITS
 
-TRANSACTION = re.compile(r'"transactionId"\s*:\s*"((?:[^"\\]|\\.)*)"')
+TRANSACTION = re.compile(r'"transactionId"\s*:\s*"([^"\\]*+(?:\\.[^"\\]*+)*+)"')
 NAMES = tuple(DEFAULT_LIMITS)
 # Values of registers have a measurand of these, or none.
 VALUE = '"value"'
@@ -35,17 +35,14 @@ class Counts:
         """Nothing yet, of a station with these limits."""
         return cls(limits, [-(-9 * most // 10) for most in limits])
 
-    def take(self, message: str) -> None:
-        """An event that was taken."""
+    def take(self, message: str) -> bool:
+        """Takes an event. Whether nine tenths of a limit are reached that was not told yet."""
         if transaction := TRANSACTION.search(message):
             self.transactions.add(transaction[1].lower())
         self.events += 1
         self.readings += message.count(VALUE)
         if '"measurand"' in message:
             self.readings -= len(OTHER.findall(message))
-
-    def is_reached(self) -> bool:
-        """Whether nine tenths of a limit are reached that was not told yet."""
         transactions, events, readings, changes = self.marks
         return (
             self.events >= events
@@ -63,6 +60,26 @@ class Counts:
                 yield f"{number:,} {NAMES[place]}, repeats included, and keeps {self.limits[place]:,} at most"
 
 
+class SentByStations:
+    """What stations sent and was taken, beside their limits."""
+
+    def __init__(self, limits: Mapping[str, tuple[int, ...]]) -> None:
+        self.limits = limits
+        self.counts: dict[str, Counts] = {}
+
+    def taken(self, station: str, message: str) -> list[str]:
+        """Counts a message that was taken, and gives what is to be told of limits since."""
+        if '"TransactionEvent"' not in message:
+            return []
+        counts = self.counts.get(station)
+        if counts is None:
+            limits = self.limits.get(station, tuple(DEFAULT_LIMITS.values()))
+            counts = self.counts[station] = Counts.of(limits)
+        if not counts.take(message):
+            return []
+        return [f"station {station} sent {said}" for said in counts.reached()]
+
+
 class NearLimits:
     """Takes messages, and tells once of each limit of a station of which nine tenths are reached."""
 
@@ -70,17 +87,10 @@ class NearLimits:
         self, limits: Mapping[str, tuple[int, ...]], tell: Callable[[Answered, str, str], None]
     ) -> None:
         """`limits` are those of the stations; `tell` gets the message that reached it, what is told, and a remedy."""
-        self.limits, self.tell = limits, tell
-        self.counts: dict[str, Counts] = {}
+        self.sent, self.tell = SentByStations(limits), tell
 
     def take(self, answered: Answered) -> None:
         """Takes a message with its answer."""
-        if not answered.is_accepted or '"TransactionEvent"' not in answered.message:
-            return
-        counts = self.counts.get(answered.station)
-        if counts is None:
-            limits = self.limits.get(answered.station, tuple(DEFAULT_LIMITS.values()))
-            counts = self.counts[answered.station] = Counts.of(limits)
-        counts.take(answered.message)
-        for said in counts.reached() if counts.is_reached() else ():
-            self.tell(answered, f"station {answered.station} sent {said}", REMEDY)
+        if answered.is_accepted:
+            for said in self.sent.taken(answered.station, answered.message):
+                self.tell(answered, said, REMEDY)

@@ -1,6 +1,6 @@
 #!/usr/bin/env bash
 # Installs what is missing and runs demo.py here: a fleet on a database of its own, with faults, and each board compared.
-# Then order_demo.py, of a site whose readings are taken by moment.
+# Beside it order_demo.py, of a site whose readings are taken by moment.
 #     tests/fleet/check.sh PROGRAM [WORD..]      such as crates/ocpp_board/out/ocpp_board; further words are demo.py's
 # Status: 0 where all is right, 1 where something is wrong, 2 for wrong words, and 77 where packages are missing and can't
 # be installed, so that nothing was tried. Packages that it installs stay; the database and all processes do not.
@@ -38,5 +38,14 @@ if [ ${#missing[@]} != 0 ]; then
         skip "no ${missing[*]}, and apt-get can't install them: $(grep '^E:' "$told" | head -n 1)"
     leave
 fi
-"$here/../one" fleet.demo "$@" || exit
-exec "$here/../one" fleet.order_demo "$1"
+told=$(mktemp) || exit 1
+trap 'rm -f "$told"' EXIT
+# It begins once the words of demo.py were found to be right.
+{ sleep 2; exec "$here/../one" fleet.order_demo "$1"; } > "$told" 2>&1 &
+beside=$!
+"$here/../one" fleet.demo "$@"
+status=$?
+[ $status != 2 ] || { kill $beside; exit 2; }
+wait $beside || status=1
+cat "$told"
+exit $status

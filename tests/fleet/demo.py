@@ -2,20 +2,23 @@
 
     tests/one fleet.demo P                           the faults that take no root and no second server
     tests/one fleet.demo P --faults primary disk     these alone
+    tests/one fleet.demo P --faults open stopped --open 60 --stop 60
 
-It starts PostgreSQL 15 in a temporary folder as a user that is not root, 3 workers, 3 gateways and simulated
-stations. Each fault comes while stations send; afterwards every answered message must be in the log, and every
-site's board that of a replay of what stations sent. Then it compacts and compares again; tries bad input; and
-removes a row by hand, after which the comparison must fail. It ends what it started. The status is 1 where one of
-these is not as it must be.
+It starts PostgreSQL 15 in a temporary folder as a user that is not root, 3 workers, of which the clocks of two are
+three days fast and 400 days slow, 3 gateways and simulated stations. Each fault comes while stations send; afterwards
+every answered message must be in the log, and every site's board that of a replay of what stations sent. Then it
+compacts and compares again; tries bad input; and removes a row by hand, after which the comparison must fail. It ends
+what it started. The status is 1 where one of these is not as it must be.
 
     worker       a worker is killed with -9
     gateway      a gateway is killed with -9
     replay       a worker's replay is killed with -9
     order        workers are killed between giving lines their places and telling answers, sessions while they give them
     open         transactions stay open: one that wrote in another database, a station that is added, an operator's line
-    server       the database and all its processes are killed with -9 and started again, twice
+    server       the database and all its processes are killed with -9 and started again, three times, and in between
+                 one process that serves a worker or a gateway, twice
     stopped      a gateway is stopped, and woken
+    twice        stations come to another gateway as well, and send there too
     hang         a worker is stopped, fenced by another one, and woken
     two-workers  all workers are made to believe that they hold all shards
     network      what is between the gateways and the database is stopped and goes on, then ends and is there again
@@ -33,21 +36,35 @@ import subprocess
 import sys
 import time
 from collections.abc import Awaitable, Callable
+from typing import Any
 
 import asyncpg
-from ocpp_board.fleet.database import Fault, connect
+from ocpp_board.fleet.database import Fault, Unreachable, connect
 from tests.fleet.client import Client
-from tests.fleet.fleet import BIN, SCHEMA, children, ended, free_port, part, tool
-from tests.fleet.trials import MISTAKEN, RIGHT, Trial, parsed, parser_of, tried
+from tests.fleet.fleet import (
+    BACKEND,
+    BIN,
+    CLOCK,
+    CRASHES,
+    SCHEMA,
+    children,
+    ended,
+    free_port,
+    part,
+    tool,
+)
+from tests.fleet.trials import MISTAKEN, RIGHT, Trial, messages, parsed, parser_of, tried
 
 # Faults of one fleet, and the two that need one of their own.
-COMMON = ["worker", "gateway", "replay", "order", "open", "server", "stopped"]
-COMMON += ["hang", "two-workers", "network", "plan"]
+COMMON = ["server", "worker", "gateway", "replay", "order", "open", "stopped", "twice", "hang"]
+COMMON += ["two-workers", "network", "plan"]
 OWN = ["primary", "disk"]
 # Waits in seconds that are not passed while a part is killed, besides ten times the run's median, which is long
 # where the machine is busy: less than it takes to see that a worker hangs, so no time ran out.
 LONGEST = {"worker": 2.5, "gateway": 2.5, "replay": 2.5, "open": 1.0}
 EACH = 20
+# Days by which the clocks of the first workers are wrong, and stations that come to another gateway as well.
+CLOCKS, TWICE = (0, 3, -400), 20
 # A worker that tells answers late.
 LATE = """
 import asyncio
@@ -81,12 +98,16 @@ class Demo(Trial):
         self.gateways: list[tuple[subprocess.Popen[bytes], str]] = []
         self.shards = 0
 
-    async def open(self, workers: int = 3, gateways: int = 3) -> None:
+    async def open(self) -> None:
         self.owner = self.owner or await self.fleet.owner()
-        self.workers += [self.fleet.worker("--hang", 3, "--boards", 0.5) for _ in range(workers)]
+        self.workers += [self.new_worker(CLOCK.format(days)) for days in CLOCKS]
         self.gateways += await asyncio.gather(
-            *(asyncio.to_thread(self.fleet.gateway) for _ in range(gateways))
+            *(asyncio.to_thread(self.fleet.gateway) for _ in range(3))
         )
+
+    def new_worker(self, code: str = "") -> subprocess.Popen[bytes]:
+        """A worker that begins with this code."""
+        return self.fleet.worker("--hang", 3, "--boards", 0.5, code=code)
 
     async def more_stations(self, count: int, each: int = EACH) -> int:
         first = await self.fleet.add(self.owner, count, each, self.shards)
@@ -99,20 +120,24 @@ class Demo(Trial):
         fault: Callable[[], Awaitable[None]],
         urls: list[str] | None = None,
         longest: float = 0,
+        seconds: float = 0,
     ) -> None:
-        """A fault while new stations send, and whether each message was answered and each board is right."""
+        """A fault of so many seconds while new stations send, and whether each message was answered and each board is
+        right."""
         shard, first = self.shards, await self.more_stations(self.words.stations)
+        # One message in five is sent twice.
+        events = int((seconds + 1) * self.words.rate / self.words.stations / 1.2)
         load = self.fleet.load(
             urls or [url for process, url in self.gateways if process.poll() is None],
             *(
                 first,
                 self.words.stations,
                 "--events",
-                self.words.events,
+                max(self.words.events, events),
                 "--rate",
                 self.words.rate,
                 "--seconds",
-                90,
+                90 + seconds,
             ),
         )
         await asyncio.sleep(1)
@@ -138,7 +163,7 @@ class Demo(Trial):
 
     async def worker(self) -> None:
         self.workers.pop(0).kill()
-        self.workers.append(self.fleet.worker("--hang", 3, "--boards", 0.5))
+        self.workers.append(self.new_worker())
 
     async def gateway(self) -> None:
         self.gateways.pop(0)[0].kill()
@@ -149,16 +174,13 @@ class Demo(Trial):
 
     async def order(self) -> None:
         """Workers that are killed between giving lines their places and telling answers, and while they give them."""
-        words = ("--db", self.fleet.dsn("ledger_worker"), "--program", self.fleet.program)
         for _ in range(3):
             self.workers.pop(0).kill()
-            self.workers.append(
-                self.fleet.patched(LATE, "worker", *words, "--hang", 3, "--boards", 0.5)
-            )
+            self.workers.append(self.new_worker(LATE))
             await asyncio.sleep(0.5)
         for _ in range(3):
             self.workers.pop(0).kill()
-            self.workers.append(self.fleet.worker("--hang", 3, "--boards", 0.5))
+            self.workers.append(self.new_worker())
         ended_ones = 0
         for _ in range(150):
             ended_ones += await self.owner.fetchval(NUMBERING)
@@ -183,7 +205,7 @@ class Demo(Trial):
         )
 
     async def open_ones(self) -> None:
-        """Transactions that stay open for 4 seconds."""
+        """Transactions that stay open."""
         self.fleet.databases[0].psql("postgres", "-c", "create database elsewhere")
         void = f"select operate('void', 'CS-{self.fleet.stations - 1:05}', 'TX-99', 1, 'a test')"
         sessions = []
@@ -195,21 +217,39 @@ class Demo(Trial):
             sessions.append(await asyncpg.connect(self.fleet.dsn("owner", database=database)))
             await sessions[-1].execute("set idle_in_transaction_session_timeout = 0; begin")
             await sessions[-1].execute(query)
-        await asyncio.sleep(4)
+        await asyncio.sleep(self.words.open)
         for session in sessions:
             await session.execute("rollback")
             await session.close()
 
     async def server(self) -> None:
-        """The database and all its processes are killed, and it is started again."""
-        tooks = []
-        for _ in range(2):
-            self.fleet.databases[0].kill()
+        """The database is killed with all its processes and started again, and in between one process of it."""
+        database, tooks = self.fleet.databases[0], []
+        for what in CRASHES:
             began = time.monotonic()
-            await asyncio.to_thread(self.fleet.databases[0].start)
-            tooks.append(f"{time.monotonic() - began:.1f}")
-            await asyncio.sleep(1.5)
-        print(f"server: the database began again in {' and '.join(tooks)} s", flush=True)
+            if what == "all":
+                database.kill()
+                await asyncio.to_thread(database.start)
+                tooks.append(f"{time.monotonic() - began:.1f}")
+            else:
+                while (pid := await self.owner.fetchval(BACKEND)) is None:
+                    await asyncio.sleep(0.1)
+                os.kill(pid, signal.SIGKILL)
+            self.owner.terminate()
+            await asyncio.sleep(0.5)
+            self.owner = await self.until_up()
+        print(f"server: the database began again in {', '.join(tooks)} s", flush=True)
+
+    async def until_up(self) -> Any:
+        """A session of the owner, once the database lets it in."""
+        end = time.monotonic() + 30
+        while True:
+            try:
+                return await self.fleet.owner()
+            except Unreachable:
+                if time.monotonic() > end:
+                    raise
+            await asyncio.sleep(0.1)
 
     async def stopped(self) -> None:
         """A gateway that is stopped once its stations send, and woken."""
@@ -217,6 +257,23 @@ class Demo(Trial):
         self.gateways[0][0].send_signal(signal.SIGSTOP)
         await asyncio.sleep(self.words.stop)
         self.gateways[0][0].send_signal(signal.SIGCONT)
+
+    async def twice(self) -> None:
+        """Stations that come to another gateway as well, and send there what they will send or sent here. The older
+        connection is closed each time, and the station comes again."""
+        heard, first = list[str](), self.fleet.stations - self.words.stations
+        for number in range(first, first + TWICE):
+            _, url = self.gateways[number % len(self.gateways)]
+            link = await Client.open(url, f"CS-{number:05}")
+            while (said := await link.said()) == "101":
+                link.send(messages(number, self.words.events)[-1].encode())
+            heard.append(said)
+            link.transport.abort()
+        answered = sum(said.startswith("[3,") for said in heard)
+        self.check(
+            answered and all(said.startswith("[3,") or said == "closed 1000" for said in heard),
+            f"twice: {answered} of {TWICE} answered at a second gateway, the others closed",
+        )
 
     async def hang(self) -> None:
         self.workers[0].send_signal(signal.SIGSTOP)
@@ -341,14 +398,15 @@ class Demo(Trial):
                 await self.network()
             else:
                 fault = getattr(self, {"open": "open_ones"}.get(name, name.replace("-", "_")))
-                await self.under_load(name, fault, longest=LONGEST.get(name, 0))
+                seconds = {"open": self.words.open, "stopped": self.words.stop}.get(name, 0)
+                await self.under_load(name, fault, None, LONGEST.get(name, 0), seconds)
             if name == "order":
                 await self.in_order()
             if name == "two-workers":
                 for process in self.workers:
                     process.kill()
                 database.psql("ledger", "-f", "-", input=own_functions())
-                self.workers = [self.fleet.worker("--hang", 3, "--boards", 0.5) for _ in range(3)]
+                self.workers = [self.new_worker() for _ in range(3)]
         await self.compaction()
         await self.bad_input(self.gateways[-1][1])
         differ = await self.fleet.compared(self.owner)
@@ -380,7 +438,7 @@ class Demo(Trial):
         after = await self.owner.fetchval("select count(*) from own_log")
         for process in self.workers:
             process.kill()
-        self.workers = [self.fleet.worker("--hang", 3, "--boards", 0.5) for _ in range(3)]
+        self.workers = [self.new_worker() for _ in range(3)]
         await self.owner.execute("delete from own_board")
         differ = await self.fleet.compared(self.owner)
         # What was removed is repeats, so each answered line is still there once.
@@ -641,6 +699,9 @@ def main() -> int:
     )
     parser.add_argument(
         "--stop", type=float, default=3, help="seconds for which a gateway is stopped (default: 3)"
+    )
+    parser.add_argument(
+        "--open", type=float, default=4, help="seconds of open transactions (default: 4)"
     )
     words = parsed(parser)
     shared = [name for name in words.faults if name in COMMON]

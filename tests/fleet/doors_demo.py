@@ -39,7 +39,7 @@ WORK: dict[str, str] = {
     "delete from own_refusal": "worker mover",
     "insert into worker values ('worker_x', 1, now(), now(), 1)": "worker",
     "select show_board(0, 'north', 0, 0, 0, '', '{}')": "worker",
-    "select show_stations(0, 'north', 0, 0, '{}')": "worker",
+    "select show_stations(0, 'north', 0, 0, '{}', '{}', '{}', '{}', '{}', '{}', '{}')": "worker",
     "select living_workers()": "worker",
     "select watched_cell()": "worker operator",
     "select line from own_log": "reader operator worker closer compactor keeper mover",

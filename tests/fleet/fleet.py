@@ -52,6 +52,12 @@ BIN = Path("/usr/lib/postgresql/15/bin")
 # The roles of the schema's tools, each of which has a password of its own.
 ROLES = ["GATEWAY", "FEED", "WORKER", "READER", "OPERATOR", "PROVISIONER", "ADMINISTRATOR"]
 ROLES += ["CLOSER", "COMPACTOR", "MOVER", "KEEPER", "BACKUP"]
+# What of the database is killed, one after the other: all of its processes, or one that serves a worker or a gateway,
+# for which the server ends all others and begins again.
+CRASHES = ("all", "one", "all", "one", "all")
+BACKEND = "select pid from pg_stat_activity where application_name ~ '^(worker|gateway)_' order by random() limit 1"
+# A part whose clock is wrong by so many days.
+CLOCK = "import time; real = time.time; time.time = lambda: real() + 86400 * {}"
 
 
 def tool(name: str) -> list[str]:
@@ -250,12 +256,15 @@ class Fleet:
         self.processes.append(subprocess.Popen(list(map(str, command)), **more))
         return self.processes[-1]
 
-    def worker(self, *more: object, dsn: str = "") -> subprocess.Popen[bytes]:
+    def worker(self, *more: object, dsn: str = "", code: str = "") -> subprocess.Popen[bytes]:
+        """A worker, which begins with this code."""
         login = dsn or self.dsn("ledger_worker")
-        return self.start(*tool("worker"), "--db", login, "--program", self.program, *more)
+        return self.patched(code, "worker", "--db", login, "--program", self.program, *more)
 
     def patched(self, code: str, *words: object, **more: Any) -> subprocess.Popen[bytes]:
         """A tool that begins with this code."""
+        if not code:
+            return self.start(*tool(str(words[0])), *words[1:], **more)
         code += "\nimport sys; from ocpp_board.cli import main; sys.argv[0] = 'ocpp-board'; sys.exit(main())"
         return self.start(sys.executable, "-c", code, *words, **more)
 

@@ -5,11 +5,13 @@
 
 Each 6 seconds a worker, a gateway or a replay is killed with -9; each second an answered event is voided, and one is
 sent again over another gateway; each 20 seconds the next day of each site is closed, and one `ocpp-board close-day` in
-four is killed. Five times, spread over the run, the database is killed with all its processes, or a single one of
-them; a gateway is stopped for a twentieth of the run. The clocks of two workers are three days fast and 400 slow.
-Stations' clocks run fast, so that days pass. At the end the day is closed once more, and boards with archives have to
-be those of a replay from scratch of all that was answered and voided, and what is settled that replay's periods. It
-tells the memory of each part at the quarters of the run. The status is 1 where something is not as it must be.
+four is killed. Spread over the run, the database is killed three times with all its processes and twice a single one of
+them; a gateway is stopped, a worker is stopped until others fence it, and a transaction of another database that has
+written stays open, each for a twentieth of the run and at most a minute. The clocks of two workers are three days fast
+and 400 slow. Stations' clocks run fast, so that days pass. At the end the day is closed once more, and boards with
+archives have to be those of a replay from scratch of all that was answered and voided, and what is settled that
+replay's periods. It tells the memory of each part at the quarters of the run. The status is 1 where something is not as
+it must be.
 """
 
 import argparse
@@ -27,19 +29,17 @@ from typing import Any
 
 import asyncpg
 
-from ocpp_board.fleet.database import LOST, Unreachable
+from ocpp_board.fleet.database import LOST, Unreachable, connect
 from tests.fleet.client import Client
-from tests.fleet.fleet import children, ended, free_port
+from tests.fleet.fleet import BACKEND, CLOCK, CRASHES, children, ended, free_port
 from tests.fleet.trials import Trial, parsed, parser_of, tried
 
 FIRST = date(2026, 3, 1)
 EACH = 50
-# What is killed of the database, one after the other, and days by which the clocks of workers are wrong.
-CRASHES = ("all", "one", "all", "one", "all")
+# Days by which the clocks of workers are wrong, what is not killed, in between kills of the database, and for how many
+# seconds at most each of these lasts.
 CLOCKS = (0, 3, -400)
-CLOCK = "import time; real = time.time; time.time = lambda: real() + 86400 * {}"
-# A process of the database that serves a worker or a gateway.
-BACKEND = "select pid from pg_stat_activity where application_name ~ '^(worker|gateway)_' order by random() limit 1"
+STOPS, LONGEST = ("open", "gateway", "worker"), 60
 # Bytes of the record from which events to void are chosen.
 RECENT = 1 << 17
 
@@ -76,6 +76,9 @@ class Soak(Trial):
         self.kills: dict[str, int] = dict.fromkeys(("worker", "gateway", "replay", "close_day"), 0)
         self.crashes = self.repeats = 0
         self.is_down = False
+        # What is stopped at the moment, by its place, and is not killed then.
+        self.stopped: tuple[str, int] = ("", 0)
+        self.stops: dict[str, float] = {}
         self.day, self.closings = FIRST, 0
         self.sizes: list[dict[str, float]] = []
         self.workers: list[subprocess.Popen[bytes]] = []
@@ -90,8 +93,7 @@ class Soak(Trial):
         self.gateways = [(await asyncio.to_thread(self.start_gateway, port)) for port in self.ports]
 
     def start_worker(self, place: int) -> subprocess.Popen[bytes]:
-        words = ("--db", self.fleet.dsn("ledger_worker"), "--program", self.fleet.program)
-        return self.fleet.patched(CLOCK.format(CLOCKS[place]), "worker", *words, "--hang", 3)
+        return self.fleet.worker("--hang", 3, code=CLOCK.format(CLOCKS[place]))
 
     def start_gateway(self, port: int) -> subprocess.Popen[bytes]:
         return self.fleet.gateway(port=port)[0]
@@ -103,6 +105,8 @@ class Soak(Trial):
             await asyncio.sleep(self.words.each_kill)
             what = self.chance.choice(("worker", "gateway", "replay"))
             place = self.chance.randrange(3)
+            if self.stopped == ("worker" if what == "replay" else what, place):
+                continue
             if what == "worker":
                 self.workers[place].kill()
                 self.workers[place] = self.start_worker(place)
@@ -167,31 +171,57 @@ class Soak(Trial):
                 pass
 
     async def crash(self) -> None:
-        """Kills the database, or one of its processes, and stops a gateway."""
-        database, pause = self.fleet.databases[0], self.words.seconds / (len(CRASHES) + 2)
-        for what in CRASHES:
+        """Kills the database or one of its processes, and in between stops something for a while."""
+        pause = self.words.seconds / (len(CRASHES) + len(STOPS) + 2)
+        for what in (*CRASHES[:2], "open", CRASHES[2], "gateway", CRASHES[3], "worker", CRASHES[4]):
             await asyncio.sleep(pause)
-            self.is_down, self.crashes = True, self.crashes + 1
-            if what == "all":
-                database.kill()
-                await asyncio.to_thread(database.start)
+            if what in STOPS:
+                began = time.monotonic()
+                await self.stop(what, min(LONGEST, self.words.seconds / 20))
+                self.stops[what] = time.monotonic() - began
             else:
-                os.kill(await self.done(BACKEND), signal.SIGKILL)
-            await self.done("select 1")
-            self.is_down = False
-        await asyncio.sleep(pause)
-        process = self.gateways[0]
-        process.send_signal(signal.SIGSTOP)
-        await asyncio.sleep(self.words.seconds / 20)
-        process.send_signal(signal.SIGCONT)
+                await self.crash_once(what == "all")
         await asyncio.sleep(self.words.seconds)
+
+    async def crash_once(self, is_all: bool) -> None:
+        """Kills the database with all its processes, or one that serves a worker or a gateway."""
+        self.is_down, self.crashes = True, self.crashes + 1
+        if is_all:
+            self.fleet.databases[0].kill()
+            await asyncio.to_thread(self.fleet.databases[0].start)
+        else:
+            while (pid := await self.done(BACKEND)) is None:
+                await asyncio.sleep(0.1)
+            owner = self.owner
+            os.kill(pid, signal.SIGKILL)
+            # The server ends all its sessions; until then it answers.
+            while not owner.is_closed():
+                await asyncio.sleep(0.05)
+        await self.done("select 1")
+        self.is_down = False
+
+    async def stop(self, what: str, seconds: float) -> None:
+        """Stops a gateway or a worker for so many seconds, or leaves a transaction of another database open."""
+        if what == "open":
+            await self.done("create database elsewhere")
+            session = await connect(self.fleet.dsn("owner", database="elsewhere"))
+            await session.execute("set idle_in_transaction_session_timeout = 0; begin")
+            await session.execute("create table one as select 1")
+            await asyncio.sleep(seconds)
+            await session.execute("rollback")
+            await session.close()
+            return
+        self.stopped, processes = (what, 0), self.gateways if what == "gateway" else self.workers
+        process = processes[0]
+        process.send_signal(signal.SIGSTOP)
+        await asyncio.sleep(seconds)
+        process.send_signal(signal.SIGCONT)
+        self.stopped = ("", 0)
 
     async def close_all(self, may_kill: bool) -> None:
         for site in range(-(-self.words.stations // EACH)):
-            command, crashes = (
-                self.fleet.closing(f"site-{site}", self.archives, self.day),
-                self.crashes,
-            )
+            command = self.fleet.closing(f"site-{site}", self.archives, self.day)
+            crashes, was_down = self.crashes, self.is_down
             process = self.fleet.start(*command, stdout=subprocess.PIPE, stderr=subprocess.STDOUT)
             if may_kill and self.chance.random() < 0.25:
                 await asyncio.sleep(self.chance.random())
@@ -200,7 +230,7 @@ class Soak(Trial):
                     self.kills["close_day"] += 1
             status, text = await ended(process)
             # Where the plan or a worker's place changed in between it closed nothing, and is called again next time.
-            is_told = "changed meanwhile" in text or crashes != self.crashes or self.is_down
+            is_told = "changed meanwhile" in text or crashes != self.crashes or was_down
             if status not in (0, -9) and not is_told:
                 self.check(False, f"ocpp-board close-day: {text}")
             self.closings += status == 0
@@ -261,12 +291,19 @@ class Soak(Trial):
         for job in jobs:
             job.cancel()
         await asyncio.gather(*jobs, return_exceptions=True)
-        self.gateways[0].send_signal(signal.SIGCONT)
+        for process in (*self.gateways, *self.workers):
+            process.send_signal(signal.SIGCONT)
         self.check(status == 0, text)
+        self.check(
+            self.crashes == len(CRASHES) and len(self.stops) == len(STOPS),
+            f"{self.crashes} kills of the database, and stops: {', '.join(self.stops)}",
+        )
         print(
             f"killed: {self.kills}; the database or one of its processes: {self.crashes}; voided: {len(self.voids)}; "
             f"sent again: {self.repeats}; closings: {self.closings}, the last of {self.day}"
         )
+        stops = ", ".join(f"{what} {seconds:.0f}" for what, seconds in self.stops.items())
+        print(f"seconds for which was stopped, or open: {stops}")
         await self.done("select 1")
         for part in self.sizes[0] if self.sizes else ():
             print(
@@ -278,7 +315,8 @@ class Soak(Trial):
         lines: dict[int, list[str]] = {}
         for line in [*self.fleet.sent(), *self.voids]:
             lines.setdefault(int(line.split(" ", 2)[1][3:]) // EACH, []).append(line)
-        end, differ = time.monotonic() + 60, ["not compared"]
+        # A long run takes longer to be replayed.
+        end, differ = time.monotonic() + 60 + self.words.seconds / 20, ["not compared"]
         while differ and time.monotonic() < end:
             await self.close_all(False)
             await asyncio.sleep(3)

@@ -1,7 +1,6 @@
 """The fleet's plans, figures, payloads and closings, without a database."""
 
 import asyncio
-import json
 from datetime import datetime, timezone
 from pathlib import Path
 
@@ -207,12 +206,24 @@ def test_rows_of_what_changed_alone() -> None:
     block = blocks(BOARD)["A"]
     whole = new_rows("A", block, "")
     assert [len(whole[name]) for name in ("stations", "periods", "transactions", "gaps")] == 4 * [1]
-    assert whole["gaps"] == [{"station": "A", "transaction": "t1", "first": 1, "last": 3}]
-    some = new_rows("A", block.replace("events=2", "events=3", 1), block)
-    assert some["stations"][0]["events"] == 3
+    assert whole["gaps"] == [("A", "t1", 1, 3)]
+    assert whole["periods"] == [("A", STARTS, 1, 0, 0, 0)]
+    some = new_rows("A", block.replace("events=2", "events=3", 1), block, 7)
+    assert some["stations"][0][:3] == ("A", 7, 3)
     assert not any(rows for name, rows in some.items() if name != "stations")
-    gone = new_rows("A", TOTAL, block)
-    assert gone["gone_periods"] and gone["gone_transactions"] and not gone["gaps"]
+    gone = new_rows("A", TOTAL, block, 7)
+    assert gone["gone_periods"] == whole["periods"] and gone["gone_gaps"] == whole["gaps"]
+    assert gone["gone_transactions"] == whole["transactions"] and not gone["gaps"]
+
+
+def test_gaps_that_stay_are_no_new_rows() -> None:
+    block = blocks(BOARD)["A"]
+    other = block.replace(" gap 1..3", " gap 1..2 gap 5..6").replace("missing=3", "missing=4")
+    more = new_rows("A", other, block, 7)
+    assert more["gone_gaps"] == [("A", "t1", 1, 3)] and len(more["transactions"]) == 1
+    assert sorted(more["gaps"]) == [("A", "t1", 1, 2), ("A", "t1", 5, 6)]
+    less = new_rows("A", other.replace(" gap 5..6", ""), other, 8)
+    assert less["gone_gaps"] == [("A", "t1", 5, 6)] and not less["gaps"]
 
 
 def test_chunks_of_a_board_have_whole_stations_that_changed() -> None:
@@ -220,14 +231,14 @@ def test_chunks_of_a_board_have_whole_stations_that_changed() -> None:
     board = Board(1, "north", 7, 2, "\n".join(["board north period=900", TOTAL, *texts, "end\n"]))
     made = chunks(board, {})
     assert sum(len(chunk.lines) for chunk in made) == 1_200 and len(made) == 3
-    assert all(len(json.loads(chunk.rows)["stations"]) == len(chunk.lines) for chunk in made)
+    assert all(len(chunk.rows["stations"]) == len(chunk.lines) for chunk in made)
     shown = {name: (5, text) for chunk in made for name, text in chunk.lines.items()}
     assert chunks(board, shown) == []
     shown["S3"] = (5, TOTAL)
     found = chunks(board, shown)
-    assert list(found[0].lines) == ["S3"] and json.loads(found[0].rows)["stations"][0]["base"] == 5
+    assert list(found[0].lines) == ["S3"] and found[0].rows["stations"][0][:2] == ("S3", 5)
     del shown["S3"]
-    assert json.loads(chunks(board, shown)[0].rows)["stations"][0]["base"] is None
+    assert chunks(board, shown)[0].rows["stations"][0][:2] == ("S3", None)
 
 
 def test_answers_are_told_in_notifications_that_fit() -> None:

@@ -6,20 +6,20 @@ never takes the place of a later one, whoever writes it.
 """
 
 import asyncio
-import json
-from collections.abc import Mapping
-from typing import Any, NamedTuple
+from collections.abc import Coroutine, Mapping
+from typing import Any, NamedTuple, TypeVar
 
 from ocpp_board.fleet.database import Asked
-from ocpp_board.fleet.figures import Parts, blocks, new_rows
+from ocpp_board.fleet.figures import PARTS, Parts, blocks, new_rows
 
 BOARD = "select show_board($1, $2, $3, $4, $5, $6, $7) as is_shown"
-STATIONS = "select show_stations($1, $2, $3, $4, $5::text::jsonb) as left_out"
+STATIONS = "select show_stations($1, $2, $3, $4, $5, $6, $7, $8, $9, $10, $11) as left_out"
+T = TypeVar("T")
 # Rows of one transaction, or of one station where that has more.
 MOST_ROWS = 1000
-# What was written is followed by a pause of so many times what that took: answers come first, and where the machine is
-# busy boards are written less often.
-PAUSE = 4
+# What was made or written is followed by a pause of so many times what that took: answers come first, and where the
+# machine is busy boards are written less often.
+PAUSE = 9
 
 
 class Shown:
@@ -34,7 +34,7 @@ class Chunk(NamedTuple):
     """Some stations of a board: their lines, and the rows that differ."""
 
     lines: dict[str, str]
-    rows: str
+    rows: Parts
 
 
 class Board(NamedTuple):
@@ -49,31 +49,21 @@ class Board(NamedTuple):
 
 def chunks(board: Board, shown: Mapping[str, tuple[int, str]]) -> list[Chunk]:
     """What differs from what was shown, some stations at a time."""
-    made, lines, parts, size = list[Chunk](), dict[str, str](), list[Parts](), 0
+    made, size = list[Chunk](), MOST_ROWS
     for station, block in blocks(board.text).items():
         base, before = shown.get(station, (None, ""))
         if before == block:
             continue
-        part = new_rows(station, block, before)
-        part["stations"][0]["base"] = base
+        part = new_rows(station, block, before, base)
         count = sum(map(len, part.values()))
-        if lines and size + count > MOST_ROWS:
-            made.append(Chunk(lines, packed(parts)))
-            lines, parts, size = {}, [], 0
-        lines[station] = block
-        parts.append(part)
-        size += count
-    return made + [Chunk(lines, packed(parts))] * bool(lines)
-
-
-def packed(parts: list[Parts]) -> str:
-    """The rows of some stations, as show_stations takes them."""
-    whole: Parts = {}
-    for part in parts:
+        if size + count > MOST_ROWS:
+            made.append(Chunk({}, {name: [] for name in PARTS}))
+            size = 0
+        made[-1].lines[station] = block
         for name, rows in part.items():
-            if rows:
-                whole.setdefault(name, []).extend(rows)
-    return json.dumps(whole)
+            made[-1].rows[name].extend(rows)
+        size += count
+    return made
 
 
 class BoardWriter:
@@ -83,28 +73,33 @@ class BoardWriter:
         self.session = session
         self.turn = asyncio.Lock()
 
-    async def ask(self, query: str, *values: object) -> list[Any]:
-        """A statement in its turn, and the pause behind it."""
+    async def in_turn(self, job: Coroutine[Any, Any, T]) -> T:
+        """What a job gives, which waits for its turn and is followed by a pause."""
         async with self.turn:
             clock = asyncio.get_running_loop().time
             began = clock()
-            rows = await self.session.ask(query, *values)
+            given = await job
             await asyncio.sleep(PAUSE * (clock() - began))
-        return [row[0] for row in rows]
+        return given
+
+    async def ask(self, query: str, *values: object) -> Any:
+        """What a statement gives."""
+        return (await self.in_turn(self.session.ask(query, *values)))[0][0]
 
     async def write(self, board: Board, shown: Shown) -> bool:
         """Writes a board, and notes in `shown` what it wrote. False where not all of it could be."""
-        made = await asyncio.to_thread(chunks, board, dict(shown.stations))
+        made = await self.in_turn(asyncio.to_thread(chunks, board, dict(shown.stations)))
         # Without a base each station is among these.
         names = [name for chunk in made for name in chunk.lines]
         places = (shown.place, board.place, board.plan)
-        if not (await self.ask(BOARD, board.shard, board.site, *places, board.text, names))[0]:
+        if not await self.ask(BOARD, board.shard, board.site, *places, board.text, names):
             shown.place, shown.stations = None, {}
             return False
         shown.place, are_all = board.place, True
         for chunk in made:
-            values = (board.shard, board.site, board.place, board.plan, chunk.rows)
-            left_out = (await self.ask(STATIONS, *values))[0]
+            rows = (chunk.rows[name] for name in PARTS)
+            values = (board.shard, board.site, board.place, board.plan, *rows)
+            left_out = await self.ask(STATIONS, *values)
             for station, lines in chunk.lines.items():
                 shown.stations[station] = (board.place, lines)
             for station in left_out:

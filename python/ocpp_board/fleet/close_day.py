@@ -535,7 +535,10 @@ async def run(words: argparse.Namespace) -> None:
     words.known = known_lines(words.program)
     if not words.archive.is_dir():
         raise Fault(f"{words.archive}: no folder for archives")
-    session = await connect(words.db, application_name=NAME)
+    # Within its transaction it reckons: on a busy machine that takes longer than others may be idle.
+    session = await connect(
+        words.db, application_name=NAME, idle_in_transaction_session_timeout="60s"
+    )
     sites = await session.fetch(
         "select shard, site, period, reading_order, zone from own_site where site = $1 order by 1",
         words.site,

@@ -1,6 +1,7 @@
 """The texts of boards as numbers: each line of a station by what it is of."""
 
-from collections.abc import Iterable, Mapping
+import re
+from collections.abc import Iterable, Mapping, Sequence
 from datetime import datetime
 from typing import Any
 
@@ -11,8 +12,14 @@ from ocpp_board.fleet.plans import Reckoning
 # A station's line: its station, its kind (total, evse, period, tx or gap), and which one of that kind.
 Key = tuple[str, str, str]
 Figures = dict[Key, Numbers]
-# Rows of boards' tables, by what they are.
-Parts = dict[str, list[dict[str, Any]]]
+# Rows of boards' tables by what they are, each as the type of that name in the schema has it.
+Row = tuple[Any, ...]
+Parts = dict[str, list[Row]]
+KINDS = ("periods", "transactions", "gaps")
+PARTS = ("stations", *KINDS, *(f"gone_{name}" for name in KINDS))
+# The numbers of a session's row, and a number as a line of a board has it.
+VALUE = re.compile(r"=([0-9]+)")
+SESSION = ("evse", "events", "first", "last", "complete", "missing", *FLOW)
 # What rose and fell in the periods of stations.
 Flows = dict[tuple[str, datetime], Flow]
 
@@ -68,47 +75,49 @@ def blocks(text: str) -> dict[str, str]:
     return dict(part.rstrip("\n").split("\n", 1) for part in parts)
 
 
-def new_rows(station: str, block: str, base: str) -> Parts:
-    """The rows by which a station's lines of a board differ from those of an earlier one, for show_stations; all of its
-    rows where there is none. Its total is among them in any case."""
-    parts: Parts = {
-        name: []
-        for name in (
-            "stations",
-            "periods",
-            "transactions",
-            "gaps",
-            "gone_periods",
-            "gone_transactions",
-        )
-    }
-    total = block.split("\n", 1)[0]
-    parts["stations"].append({"station": station} | numbers_of(total.split(" ")[1:]))
+class Rows:
+    """Some lines of a station's board as rows, by the names of their periods and sessions."""
+
+    def __init__(self, station: str, lines: Iterable[str]) -> None:
+        self.periods: dict[str, Row] = {}
+        self.transactions: dict[str, Row] = {}
+        self.gaps = set[Row]()
+        for line in lines:
+            kind, _, rest = line.partition(" ")
+            name, _, words = rest.partition(" ")
+            if kind in ("quarter", "period"):
+                starts = datetime.fromisoformat(name)
+                self.periods[name] = (station, starts, *columns(words, FLOW))
+            elif kind == "tx":
+                words, *gaps = words.split(" gap ")
+                words = words.replace("=yes", "=1").replace("=no", "=0")
+                self.transactions[name] = (station, name, *columns(words, SESSION))
+                self.gaps |= {(station, name, *map(int, gap.split(".."))) for gap in gaps}
+
+
+def columns(words: str, names: Sequence[str]) -> list[int]:
+    """The numbers of words such as `events=3`, which stand in the order of these names; the last may be left out."""
+    numbers = list(map(int, VALUE.findall(words)))
+    return numbers + [0] * (len(names) - len(numbers))
+
+
+def new_rows(station: str, block: str, base: str, place: int | None = None) -> Parts:
+    """The rows by which a station's lines of a board differ from those of an earlier place; all of its rows where there
+    is none. Its total is among them in any case."""
     before, after = set(base.split("\n")), set(block.split("\n"))
-    fresh = set[tuple[str, str]]()
-    for line in after - before:
-        front, *gaps = line.split(" gap ")
-        kind, name, *words = front.split(" ")
-        if kind in ("quarter", "period"):
-            parts["periods"].append({"station": station, "starts": name} | numbers_of(words))
-            fresh.add(("periods", name))
-        elif kind == "tx":
-            parts["transactions"].append(
-                {"station": station, "transaction": name} | numbers_of(words)
-            )
-            fresh.add(("transactions", name))
-            for gap in gaps:
-                first, last = map(int, gap.split(".."))
-                parts["gaps"].append(
-                    {"station": station, "transaction": name, "first": first, "last": last}
-                )
-    for line in before - after:
-        kind, name = (line.split(" ") + [""])[:2]
-        if kind in ("quarter", "period") and ("periods", name) not in fresh:
-            parts["gone_periods"].append({"station": station, "starts": name})
-        elif kind == "tx" and ("transactions", name) not in fresh:
-            parts["gone_transactions"].append({"station": station, "transaction": name})
-    return parts
+    new, old = Rows(station, after - before), Rows(station, before - after)
+    total = block.split("\n", 1)[0]
+    return {
+        "stations": [(station, place, *columns(total, TOTAL))],
+        "periods": list(new.periods.values()),
+        "transactions": list(new.transactions.values()),
+        "gaps": list(new.gaps - old.gaps),
+        "gone_periods": [row for name, row in old.periods.items() if name not in new.periods],
+        "gone_transactions": [
+            row for name, row in old.transactions.items() if name not in new.transactions
+        ],
+        "gone_gaps": list(old.gaps - new.gaps),
+    }
 
 
 def words_of(names: Iterable[str], numbers: Mapping[str, int]) -> str:

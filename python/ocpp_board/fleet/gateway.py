@@ -74,9 +74,9 @@ NOTIFICATIONS = {
 UNANSWERED = 16
 # Characters of the id of a message.
 LONGEST_ID = 36
-# A batch has so many lines and bytes at most, and begins so many seconds behind the last one at least: to append what
-# comes one after the other costs more than to append it together.
-BATCH, BATCH_BYTES, GATHERED = 1000, 4_000_000, 0.005
+# A batch has so many lines and bytes at most, and waits for so many seconds for more: to append what comes one by one
+# costs more than to append it together.
+BATCH, BATCH_BYTES, GATHERED = 1000, 4_000_000, 0.015
 # Seconds: for the database to answer, for a handshake from its connection on, and without a byte from a
 # station, twice its heartbeat interval; between looks for stations that the plan did not have.
 ANSWER, HANDSHAKE, SILENCE, LOOKS = 10, 10, 600, 0.05
@@ -172,10 +172,11 @@ def digest(text: str) -> bytes:
 
 
 class Wait(NamedTuple):
-    """What waits for its answer: whose it is, its text, and since when."""
+    """What waits for its answer: whose it is, its text, by what that is known again, and since when."""
 
     link: "StationLink"
     text: str
+    digest: bytes
     since: float
 
     def line(self) -> str:
@@ -372,18 +373,18 @@ class Cell:
         """Appends what waits, batch by batch."""
         while True:
             try:
-                await asyncio.wait_for(self.filled.wait(), 5)
+                async with asyncio.timeout(5):
+                    await self.filled.wait()
             except asyncio.TimeoutError:
                 await asyncio.gather(
                     within(ANSWER, session, "execute", "select 1"), self.ask("execute", "select 1")
                 )
                 continue
             self.filled.clear()
-            clock = asyncio.get_running_loop().time
             while self.queue:
-                began = clock()
+                if len(self.queue) < BATCH:
+                    await asyncio.sleep(GATHERED)
                 await self.append_batch(session)
-                await asyncio.sleep(began + GATHERED - clock())
 
     async def append_batch(self, session: Any) -> None:
         """One insert of what waits, up to the limits of a batch."""
@@ -547,11 +548,14 @@ class StationLink(Link):
     def keep(self, text: str) -> None:
         """Has an event appended, or answers one that was accepted right before; above its pace the station waits."""
         known, answer, since = self.last
-        if known == digest(text) and since > time.monotonic() - REPEATED:
+        own, now = digest(text), time.monotonic()
+        if known == own and since > now - REPEATED:
             return self.answer(answer)
-        self.gateway.keep(self, text)
-        pace = self.gateway.paces.setdefault(self.name, Pace())
-        if (wait := pace.wait(len(text), time.monotonic())) > 0 and not self.is_paced:
+        self.gateway.keep(Wait(self, text, own, now))
+        pace = self.gateway.paces.get(self.name)
+        if pace is None:
+            pace = self.gateway.paces[self.name] = Pace()
+        if (wait := pace.wait(len(text), now)) > 0 and not self.is_paced:
             self.is_paced = True
             self.transport.pause_reading()
             asyncio.get_running_loop().call_later(wait, self.paced)
@@ -568,10 +572,10 @@ class StationLink(Link):
         if not (self.is_slow or self.is_paced or is_full or self.is_lost):
             self.transport.resume_reading()
 
-    def accepted(self, text: str, answer: bytes) -> None:
+    def accepted(self, known: bytes, answer: bytes) -> None:
         """Sends what the ledger answered to an event."""
         if answer.startswith(b"[3,"):
-            self.last = (digest(text), answer, time.monotonic())
+            self.last = (known, answer, time.monotonic())
         self.answer(answer)
 
     def answer(self, answer: bytes) -> None:
@@ -647,10 +651,10 @@ class Gateway:
         if link and link.is_told and (gateway, number) != (self.name, link.number):
             link.replace()
 
-    def keep(self, link: StationLink, text: str) -> None:
+    def keep(self, wait: Wait) -> None:
         """Takes an event, which waits for its answer."""
         token = new_token(self.waiting)
-        self.waiting[token] = Wait(link, text, time.monotonic())
+        self.waiting[token] = wait
         self.queue(token)
 
     def queue(self, token: int) -> None:
@@ -697,7 +701,7 @@ class Gateway:
         """A worker told answers."""
         for token, answer in answers_in(payload):
             if wait := self.waiting.pop(token, None):
-                wait.link.accepted(wait.text, answer.encode())
+                wait.link.accepted(wait.digest, answer.encode())
             self.counts["answers" if wait else "unknown"] += 1
 
     async def give_up(self) -> None:

@@ -50,26 +50,27 @@ with w as (
     select * from unnest($1::int[], $2::bigint[], $3::bigint[], $4::bigint[]) as w (shard, first, last, taken)),
 held as materialized (
     select n.shard from numbering n join w on w.shard = n.shard where n.taken = w.taken for share of n),
-picked as materialized (
-    select w.shard, w.last, p.id
+picked as (
+    select p.place
     from w cross join lateral (
-        select id, sum(size) over (order by id) - size as front
-        from (select id, octet_length(line) as size from {inbox}
+        select m.place, sum(size) over (order by id) - size as front
+        from (select ctid as place, id, octet_length(line) as size from {inbox}
               where shard = w.shard and id >= w.first order by id limit {MOST_ROWS}) m) p
     where p.front < {MOST_BYTES}),
 gone as (
-    delete from {inbox} i using picked p where i.shard = p.shard and i.id = p.id
-    returning i.shard, i.id, i.at, i.gateway, i.token, i.line, p.last),
-numbered as (select gone.*, last + row_number() over (partition by shard order by id) as place from gone),
+    delete from {inbox} where ctid = any (array(select place from picked))
+    returning shard, id, at, gateway, token, line),
+numbered as (
+    select gone.*, w.last + row_number() over (partition by shard order by id) as place from gone join w using (shard)),
 appended as (
     insert into own_log (shard, place, at, gateway, token, line)
     select shard, place, at, gateway, token, line from numbered)
 select shard, count(*) as rows, 0 as silent, max(place) as place, max(id) as id,
-       string_agg(line, E'\\n' order by place) as text, array_agg(gateway order by place) as gateways,
-       array_agg(token order by place) as tokens, array_agg(place order by place) as places,
+       string_agg(line, E'\\n') as text, array_agg(gateway) as gateways,
+       array_agg(token) as tokens, array_agg(place) as places,
        set_config('synchronous_commit', 'on', true),
        1 / ((select count(*) from held) = (select count(*) from w))::int
-from numbered group by shard
+from (select * from numbered order by shard, place) n group by shard
 """
     for channel, inbox in INBOXES.items()
 }

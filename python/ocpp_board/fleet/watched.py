@@ -6,7 +6,7 @@ from typing import Any
 
 from ocpp_board.answered import Answered
 from ocpp_board.limits import DEFAULT_LIMITS
-from ocpp_board.near_limits import NearLimits
+from ocpp_board.near_limits import SentByStations
 from ocpp_board.refusals import refusal_of
 
 log = logging.getLogger(__name__)
@@ -63,28 +63,34 @@ class Watched:
         self.standing = set(standing)
         self.count = len(self.standing)
         limits = {name: tuple(row[part] for part in DEFAULT_LIMITS) for name, row in rows.items()}
-        self.near = NearLimits(limits, self.tell)
+        self.sent = SentByStations(limits)
         self.refused, self.taken = list[Row](), list[int]()
 
     def take(self, place: int, line: str, answer: str) -> None:
         """Takes a line of the log with its answer; one whose answer is not known is left."""
-        if not line.startswith("msg ") or not answer:
+        kind, _, rest = line.partition(" ")
+        if kind != "msg" or not answer:
             return
-        _, station, message = (*line.split(" ", 2), "")[:3]
-        answered = Answered(place, "", station, None, message, answer)
-        if answered.is_refused:
-            if refusal := refusal_of(answered):
-                texts = (refusal.transaction, refusal.number, refusal.cause, refusal.what)
-                if self.count + len(self.refused) >= MOST_ROWS:
-                    texts = ("", "", refusal.cause, MANY)
-                row = (place, station, *map(text_of, (*texts, refusal.advice)))
-                self.refused.append(row)  # type: ignore[arg-type]
-        else:
-            self.near.take(answered)
-            if place in self.standing:
-                self.taken.append(place)
+        station, _, message = rest.partition(" ")
+        if answer.startswith(("[4,", "fault ")):
+            self.refuse(place, Answered(place, "", station, None, message, answer))
+            return
+        if answer.startswith("[3,"):
+            for said in self.sent.taken(station, message):
+                self.tell(said)
+        if place in self.standing:
+            self.taken.append(place)
 
-    def tell(self, _answered: Answered, said: str, _remedy: str) -> None:
+    def refuse(self, place: int, answered: Answered) -> None:
+        """Takes a message that was refused."""
+        if refusal := refusal_of(answered):
+            texts = (refusal.transaction, refusal.number, refusal.cause, refusal.what)
+            if self.count + len(self.refused) >= MOST_ROWS:
+                texts = ("", "", refusal.cause, MANY)
+            row = (place, answered.station, *map(text_of, (*texts, refusal.advice)))
+            self.refused.append(row)  # type: ignore[arg-type]
+
+    def tell(self, said: str) -> None:
         """Tells that a station comes near to its limits, once."""
         if said not in self.told:
             self.told.add(said)

@@ -70,7 +70,7 @@ log = logging.getLogger(__name__)
 BEAT = """
 with beat as (
     insert into worker (worker, pid, began, beat, shards)
-    select $1, pid, backend_start, clock_timestamp(), $2 from pg_stat_activity where pid = $3
+    select $1, pid, backend_start, clock_timestamp(), $2 from pg_stat_get_activity($3)
     on conflict (worker) do update
         set pid = excluded.pid, began = excluded.began, beat = excluded.beat, shards = excluded.shards)
 select living_workers() as living
@@ -84,8 +84,9 @@ on a.application_name = worker and a.datname = current_database() and a.usename 
 HOLD = "select shard from unnest($1::int[]) as s (shard) where hold_shard(shard) limit $2"
 # Shards that are read at once, and those among them that still read their log from the start.
 AT_ONCE, OPENING = 64, 2
-# Seconds after which the other shards no longer wait for a slow one, and for which what comes is handled together.
-SLOW, GATHERED = 0.02, 0.005
+# Seconds after which the other shards no longer wait for a slow one, and for which what comes is handled together: each
+# round costs the same, whether it has one line or many.
+SLOW, GATHERED = 0.02, 0.02
 # Beats after which a worker looks at all shards again, whether something changed or not; for which it does so at each
 # beat where something changed, since others have to give back first; and after which it looks for those that hang.
 SWEEP, SETTLING, FENCING = 20, 5, 5
@@ -350,6 +351,8 @@ class Session:
 
     def next_to_read(self) -> list[Shard]:
         """Woken shards that wait for no answer; of those that read their log from the start only some."""
+        if not self.behind and not any(self.woken.values()):
+            return []
         for woken in self.woken.values():
             for number in woken.keys() - self.shards.keys():
                 del woken[number]
@@ -361,42 +364,40 @@ class Session:
         return [shard for shard in ready if shard.is_loaded][: AT_ONCE - OPENING] + opening
 
     async def read(self) -> None:
-        """Gives lines of woken shards their places, has them answered, and tells the answers."""
+        """Gives lines of woken shards their places, has them answered, and tells the answers, round by round."""
         clock = asyncio.get_running_loop().time
         while True:
             await self.waking.wait()
             self.waking.clear()
-            while True:
-                began = clock()
-                shards = self.next_to_read()
-                new = await self.hand_over(shards) if shards else []
-                if new:
-                    await asyncio.wait(new, timeout=SLOW)
-                done = [task for task in self.answering if task.done()]
+            began, shards = clock(), self.next_to_read()
+            if shards:
+                await self.hand_over(shards)
+            if done := [task for task in self.answering if task.done()]:
                 self.answering.difference_update(done)
                 await self.tell([answers for task in done if (answers := task.result())])
+            if shards or done:
+                # Of these shards some may have more, and others may have waited for their turn.
+                self.waking.set()
                 await asyncio.sleep(began + GATHERED - clock())
-                if not shards and not done:
-                    break
 
-    async def hand_over(self, shards: list[Shard]) -> list[asyncio.Task[Answers | None]]:
-        """Reads what is new in these shards, and begins to answer it."""
+    async def hand_over(self, shards: list[Shard]) -> None:
+        """Reads what is new in these shards, and has it answered; slow ones are answered while the next are read."""
         rows = await self.read_behind([shard for shard in shards if not shard.is_loaded])
         for channel in INBOXES:
             had = {row["shard"] for row in rows}
             rows += await self.number(
                 channel, [one for one in shards if one.is_loaded and one.number not in had]
             )
-        new = []
+        new = set[asyncio.Task[Answers | None]]()
         for row in rows:
             shard = self.shards.get(row["shard"])
             if shard and shard in shards:
                 shard.is_answering = True
-                task = self.spawn(self.answer(shard, row))
+                new.add(self.spawn(self.answer(shard, row)))
+        if new:
+            self.answering.update(new)
+            for task in (await asyncio.wait(new, timeout=SLOW))[1]:
                 task.add_done_callback(lambda _: self.waking.set())
-                new.append(task)
-        self.answering.update(new)
-        return new
 
     async def read_behind(self, shards: list[Shard]) -> list[Any]:
         """The next lines of logs that have not been read to their end."""
@@ -478,14 +479,15 @@ class Session:
             return None
         shard.read, shard.changed = row["place"], shard.changed or is_live
         shard.lines += row["rows"]
-        for place, text, answer in zip(row["places"], row["text"].split("\n"), answers):
-            shard.watched.take(place, text, answer.decode("utf-8", "replace"))
+        said = [answer.decode("utf-8", "replace") for answer in answers]
+        for place, text, answer in zip(row["places"], row["text"].split("\n"), said):
+            shard.watched.take(place, text, answer)
         self.weigh(shard, len(row["text"].encode()) + 1)
         front = row["silent"]
-        parts = zip(row["gateways"][front:], row["tokens"][front:], answers[front:])
+        parts = zip(row["gateways"][front:], row["tokens"][front:], said[front:])
         told = [
-            (gateway, f"{token} {text.decode()}")
-            for gateway, token, text in parts
+            (gateway, f"{token} {answer}")
+            for gateway, token, answer in parts
             if gateway and token is not None
         ]
         return shard, told
@@ -517,12 +519,12 @@ class Session:
         """The answers to lines, and whether one reached the replay: those for archived transactions do not."""
         texts = row["text"].split("\n")
         late = await shard.late.places(self.ask, texts)
-        live = [text for place, text in enumerate(texts) if place not in late]
+        live = [text for place, text in enumerate(texts) if place not in late] if late else texts
         answers = list[bytes]()
         if live:
-            async with shard.busy:
-                shard.replay.write("".join(text + "\n" for text in live).encode())
-                answers = await asyncio.wait_for(shard.replay.answers(len(live)), self.words.hang)
+            async with shard.busy, asyncio.timeout(self.words.hang):
+                shard.replay.write("\n".join([*live, ""]).encode())
+                answers = await shard.replay.answers(len(live))
         if late:
             job = shard.late.answers(self.words.program, texts, late, row["silent"])
             told, own = await asyncio.wait_for(job, self.words.hang), iter(answers)
@@ -614,17 +616,22 @@ class Session:
 
 def payloads_of(answers: list[tuple[str, str]]) -> tuple[list[str], list[str]]:
     """The notifications that tell these answers, as their channels and their payloads."""
-    channels, payloads = list[str](), list[str]()
-    texts, sizes = dict[str, list[str]](), dict[str, int]()
+    channels, payloads, texts = list[str](), list[str](), dict[str, list[str]]()
     for gateway, text in answers:
-        size = len(text.encode()) + 1
-        if sizes.setdefault(gateway, 0) + size > PAYLOAD:
-            channels.append(gateway)
-            payloads.append("\n".join(texts.pop(gateway)))
-            sizes[gateway] = 0
         texts.setdefault(gateway, []).append(text)
-        sizes[gateway] += size
-    return channels + list(texts), payloads + ["\n".join(lines) for lines in texts.values()]
+    for gateway, lines in texts.items():
+        part, size = list[str](), 0
+        for line in lines:
+            more = len(line.encode()) + 1
+            if part and size + more > PAYLOAD:
+                channels.append(gateway)
+                payloads.append("\n".join(part))
+                part, size = [], 0
+            part.append(line)
+            size += more
+        channels.append(gateway)
+        payloads.append("\n".join(part))
+    return channels, payloads
 
 
 async def opened(words: argparse.Namespace) -> list[Any]:
