@@ -15,11 +15,14 @@ mod station_words;
 
 use crate::cli::{STOPPED, run_command_line, tell_bytes, tell_fault};
 use script_replay::{ReplayFault, buffered};
-use site_server::Host;
 use std::io::{BufRead, BufWriter, Write};
+use std::net::{Net, TcpListener, TcpStream};
 use std::process::ExitCode;
 use std::random::RandomSource;
 use std::rt::Env;
+use std::sync::Wait;
+use std::thread::Threads;
+use std::time::Clock;
 use std::{env, io};
 
 fn main(rt: HostRuntime) -> ExitCode {
@@ -33,7 +36,17 @@ fn main(rt: HostRuntime) -> ExitCode {
 
 // Runs the program's words, and gives its exit status.
 fn run<
-    X: AllocGlobal + Env + Host + RandomSource + Clone + Send + 'static,
+    X: AllocGlobal
+        + Env
+        + Threads
+        + Wait
+        + Clock
+        + RandomSource
+        + Clone
+        + Send
+        + Sync
+        + Net<Listener = TcpListener, Stream = TcpStream>
+        + 'static,
     R: BufRead + Send + Drop + 'static,
     W: Write + Send + Drop,
     E: Write,
