@@ -29,7 +29,7 @@ from typing import Any
 
 import asyncpg
 
-from ocpp_board.fleet.database import LOST, Unreachable, connect
+from ocpp_board.fleet.database import LOST, Unreachable
 from tests.fleet.client import Client
 from tests.fleet.fleet import BACKEND, CLOCK, CRASHES, children, ended, free_port
 from tests.fleet.trials import Trial, parsed, parser_of, tried
@@ -204,7 +204,7 @@ class Soak(Trial):
         """Stops a gateway or a worker for so many seconds, or leaves a transaction of another database open."""
         if what == "open":
             await self.done("create database elsewhere")
-            session = await connect(self.fleet.dsn("owner", database="elsewhere"))
+            session = await asyncpg.connect(self.fleet.dsn("owner", database="elsewhere"))
             await session.execute("set idle_in_transaction_session_timeout = 0; begin")
             await session.execute("create table one as select 1")
             await asyncio.sleep(seconds)

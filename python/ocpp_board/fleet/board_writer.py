@@ -6,7 +6,7 @@ never takes the place of a later one, whoever writes it.
 """
 
 import asyncio
-from collections.abc import Coroutine, Mapping
+from collections.abc import Callable, Coroutine, Mapping
 from typing import Any, NamedTuple, TypeVar
 
 from ocpp_board.fleet.database import Asked
@@ -17,9 +17,9 @@ STATIONS = "select show_stations($1, $2, $3, $4, $5, $6, $7, $8, $9, $10, $11) a
 T = TypeVar("T")
 # Rows of one transaction, or of one station where that has more.
 MOST_ROWS = 1000
-# What was made or written is followed by a pause of so many times what that took: answers come first, and where the
-# machine is busy boards are written less often.
-PAUSE = 9
+# What was made or written is followed by a pause of so many times what that took, while answers are given and else:
+# answers come first, and where the machine is busy boards are written less often.
+PAUSE, IDLE_PAUSE = 9, 1
 
 
 class Shown:
@@ -69,8 +69,8 @@ def chunks(board: Board, shown: Mapping[str, tuple[int, str]]) -> list[Chunk]:
 class BoardWriter:
     """The session that writes boards."""
 
-    def __init__(self, session: Asked) -> None:
-        self.session = session
+    def __init__(self, session: Asked, is_answering: Callable[[], bool]) -> None:
+        self.session, self.is_answering = session, is_answering
         self.turn = asyncio.Lock()
 
     async def in_turn(self, job: Coroutine[Any, Any, T]) -> T:
@@ -79,7 +79,8 @@ class BoardWriter:
             clock = asyncio.get_running_loop().time
             began = clock()
             given = await job
-            await asyncio.sleep(PAUSE * (clock() - began))
+            pause = PAUSE if self.is_answering() else IDLE_PAUSE
+            await asyncio.sleep(pause * (clock() - began))
         return given
 
     async def ask(self, query: str, *values: object) -> Any:

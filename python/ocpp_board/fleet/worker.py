@@ -87,6 +87,8 @@ AT_ONCE, OPENING = 64, 2
 # Seconds after which the other shards no longer wait for a slow one, and for which what comes is handled together: each
 # round costs the same, whether it has one line or many.
 SLOW, GATHERED = 0.02, 0.02
+# Seconds after a round for which others are expected.
+ANSWERING = 0.3
 # Beats after which a worker looks at all shards again, whether something changed or not; for which it does so at each
 # beat where something changed, since others have to give back first; and after which it looks for those that hang.
 SWEEP, SETTLING, FENCING = 20, 5, 5
@@ -132,7 +134,9 @@ class Session:
         # One holds the shards, moves their lines and tells answers; its commits may wait for a standby. So beats have
         # another one, and boards, which are many rows, a third.
         self.holder, self.beats, self.boards = (Asked(one, words.hang) for one in databases)
-        self.writer = BoardWriter(self.boards)
+        self.writer = BoardWriter(self.boards, self.is_answering)
+        # When lines were read last.
+        self.read_at = 0.0
         self.living = 0
         self.shards: dict[int, Shard] = {}
         # Shards whose lock is held and that are not open yet.
@@ -371,6 +375,7 @@ class Session:
             self.waking.clear()
             began, shards = clock(), self.next_to_read()
             if shards:
+                self.read_at = began
                 await self.hand_over(shards)
             if done := [task for task in self.answering if task.done()]:
                 self.answering.difference_update(done)
@@ -379,6 +384,10 @@ class Session:
                 # Of these shards some may have more, and others may have waited for their turn.
                 self.waking.set()
                 await asyncio.sleep(began + GATHERED - clock())
+
+    def is_answering(self) -> bool:
+        """Whether lines came within the last moments."""
+        return asyncio.get_running_loop().time() < self.read_at + ANSWERING
 
     async def hand_over(self, shards: list[Shard]) -> None:
         """Reads what is new in these shards, and has it answered; slow ones are answered while the next are read."""
