@@ -2,6 +2,7 @@
 
 import asyncio
 import base64
+import io
 import time
 from typing import Any
 
@@ -12,7 +13,8 @@ pytest.importorskip("websockets")
 
 from websockets.datastructures import Headers  # noqa: E402
 
-from ocpp_board.fleet import passwords  # noqa: E402
+from ocpp_board.fleet import operators, parts, passwords  # noqa: E402
+from ocpp_board.fleet.database import Fault  # noqa: E402
 from ocpp_board.fleet.passwords import (  # noqa: E402
     FREE,
     PAUSE,
@@ -52,6 +54,24 @@ def test_passwords_that_can_be_set() -> None:
     assert fault_of(16 * "x") == fault_of(40 * "x") == fault_of("a pass phrase, ü") == ""
     assert "this one has 15" in fault_of(15 * "x") and "this one has 41" in fault_of(41 * "x")
     assert fault_of(20 * "x" + "\x7f") == fault_of(20 * "x" + "\n") != ""
+
+
+def test_an_operators_password_has_a_range_of_its_own() -> None:
+    assert operators.fault_of(12 * "x") == operators.fault_of(200 * "x") == ""
+    assert "12 to 200" in operators.fault_of(11 * "x") and operators.fault_of(201 * "x") != ""
+
+
+def test_a_password_is_one_line_of_standard_input(monkeypatch: pytest.MonkeyPatch) -> None:
+    for text in ("right-0123456789\n", "right-0123456789\r\nmore\n", "right-0123456789"):
+        monkeypatch.setattr("sys.stdin", io.StringIO(text))
+        assert parts.password_read(fault_of) == "right-0123456789"
+    for text, said in (("", "this one has 0"), ("short\n", "this one has 5")):
+        monkeypatch.setattr("sys.stdin", io.StringIO(text))
+        with pytest.raises(Fault, match=said):
+            parts.password_read(fault_of)
+    monkeypatch.setattr("sys.stdin", io.TextIOWrapper(io.BytesIO(b"\xff" * 20), "utf-8"))
+    with pytest.raises(Fault, match="has no password"):
+        parts.password_read(fault_of)
 
 
 def test_what_a_header_says() -> None:

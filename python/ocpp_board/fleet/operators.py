@@ -16,6 +16,7 @@ from collections.abc import Awaitable, Callable, Sequence
 from concurrent.futures import ThreadPoolExecutor
 from typing import Any, NamedTuple
 
+from ocpp_board.fleet import passwords
 from ocpp_board.fleet.passwords import SALT, Cost, Tries, hashed, network_of
 
 log = logging.getLogger(__name__)
@@ -66,11 +67,7 @@ class Operator(NamedTuple):
 
 def fault_of(password: str) -> str:
     """Why an operator's password can't be set; nothing where it can."""
-    if not SHORTEST <= len(password) <= LONGEST:
-        return (
-            f"a password has {SHORTEST} to {LONGEST} characters, and this one has {len(password)}"
-        )
-    return "" if password.isprintable() else "a password has no control characters"
+    return passwords.fault_of(password, SHORTEST, LONGEST)
 
 
 def new_secret() -> str:

@@ -2,8 +2,10 @@
 
 import argparse
 import asyncio
+import getpass
 import logging
 import os
+import sys
 from collections.abc import Callable, Coroutine, Sequence
 from pathlib import Path
 from typing import Any
@@ -20,6 +22,8 @@ log = logging.getLogger(__name__)
 # The secrets that parts take, by their names in the environment.
 SECRETS = ("PGPASSWORD", "SOURCE_PASSWORD", "PROXY_SECRET")
 ADDRESS = "postgresql://USER@HOST:PORT,HOST:PORT/DATABASE"
+# Characters of a password's line that are read at most: a longer one is no password.
+LONGEST_READ = 4096
 
 
 def add_cells(parser: argparse.ArgumentParser) -> None:
@@ -59,6 +63,19 @@ def take_credentials() -> None:
         path = Path(folder or "") / f"secret_{name}"
         if name not in os.environ and path.is_file():
             os.environ[name] = path.read_text().removesuffix("\n")
+
+
+def password_read(fault_of: Callable[[str], str]) -> str:
+    """The password from standard input; a terminal does not show it. Raises Fault where there is none, or where it may
+    not be one, as `fault_of` tells."""
+    try:
+        text = getpass.getpass() if sys.stdin.isatty() else sys.stdin.readline(LONGEST_READ)
+    except (EOFError, UnicodeDecodeError):
+        raise Fault("standard input has no password") from None
+    password = text.removesuffix("\n").removesuffix("\r")
+    if fault := fault_of(password):
+        raise Fault(fault)
+    return password
 
 
 def use_uvloop() -> None:

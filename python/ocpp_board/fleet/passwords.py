@@ -56,11 +56,11 @@ def hashed(password: bytes, salt: bytes, cost: Cost = STATION) -> bytes:
     )
 
 
-def fault_of(password: str) -> str:
-    """Why a password can't be set; nothing where it can."""
-    if not SHORTEST <= len(password) <= LONGEST:
+def fault_of(password: str, shortest: int = SHORTEST, longest: int = LONGEST) -> str:
+    """Why a password of so many characters can't be set, a station's if not told; nothing where it can."""
+    if not shortest <= len(password) <= longest:
         return (
-            f"a password has {SHORTEST} to {LONGEST} characters, and this one has {len(password)}"
+            f"a password has {shortest} to {longest} characters, and this one has {len(password)}"
         )
     return "" if password.isprintable() else "a password has no control characters"
 

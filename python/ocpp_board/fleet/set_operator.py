@@ -16,7 +16,6 @@ or `--all-sites`. A token is written once, to standard output; it may no more th
 """
 
 import argparse
-import getpass
 import secrets
 import sys
 from collections.abc import Sequence
@@ -38,8 +37,6 @@ from ocpp_board.limits import is_name
 from ocpp_board.words import parser_of
 
 PROGRAM = "ocpp-board operator"
-# Characters that are read at most: a longer line is no password.
-LONGEST_READ = 4096
 # Days for which a token is good at most, and where nothing is told.
 MOST_DAYS, DAYS = 1100, 365
 LIST = """
@@ -84,18 +81,6 @@ def days_of(text: str) -> int:
     return int(text)
 
 
-def read() -> str:
-    """The password from standard input; a terminal does not show it. Raises Fault where it may not be one."""
-    try:
-        text = getpass.getpass() if sys.stdin.isatty() else sys.stdin.readline(LONGEST_READ)
-    except (EOFError, UnicodeDecodeError):
-        raise Fault("standard input has no password") from None
-    password = text.removesuffix("\n").removesuffix("\r")
-    if fault := fault_of(password):
-        raise Fault(fault)
-    return password
-
-
 async def set_one(session: Any, words: argparse.Namespace) -> None:
     """Makes an operator, or changes one."""
     query = "select from operator where name = $1"
@@ -107,7 +92,7 @@ async def set_one(session: Any, words: argparse.Namespace) -> None:
         )
     hash_ = salt = None
     if words.password or is_new and not words.no_password:
-        password, salt = read(), secrets.token_bytes(SALT)
+        password, salt = parts.password_read(fault_of), secrets.token_bytes(SALT)
         hash_ = hashed(password.encode(), salt, OPERATOR)
     values = (words.operator, words.roles, words.sites, is_all, hash_, salt)
     await session.execute("select set_operator($1, $2, $3, $4, $5, $6)", *values)

@@ -8,36 +8,20 @@ others may know. Connections that stand go on.
 """
 
 import argparse
-import getpass
 import secrets
-import sys
 from collections.abc import Sequence
 
 from ocpp_board.fleet import parts
-from ocpp_board.fleet.database import Fault, connect
+from ocpp_board.fleet.database import connect
 from ocpp_board.fleet.passwords import SALT, fault_of, hashed
 from ocpp_board.words import parser_of
 
 NAME = "ocpp-board password"
-# Characters that are read at most: a longer line is no password.
-LONGEST_READ = 4096
-
-
-def read() -> str:
-    """The password from standard input; a terminal does not show it. Raises Fault where it may not be one."""
-    try:
-        text = getpass.getpass() if sys.stdin.isatty() else sys.stdin.readline(LONGEST_READ)
-    except (EOFError, UnicodeDecodeError):
-        raise Fault("standard input has no password") from None
-    password = text.removesuffix("\n").removesuffix("\r")
-    if fault := fault_of(password):
-        raise Fault(fault)
-    return password
 
 
 async def run(words: argparse.Namespace) -> None:
     """Sets it. Raises Fault where the cell has no such station."""
-    password, salt = read(), secrets.token_bytes(SALT)
+    password, salt = parts.password_read(fault_of), secrets.token_bytes(SALT)
     session = await connect(words.db, application_name=NAME)
     await session.execute(
         "select set_password($1, $2, $3, $4)",
