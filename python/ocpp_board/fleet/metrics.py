@@ -78,7 +78,7 @@ HELP = {
     "feed_cell_up": "Whether the feed's session with a cell's database stands.",
     "page_requests_total": "Requests that the page answered, by status.",
     "page_wrong_passwords_total": "Tries to log in with a wrong password or an unknown name.",
-    "page_locked_total": "Tries to log in as a user who is locked after failures.",
+    "page_locked": "Operators that are locked now, after wrong passwords.",
     "page_cell_up": "Whether the page has its session with a cell's database.",
 }
 # Seconds between looks at the database, after which an event loop that did not run is not well, and for a request.
@@ -439,7 +439,7 @@ def feed_watch(ledger: "Log", counts: "Counts") -> Watch:
 
 
 class PageSeen:
-    """What a page counts: requests by status, wrong passwords, tries of locked users, and which cells answer."""
+    """What a page counts, requests by status and wrong passwords, and sees: who is locked, and which cells answer."""
 
     def __init__(self) -> None:
         self.requests, self.wrong_passwords, self.locked = Counter[int](), 0, 0
@@ -455,5 +455,5 @@ class PageSeen:
         """What a page tells."""
         yield family_by("page_requests_total", "status", dict(self.requests))
         yield family("page_wrong_passwords_total", self.wrong_passwords)
-        yield family("page_locked_total", self.locked)
+        yield family("page_locked", self.locked)
         yield family_by("page_cell_up", "db", dict(self.cells))
