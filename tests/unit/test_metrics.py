@@ -4,6 +4,7 @@ import argparse
 import json
 import time
 from types import SimpleNamespace
+from typing import Any
 
 import pytest
 
@@ -23,6 +24,7 @@ from ocpp_board.fleet.metrics import (  # noqa: E402
     place_of,
 )
 from ocpp_board.limits import DEFAULT_LIMITS  # noqa: E402
+from ocpp_board.fleet.watched import Watched  # noqa: E402
 from ocpp_board.near_limits import Counts  # noqa: E402
 
 
@@ -87,8 +89,9 @@ def test_a_worker_without_sessions_tells_that() -> None:
 
 def test_stations_within_a_tenth_of_a_limit() -> None:
     counts = Counts.of(tuple(DEFAULT_LIMITS.values()))
-    near = SimpleNamespace(counts={"CS-1": counts, "CS-2": Counts.of(counts.limits)})
-    shard = SimpleNamespace(number=7, watched=SimpleNamespace(near=near))
+    watched = Watched(7, {}, (), set())
+    watched.sent.counts.update({"CS-1": counts, "CS-2": Counts.of(counts.limits)})
+    shard: Any = SimpleNamespace(number=7, watched=watched)
     assert near_limits([shard]).values == []
     most = counts.limits[1]
     counts.events = -(-9 * most // 10)

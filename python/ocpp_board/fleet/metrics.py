@@ -24,7 +24,7 @@ from ocpp_board.version import version
 if TYPE_CHECKING:
     from ocpp_board.fleet.feed_log import Counts, Log
     from ocpp_board.fleet.gateway import Gateway
-    from ocpp_board.fleet.worker import Session
+    from ocpp_board.fleet.worker import Session, Shard
 
 log = logging.getLogger(__name__)
 
@@ -405,11 +405,11 @@ class WorkerSeen:
             yield family(name, cell[column], cell=cell["cell"])
 
 
-def near_limits(shards: Iterable[Any]) -> Family:
+def near_limits(shards: "Iterable[Shard]") -> Family:
     """What stations sent of what they may keep, from nine tenths on; what came again is counted again."""
     values = []
     for shard in shards:
-        for station, counts in list(shard.watched.near.counts.items()):
+        for station, counts in list(shard.watched.sent.counts.items()):
             numbers = (len(counts.transactions), counts.events, counts.readings, counts.events)
             for name, number, most in zip(LIMITS, numbers, counts.limits):
                 if number >= NEAR * most:
