@@ -52,6 +52,8 @@ BIN = Path("/usr/lib/postgresql/15/bin")
 # The roles of the schema's tools, each of which has a password of its own.
 ROLES = ["GATEWAY", "FEED", "WORKER", "READER", "OPERATOR", "PROVISIONER", "ADMINISTRATOR"]
 ROLES += ["CLOSER", "COMPACTOR", "MOVER", "KEEPER", "BACKUP"]
+# Why the plan of a fleet is changed here.
+REASON = "a trial"
 # What of the database is killed, one after the other: all of its processes, or one that serves a worker or a gateway,
 # for which the server ends all others and begins again.
 CRASHES = ("all", "one", "all", "one", "all")
@@ -121,6 +123,9 @@ class Database:
             *more,
         )
         secret.unlink()
+        # Sessions that change the plan and say nothing else have this reason.
+        with open(self.folder / "postgresql.conf", "a", encoding="utf-8") as file:
+            file.write(f"ledger.reason = '{REASON}'\n")
 
     def copy(self, other: "Database") -> None:
         """Makes this one a standby of another one."""
@@ -326,7 +331,8 @@ class Fleet:
     def moving(self, database: str, shard: int) -> list[str]:
         """The command that moves a shard to another database of this server."""
         cells = [self.dsn("ledger_mover", database=name) for name in ("ledger", database)]
-        return [*tool("move"), "--from", cells[0], "--to", cells[1], "--shard", str(shard)]
+        words = ("--from", cells[0], "--to", cells[1], "--shard", str(shard))
+        return [*tool("move"), *words, "--reason", REASON]
 
     def load(
         self, urls: list[str], first: int, stations: int, *more: object

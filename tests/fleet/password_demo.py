@@ -24,7 +24,7 @@ from websockets.http11 import Request, Response
 from ocpp_board.fleet.database import connect
 from ocpp_board.fleet.passwords import FREE, PAUSE, SALT, hashed
 from tests.fleet.client import Client
-from tests.fleet.fleet import tool
+from tests.fleet.fleet import REASON, tool
 from tests.fleet.trials import Trial, event, parsed, parser_of, tried
 
 A, B, C, D, E, UNKNOWN = "CS-00000", "CS-00001", "CS-00002", "CS-00003", "CS-00004", "CS-99999"
@@ -84,7 +84,7 @@ class Demo(Trial):
     ) -> tuple[int, str]:
         """The status of the tool that sets a password, and what it says."""
         made = subprocess.run(
-            [*tool("password"), "--db", self.fleet.dsn(user), station],
+            [*tool("password"), "--db", self.fleet.dsn(user), station, "--reason", REASON],
             input=f"{password}\n".encode(),
             stdout=subprocess.PIPE,
             stderr=subprocess.STDOUT,
