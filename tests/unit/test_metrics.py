@@ -106,7 +106,7 @@ def test_stations_within_a_tenth_of_a_limit() -> None:
 
 def test_stations_that_connect_again_and_again(monkeypatch: pytest.MonkeyPatch) -> None:
     now = [1000.0]
-    monkeypatch.setattr(metrics.time, "monotonic", lambda: now[0])
+    monkeypatch.setattr(time, "monotonic", lambda: now[0])
     seen = Replaced()
     for station in ("CS-1", "CS-2", "CS-1"):
         seen.add(station)
