@@ -48,6 +48,26 @@ insert into own_log (shard, place, line)
 select $1, coalesce((select max(place) from own_log where shard = $1), 0) + w.place, w.line
 from unnest($2::text[]) with ordinality as w (line, place)
 """
+# Stations of which what closings archived is not summed up as it is.
+UNSUMMED = """
+select station from (
+    select station, sum(transactions) as transactions, sum(complete) as complete, sum(missing) as missing,
+        sum(up) as up, sum(down) as down, sum(export_up) as export_up, sum(export_down) as export_down
+    from own_archived_sum where shard = $1 group by station) s
+full join (
+    select station, count(*) as transactions, count(*) filter (where complete) as complete, sum(missing) as missing,
+        sum(up) as up, sum(down) as down, sum(export_up) as export_up, sum(export_down) as export_down
+    from own_archived_transaction where shard = $1 group by station) t using (station)
+full join (
+    select station, sum(up) as up, sum(down) as down, sum(export_up) as export_up, sum(export_down) as export_down
+    from own_archived_period where shard = $1 group by station) p using (station)
+where (coalesce(s.transactions, 0), coalesce(s.complete, 0), coalesce(s.missing, 0), coalesce(s.up, 0),
+        coalesce(s.down, 0), coalesce(s.export_up, 0), coalesce(s.export_down, 0))
+    <> (coalesce(t.transactions, 0), coalesce(t.complete, 0), coalesce(t.missing, 0), coalesce(t.up, 0),
+        coalesce(t.down, 0), coalesce(t.export_up, 0), coalesce(t.export_down, 0))
+    or (coalesce(s.up, 0), coalesce(s.down, 0), coalesce(s.export_up, 0), coalesce(s.export_down, 0))
+    <> (coalesce(p.up, 0), coalesce(p.down, 0), coalesce(p.export_up, 0), coalesce(p.export_down, 0))
+"""
 BIN = Path("/usr/lib/postgresql/15/bin")
 # The roles of the schema's tools, each of which has a password of its own.
 ROLES = ["GATEWAY", "FEED", "WORKER", "READER", "OPERATOR", "PROVISIONER", "ADMINISTRATOR"]
@@ -468,6 +488,10 @@ class Fleet:
                 differ.append(f"shard {shard}: boards and archives are not those of all that came")
         except ValueError as fault:
             differ.append(f"shard {shard}: {fault}")
+        if unsummed := [row["station"] for row in await owner.fetch(UNSUMMED, shard)]:
+            differ.append(
+                f"shard {shard}: what is archived of {unsummed} is not the sum that is kept"
+            )
         rows = await owner.fetch(
             "select station, starts, sum(up)::bigint as up, sum(down)::bigint as down, "
             "sum(export_up)::bigint as export_up, sum(export_down)::bigint as export_down from own_closed_period "

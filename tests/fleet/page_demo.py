@@ -413,11 +413,38 @@ class Demo(Trial):
         self.follow(By.CSS_SELECTOR, 'form[action="/session"] button')
         text = self.text()
         self.check(
-            "archive" in text and "Its energy is settled" in text,
+            "archive" in text and "Its figures are settled" in text,
             "an archived session has its lines, too",
         )
         self.shot("session-archived")
+        text = self.go("/site/north/")
+        told = str(self.browser.find_element(By.ID, "told").text)
+        self.check(
+            told.startswith(
+                "Energy is provisional, and settled to 2026-03-03. Numbers of sessions are "
+            )
+            and "sessions are provisional. Events and voided events are those of the log" in told,
+            f"a site's figures are told: {told}",
+        )
+        cells = {
+            row.find_element(By.TAG_NAME, "a").text: row.find_elements(By.TAG_NAME, "td")[-1].text
+            for row in self.browser.find_elements(
+                By.CSS_SELECTOR, "table.plain:not(.days) tbody tr"
+            )
+            if row.find_elements(By.CSS_SELECTOR, "th a")
+        }
+        stations = {name: cell for name, cell in cells.items() if name.startswith("CS-")}
+        wanted = {"CS-00": "energy settled, sessions provisional"}
+        wanted |= {"CS-01": "provisional", "CS-02": "provisional"}
+        self.check(stations == wanted, f"and those of its stations: {stations}")
+        for day, part in (("2026-03-01", "is settled."), ("2026-03-03", "is provisional at CS-02")):
+            text = self.go(f"/site/north/board.{day}.html")
+            told = str(self.browser.find_element(By.ID, "told").text)
+            self.check(part in told, f"the energy of {day}: {told}")
+        self.shot("day-closed")
         self.go("/")
+        heads = [one.text for one in self.browser.find_elements(By.CSS_SELECTOR, "thead th")]
+        self.check("Sessions are" in heads, f"all sites tell how numbers of sessions are: {heads}")
         self.check("to 2026-03-03" in self.text(), "all sites tell up to when they are settled")
         self.shot("all-sites-closed")
 

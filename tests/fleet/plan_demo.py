@@ -143,30 +143,27 @@ class Demo(Trial):
 
     async def tools(self) -> None:
         """The tools ask for a reason, and hand it on."""
-        for words, part in (
+        for words, wanted_part in (
             (("set", "eve", "--roles", "sees"), "the following arguments are required: --reason"),
             (("set", "eve", "--roles", "sees", "--reason", " x "), "why is asked for"),
             (("disable", "eve"), "the following arguments are required: --reason"),
             (("revoke", "1"), "the following arguments are required: --reason"),
         ):
             status, said = self.run_tool("operator", "ledger_administrator", *words)
-            is_asked = status == 2 and part in said
+            is_asked = status == 2 and wanted_part in said
             self.check(is_asked, f"operator {' '.join(words)}: {said[-70:]}")
         status, said = self.run_tool("password", "ledger_provisioner", "CS-00")
         self.check(status == 2 and "--reason" in said, f"password: {said[-50:]}")
         who = getpass.getuser()
         keys = ("part", "command", "operator", "login", "address", "reason", "site", "station")
-        for name, words, wanted in (
-            ("disable", ("eve",), ["operator", "UPDATE", who, "ledger_administrator"]),
-            (
-                "token",
-                ("ann", "--label", "x", "--roles", "sees"),
-                ["api_token", "INSERT", who, "ledger_administrator"],
-            ),
+        admin = (who, "ledger_administrator", "127.0.0.1")
+        for name, words, part, command in (
+            ("disable", ("eve",), "operator", "UPDATE"),
+            ("token", ("ann", "--label", "x", "--roles", "sees"), "api_token", "INSERT"),
         ):
             operator(self.fleet, name, *words, "--reason", f"a  reason of {name}")
             found = await self.last(*keys)
-            wanted += ["127.0.0.1", f"a reason of {name}", None, None]
+            wanted = [part, command, *admin, f"a reason of {name}", None, None]
             self.check(found == wanted, f"operator {name}: {found}")
         status, said = self.run_tool(
             *("password", "ledger_provisioner", "CS-00", "--reason", "a new key"),
