@@ -28,11 +28,11 @@ REASON = "the first cell is full"
 # Each way to change something.
 CHANGES = (
     "select add_station(0, 'north', 'CS-09')",
-    "select retire_station('CS-01', '2026-03-05')",
+    "select retire_station('CS-02', '2026-03-05')",
     "update own_station set events = 7 where station = 'CS-00'",
     "update own_station set shard = 1, site = 'south' where station = 'CS-01'",
     "delete from own_station where station = 'CS-01'",
-    "update own_site set period = 1800 where site = 'south'",
+    "update own_site set period = 300 where site = 'south'",
     "update own_site set zone = 'Europe/Berlin' where site = 'south'",
     "update own_site set site = 'west' where site = 'south'",
     "update own_shard set moving_to = 2 where shard = 0",
