@@ -208,13 +208,23 @@ def chart(panel: Panel, width: int, height: int) -> str:
     colors = [COLORS[number % len(COLORS)] for number in range(len(drawn))]
     rows = math.ceil(sum(7 * len(name) + 40 for name in names) / (width - 16))
     height -= min(20 * rows + 6, height // 2)
-    right = 50 if any(target.is_right for target, _ in drawn) else 8
     times = [at for _, line in drawn for at, _ in line.points]
-    left, low, high = 58, min(times), max(times)
+    low, high = min(times), max(times)
     tops = {
-        side: nice(max((greatest(t) for t, _ in drawn if t.is_right == side), default=0))
+        side: nice(
+            max((greatest(t) for t, _ in drawn if t.is_right == side), default=0),
+            any(t.unit == "bytes" for t, _ in drawn if t.is_right == side),
+        )
         for side in (False, True)
     }
+
+    def room(side: bool) -> int:
+        """Pixels of an axis."""
+        units = {target.unit for target, _ in drawn if target.is_right == side}
+        texts = [said(tops[side] * step / 4, unit) for unit in units for step in range(5)]
+        return 8 + max((7 * len(text) for text in texts), default=0)
+
+    left, right = room(False), room(True)
 
     def x(at: float) -> float:
         return left + (width - left - right) * (at - low) / max(1, high - low)
@@ -252,11 +262,12 @@ def chart(panel: Panel, width: int, height: int) -> str:
     return f'<svg width="{width}" height="{height}">{"".join(parts)}</svg><div class="legend">{legend}</div>'
 
 
-def nice(value: float) -> float:
+def nice(value: float, are_bytes: bool) -> float:
     """The end of an axis: a round number that is no less."""
     if value <= 0:
         return 1.0
-    size = 10.0 ** math.floor(math.log10(value))
+    front = 1024.0 ** math.floor(math.log(value, 1024)) if are_bytes else 1.0
+    size = front * 10.0 ** math.floor(math.log10(value / front))
     return next(size * step for step in (1, 2, 4, 5, 8, 10) if size * step >= value)
 
 

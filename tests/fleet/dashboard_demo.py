@@ -46,12 +46,16 @@ FAULTS = {
     "hang": 8,
     "server": 6,
     "two-workers": 6,
-    "sent-away": 8,
+    "sent-away": 6,
+    "table": 4,
+    "no-standby": 4,
     "worker": 4,
 }
 # The panels each of whose expressions has to have been more than 0 then.
 SEEN = (
-    "What went wrong and was mended, in 5 minutes",
+    "Faults that were mended, in 5 minutes",
+    "Lines without a place, by shard",
+    "Waiting for the standby",
     "Events that wait, and for how long",
     "Wrong passwords in 5 minutes",
     "Refused, by station and cause",
@@ -93,9 +97,9 @@ class Demo(WatchedTrial):
         database.fill(1)
         await self.parts_and_prometheus()
         self.grow("".join(self.fed()))
+        await asyncio.sleep(10)
         browser = Client(f"http://127.0.0.1:{self.ports['pages']}")
         await asyncio.to_thread(browser.login, "nobody", "a wrong one")
-        await asyncio.sleep(10)
         for name, seconds in FAULTS.items():
             print(f"fault: {name}", flush=True)
             await self.fail(name)
@@ -104,7 +108,7 @@ class Demo(WatchedTrial):
             if name not in ("strays", "limit"):
                 await self.healed(name)
         await asyncio.sleep(8)
-        self.parts["gateway-2"].send_signal(signal.SIGSTOP)
+        self.parts["feed"].send_signal(signal.SIGSTOP)
         await asyncio.sleep(2)
 
     def fed(self) -> list[str]:
@@ -132,7 +136,7 @@ class Demo(WatchedTrial):
                 none = [one.legend or one.expression for one in panel.targets if greatest(one) <= 0]
                 self.check(not none, f"{panel.title}: what happened is seen {none or ''}")
         down = next(panel for panel in panels if panel.title == "Parts that do not answer")
-        self.check(greatest(down.targets[0]) == 1, "the gateway that is stopped does not answer")
+        self.check(greatest(down.targets[0]) == 1, "the feed that is stopped does not answer")
 
     def looked_at(self, name: str, text: str, pixels: int) -> None:
         """The dashboard in a browser's window."""

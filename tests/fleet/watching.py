@@ -35,7 +35,7 @@ worker.run_tool = lambda *words: subprocess.CompletedProcess(words, 1, b"", b"no
 OTHERS = {
     "network": ("gateway-1",),
     "passwords": ("gateway-1",),
-    "sent-away": ("gateway-1",),
+    "sent-away": ("gateway-1", "gateway-2"),
     "full": ("worker-1", "worker-2"),
     "not-compacted": ("worker-1", "worker-2"),
     "stuck": ("gateway-2",),
@@ -303,8 +303,15 @@ class WatchedTrial(Trial):
     compaction = closing
 
     async def sent_away(self) -> None:
-        await self.start_part("gateway-1", "--open", "--wait", 2)
+        for name in ("gateway-1", "gateway-2"):
+            await self.start_part(name, "--open", "--wait", 2)
+        # Stations come again.
+        await asyncio.sleep(3)
         await self.all_workers()
+
+    async def no_standby(self) -> None:
+        await self.owner.execute("alter system set synchronous_standby_names = '*'")
+        await self.owner.execute("select pg_reload_conf()")
 
     async def stuck(self) -> None:
         await self.start_part("gateway-2", code=STUCK)
@@ -372,6 +379,9 @@ class WatchedTrial(Trial):
         """All as it was before a fault."""
         if name in ("open", "table", "shards"):
             await self.held.close()
+        elif name == "no-standby":
+            await self.owner.execute("alter system reset synchronous_standby_names")
+            await self.owner.execute("select pg_reload_conf()")
         elif name == "locked":
             await self.owner.execute("delete from sign_in")
         elif name in ("stopped", "hang"):
