@@ -48,7 +48,7 @@ FAULTS = {
     "two-workers": 6,
     "sent-away": 6,
     "table": 4,
-    "no-standby": 4,
+    "no-standby": 9,
     "worker": 4,
 }
 # The panels each of whose expressions has to have been more than 0 then.
@@ -96,8 +96,8 @@ class Demo(WatchedTrial):
         database.start()
         database.fill(1)
         await self.parts_and_prometheus()
-        self.grow("".join(self.fed()))
         await asyncio.sleep(10)
+        self.grow("".join(self.fed()))
         browser = Client(f"http://127.0.0.1:{self.ports['pages']}")
         await asyncio.to_thread(browser.login, "nobody", "a wrong one")
         for name, seconds in FAULTS.items():

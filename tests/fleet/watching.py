@@ -24,6 +24,8 @@ PROMETHEUS = "/usr/bin/prometheus"
 FOLDER = TOP / "examples/thousands-of-stations"
 # Times of the rules here are so many times shorter; what parts tell in seconds is compared with less by other factors.
 SHORTER = 30
+# Stations that send, of both shards.
+SENDING = ("CS-00000", "CS-00001", "CS-00005")
 PARTS = ("worker-1", "worker-2", "gateway-1", "gateway-2", "feed", "page")
 # What parts begin with here: a signal that blocks their loop; logs that may have so many bytes; no compaction.
 STUCK = "import signal, time; signal.signal(signal.SIGUSR1, lambda *_: time.sleep(20))"
@@ -158,7 +160,7 @@ class WatchedTrial(Trial):
         while True:
             for place, station in enumerate(self.stations):
                 if station.is_lost:
-                    self.stations[place] = await self.station(f"CS-{place:05}")
+                    self.stations[place] = await self.station(SENDING[place])
                 else:
                     moment = (
                         f"2026-03-01T{number // 3600:02}:{number // 60 % 60:02}:{number % 60:02}Z"
@@ -184,7 +186,7 @@ class WatchedTrial(Trial):
         self.file.touch()
         for name in PARTS:
             await self.start_part(name)
-        self.stations = [await self.station(f"CS-{number:05}") for number in range(3)]
+        self.stations = [await self.station(name) for name in SENDING]
         self.sending = asyncio.create_task(self.send())
         self.watch()
 
