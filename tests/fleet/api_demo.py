@@ -315,6 +315,22 @@ class Demo(Trial):
                 some == [row for row in rows if wanted(row["starts"])], f"{words}: {len(some)}"
             )
 
+    async def refused(self) -> None:
+        """What was refused, with its line and its times."""
+        rows = self.client.all("/sites/north/refusals", "refusals", self.token, 1)
+        keys = ("station", "cause", "transaction", "number", "what", "advice", "times", "place")
+        stored = await self.owner.fetch(
+            "select * from own_refusal where station = 'CS-00' order by station, cause"
+        )
+        self.check(
+            [[row[key] for key in keys] for row in rows]
+            == [[row[key] for key in keys] for row in stored]
+            and [datetime.fromisoformat(row["last"]) for row in rows]
+            == [row["last"] for row in stored]
+            and [row["cause"] for row in rows] == ["ConflictingEvent"],
+            f"refusals: {[[row[key] for key in (*keys[:4], 'times', 'place')] for row in rows]}",
+        )
+
     async def between(self) -> None:
         """Rows come in between the pages of a list: each that was there comes once."""
         before = self.client.all("/stations/CS-04/transactions", "transactions", self.token, 1000)
@@ -677,6 +693,7 @@ class Demo(Trial):
         await self.tokens()
         await self.wrong_words()
         await self.lists()
+        await self.refused()
         await self.transactions("in the log")
         await self.billing("in the log")
         await self.first_closing()

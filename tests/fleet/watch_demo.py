@@ -83,6 +83,10 @@ class Demo(WatchedTrial):
         )
         if ill := ILL.get(name):
             status, said = await self.health(ill[0])
+            end = time.monotonic() + FIRES
+            while status != 503 and time.monotonic() < end:
+                await asyncio.sleep(0.5)
+                status, said = await self.health(ill[0])
             self.check(
                 status == 503 and ill[1] in said, f"{name}: /health: {status} {said.strip()}"
             )
