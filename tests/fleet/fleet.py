@@ -202,7 +202,9 @@ class Database:
         self.run_schema(name, "-v", f"cell={cell}", schema=schema)
 
     def run_schema(self, name: str, *words: str, schema: Path = SCHEMA) -> None:
-        self.psql(name, *words, "-f", schema, env=os.environ | self.fleet.roles())
+        # The schema itself changes no plan, so it needs no reason.
+        own = {"PGOPTIONS": "-c ledger.reason="}
+        self.psql(name, *words, "-f", schema, env=os.environ | self.fleet.roles() | own)
 
     def kill(self) -> None:
         """Ends the server and all its processes at once, as a machine that fails."""
