@@ -203,10 +203,12 @@ async def site_file(asked: Asked) -> Response:
 
 def site_told(site: Site) -> str:
     """How the figures of a site are told."""
-    to = f" to {site.settled_to}" if site.settled_to else ""
+    energy, to = site.state(), f"settled to {site.settled_to}" if site.settled_to else ""
+    if energy != SETTLED or not to:
+        to = f"{energy}, and {to}" if to else energy
     return (
-        f"Energy is {site.state()}, and settled{to or ' to no day yet'}. Numbers of sessions are "
-        f"{sessions_said(site.states())}. Events and voided events are those of the log, and provisional."
+        f"Energy is {to}. Numbers of sessions are {sessions_said(site.states())}. Events and voided events are those "
+        "of the log, and provisional."
     )
 
 
