@@ -8,6 +8,7 @@ shows to who sees the site. The status is 1 where one of these is not as it must
 """
 
 import getpass
+import re
 import subprocess
 import sys
 from typing import Any
@@ -91,8 +92,12 @@ class Demo(Trial):
         ann.login("ann")
         text = ann.get("/changes").text
         self.check(
-            "jo as owner" in text and "900 to 1800" in text and "a longer period" in text,
-            "the page shows them",
+            "jo as owner" in text
+            and "900 to 1800" in text
+            and "a longer period" in text
+            and re.search(r"update site<br>\s*<span[^>]*>south<", text)
+            and re.search(r"update station<br>\s*<span[^>]*>CS-01<", text),
+            "the page shows them, and what each is of",
         )
 
     async def asked(self) -> None:

@@ -525,7 +525,8 @@ def change_line(row: Any) -> Line:
     else:
         pairs = [(key, plain(one)) for key, one in (after or before).items() if one]
     told = Markup(", ").join(Markup("{}: {}").format(key, kept(one)) for key, one in pairs)
-    what = f"{row['command'].lower()} {row['part'].removeprefix('own_')}"
+    own = row["station"] or row["site"] or (after or before).get("name") or row["in_shard"]
+    what = lines_of(f"{row['command'].lower()} {row['part'].removeprefix('own_')}", kept(str(own)))
     who = f"{row['operator']} as {row['login']}" if row["operator"] else row["login"]
     return Line(
         [moment(row["at"]), who, row["address"] or UNKNOWN, what, told, row["reason"] or UNKNOWN]
