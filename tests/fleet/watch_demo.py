@@ -14,11 +14,13 @@ import argparse
 import asyncio
 import json
 import os
+import re
 import signal
 import subprocess
 import sys
 import time
 
+from ocpp_board.fleet.metrics import FRONT, HELP
 from tests.fleet.fleet import SCHEMA
 from tests.fleet.trials import MISTAKEN, RIGHT, parsed, parser_of, skipped, tried
 from tests.fleet.watching import PROMETHEUS, WatchedTrial, asked
@@ -108,6 +110,11 @@ class Demo(WatchedTrial):
             'ocpp_board_cell_shards{cell="1"}' in text and "shard_last_answer_age_seconds{" in text,
             "a worker tells of its cell and its shards",
         )
+        told = set[str]()
+        for name in self.parts:
+            _, text = await asyncio.to_thread(asked, self.ports[name], "/metrics")
+            told |= set(re.findall(rf"^# HELP {FRONT}(\w+) ", text, re.MULTILINE))
+        self.check(told == HELP.keys(), f"all figures are told: {told ^ HELP.keys() or len(told)}")
 
     async def common(self) -> None:
         """One server, and the faults that take no other one."""
