@@ -132,6 +132,14 @@ class Layout:
         """The name of a session in a table."""
         return escape(tx)
 
+    def station_heads(self) -> Heads:
+        """Further columns of the table of a site's stations."""
+        return []
+
+    def station_cells(self, _station: str) -> list[str]:
+        """A station's cells of these."""
+        return []
+
     def stamp(self, until: datetime | None) -> str:
         """Up to when the data is and when the page was written, and a warning where that is too long before. `until`:
         the end of the last period, which tells it where nothing else does."""
@@ -501,12 +509,15 @@ class Index:
             + "</section>\n"
         )
 
-    @classmethod
-    def stations(cls, stations: list[Part], links: dict[str, str], has_export: bool) -> str:
+    def stations(self, stations: list[Part], links: dict[str, str], has_export: bool) -> str:
         """The table of a site's stations."""
-        rows = (cls.station_row(part, links[part.name], has_export) for part in stations)
+        found = [
+            (part.name, self.station_row(part, links[part.name], has_export)) for part in stations
+        ]
+        rows = ((mark, cells + self.layout.station_cells(name)) for name, (mark, cells) in found)
         caption = "Stations of the site, those with troubles first"
-        text = "".join(table(caption, cls.station_heads(has_export), rows))
+        heads = self.station_heads(has_export) + self.layout.station_heads()
+        text = "".join(table(caption, heads, rows))
         return "<h3>Stations</h3>\n" + across("Stations", text)
 
     @staticmethod

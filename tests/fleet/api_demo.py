@@ -260,7 +260,8 @@ class Demo(Trial):
             (north["up"], north["missing"]) == tuple(stored)
             and north["up_kwh"] == north["up"] / 1e6
             and north["net"] == north["up"] - north["down"]
-            and north["state"] == "provisional",
+            and north["state"] == "provisional"
+            and set(north["states"].values()) == {"provisional"},
             f"a site's figures: {north['up']} mWh, {north['up_kwh']} kWh",
         )
         board = self.client.all("/sites/north/board", "stations", self.token, 1)
@@ -313,6 +314,22 @@ class Demo(Trial):
             self.check(
                 some == [row for row in rows if wanted(row["starts"])], f"{words}: {len(some)}"
             )
+
+    async def refused(self) -> None:
+        """What was refused, with its line and its times."""
+        rows = self.client.all("/sites/north/refusals", "refusals", self.token, 1)
+        keys = ("station", "cause", "transaction", "number", "what", "advice", "times", "place")
+        stored = await self.owner.fetch(
+            "select * from own_refusal where station = 'CS-00' order by station, cause"
+        )
+        self.check(
+            [[row[key] for key in keys] for row in rows]
+            == [[row[key] for key in keys] for row in stored]
+            and [datetime.fromisoformat(row["last"]) for row in rows]
+            == [row["last"] for row in stored]
+            and [row["cause"] for row in rows] == ["ConflictingEvent"],
+            f"refusals: {[[row[key] for key in (*keys[:4], 'times', 'place')] for row in rows]}",
+        )
 
     async def between(self) -> None:
         """Rows come in between the pages of a list: each that was there comes once."""
@@ -458,6 +475,43 @@ class Demo(Trial):
             other["state"] == "settled" and other["complete"],
             "one that was archived since is settled",
         )
+
+    async def counted(self) -> None:
+        """Numbers of sessions, energies and events of a station whose sessions are archived, and corrected."""
+        sessions, rest = ("transactions", "complete", "missing"), ("events", "voided")
+
+        async def is_told(what: str, numbers: tuple[int, ...], **wanted: str) -> None:
+            await asyncio.sleep(1)
+            whole = self.get("/sites/south/board").json
+            for row in (whole, whole["stations"][0]):
+                states = row["states"]
+                told = {name: states[name] for name in sessions} | {"energy": states["net"]}
+                is_right = (
+                    tuple(row[name] for name in sessions) == numbers
+                    and told == wanted
+                    and {states[name] for name in rest} == {"provisional"}
+                    and {states[name] for name in FLOW} == {row["state"]}
+                    and states.keys() == {*sessions, *rest, *FLOW, "net"}
+                )
+                name = row.get("station", row["site"] if "site" in row else "")
+                self.check(is_right, f"{what}, {name}: {told}, {[row[key] for key in sessions]}")
+
+        settled, corrected = dict.fromkeys(sessions, "settled"), "corrected"
+        provisional = dict.fromkeys((*sessions, "energy"), "provisional")
+        await is_told("in the log", (1, 1, 0), **provisional)
+        await self.close_day("south", "2026-03-02")
+        await is_told("archived", (1, 1, 0), **settled, energy="settled")
+        await self.come("CS-02", ["void CS-02 T-1 1"])
+        await self.answered()
+        await self.close_day("south", "2026-03-02")
+        changed = settled | {"complete": corrected, "missing": corrected, "energy": corrected}
+        await is_told("corrected since", (1, 0, 1), **changed)
+        await self.come("CS-02", events("T-7", quarters("2026-03-03", 10, 3)))
+        await self.answered()
+        await is_told("with another one in the log", (2, 1, 1), **provisional)
+        await self.close_day("south", "2026-03-02")
+        await self.close_day("south", "2026-03-04")
+        await is_told("which is archived, too", (2, 1, 1), **changed)
 
     # A transaction ----------------------------------------------------------------------------------------------------
 
@@ -639,10 +693,12 @@ class Demo(Trial):
         await self.tokens()
         await self.wrong_words()
         await self.lists()
+        await self.refused()
         await self.transactions("in the log")
         await self.billing("in the log")
         await self.first_closing()
         await self.settled()
+        await self.counted()
         await self.description()
         await self.between()
         await self.listening.close()

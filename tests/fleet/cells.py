@@ -25,7 +25,7 @@ from pathlib import Path
 from typing import Any
 
 from ocpp_board.fleet.database import Fault, connect
-from tests.fleet.fleet import BIN, SCHEMA, Fleet, children, ended, free_port, tool
+from tests.fleet.fleet import BIN, REASON, SCHEMA, Fleet, children, ended, free_port, tool
 from tests.fleet.trials import Trial, parsed, parser_of, skipped, tried
 
 # Seconds: how long a primary stays one that is not heard of, and between two looks at it.
@@ -219,6 +219,7 @@ class Cells(Trial):
             env=os.environ | self.fleet.roles(),
         )
         owner = await connect(self.dsn("owner", cell))
+        await owner.execute(f"set ledger.reason = '{REASON}'")
         self.owners.append(owner)
         self.firsts.append(await self.fleet.add(owner, self.words.stations, EACH, 1000 * cell))
 
@@ -344,6 +345,8 @@ class Cells(Trial):
             self.dsn("ledger_mover", 1),
             "--shard",
             0,
+            "--reason",
+            REASON,
         )
         status, text = await ended(self.fleet.start(*command, stdout=subprocess.PIPE))
         self.check(status == 0, f"ocpp-board move: {text}")

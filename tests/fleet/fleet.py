@@ -48,10 +48,32 @@ insert into own_log (shard, place, line)
 select $1, coalesce((select max(place) from own_log where shard = $1), 0) + w.place, w.line
 from unnest($2::text[]) with ordinality as w (line, place)
 """
+# Stations of which what closings archived is not summed up as it is.
+UNSUMMED = """
+select station from (
+    select station, sum(transactions) as transactions, sum(complete) as complete, sum(missing) as missing,
+        sum(up) as up, sum(down) as down, sum(export_up) as export_up, sum(export_down) as export_down
+    from own_archived_sum where shard = $1 group by station) s
+full join (
+    select station, count(*) as transactions, count(*) filter (where complete) as complete, sum(missing) as missing,
+        sum(up) as up, sum(down) as down, sum(export_up) as export_up, sum(export_down) as export_down
+    from own_archived_transaction where shard = $1 group by station) t using (station)
+full join (
+    select station, sum(up) as up, sum(down) as down, sum(export_up) as export_up, sum(export_down) as export_down
+    from own_archived_period where shard = $1 group by station) p using (station)
+where (coalesce(s.transactions, 0), coalesce(s.complete, 0), coalesce(s.missing, 0), coalesce(s.up, 0),
+        coalesce(s.down, 0), coalesce(s.export_up, 0), coalesce(s.export_down, 0))
+    <> (coalesce(t.transactions, 0), coalesce(t.complete, 0), coalesce(t.missing, 0), coalesce(t.up, 0),
+        coalesce(t.down, 0), coalesce(t.export_up, 0), coalesce(t.export_down, 0))
+    or (coalesce(s.up, 0), coalesce(s.down, 0), coalesce(s.export_up, 0), coalesce(s.export_down, 0))
+    <> (coalesce(p.up, 0), coalesce(p.down, 0), coalesce(p.export_up, 0), coalesce(p.export_down, 0))
+"""
 BIN = Path("/usr/lib/postgresql/15/bin")
 # The roles of the schema's tools, each of which has a password of its own.
 ROLES = ["GATEWAY", "FEED", "WORKER", "READER", "OPERATOR", "PROVISIONER", "ADMINISTRATOR"]
 ROLES += ["CLOSER", "COMPACTOR", "MOVER", "KEEPER", "BACKUP"]
+# Why the plan of a fleet is changed here.
+REASON = "a trial"
 # What of the database is killed, one after the other: all of its processes, or one that serves a worker or a gateway,
 # for which the server ends all others and begins again.
 CRASHES = ("all", "one", "all", "one", "all")
@@ -121,6 +143,9 @@ class Database:
             *more,
         )
         secret.unlink()
+        # Sessions that change the plan and say nothing else have this reason.
+        with open(self.folder / "postgresql.conf", "a", encoding="utf-8") as file:
+            file.write(f"ledger.reason = '{REASON}'\n")
 
     def copy(self, other: "Database") -> None:
         """Makes this one a standby of another one."""
@@ -177,7 +202,9 @@ class Database:
         self.run_schema(name, "-v", f"cell={cell}", schema=schema)
 
     def run_schema(self, name: str, *words: str, schema: Path = SCHEMA) -> None:
-        self.psql(name, *words, "-f", schema, env=os.environ | self.fleet.roles())
+        # The schema itself changes no plan, so it needs no reason.
+        own = {"PGOPTIONS": "-c ledger.reason="}
+        self.psql(name, *words, "-f", schema, env=os.environ | self.fleet.roles() | own)
 
     def kill(self) -> None:
         """Ends the server and all its processes at once, as a machine that fails."""
@@ -326,7 +353,8 @@ class Fleet:
     def moving(self, database: str, shard: int) -> list[str]:
         """The command that moves a shard to another database of this server."""
         cells = [self.dsn("ledger_mover", database=name) for name in ("ledger", database)]
-        return [*tool("move"), "--from", cells[0], "--to", cells[1], "--shard", str(shard)]
+        words = ("--from", cells[0], "--to", cells[1], "--shard", str(shard))
+        return [*tool("move"), *words, "--reason", REASON]
 
     def load(
         self, urls: list[str], first: int, stations: int, *more: object
@@ -462,6 +490,10 @@ class Fleet:
                 differ.append(f"shard {shard}: boards and archives are not those of all that came")
         except ValueError as fault:
             differ.append(f"shard {shard}: {fault}")
+        if unsummed := [row["station"] for row in await owner.fetch(UNSUMMED, shard)]:
+            differ.append(
+                f"shard {shard}: what is archived of {unsummed} is not the sum that is kept"
+            )
         rows = await owner.fetch(
             "select station, starts, sum(up)::bigint as up, sum(down)::bigint as down, "
             "sum(export_up)::bigint as export_up, sum(export_down)::bigint as export_down from own_closed_period "

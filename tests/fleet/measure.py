@@ -3,13 +3,15 @@
     tests/one fleet.measure ocpp_board load --stations 1000 --shards 16 --rate 1500 --kill
     tests/one fleet.measure ocpp_board recovery --lines 200000 --shards 4
     tests/one fleet.measure ocpp_board memory
+    tests/one fleet.measure ocpp_board lists --stations 5000 --shards 80 --days 365 --sessions 2
 
 `load` gives messages a second, waits (median, 99th, longest) and processor time a message by part, and compares
 every board at the end; with --kill a worker, a gateway and a replay are killed on the way; with --password and --tls
 stations come so, and with --together N all connect, N at a time, before the first one sends, and at the end once
 more, when their gateway knows their passwords: how many a second that are is told. `recovery` fills the log
 of some shards and times a worker that takes them. `memory` gives what a replay of 64 stations takes, empty, by its
-limits.
+limits. `lists` writes rows of so many closed days, with so many archived sessions a station and day, and times the
+page and the API that list sites and the stations of one.
 """
 
 import argparse
@@ -30,11 +32,33 @@ from ocpp_board.fleet.passwords import SALT, hashed
 from ocpp_board.fleet.plans import Plan, Reckoning
 from ocpp_board.fleet.replays import Replay
 from tests.fleet.fleet import FILL, Fleet, children, ended
+from tests.fleet.page_client import Client, make_operator, make_token, start_page
 from tests.fleet.trials import FAULTS, MISTAKEN, messages, parsed, parser_of
 
 log = logging.getLogger(__name__)
 
 PASSWORD = "a-password-of-a-station"
+# Boards, closings and archives as a worker and closings write them, by shard: each station has two sessions in the log.
+BOARDS = """
+insert into own_board (shard, site, text, plan) select shard, site, '', 1000000 from own_site;
+insert into own_board_station (shard, site, station, events, voided, transactions, complete, missing, up, down, plan)
+    select shard, site, station, 8, 0, 2, 1, 0, 5000000, 0, 1000000 from own_station
+"""
+CLOSINGS = """
+insert into own_closing (shard, site, closing, day, period, plan)
+    select shard, site, n, date '2026-01-01' + n, 900, n from own_site, generate_series(1, $1::int) n
+"""
+TOTALS = """
+insert into own_archived_total (shard, site, closing, station, transactions, complete, missing, up, down, export_up,
+    export_down)
+    select shard, site, n, station, $2::int, $2::int, 0, $2::int * 7500000, 0, 0, 0
+    from own_station, generate_series(1, $1::int) n
+"""
+SESSIONS = """
+insert into own_archived_transaction (shard, site, closing, station, transaction, complete, missing, up, down)
+    select shard, site, n, station, 'tx-' || n || '-' || m, true, 0, 7500000, 0
+    from own_station, generate_series(1, $1::int) n, generate_series(1, $2::int) m where shard = $3
+"""
 TICKS = os.sysconf("SC_CLK_TCK")
 
 
@@ -219,9 +243,47 @@ async def memory(fleet: Fleet, words: argparse.Namespace) -> int:
     return 0
 
 
+async def lists(fleet: Fleet, words: argparse.Namespace) -> int:
+    owner = await made(fleet, False)
+    await fleet.add(owner, words.stations, -(-words.stations // words.shards), 0)
+    await owner.execute(BOARDS)
+    await owner.execute(CLOSINGS, words.days, timeout=None)
+    await owner.execute(TOTALS, words.days, words.sessions, timeout=None)
+    # The rows are right, and their keys to others need not be looked up.
+    await owner.execute("set session_replication_role = replica")
+    for shard in range(words.shards):
+        await owner.execute(SESSIONS, words.days, words.sessions, shard, timeout=None)
+    await owner.execute("analyze", timeout=None)
+    count = await owner.fetchval("select count(*) from own_archived_transaction", timeout=None)
+    make_operator(fleet, "ann", "sees")
+    token = make_token(fleet, "ann", "sees")
+    _, url = start_page(fleet)
+    client = Client(url)
+    client.login("ann")
+    heads = {"Authorization": f"Bearer {token}"}
+    print(f"{words.stations} stations, {words.shards} sites, {count:,} archived sessions")
+    for path in ("/", "/api/v1/sites?limit=1000", "/api/v1/sites/site-0/board?limit=1000"):
+        took = list[float]()
+        for _ in range(5):
+            began = time.monotonic()
+            answer = await asyncio.to_thread(client.asked, "GET", path, None, heads)
+            took.append(time.monotonic() - began)
+            if answer.status != 200:
+                raise Fault(f"{path}: {answer.status} {answer.text[:200]}")
+        row = client.api("/sites/site-0/board?limit=1", token).json
+        print(f"{path}: {', '.join(f'{1000 * one:.0f}' for one in took)} ms")
+    each = words.days * words.sessions + 2
+    stations = row["stations"][0]
+    is_right = stations["transactions"] == each and row["states"]["transactions"] == "provisional"
+    print(f"a station has {stations['transactions']:,} sessions{'' if is_right else ': WRONG'}")
+    await owner.close()
+    return 0 if is_right else 1
+
+
 def main() -> int:
     parser = parser_of(__doc__)
-    parser.add_argument("what", choices=["load", "recovery", "memory"], help="what is measured")
+    kinds = ["load", "recovery", "memory", "lists"]
+    parser.add_argument("what", choices=kinds, help="what is measured")
     parser.add_argument("--stations", type=int, default=100, help="how many (default: 100)")
     parser.add_argument("--shards", type=int, default=2, help="how many (default: 2)")
     parser.add_argument(
@@ -252,12 +314,18 @@ def main() -> int:
     parser.add_argument(
         "--seconds", type=float, default=120, help="until it gives up (default: 120)"
     )
+    parser.add_argument(
+        "--days", type=int, default=365, help="that are closed, for lists (default: 365)"
+    )
+    parser.add_argument(
+        "--sessions", type=int, default=2, help="of a station and day, for lists (default: 2)"
+    )
     parser.add_argument("--processors", help="run on these alone, such as 0,1 (default: all)")
     words = parsed(parser)
     resource.setrlimit(resource.RLIMIT_NOFILE, (resource.getrlimit(resource.RLIMIT_NOFILE)[1],) * 2)
     if words.processors:
         os.sched_setaffinity(0, {int(word) for word in words.processors.split(",")})
-    measures = {"load": load, "recovery": recovery, "memory": memory}
+    measures = {"load": load, "recovery": recovery, "memory": memory, "lists": lists}
     fleet = None
     try:
         fleet = Fleet(words.program, words.user)

@@ -71,6 +71,11 @@ values (0, 'north', 1, 'A', $1, $2, 0)
 """
 # What is settled of stations, as the page reads it.
 SETTLED = "select station, up, rows, corrections from own_settled"
+# What is archived of them, and how many closings corrected each number.
+ARCHIVED_SUM = """
+select station, transactions, complete, missing, up, down, corrected_transactions, corrected_complete, corrected_missing
+from own_archived_sum order by 1
+"""
 
 
 class Demo(ClosingTrial):
@@ -192,6 +197,10 @@ class Demo(ClosingTrial):
         self.check(
             settled == [("A", 750_000, 3, 0)], f"what was settled before is summed up: {settled}"
         )
+        archived = [tuple(row) for row in await self.owner.fetch(ARCHIVED_SUM)]
+        self.check(
+            archived == [("A", 1, 1, 0, 750_000, 0, 0, 0, 0)], f"and what was archived: {archived}"
+        )
         differ = [
             text
             for text in difflib.ndiff(self.schema("fresh"), self.schema("ledger"))
@@ -214,6 +223,11 @@ class Demo(ClosingTrial):
         self.check(
             sum(row[1] for row in settled) == whole and all(row[3] > 0 for row in settled),
             f"and so is what closings correct: {settled}, {whole}",
+        )
+        archived = [tuple(row) for row in await self.owner.fetch(ARCHIVED_SUM)]
+        self.check(
+            archived == [("A", 1, 0, 1, 750_000, 0, 0, 1, 1)],
+            f"and numbers of its sessions: {archived}",
         )
         await self.owner.execute("insert into schema_version (version) values (999)")
         await self.refused(f"has version 999, and these tools are for version {VERSION}")

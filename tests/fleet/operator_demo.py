@@ -4,8 +4,8 @@
 
 Operators with roles and sites sign in at two pages of one fleet: wrong and right passwords, accounts that are locked,
 sessions that ended; sites of others; voids without a reason; forms that are forged, old, sent twice; bodies that are
-huge, clients that are slow; who did what, from where and why; changes of the plan; closings that are asked for; what
-roles of the database may not. The status is 1 where one of these is not as it must be.
+huge, clients that are slow; who did what, from where and why; closings that are asked for; what roles of the database
+may not. The status is 1 where one of these is not as it must be.
 """
 
 import asyncio
@@ -520,47 +520,7 @@ class Demo(Trial):
             f"40 at once who are wrong: {statuses}; ann waits {longest:.2f} s at most",
         )
 
-    # The plan, closings, roles of the database ------------------------------------------------------------------------
-
-    async def plan(self) -> None:
-        """Each change of the plan is a row."""
-        count = "select count(*) from own_plan_change"
-        before = await self.owner.fetchval(count)
-        session = await connect(self.fleet.dsn("owner"))
-        await session.execute("set ledger.operator = 'jo'; set ledger.reason = 'a longer period'")
-        await session.execute("update own_site set period = 1800 where site = 'south'")
-        await session.execute("select retire_station('CS-01', '2026-03-05')")
-        await session.close()
-        await self.owner.execute("update own_site set period = period")
-        rows = await self.owner.fetch("select * from own_plan_change order by change desc limit 2")
-        told = [
-            (row["part"], row["command"], row["operator"], row["login"], row["reason"])
-            for row in rows
-        ]
-        self.check(
-            told
-            == [
-                ("own_station", "UPDATE", "jo", "owner", "a longer period"),
-                ("own_site", "UPDATE", "jo", "owner", "a longer period"),
-            ]
-            and await self.owner.fetchval(count) == before + 2,
-            f"two changes are two rows, with who and why, and what changes nothing is none: {told}",
-        )
-        made = await self.owner.fetchval(
-            "select count(*) from own_plan_change where part = 'own_station' and command = 'INSERT'"
-        )
-        self.check(made == 3, f"stations that were added: {made}")
-        text = await self.owner.fetchval(
-            "select string_agg(coalesce(after::text, ''), '') from own_plan_change"
-        )
-        self.check(
-            "hash" not in text and "ann" in text, "operators' changes are there, without hashes"
-        )
-        ann = Client(self.url)
-        ann.login("ann")
-        text = ann.get("/changes").text
-        self.check("jo as owner" in text and "900 to 1800" in text, "the page shows them")
-        await self.owner.execute("update own_station set retired = null")
+    # Closings, roles of the database ------------------------------------------------------------------------
 
     async def closings(self) -> None:
         """An operator asks for a closing; the service does it."""
@@ -751,7 +711,7 @@ class Demo(Trial):
         self.pages = [first, second]
         for job in (
             *(self.sign_in, self.locked, self.sessions, self.sites, self.roles, self.reasons),
-            *(self.forms, self.bodies, self.plan),
+            *(self.forms, self.bodies),
             *(self.proxied, self.cells, self.cookies, self.closings),
             *(self.doors, self.watched, self.at_once, self.work),
         ):

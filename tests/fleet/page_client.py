@@ -11,7 +11,7 @@ from typing import Any, NamedTuple
 from urllib.parse import urlencode, urlsplit
 
 from ocpp_board.fleet.database import Fault
-from tests.fleet.fleet import Fleet, tool
+from tests.fleet.fleet import REASON, Fleet, tool
 
 PASSWORD = "an operator's password"
 # Seconds for an answer.
@@ -120,8 +120,9 @@ def operator(
     fleet: Fleet, *words: str, password: str = PASSWORD, login: str = "ledger_administrator"
 ) -> tuple[int, str]:
     """Runs `ocpp-board operator`, and gives its status and what it wrote."""
+    why = () if words[0] == "list" or "--reason" in words else ("--reason", REASON)
     made = subprocess.run(
-        [*tool("operator"), "--db", fleet.dsn(login), *words],
+        [*tool("operator"), "--db", fleet.dsn(login), *words, *why],
         input=f"{password}\n".encode(),
         stdout=subprocess.PIPE,
         stderr=subprocess.PIPE,

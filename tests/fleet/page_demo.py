@@ -43,6 +43,7 @@ except ImportError:
 DRIVER = "/usr/bin/chromedriver"
 # Widths of a desk's screen and of a phone's.
 WIDE, NARROW = 1280, 390
+WORKERS = "select count(*) from pg_stat_activity where application_name ~ '^worker_'"
 # A transaction id that would be HTML, were it not escaped.
 EVIL = "<b>\"x\"&'y'</b>"
 # What breaks over two lines of a page and must not: days, times and figures.
@@ -245,6 +246,10 @@ class Demo(Trial):
             self.shot(f"{shot}-answer")
         return str(self.browser.find_element(By.ID, "answer").text)
 
+    def told(self) -> str:
+        """How the figures of a page are told."""
+        return str(self.browser.find_element(By.ID, "told").text)
+
     def figure(self, path: str, name: str) -> str:
         """A figure at the top of a site's page."""
         self.go(path)
@@ -302,7 +307,15 @@ class Demo(Trial):
         self.check("1 message was refused" in self.text(), "what was refused is told")
         self.shot("site")
         days = ["2026-03-01", "2026-03-02", "2026-03-03"]
+        self.check(
+            self.told().startswith("Energy is provisional. Numbers of sessions are provisional. "),
+            f"no figure is settled yet: {self.told()}",
+        )
         self.follow(By.LINK_TEXT, days[1])
+        self.check(
+            self.told() == "The energy of this day is provisional at CS-00, CS-01.",
+            f"nor is a day's: {self.told()}",
+        )
         self.shot("day")
         said = self.text()
         self.check(
@@ -413,13 +426,47 @@ class Demo(Trial):
         self.follow(By.CSS_SELECTOR, 'form[action="/session"] button')
         text = self.text()
         self.check(
-            "archive" in text and "Its energy is settled" in text,
+            "archive" in text and "Its figures are settled" in text,
             "an archived session has its lines, too",
         )
         self.shot("session-archived")
+        self.go("/site/north/")
+        told = self.told()
+        self.check(
+            told
+            == "Energy is settled to 2026-03-03. Numbers of sessions are provisional. Events and voided events "
+            "are those of the log, and provisional.",
+            f"a site's figures are told: {told}",
+        )
+        cells = {
+            row.find_element(By.CSS_SELECTOR, "th a")
+            .text: row.find_elements(By.TAG_NAME, "td")[-1]
+            .text
+            for row in self.browser.find_elements(
+                By.CSS_SELECTOR, "table.plain:not(.days) tbody tr"
+            )
+            if row.find_elements(By.CSS_SELECTOR, "th a")
+        }
+        stations = {name: cell for name, cell in cells.items() if name.startswith("CS-")}
+        wanted = dict.fromkeys(("CS-00", "CS-01", "CS-02"), "energy settled, sessions provisional")
+        self.check(stations == wanted, f"and those of its stations: {stations}")
+        self.go("/site/north/board.2026-03-01.html")
+        self.check(self.told() == "The energy of this day is settled.", f"a day: {self.told()}")
         self.go("/")
+        heads = [one.text for one in self.browser.find_elements(By.CSS_SELECTOR, "thead th")]
+        self.check("Sessions are" in heads, f"all sites tell how numbers of sessions are: {heads}")
         self.check("to 2026-03-03" in self.text(), "all sites tell up to when they are settled")
         self.shot("all-sites-closed")
+        answer = self.operate("void", "CS-00", "T-1", 3)
+        self.check(answer == "accepted at the next closing", f"a void in an archive: {answer}")
+        status, said = await ended(self.fleet.start(*command, stdout=-1, stderr=-2))
+        self.check(status == 0, f"ocpp-board close-day once more: {said.splitlines()[:1]}")
+        path = "/site/north/board.2026-03-01.html"
+        end, wanted_day = time.monotonic() + 10, "The energy of this day is corrected at CS-00."
+        while self.go(path) and self.told() != wanted_day and time.monotonic() < end:
+            await asyncio.sleep(0.3)
+        self.check(self.told() == wanted_day, f"a day that was corrected: {self.told()}")
+        self.shot("day-corrected")
 
     def site_kept(self) -> None:
         """A site's pages with all that they link to, for page_check.py."""
@@ -456,6 +503,9 @@ class Demo(Trial):
         """Workers that are gone: the pages tell that boards are older than they should be."""
         self.worker.kill()
         self.worker.wait()
+        # A beat of its that is still under way would come behind this.
+        while await self.owner.fetchval(WORKERS):
+            await asyncio.sleep(0.1)
         await self.owner.execute("update worker set beat = now() - interval '60 seconds'")
         for path in ("/", "/site/north/", "/lacking"):
             self.check(

@@ -24,13 +24,15 @@ from websockets.http11 import Request, Response
 from ocpp_board.fleet.database import connect
 from ocpp_board.fleet.passwords import FREE, PAUSE, SALT, hashed
 from tests.fleet.client import Client
-from tests.fleet.fleet import tool
+from tests.fleet.fleet import REASON, tool
 from tests.fleet.trials import Trial, event, parsed, parser_of, tried
 
 A, B, C, D, E, UNKNOWN = "CS-00000", "CS-00001", "CS-00002", "CS-00003", "CS-00004", "CS-99999"
 # What each station has at first, and what some have later.
 FIRST = {name: f"first-{name}-0123" for name in (A, B, C, D, E)}
 SECOND, THIRD, WRONG = "second-4567-89ab-cdef", "third-89ab-cdef-0123", "wrong-0123-4567-89ab"
+# Tries at once whose hashes may hold up nobody.
+BESIDE = 150
 # Seconds in which a gateway hears of what was changed.
 HEARD = 0.3
 HANDSHAKE = (
@@ -84,7 +86,7 @@ class Demo(Trial):
     ) -> tuple[int, str]:
         """The status of the tool that sets a password, and what it says."""
         made = subprocess.run(
-            [*tool("password"), "--db", self.fleet.dsn(user), station],
+            [*tool("password"), "--db", self.fleet.dsn(user), station, "--reason", REASON],
             input=f"{password}\n".encode(),
             stdout=subprocess.PIPE,
             stderr=subprocess.STDOUT,
@@ -192,6 +194,28 @@ class Demo(Trial):
         await self.is_answered("the third one", 101, B, THIRD)
         await self.is_answered("the first one behind it", 401, B, FIRST[B])
         await self.is_answered("the third one again", 101, B, THIRD)
+
+    async def beside(self) -> None:
+        """Hashes hold up no station that is there."""
+        link = await Client.open(self.url, B, f"{B}:{FIRST[B]}", self.address())
+        await link.said()
+        began, waits = time.monotonic(), list[float]()
+        tries = [
+            asyncio.create_task(self.heard(f"NO-{number}", WRONG, address=f"127.0.3.{number}"))
+            for number in range(1, BESIDE)
+        ]
+        while not all(job.done() for job in tries):
+            sent = time.monotonic()
+            link.send(b'[2,"1","Heartbeat",{}]')
+            await link.said(30)
+            waits.append(time.monotonic() - sent)
+        took = time.monotonic() - began
+        statuses = {status for status, _ in [job.result() for job in tries]}
+        self.check(
+            statuses == {401} and max(waits) < took / 3,
+            f"while {BESIDE - 1} wrong ones are judged for {took:.1f} s, a station waits {max(waits):.2f} s at most",
+        )
+        link.transport.abort()
 
     async def changes(self) -> None:
         """What was right is forgotten where the plan changes."""
@@ -302,6 +326,7 @@ class Demo(Trial):
         await self.roles()
         await self.strangers()
         await self.hasty()
+        await self.beside()
         await self.rotation()
         await self.changes()
         await self.slowed()

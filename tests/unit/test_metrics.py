@@ -17,6 +17,7 @@ from ocpp_board.fleet.metrics import (  # noqa: E402
     Family,
     Health,
     PageSeen,
+    Replaced,
     Watch,
     WorkerSeen,
     family,
@@ -101,6 +102,20 @@ def test_stations_within_a_tenth_of_a_limit() -> None:
     )
     counts.events -= 1
     assert near_limits([shard]).values == []
+
+
+def test_stations_that_connect_again_and_again(monkeypatch: pytest.MonkeyPatch) -> None:
+    now = [1000.0]
+    monkeypatch.setattr(time, "monotonic", lambda: now[0])
+    seen = Replaced()
+    for station in ("CS-1", "CS-2", "CS-1"):
+        seen.add(station)
+    assert seen.often() == {"CS-1": 2} and seen.total == 3
+    now[0] += metrics.LATELY - 1
+    seen.add("CS-2")
+    assert seen.often() == {"CS-1": 2, "CS-2": 2}
+    now[0] += 1
+    assert seen.often() == {} and seen.times.keys() == {"CS-2"} and seen.total == 4
 
 
 def test_all_names_have_a_help_that_ends_with_a_point() -> None:

@@ -23,7 +23,7 @@ from ocpp_board.fleet.api import (  # noqa: E402
 )
 from ocpp_board.fleet.api_schema import SCHEMAS  # noqa: E402
 from ocpp_board.fleet.billing import Row, month_in, month_of  # noqa: E402
-from ocpp_board.fleet.cells import Late, Wrong, staying, state_of  # noqa: E402
+from ocpp_board.fleet.cells import Late, Wrong, staying  # noqa: E402
 from ocpp_board.fleet.close_day import corrections_of  # noqa: E402
 from ocpp_board.fleet.histories import Entry, later, own_lines, without_archived  # noqa: E402
 from ocpp_board.fleet.operators import (  # noqa: E402
@@ -56,6 +56,13 @@ from ocpp_board.fleet.page_words import Words, meaning_of, reason_of  # noqa: E4
 from ocpp_board.fleet.passwords import FREE, SALT, address_told, hashed  # noqa: E402
 from ocpp_board.fleet.set_operator import days_of, operator_of, roles_of, sites_of  # noqa: E402
 from ocpp_board.fleet.site_pages import fragment_of, session_path  # noqa: E402
+from ocpp_board.fleet.states import (  # noqa: E402
+    energy_state,
+    figures_said,
+    sessions_said,
+    state_of,
+    states_of,
+)
 from ocpp_board.energies import FLOW, Flow  # noqa: E402
 
 SALT_OF_ANN = bytes(range(SALT))
@@ -332,9 +339,30 @@ def test_energies_are_exact_in_both_units() -> None:
 
 def test_a_figure_is_told_by_what_is_settled() -> None:
     now, other = Flow(5, 1, 0, 0)._asdict(), Flow(6, 1, 0, 0)._asdict()
-    assert state_of(now, None, 0) == "provisional"
-    assert state_of(now, now, 0) == "settled" and state_of(now, now, 1) == "corrected"
-    assert state_of(now, other, 0) == state_of(now, other, 1) == "provisional"
+    assert energy_state(now, None, 0) == "provisional"
+    assert energy_state(now, now, 0) == "settled" and energy_state(now, now, 1) == "corrected"
+    assert energy_state(now, other, 0) == energy_state(now, other, 1) == "provisional"
+    assert state_of(False, 1) == "provisional" and state_of(True, 1) == "corrected"
+
+
+def test_each_number_is_told() -> None:
+    row = {"transactions": 3, "complete": 2, "missing": 4, "corrected_transactions": 0}
+    row |= {"corrected_complete": 0, "corrected_missing": 1}
+    archived = {name: row[name] for name in ("transactions", "complete", "missing")}
+    found = states_of(row, "settled", archived)
+    assert set(found) == {*archived, "events", "voided", *FLOW, "net"}
+    assert [found[name] for name in archived] == ["settled", "settled", "corrected"]
+    assert found["events"] == found["voided"] == "provisional" and found["net"] == "settled"
+    assert sessions_said(found) == "corrected: missing numbers"
+    # A session of the log makes all numbers of sessions provisional, though none is missing from it.
+    for other in (archived | {"transactions": 2}, None):
+        found = states_of(row, "corrected", other)
+        assert {found[name] for name in archived} == {"provisional"} and found["up"] == "corrected"
+        assert figures_said(found) == "energy corrected, sessions provisional"
+    found = states_of(row | {"corrected_missing": 0}, "settled", archived)
+    assert figures_said(found) == sessions_said(found) == "settled"
+    every = dict.fromkeys(("corrected_transactions", "corrected_complete"), 2)
+    assert sessions_said(states_of(row | every, "settled", archived)) == "corrected"
 
 
 def test_cursors() -> None:

@@ -11,6 +11,7 @@ import pytest
 pytest.importorskip("asyncpg")
 
 from ocpp_board.fleet.metrics import FRONT, HELP  # noqa: E402
+from tests.fleet import demo, watch_demo  # noqa: E402
 
 TOP = Path(__file__).resolve().parent.parent.parent
 FOLDER = TOP / "examples/thousands-of-stations"
@@ -47,6 +48,12 @@ def test_each_alert_fires_in_a_test_and_not_where_all_is_well() -> None:
     fired = re.findall(r"alertname: (\w+)\n        exp_alerts:\n", TESTS)
     calm = re.findall(r"alertname: (\w+), exp_alerts: \[\]", TESTS)
     assert fired == calm == NAMES
+
+
+def test_each_fault_and_each_alert_is_tried_with_a_fleet() -> None:
+    faults = watch_demo.COMMON | watch_demo.OWN
+    assert {*demo.COMMON, *demo.OWN} <= faults.keys()
+    assert {*faults.values(), "OcppBoardOpenGateway"} == set(NAMES)
 
 
 def test_each_alert_has_its_remedy() -> None:

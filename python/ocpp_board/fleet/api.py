@@ -9,7 +9,7 @@ import base64
 import binascii
 import functools
 import json
-from collections.abc import Awaitable, Callable, Iterable, Mapping, Sequence
+from collections.abc import Awaitable, Callable, Mapping, Sequence
 from datetime import date, datetime, time, timedelta, timezone
 from http import HTTPStatus
 from operator import itemgetter
@@ -22,11 +22,12 @@ from starlette.routing import BaseRoute, Route
 from ocpp_board.energies import FLOW, MWH_OF_A_KWH, flow_of
 from ocpp_board.fleet import api_queries, billing
 from ocpp_board.fleet.api_schema import OPENAPI, SCHEMAS
-from ocpp_board.fleet.cells import PROVISIONAL, Cell, Site, Wrong, state_of
+from ocpp_board.fleet.cells import Site, Wrong, merged
 from ocpp_board.fleet.histories import Entry, History, history_of, stations_of
 from ocpp_board.fleet.operators import SEES
 from ocpp_board.fleet.page_app import Asked, desk_of
 from ocpp_board.fleet.page_render import zone_of
+from ocpp_board.fleet.states import energy_state, settled_of, state_of, station_states
 from ocpp_board.limits import TRANSACTION
 from ocpp_board.session_times import Registers
 
@@ -151,6 +152,7 @@ def site_json(site: Site) -> Json:
         **{key: site.numbers[key] for key in keys},
         **flow_json(site.numbers),
         "state": site.state(),
+        "states": site.states(),
         "corrections": site.corrections,
         "settled_to": site.settled_to and site.settled_to.isoformat(),
         "at": told(site.at, site.zone),
@@ -158,36 +160,16 @@ def site_json(site: Site) -> Json:
     }
 
 
-def settled_of(row: Mapping[str, Any]) -> dict[str, int] | None:
-    """What is settled of a row; None where nothing is."""
-    if row["settled_rows"] == 0:
-        return None
-    return {name: row[f"settled_{name}"] for name in FLOW}
-
-
 def figures_json(row: Mapping[str, Any]) -> Json:
     """A row's energies, how they are told, and what was settled of them."""
     settled = settled_of(row)
-    state = state_of({name: row[name] for name in FLOW}, settled, row["corrections"])
+    state = energy_state(row, settled, row["corrections"])
     more = (
         flow_json({f"settled_{name}": mwh for name, mwh in settled.items()}, "settled_")
         if settled
         else {}
     )
     return {**flow_json(row), "state": state, "corrections": row["corrections"], **more}
-
-
-async def merged(
-    rows: Iterable[tuple[Cell, Any]], query: str, site: str, *values: Any
-) -> list[Any]:
-    """The rows of a query about a site's shards, of all cells."""
-    shards: dict[Cell, list[int]] = {}
-    for cell, row in rows:
-        shards.setdefault(cell, []).append(row["shard"])
-    found = list[Any]()
-    for cell, numbers in shards.items():
-        found += await cell.ask(query, site, numbers, *values)
-    return found
 
 
 def answer(body: Json, faults: Sequence[str] = ()) -> Response:
@@ -241,6 +223,7 @@ async def board(asked: Asked) -> Response:
             "retired": row["retired"] and row["retired"].isoformat(),
             **{key: row[key] for key in counts},
             **figures_json(row),
+            "states": station_states(row),
             "at": told(row["at"], zone),
             "place": row["place"],
         }
@@ -362,9 +345,8 @@ async def transactions(asked: Asked) -> Response:
 
 def transaction_json(one: Any, station: Any, is_late: bool) -> Json:
     """A transaction's row. `is_late`: something came for it since it was archived."""
-    zone, state = station["zone"], PROVISIONAL
-    if one["closing"] is not None and not is_late:
-        state = "corrected" if one["corrections"] else "settled"
+    zone = station["zone"]
+    state = state_of(one["closing"] is not None and not is_late, one["corrections"])
     keys = ("transaction", "evse", "events", "first", "last", "complete", "missing")
     return {
         **{key: one[key] for key in keys},
@@ -496,7 +478,7 @@ async def refusals(asked: Asked) -> Response:
     found.sort(key=lambda row: [row[key] for key in keys])
     zone = rows[0][1]["zone"]
     lines = [
-        {key: row[key] for key in (*keys, "advice", "times")}
+        {key: row[key] for key in (*keys, "advice", "times", "place")}
         | {key: told(row[key], zone) for key in ("first", "last")}
         for row in found
     ]

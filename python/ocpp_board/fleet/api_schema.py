@@ -5,6 +5,7 @@ from typing import Any
 from starlette.schemas import SchemaGenerator
 
 from ocpp_board.energies import FLOW
+from ocpp_board.fleet.states import ENERGIES, EVENTS, SESSIONS
 
 OPENAPI = "application/vnd.oai.openapi+json"
 INTEGER, TEXT, YES = {"type": "integer"}, {"type": "string"}, {"type": "boolean"}
@@ -46,6 +47,14 @@ COUNTS: dict[str, Any] = dict.fromkeys(
     ("events", "voided", "transactions", "complete", "missing"), INTEGER
 )
 TOLD = {"state": STATE, "corrections": INTEGER}
+# How each figure of a row is told; `state` is how its energies are.
+STATES_OF = {
+    "states": {
+        **thing(**dict.fromkeys((*EVENTS, *SESSIONS, *ENERGIES), STATE)),
+        "description": "How each figure is told, by its name. Numbers of sessions are settled where all sessions of "
+        "the row are archived; events and voided are those of the log, so they are provisional",
+    }
+}
 SITE: dict[str, Any] = {
     "site": TEXT,
     "zone": TEXT,
@@ -55,6 +64,7 @@ SITE: dict[str, Any] = {
     **COUNTS,
     **flows(),
     **TOLD,
+    **STATES_OF,
     "settled_to": DAY,
     "at": MOMENT,
     "board_at": MOMENT,
@@ -85,6 +95,7 @@ SCHEMA = {
         **COUNTS,
         **flows(),
         **TOLD,
+        **STATES_OF,
         **flows("settled_"),
         at=MOMENT,
         place=nullable(INTEGER),
@@ -134,6 +145,7 @@ SCHEMA = {
     "Refusal": thing(
         **dict.fromkeys(("station", "cause", "transaction", "number", "what", "advice"), TEXT),
         times=INTEGER,
+        place={"type": "integer", "description": "Of its last line in the log"},
         first=MOMENT,
         last=MOMENT,
     ),

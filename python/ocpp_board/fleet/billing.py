@@ -32,7 +32,7 @@ from ocpp_board.energies import Flow, flow_of, kwh_of
 from ocpp_board.escapes import csv_cell
 from ocpp_board.fleet import parts
 from ocpp_board.fleet.archives import Late, unpacked
-from ocpp_board.fleet.cells import CORRECTED, PROVISIONAL, SETTLED, Cells, Room, Wrong
+from ocpp_board.fleet.cells import Cells, Room, Wrong
 from ocpp_board.fleet.close_day import zone_of
 from ocpp_board.fleet.database import Fault, connect
 from ocpp_board.fleet.figures import figures
@@ -41,6 +41,7 @@ from ocpp_board.fleet.lines import Transaction
 from ocpp_board.fleet.operators import Operator
 from ocpp_board.fleet.plans import Plan, Reckoning, known_lines
 from ocpp_board.fleet.replays import Replay
+from ocpp_board.fleet.states import CORRECTED, PROVISIONAL, SETTLED
 from ocpp_board.limits import MOMENT, is_name
 from ocpp_board.processes import PACKAGES
 from ocpp_board.session_times import times_of

@@ -29,18 +29,20 @@ from ocpp_board.fleet.database import (
 from ocpp_board.fleet.figures import Figures, joined
 from ocpp_board.fleet.operators import Operator
 from ocpp_board.fleet.plans import Reckoning
+from ocpp_board.fleet.states import EVENTS, SESSIONS, energy_state, states_of
 from ocpp_board.limits import MOMENT
 
 # Sessions with a cell's database, and requests that may wait for one.
-SESSIONS, MOST_WAITING = 4, 64
+CONNECTIONS, MOST_WAITING = 4, 64
 # Seconds: for the database, and for the ledger's answer.
 PATIENCE, ANSWERED = 15, 15
 # Seconds for which lines may wait, or no worker beat, before boards are older than they should be.
 LATE = 30
 
 # A site's figures, of its stations in this cell and a shard: what is in the log, what archives have, what is settled.
+# What a closing archived counts once the board of a station is without it, some seconds later.
 SITES = """
-select p.shard, p.site, p.zone, p.period, p.reading_order, h.moving_to, b.*, a.*, s.*,
+select p.shard, p.site, p.zone, p.period, p.reading_order, h.moving_to, b.*, a.*, u.*, s.*,
        (select count(*) from own_station t
         where t.shard = p.shard and t.site = p.site and t.retired is null) as stations,
        (select at from own_board o where o.shard = p.shard and o.site = p.site) as board_at
@@ -50,23 +52,34 @@ cross join lateral (
            coalesce(sum(transactions), 0)::bigint as transactions, coalesce(sum(complete), 0)::bigint as complete,
            coalesce(sum(missing), 0)::bigint as missing, coalesce(sum(up), 0)::bigint as up,
            coalesce(sum(down), 0)::bigint as down, coalesce(sum(export_up), 0)::bigint as export_up,
-           coalesce(sum(export_down), 0)::bigint as export_down, max(at) as at
+           coalesce(sum(export_down), 0)::bigint as export_down, max(at) as at, min(plan) as plan
     from own_board_station b where b.shard = p.shard and b.site = p.site) b
 cross join lateral (
-    select count(*) as archived, count(*) filter (where a.complete) as archived_complete,
-           coalesce(sum(a.missing), 0)::bigint as archived_missing, coalesce(sum(a.up), 0)::bigint as archived_up,
-           coalesce(sum(a.down), 0)::bigint as archived_down,
-           coalesce(sum(a.export_up), 0)::bigint as archived_export_up,
-           coalesce(sum(a.export_down), 0)::bigint as archived_export_down
-    from own_archived_transaction a join own_closing c using (shard, site, closing)
-    left join own_board_station o using (shard, site, station)
-    where a.shard = p.shard and a.site = p.site and (o.plan is null or c.plan <= o.plan)) a
+    select coalesce(sum(transactions), 0)::bigint as archived, coalesce(sum(complete), 0)::bigint as archived_complete,
+           coalesce(sum(missing), 0)::bigint as archived_missing, coalesce(sum(up), 0)::bigint as archived_up,
+           coalesce(sum(down), 0)::bigint as archived_down, coalesce(sum(export_up), 0)::bigint as archived_export_up,
+           coalesce(sum(export_down), 0)::bigint as archived_export_down,
+           coalesce(sum(corrected_transactions), 0)::bigint as corrected_transactions,
+           coalesce(sum(corrected_complete), 0)::bigint as corrected_complete,
+           coalesce(sum(corrected_missing), 0)::bigint as corrected_missing
+    from own_archived_sum a where a.shard = p.shard and a.site = p.site) a
+cross join lateral (
+    select coalesce(sum(x.transactions), 0)::bigint as unknown,
+           coalesce(sum(x.complete), 0)::bigint as unknown_complete,
+           coalesce(sum(x.missing), 0)::bigint as unknown_missing, coalesce(sum(x.up), 0)::bigint as unknown_up,
+           coalesce(sum(x.down), 0)::bigint as unknown_down,
+           coalesce(sum(x.export_up), 0)::bigint as unknown_export_up,
+           coalesce(sum(x.export_down), 0)::bigint as unknown_export_down
+    from own_closing c join own_archived_total x using (shard, site, closing)
+    join own_board_station o using (shard, site, station)
+    where c.shard = p.shard and c.site = p.site and c.plan > b.plan and c.plan > o.plan) u
 cross join lateral (
     select coalesce(sum(s.up), 0)::bigint as settled_up, coalesce(sum(s.down), 0)::bigint as settled_down,
            coalesce(sum(s.export_up), 0)::bigint as settled_export_up,
            coalesce(sum(s.export_down), 0)::bigint as settled_export_down,
            coalesce(sum(s.corrections), 0)::bigint as corrections,
-           (select max(day) from own_closing c where c.shard = p.shard and c.site = p.site) as settled_to
+           (select day from own_closing c where c.shard = p.shard and c.site = p.site
+            order by closing desc limit 1) as settled_to
     from own_settled s where s.shard = p.shard and s.site = p.site) s
 where $1::text[] is null or p.site = any($1)
 order by p.site, p.shard
@@ -74,15 +87,18 @@ order by p.site, p.shard
 # Up to which closing the board knows what archives have: it is written anew some seconds after one.
 BOARD = """
 select p.shard, p.site, p.period, p.reading_order, p.zone, h.moving_to, b.text, b.place, b.at,
-       (select max(closing) from own_closing c
-        where c.shard = p.shard and c.site = p.site and c.plan <= b.plan) as closing
+       (select closing from own_closing c where c.shard = p.shard and c.site = p.site and c.plan <= b.plan
+        order by closing desc limit 1) as closing
 from own_site p join own_shard h using (shard) left join own_board b using (shard, site)
 where p.site = $1 order by p.shard
 """
 ARCHIVED = """
-select station, count(*) as transactions, count(*) filter (where complete) as complete,
-       coalesce(sum(missing), 0)::bigint as missing
-from own_archived_transaction where shard = $1 and site = $2 and closing <= $3 group by station
+select s.station, s.transactions - coalesce(l.transactions, 0)::bigint as transactions,
+       s.complete - coalesce(l.complete, 0)::bigint as complete, s.missing - coalesce(l.missing, 0)::bigint as missing
+from own_archived_sum s left join (
+    select station, sum(transactions) as transactions, sum(complete) as complete, sum(missing) as missing
+    from own_archived_total where shard = $1 and site = $2 and closing > $3 group by station) l using (station)
+where s.shard = $1 and s.site = $2
 """
 FLOWS = """
 select station, starts, sum(up)::bigint as up, sum(down)::bigint as down, sum(export_up)::bigint as export_up,
@@ -151,7 +167,7 @@ class Cell:
         self.dsn, self.name = dsn, f"page_{secrets.token_hex(6)}"
         # Sessions that are free.
         self.free: list[Any] = []
-        self.room = Room(SESSIONS, MOST_WAITING)
+        self.room = Room(CONNECTIONS, MOST_WAITING)
         # The session that is told answers, by whose tokens they are known; whoever no longer waits is gone from here.
         self.listening: Any = None
         self.operating = asyncio.Lock()
@@ -329,6 +345,19 @@ class Cells:
         return late
 
 
+async def merged(
+    rows: Iterable[tuple[Cell, Any]], query: str, site: str, *values: Any
+) -> list[Any]:
+    """The rows of a query about a site's shards, of all cells."""
+    shards: dict[Cell, list[int]] = {}
+    for cell, row in rows:
+        shards.setdefault(cell, []).append(row["shard"])
+    found = list[Any]()
+    for cell, numbers in shards.items():
+        found += await cell.ask(query, site, numbers, *values)
+    return found
+
+
 async def board_text(name: str, rows: Iterable[tuple[Cell, Any]]) -> tuple[str, int]:
     """A site's board for each way in which it is reckoned, with what archives have, and how many sessions these
     are."""
@@ -360,7 +389,10 @@ class Site:
         self.name, self.zone = name, "UTC"
         self.period, self.order = 0, ""
         self.numbers: Numbers = {}
+        # What closings settled of energies, what they archived of sessions, and what later ones corrected of these.
         self.settled: Numbers = {}
+        self.archived: Numbers = {}
+        self.corrected: Numbers = {}
         self.corrections = 0
         # The last change of a figure, the time of the boards, and up to which day all of it is settled.
         self.at: datetime | None = None
@@ -370,13 +402,16 @@ class Site:
     def add(self, row: Any) -> None:
         """Adds what a shard has of the site."""
         self.zone, self.period, self.order = row["zone"], row["period"], row["reading_order"]
-        for name in ("stations", "events", "voided"):
+        for name in ("stations", *EVENTS):
             self.numbers[name] = self.numbers.get(name, 0) + row[name]
-        for name, more in (
-            ("transactions", "archived"),
-            *((n, f"archived_{n}") for n in ("complete", "missing", *FLOW)),
-        ):
-            self.numbers[name] = self.numbers.get(name, 0) + row[name] + row[more]
+        for name in (*SESSIONS, *FLOW):
+            end = "" if name == "transactions" else f"_{name}"
+            archived, unknown = row[f"archived{end}"], row[f"unknown{end}"]
+            self.numbers[name] = self.numbers.get(name, 0) + row[name] + archived - unknown
+            self.archived[name] = self.archived.get(name, 0) + archived
+        for name in SESSIONS:
+            key = f"corrected_{name}"
+            self.corrected[key] = self.corrected.get(key, 0) + row[key]
         for name in FLOW:
             self.settled[name] = self.settled.get(name, 0) + row[f"settled_{name}"]
         self.corrections += row["corrections"]
@@ -399,20 +434,14 @@ class Site:
         )
 
     def state(self) -> str:
-        """Whether its energy is settled."""
-        now = {name: self.numbers[name] for name in FLOW}
-        return state_of(now, self.settled if any(self.days) else None, self.corrections)
+        """How its energies are told."""
+        settled = self.settled if any(self.days) else None
+        return energy_state(self.numbers, settled, self.corrections)
 
-
-PROVISIONAL, SETTLED, CORRECTED = "provisional", "settled", "corrected"
-
-
-def state_of(now: Numbers, settled: Numbers | None, corrections: int) -> str:
-    """How an energy is told: it may still change until it is settled, and where something came since; one that a later
-    closing found to be another one is corrected."""
-    if settled is None or any(now[name] != settled[name] for name in FLOW):
-        return PROVISIONAL
-    return CORRECTED if corrections else SETTLED
+    def states(self) -> dict[str, str]:
+        """How each of its figures is told."""
+        archived = self.archived if any(self.days) else None
+        return states_of(self.numbers | self.corrected, self.state(), archived)
 
 
 def staying(rows: Sequence[tuple[Cell, Any]]) -> list[tuple[Cell, Any]]:

@@ -29,7 +29,7 @@ from pathlib import Path
 from typing import Any, NamedTuple
 from zoneinfo import ZoneInfo
 
-from ocpp_board.energies import Flow, flow_of
+from ocpp_board.energies import FLOW, Flow, flow_of
 from ocpp_board.fleet import compact, findings, parts
 from ocpp_board.fleet.archives import ARCHIVED, packed, unpacked, widened
 from ocpp_board.fleet.database import Fault, connect, said
@@ -46,6 +46,7 @@ from ocpp_board.fleet.lines import (
     transaction_of,
 )
 from ocpp_board.fleet.plans import Plan, Reckoning, known_lines
+from ocpp_board.fleet.states import SESSIONS
 from ocpp_board.session_times import SessionTimes
 from ocpp_board.words import add_program, parser_of
 
@@ -88,6 +89,11 @@ values ($1, $2, $3, $4, $5, $6, $7, $8, $9, $10)
 ARCHIVED_PERIOD = """
 insert into own_archived_period (shard, site, closing, station, starts, up, down, export_up, export_down)
 values ($1, $2, $3, $4, $5, $6, $7, $8, $9)
+"""
+ARCHIVED_TOTAL = """
+insert into own_archived_total (shard, site, closing, station, transactions, complete, missing, up, down, export_up,
+    export_down, corrects_transactions, corrects_complete, corrects_missing)
+values ($1, $2, $3, $4, $5, $6, $7, $8, $9, $10, $11, $12, $13, $14)
 """
 # A transaction is archived once, and has figures where it has a live event.
 FORGET = """
@@ -375,6 +381,9 @@ class Closing:
             await self.session.executemany(
                 ARCHIVED_PERIOD, [(*head, *key, *flow) for key, flow in moved.items()]
             )
+            await self.session.executemany(
+                ARCHIVED_TOTAL, [(*head, *row) for row in totals(log_lines, in_file)]
+            )
             found = await self.write_findings(log_lines)
             await self.write_transactions(head, in_file, leaving, found)
             await self.take_out(plan, removed)
@@ -504,6 +513,22 @@ def differences(new: Flows, old: Flows) -> Flows:
         if flow != had or key not in old:
             found[key] = flow.minus(had)
     return found
+
+
+def totals(log_lines: Sorted, in_file: Figures) -> list[tuple[Any, ...]]:
+    """By how much an archive changes the total lines of stations, as far as these tell of sessions and energies, and
+    which numbers of sessions that were archived before it corrects."""
+    rows = list[tuple[Any, ...]]()
+    stations = {station for part in (in_file, log_lines.was) for station, _, _ in part}
+    for station in sorted(stations):
+        fresh, was, now = (
+            part.get((station, "total", ""), {}) for part in (in_file, log_lines.was, log_lines.now)
+        )
+        more = [fresh.get(name, 0) - was.get(name, 0) for name in (*SESSIONS, *FLOW)]
+        corrects = [now.get(name, 0) != was.get(name, 0) for name in SESSIONS]
+        if any(more) or any(corrects):
+            rows.append((station, *more, *corrects))
+    return rows
 
 
 def transactions(

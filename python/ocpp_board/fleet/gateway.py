@@ -520,6 +520,9 @@ class StationLink(Link):
 
     def replace(self) -> None:
         """The station has a newer connection, here or at another gateway."""
+        if not self.is_lost:
+            self.gateway.replaced.add(self.name)
+            log.info("station %s connected again while its older connection stood", self.name)
         self.close(1000, "the station connected again")
 
     def text(self, data: bytes) -> None:
@@ -620,6 +623,7 @@ class Gateway:
         self.let_in = 0
         # For who watches.
         self.counts = Counter[str]()
+        self.replaced = metrics.Replaced()
         self.jobs: set[asyncio.Task[None]] = set()
 
     def spawn(self, job: Any) -> None:

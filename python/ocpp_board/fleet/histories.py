@@ -17,12 +17,13 @@ from typing import Any, NamedTuple
 from ocpp_board.answered import Answered
 from ocpp_board.boards import Numbers
 from ocpp_board.fleet.archives import LATER, unpacked, widened
-from ocpp_board.fleet.cells import CORRECTED, PROVISIONAL, SETTLED, Cell, Cells, Room, Wrong
+from ocpp_board.fleet.cells import Cell, Cells, Room, Wrong
 from ocpp_board.fleet.figures import figures
 from ocpp_board.fleet.lines import ODD, may_name, transaction_of
 from ocpp_board.fleet.operators import Operator
 from ocpp_board.fleet.plans import Plan, Reckoning
 from ocpp_board.fleet.replays import Replay, ReplayEnded
+from ocpp_board.fleet.states import CORRECTED, PROVISIONAL, SETTLED
 from ocpp_board.session_times import SessionTimes, times_of
 from ocpp_board.transactions import Transactions
 

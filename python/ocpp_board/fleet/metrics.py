@@ -38,6 +38,8 @@ HELP = {
     "gateway_oldest_wait_seconds": "For how long the oldest of them waits.",
     "gateway_answers_total": "Answers of the ledger that stations were sent.",
     "gateway_sent_away_total": "Connections that were closed because no answer came.",
+    "gateway_replaced_total": "Connections that were closed because their station connected again.",
+    "gateway_station_replaced": "How often a station did so in 15 minutes, from the second time on.",
     "gateway_let_in_total": "Connections of stations that were let in.",
     "gateway_wrong_passwords_total": "Tries with a wrong password or an unknown name.",
     "gateway_slowed": "Tries that wait because of earlier wrong ones.",
@@ -94,6 +96,8 @@ select shard, station, cause, sum(times)::bigint as times from own_refusal where
 group by shard, station, cause
 """
 NEAR = 0.9
+# Seconds in which stations that connect again are counted.
+LATELY = 900
 
 
 class Family(NamedTuple):
@@ -254,6 +258,31 @@ def serve(place: tuple[str, int] | None, watch: Watch) -> None:
     log.info("figures at http://%s:%d/metrics", place[0], server.server_port)
 
 
+class Replaced:
+    """Connections that were closed because their station connected again."""
+
+    def __init__(self) -> None:
+        self.total = 0
+        # The last times by station.
+        self.times: dict[str, list[float]] = {}
+
+    def add(self, station: str) -> None:
+        """One was closed."""
+        self.total += 1
+        self.times[station] = [*self.times.get(station, [])[-99:], time.monotonic()]
+
+    def often(self) -> dict[str, int]:
+        """How often each station came again lately, where that was more than once; who did not is forgotten."""
+        begin, found = time.monotonic() - LATELY, dict[str, int]()
+        for station, times in list(self.times.items()):
+            count = sum(at > begin for at in times)
+            if count > 1:
+                found[station] = count
+            elif not count:
+                self.times.pop(station, None)
+        return found
+
+
 # Gateways -------------------------------------------------------------------------------------------------------------
 
 
@@ -269,6 +298,8 @@ def gateway_watch(gateway: "Gateway") -> Watch:
         yield family("gateway_answers_total", gateway.counts["answers"])
         yield family("gateway_unknown_answers_total", gateway.counts["unknown"])
         yield family("gateway_sent_away_total", gateway.counts["sent_away"])
+        yield family("gateway_replaced_total", gateway.replaced.total)
+        yield family_by("gateway_station_replaced", "station", gateway.replaced.often())
         yield family("gateway_let_in_total", gateway.let_in)
         yield family("gateway_wrong_passwords_total", door.wrong)
         yield family("gateway_slowed", door.slowed)

@@ -1,7 +1,7 @@
 """Moves a shard to another cell, while its stations go on.
 
     PGPASSWORD=.. ocpp-board move --shard 7 --from postgresql://ledger_mover@a/ledger \\
-        --to postgresql://ledger_mover@c/ledger
+        --to postgresql://ledger_mover@c/ledger --reason 'a is full'
 
 Most of its log is copied while it grows, each line with its place. Then the shard takes no lines: what its stations
 send waits in the gateways; its worker gives it back; the rest of the log, lines of operators and feeds that have no
@@ -96,6 +96,12 @@ PARTS = (
         "first, last, begun, started, ended, corrections",
         "transaction",
     ),
+    (
+        "own_archived_total",
+        "site, closing, station, transactions, complete, missing, up, down, export_up, export_down, "
+        "corrects_transactions, corrects_complete, corrects_missing",
+        "closing",
+    ),
     ("own_archived_lines", "site, closing, station, transaction, lines", "transaction"),
     (
         "own_deed",
@@ -172,6 +178,8 @@ async def run(words: argparse.Namespace) -> None:
     """Moves the shard, or goes on with it. Raises Fault where it is not there or on its way elsewhere."""
     source = await connect(words.source, application_name=NAME)
     target = await connect(words.target, application_name=NAME)
+    for session in (source, target):
+        await parts.say_why(session, words.reason)
     here, there = [
         await session.fetchval("select cell from own_cell") for session in (source, target)
     ]
@@ -220,5 +228,6 @@ def main(argv: Sequence[str], prog: str) -> int:
             help=f"the cell's database where {where}, as ledger_mover",
         )
     parser.add_argument("--shard", type=int, required=True, help="which shard")
+    parts.add_reason(parser)
     words = parts.parsed(parser, argv)
     return parts.done(lambda: run(words))

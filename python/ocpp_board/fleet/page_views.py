@@ -4,7 +4,7 @@ import asyncio
 import json
 import re
 from collections.abc import Iterable, Sequence
-from datetime import datetime, timezone
+from datetime import date, datetime, time, timedelta, timezone
 from http import HTTPStatus
 from operator import itemgetter
 from typing import Any, NamedTuple
@@ -16,15 +16,17 @@ from starlette.responses import RedirectResponse, Response
 from ocpp_board.boards import Numbers
 from ocpp_board.energies import flow_of, kwh, share
 from ocpp_board.fleet import billing
-from ocpp_board.fleet.cells import CORRECTED, PROVISIONAL, SETTLED, Site, Wrong
+from ocpp_board.fleet.api_queries import DAY
+from ocpp_board.fleet.cells import Cell, Site, Wrong, merged
 from ocpp_board.fleet.figures import summed
 from ocpp_board.fleet.histories import Entry, History, history_of
 from ocpp_board.fleet.operators import SEES, VOIDS
 from ocpp_board.fleet.page_app import Asked, view
-from ocpp_board.fleet.page_render import Line, heads_of, lines_of, link, moment
+from ocpp_board.fleet.page_render import Line, heads_of, lines_of, link, moment, zone_of
 from ocpp_board.fleet.plans import DEFAULT_ORDER
 from ocpp_board.fleet.site_pages import fragment_of, session_path
 from ocpp_board.fleet.site_store import SiteStore
+from ocpp_board.fleet.states import CORRECTED, PROVISIONAL, SETTLED, sessions_said, state_of
 from ocpp_board.limits import TRANSACTION, is_name
 from ocpp_board.page_sections import UNKNOWN
 from ocpp_board.pages import flow_heads
@@ -34,6 +36,9 @@ from ocpp_board.transactions import moment as moment_of, seconds_of
 FILE = re.compile(
     r"board(\.\d{4}-\d\d-\d\d(\.\d{1,4})?|\.\d{1,4})?\.html|board\.(periods|transactions)\.csv"
 )
+FILE_DAY = re.compile(r"board\.(\d{4}-\d\d-\d\d)\.")
+# Periods of a site's day, of which there is no more.
+MOST_PERIODS = 1_000_000_000
 # Rows of a table, and lines of a session that are shown as they are.
 MOST_ROWS, MOST_LINES = 500, 2_000
 # Sessions that are not complete: first those that lack messages, the oldest first.
@@ -71,9 +76,9 @@ CHANGES = """
 select * from own_plan_change where ($1::text[] is null or site = any($1)) order by change desc limit $2
 """
 STATES = {
-    PROVISIONAL: "Its energy is provisional: a closing may still settle another one.",
-    SETTLED: "Its energy is settled.",
-    CORRECTED: "Its energy was settled, and corrected since by a later closing.",
+    PROVISIONAL: "Its figures are provisional: a closing may still settle others.",
+    SETTLED: "Its figures are settled.",
+    CORRECTED: "Its figures were settled, and corrected since by a later closing.",
 }
 DEED_HEADS = heads_of("When", " Who", " From where", " What", " Why", " Answer")
 STORE = SiteStore()
@@ -117,6 +122,7 @@ def site_line(site: Site, is_exporting: bool) -> Line:
         f"{numbers['voided']:,}",
         f"{numbers['stations']:,}",
         lines_of(site.state(), f"to {site.settled_to}" if site.settled_to else ""),
+        sessions_said(site.states()),
         lines_of(moment(site.at, site.zone), site.zone),
     ]
     return Line(cells, site.is_troubled)
@@ -134,11 +140,11 @@ async def all_sites(asked: Asked) -> Response:
         net, others = energy_cells(whole, is_exporting)
         complete = share(whole["complete"], whole["transactions"]) or UNKNOWN
         counts = [f"{whole[name]:,}" for name in ("transactions", "missing", "voided", "stations")]
-        cells = ["All of these", net, complete, *counts[:2], *others, *counts[2:], "", ""]
+        cells = ["All of these", net, complete, *counts[:2], *others, *counts[2:], "", "", ""]
         rows.append(Line(cells))
     net_head, *flows = (f"{head}, kWh" for head in flow_heads(is_exporting))
     heads = ["Site", net_head, "Complete", "Sessions", "Missing numbers", *flows]
-    heads += ["Voided events", "Stations", " Energy is", " Last change"]
+    heads += ["Voided events", "Stations", " Energy is", " Sessions are", " Last change"]
     until = max(filter(None, (site.board_at for site in sites)), default=None)
     return asked.page(
         "sites.html",
@@ -171,6 +177,10 @@ async def site_file(asked: Asked) -> Response:
     if file.endswith(".csv"):
         return csv_response(pages.files[file], f"{name}.{file.removeprefix('board.')}")
     fragment = fragment_of(pages.files[file].decode())
+    if day := FILE_DAY.match(file):
+        told = await day_told(rows, name, date.fromisoformat(day[1]))
+    else:
+        told = site_told((await cells.sites(asked.operator, name))[0][0])
     refused = await cells.ask_all(REFUSED_COUNT, name)
     times = sum(int(row["times"]) for _, row in refused.pairs() if row["moving_to"] is None)
     title = fragment.title if fragment.is_one else f"Site {name}: {fragment.title}"
@@ -181,6 +191,7 @@ async def site_file(asked: Asked) -> Response:
         whole=fragment.whole,
         is_one=fragment.is_one,
         body=Markup(fragment.body),
+        told=told,
         archived=f"{pages.archived:,}" if pages.archived else "",
         refused=refused_said(times),
         refused_path=f"/refused?{urlencode({'site': name})}",
@@ -188,6 +199,37 @@ async def site_file(asked: Asked) -> Response:
         faults=faults,
         late=await cells.behind(),
     )
+
+
+def site_told(site: Site) -> str:
+    """How the figures of a site are told."""
+    energy, to = site.state(), f"settled to {site.settled_to}" if site.settled_to else ""
+    if energy != SETTLED or not to:
+        to = f"{energy}, and {to}" if to else energy
+    return (
+        f"Energy is {to}. Numbers of sessions are {sessions_said(site.states())}. Events and voided events are those "
+        "of the log, and provisional."
+    )
+
+
+async def day_told(rows: list[tuple[Cell, Any]], name: str, day: date) -> str:
+    """How the energy of a site's day is told."""
+    zone = zone_of(rows[0][1]["zone"])
+    begin, end = (datetime.combine(one, time(), zone) for one in (day, day + timedelta(days=1)))
+    values = (name, begin, end, begin, "", MOST_PERIODS)
+    found = {
+        one["station"]: state_of(one["is_settled"], one["corrections"])
+        for one in await merged(rows, DAY, *values)
+    }
+    kinds = {state: sorted(s for s in found if found[s] == state) for state in STATES}
+    if not kinds[PROVISIONAL] and not kinds[CORRECTED]:
+        return f"The energy of this day is {SETTLED if found else PROVISIONAL}."
+    parts = [
+        f"{state} at {', '.join(some[:5])}{f' and {len(some) - 5:,} more' if len(some) > 5 else ''}"
+        for state, some in kinds.items()
+        if some
+    ]
+    return f"The energy of this day is {'; '.join(parts)}."
 
 
 def refused_said(times: int) -> str:
@@ -432,6 +474,7 @@ async def refused(asked: Asked) -> Response:
         " Session",
         "Number",
         "Times",
+        "Last line",
         " First and last",
         " Why",
         " What to do",
@@ -444,6 +487,7 @@ async def refused(asked: Asked) -> Response:
                 session_link(row),
                 row["number"] or UNKNOWN,
                 f"{row['times']:,}",
+                f"{row['place']:,}",
                 lines_of(moment(row["first"]), moment(row["last"])),
                 row["what"],
                 row["advice"],
@@ -481,7 +525,8 @@ def change_line(row: Any) -> Line:
     else:
         pairs = [(key, plain(one)) for key, one in (after or before).items() if one]
     told = Markup(", ").join(Markup("{}: {}").format(key, kept(one)) for key, one in pairs)
-    what = f"{row['command'].lower()} {row['part'].removeprefix('own_')}"
+    own = row["station"] or row["site"] or (after or before).get("name") or row["in_shard"]
+    what = lines_of(f"{row['command'].lower()} {row['part'].removeprefix('own_')}", kept(str(own)))
     who = f"{row['operator']} as {row['login']}" if row["operator"] else row["login"]
     return Line(
         [moment(row["at"]), who, row["address"] or UNKNOWN, what, told, row["reason"] or UNKNOWN]

@@ -38,6 +38,36 @@ def add_cell(parser: argparse.ArgumentParser, help_text: str) -> None:
     parser.add_argument("--db", required=True, help=help_text)
 
 
+def add_reason(parser: argparse.ArgumentParser) -> None:
+    """The option that says why the plan is changed."""
+    parser.add_argument(
+        "--reason",
+        type=reason_of,
+        required=True,
+        help="why, in 3 to 500 characters: it stands beside the change",
+    )
+
+
+def reason_of(text: str) -> str:
+    """A reason of the command line, on one line. Raises ArgumentTypeError."""
+    reason = " ".join(text.split())
+    if not 3 <= len(reason) <= 500 or not reason.isprintable():
+        raise argparse.ArgumentTypeError("why is asked for: a text of 3 to 500 characters")
+    return reason
+
+
+async def say_why(session: Any, reason: str) -> None:
+    """Has what a session changes of the plan told with this reason, and with who runs the program."""
+    try:
+        who = os.environ.get("SUDO_USER") or getpass.getuser()
+    except (KeyError, OSError):
+        who = ""  # A user without a name.
+    await session.execute(
+        "select set_config('ledger.reason', $1, false), set_config('ledger.operator', $2, false)",
+        *(reason, who),
+    )
+
+
 def add_place(parser: argparse.ArgumentParser, port: int) -> None:
     """The options that say where to listen."""
     parser.add_argument("--host", default="127.0.0.1", help="where to listen (default: 127.0.0.1)")

@@ -21,7 +21,7 @@
 \endif
 \if :{?to}
 \else
-    \set to 4
+    \set to 5
 \endif
 
 begin;
@@ -1047,6 +1047,11 @@ select :to >= 4 and not exists (select from schema_version where version = 4) as
 \if :is_due
     \ir schema/0004_costs.sql
     insert into schema_version (version) values (4);
+\endif
+select :to >= 5 and not exists (select from schema_version where version = 5) as is_due \gset
+\if :is_due
+    \ir schema/0005_settled.sql
+    insert into schema_version (version) values (5);
 \endif
 
 -- Passwords of the roles ----------------------------------------------------------------------------------------------

@@ -1,13 +1,15 @@
 """Makes operators of the page, changes and disables them, and makes tokens for programs.
 
     PGPASSWORD=.. ocpp-board operator --db postgresql://ledger_administrator@a:5432,b:5432/ledger set jo \\
-        --roles sees,voids --sites north,south < FILE
-    .. set jo --roles sees             other roles; what is not told stays
-    .. set jo --password < FILE        another password, which ends the sessions
-    .. disable jo                      ends sessions and tokens; `enable` lets jo in again
-    .. token jo --label billing --roles sees --days 365
-    .. revoke 7                        a token by its number
+        --roles sees,voids --sites north,south --reason 'new in the team' < FILE
+    .. set jo --roles sees ..          other roles; what is not told stays
+    .. set jo --password .. < FILE     another password, which ends the sessions
+    .. disable jo ..                   ends sessions and tokens; `enable` lets jo in again
+    .. token jo --label billing --roles sees --days 365 ..
+    .. revoke 7 ..                     a token by its number
     .. list
+
+Each change has a --reason, which stands beside it.
 
 The database is that of the cell that the page is given first. A new operator's password, 12 to 200 characters, is
 read from standard input: one line. With --no-password there is none, for a program that has tokens alone. Roles:
@@ -132,6 +134,8 @@ def sites_said(sites: list[str] | None) -> str:
 async def run(words: argparse.Namespace) -> None:
     """Does what the words say. Raises Fault where that can't be."""
     session = await connect(words.db, application_name=PROGRAM)
+    if words.job != "list":
+        await parts.say_why(session, words.reason)
     if words.job == "set":
         await set_one(session, words)
     elif words.job == "token":
@@ -168,7 +172,9 @@ def main(argv: Sequence[str], prog: str) -> int:
     for name, text in (("password", "reads a new password"), ("no-password", "has tokens alone")):
         setting.add_argument(f"--{name}", action="store_true", help=text)
     for name, text in (("disable", "lets one in no longer"), ("enable", "lets one in again")):
-        jobs.add_parser(name, help=text).add_argument("operator", type=operator_of)
+        switch = jobs.add_parser(name, help=text)
+        switch.add_argument("operator", type=operator_of)
+        parts.add_reason(switch)
     token = jobs.add_parser("token", help="makes a token for a program")
     token.add_argument("operator", type=operator_of)
     add_rights(token, True)
@@ -176,7 +182,10 @@ def main(argv: Sequence[str], prog: str) -> int:
     token.add_argument(
         "--days", type=days_of, default=DAYS, help=f"how long it is good (default: {DAYS})"
     )
-    jobs.add_parser("revoke", help="a token is good no longer").add_argument("token", type=int)
+    revoke = jobs.add_parser("revoke", help="a token is good no longer")
+    revoke.add_argument("token", type=int)
+    for job in (setting, token, revoke):
+        parts.add_reason(job)
     jobs.add_parser("list", help="shows operators and tokens")
     words = parts.parsed(parser, argv)
     if words.job == "set" and words.sites and words.all_sites:

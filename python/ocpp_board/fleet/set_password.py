@@ -1,6 +1,7 @@
 """Sets the password by which gateways let a station in (HTTP Basic, OCPP 2.0.1 Part 2, BasicAuthPassword).
 
-    PGPASSWORD=.. ocpp-board password --db postgresql://ledger_provisioner@a:5432,b:5432/ledger CS-00441 < FILE
+    PGPASSWORD=.. ocpp-board password --db postgresql://ledger_provisioner@a:5432,b:5432/ledger CS-00441 \\
+        --reason 'a new station' < FILE
 
 It reads the password, 16 to 40 characters, from standard input: one line. The plan keeps a salted hash of it. What the
 station came with last stays good until it comes with the new one; with --at-once it ends now, for a password that
@@ -23,6 +24,7 @@ async def run(words: argparse.Namespace) -> None:
     """Sets it. Raises Fault where the cell has no such station."""
     password, salt = parts.password_read(fault_of), secrets.token_bytes(SALT)
     session = await connect(words.db, application_name=NAME)
+    await parts.say_why(session, words.reason)
     await session.execute(
         "select set_password($1, $2, $3, $4)",
         words.station,
@@ -42,5 +44,6 @@ def main(argv: Sequence[str], prog: str) -> int:
     parser.add_argument(
         "--at-once", action="store_true", help="the password that it had is good no longer"
     )
+    parts.add_reason(parser)
     words = parts.parsed(parser, argv)
     return parts.done(lambda: run(words))

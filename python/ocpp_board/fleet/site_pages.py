@@ -4,13 +4,14 @@
 
 writes into FOLDER what `ocpp-board tables` writes, for the frame that the fleet's page puts around it: the title of a
 page stands in its first line, its end in the second, in the third whether it is of one board, and below what stands
-between. The JSON has the text of the site's boards, its zone, up to when they are, and the findings of its sessions.
+between. The JSON has the text of the site's boards, its zone, up to when they are, the findings of its sessions, and
+how the figures of its stations are told.
 """
 
 import json
 import sys
 from contextlib import ExitStack
-from dataclasses import dataclass
+from dataclasses import dataclass, field
 from datetime import datetime, timezone
 from html import escape, unescape
 from pathlib import Path
@@ -22,6 +23,8 @@ from zoneinfo import ZoneInfo
 from ocpp_board.board_pages import Boards, DayPages, Index, Layout
 from ocpp_board.boards import Part, Reader, Sink
 from ocpp_board.calendars import Calendar
+from ocpp_board.page_sections import UNKNOWN
+from ocpp_board.pages import Heads
 from ocpp_board.progress import Progress
 from ocpp_board.quality import Finding, Kind
 from ocpp_board.tables import Tables
@@ -53,7 +56,9 @@ def session_path(station: str, tx: str) -> str:
 
 @dataclass(frozen=True)
 class Fragments(Layout):
-    """Pages that get their frame later."""
+    """Pages that get their frame later. `told`: how the figures of stations are told."""
+
+    told: dict[str, str] = field(default_factory=dict)
 
     def head(self, title: str, said: str, links: str, is_one: bool, whole: str = "") -> str:
         """What `fragment_of` reads, and what stands above."""
@@ -62,6 +67,14 @@ class Fragments(Layout):
     def foot(self) -> str:
         """Nothing: the frame has it."""
         return ""
+
+    def station_heads(self) -> Heads:
+        """The column that says how a station's figures are told."""
+        return [" Figures are"]
+
+    def station_cells(self, station: str) -> list[str]:
+        """How those of a station are."""
+        return [escape(self.told.get(station, UNKNOWN))]
 
     def session(self, station: str, tx: str) -> str:
         """A link to the session's history."""
@@ -91,7 +104,7 @@ def write(folder: Path, given: dict[str, Any]) -> None:
     calendar = Calendar(ZoneInfo(given["zone"]))
     until = given["until"] and datetime.fromisoformat(given["until"])
     out, now = str(folder / NAME), datetime.now(timezone.utc)
-    layout = Fragments(out, calendar, now, until=until)
+    layout = Fragments(out, calendar, now, until=until, told=given["told"])
     days, index = DayPages(layout), Index(layout)
     with ExitStack() as files:
         text = files.enter_context(TemporaryFile())

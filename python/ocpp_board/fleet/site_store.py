@@ -11,12 +11,16 @@ from http import HTTPStatus
 from pathlib import Path
 from typing import Any, NamedTuple
 
+from ocpp_board.fleet.api_queries import STATIONS
 from ocpp_board.fleet.cells import FINDINGS, Cell, Room, Wrong, board_text
 from ocpp_board.fleet.page_render import zone_of
+from ocpp_board.fleet.states import figures_said, station_states
 from ocpp_board.processes import PACKAGES
 
 # Sites whose pages are kept, processes at once that make some with those that wait, and seconds for one.
 KEPT, MAKERS, WAITING, PATIENCE = 16, 2, 16, 60
+# A shard has no more stations.
+MOST_STATIONS = 64
 MARKS = ("shard", "period", "reading_order", "zone", "place", "at", "closing")
 
 
@@ -62,11 +66,17 @@ class SiteStore:
             for cell, row in rows
             for one in await cell.ask(FINDINGS, row["shard"], name)
         ]
+        told = {
+            one["station"]: figures_said(station_states(one))
+            for cell, row in rows
+            for one in await cell.ask(STATIONS, name, [row["shard"]], "", MOST_STATIONS)
+        }
         given = {
             "text": text,
             "zone": zone_of(rows[0][1]["zone"]).key,
             "until": until and until.isoformat(),
             "findings": findings,
+            "told": told,
         }
         with tempfile.TemporaryDirectory(prefix="ocpp-page.") as folder:
             await run_maker(folder, json.dumps(given).encode())

@@ -667,8 +667,10 @@ async def work(words: argparse.Namespace) -> None:
     metrics.serve(words.metrics, words.seen.watch())
     is_first, last = True, ""
     while True:
+        has_sessions = False
         try:
             databases = await opened(words)
+            has_sessions = True
             if is_first:
                 print("ready", flush=True)
             elif last:
@@ -677,7 +679,7 @@ async def work(words: argparse.Namespace) -> None:
             await Session(words, databases).run()
         except (*LOST, Unreachable, asyncpg.PostgresError) as fault:
             text = f"{said(fault)}; tried again and again"
-            words.seen.counts["sessions_lost"] += 1
+            words.seen.counts["sessions_lost"] += has_sessions
             if text != last:
                 log.error("%s", text)
             last = text
