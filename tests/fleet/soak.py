@@ -79,7 +79,9 @@ class Soak(Trial):
         # What is stopped at the moment, by its place, and is not killed then.
         self.stopped: tuple[str, int] = ("", 0)
         self.stops: dict[str, float] = {}
-        self.day, self.closings = FIRST, 0
+        self.day, self.closings, self.anew = FIRST, 0, 0
+        # Set once stations have sent all: what closes days ends then, and a closing that is under way is waited for.
+        self.is_over = asyncio.Event()
         self.sizes: list[dict[str, float]] = []
         self.workers: list[subprocess.Popen[bytes]] = []
         self.gateways: list[subprocess.Popen[bytes]] = []
@@ -219,26 +221,32 @@ class Soak(Trial):
         self.stopped = ("", 0)
 
     async def close_all(self, may_kill: bool) -> None:
+        """Closes the day of each site. A closing that was not killed has to be done, whatever was killed meanwhile."""
         for site in range(-(-self.words.stations // EACH)):
             command = self.fleet.closing(f"site-{site}", self.archives, self.day)
-            crashes, was_down = self.crashes, self.is_down
             process = self.fleet.start(*command, stdout=subprocess.PIPE, stderr=subprocess.STDOUT)
+            was_killed = False
             if may_kill and self.chance.random() < 0.25:
                 await asyncio.sleep(self.chance.random())
-                if process.poll() is None:
+                if was_killed := process.poll() is None:
                     process.kill()
                     self.kills["close_day"] += 1
             status, text = await ended(process)
-            # Where the plan or a worker's place changed in between it closed nothing, and is called again next time.
-            is_told = "changed meanwhile" in text or crashes != self.crashes or was_down
-            if status not in (0, -9) and not is_told:
+            if status and not was_killed:
                 self.check(False, f"ocpp-board close-day: {text}")
             self.closings += status == 0
+            self.anew += status == 0 and "begun anew" in text
+            if may_kill and self.is_over.is_set():
+                return
 
     async def finish(self, began: float) -> None:
         """Closes the day before the one that stations' clocks have now."""
-        while True:
-            await asyncio.sleep(self.words.each_close)
+        while not self.is_over.is_set():
+            try:
+                await asyncio.wait_for(self.is_over.wait(), self.words.each_close)
+                return
+            except asyncio.TimeoutError:
+                pass
             passed = (
                 (time.monotonic() - began) * self.words.rate / self.words.stations * self.words.step
             )
@@ -275,22 +283,22 @@ class Soak(Trial):
             ),
             *("--step", self.words.step, "--seconds", self.words.seconds * 2),
         )
-        began = time.monotonic()
         jobs = [
             asyncio.create_task(job)
-            for job in (
-                self.kill(), self.void(), self.repeat(), self.crash(), self.finish(began), self.weigh(),
-            )  # fmt: skip
+            for job in (self.kill(), self.void(), self.repeat(), self.crash(), self.weigh())
         ]
+        closing = asyncio.create_task(self.finish(time.monotonic()))
         waiting = asyncio.create_task(ended(load))
-        await asyncio.wait([waiting, *jobs], return_when=asyncio.FIRST_COMPLETED)
-        for job in jobs:
+        await asyncio.wait([waiting, closing, *jobs], return_when=asyncio.FIRST_COMPLETED)
+        for job in (closing, *jobs):
             if job.done():
                 job.result()
         status, text = await waiting
+        self.is_over.set()
         for job in jobs:
             job.cancel()
         await asyncio.gather(*jobs, return_exceptions=True)
+        await closing
         for process in (*self.gateways, *self.workers):
             process.send_signal(signal.SIGCONT)
         self.check(status == 0, text)
@@ -300,7 +308,8 @@ class Soak(Trial):
         )
         print(
             f"killed: {self.kills}; the database or one of its processes: {self.crashes}; voided: {len(self.voids)}; "
-            f"sent again: {self.repeats}; closings: {self.closings}, the last of {self.day}"
+            f"sent again: {self.repeats}; closings: {self.closings}, {self.anew} of them begun anew, the last of "
+            f"{self.day}"
         )
         stops = ", ".join(f"{what} {seconds:.0f}" for what, seconds in self.stops.items())
         print(f"seconds for which was stopped, or open: {stops}")
