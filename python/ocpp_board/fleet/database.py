@@ -232,7 +232,8 @@ def answers_in(payload: str) -> Iterator[tuple[int, str]]:
 def said(fault: BaseException) -> str:
     """What a fault says; the name of its kind where it says nothing. Where a session ended within a transaction,
     leaving that is a fault of its own, and what the session ended by is said."""
-    while isinstance(fault, asyncpg.InterfaceError) and isinstance(fault.__context__, LOST):
+    odd = (asyncpg.InterfaceError, asyncpg.InternalClientError)
+    while isinstance(fault, odd) and isinstance(fault.__context__, LOST):
         fault = fault.__context__
     return str(fault) or type(fault).__name__
 
