@@ -557,9 +557,34 @@ class Demo(Trial):
             return bool(await self.owner.fetchval(COUNT, "FULL") == 200)
 
         self.check(await self.until(20, is_compacted), "a log that is nearly full is compacted")
-        log = (self.fleet.folder / "parts.log").read_text()
-        self.check("shard 900: its log has" in log, "and that is told")
+        told = (self.fleet.folder / "parts.log").read_text().count("shard 900: its log has")
+        self.check(told == 2, f"and that is told where it is half full and at nine tenths: {told}")
         self.check(await self.owner.fetchval(board) == before, "its board is as before")
+        await self.closed_in_parts(size // 2, lines)
+        self.check(await self.owner.fetchval(board) == before, "and so it is then")
+
+    async def closed_in_parts(self, most: int, lines: list[str]) -> None:
+        """A closing of a log of more than a replay reads, by a limit that is made small."""
+        for process in self.workers:
+            process.kill()
+        await self.owner.execute(FILL, 900, lines)
+        archives = self.fleet.folder / "archives"
+        archives.mkdir()
+        _, _, *words = self.fleet.closing("full", archives, "2026-03-02")
+        code = f"import ocpp_board.fleet.compact as one; one.PIECE = {most}"
+        process = self.fleet.patched(code, *words, stdout=-1, stderr=-2)
+        status, said = await ended(process)
+        self.check(
+            status == 0 and f"1 refused ones, {len(lines)} repeats" in said,
+            f"closed in parts: {said}",
+        )
+        self.workers = [self.fleet.worker("--boards", 0.5)]
+        query = "select b.plan = s.plan from own_board b join own_shard s using (shard) where shard = 900"
+
+        async def is_written() -> bool:
+            return bool(await self.owner.fetchval(query))
+
+        self.check(await self.until(20, is_written), "its board is written again")
 
     async def big_log(self) -> None:
         """A log of more than 1 GiB, of one event that came again and again."""
