@@ -3,12 +3,13 @@
     tests/one fleet.harm_demo ocpp_board
     tests/one fleet.harm_demo ocpp_board --big      with a log of more than 1 GiB, for which it takes 4 GiB of memory
 
-It starts PostgreSQL 15 in a temporary folder, workers and gateways. Then come: a host of the list that lets nobody
-in; a server that would lose or spoil what is answered; a dump that a younger server takes; strangers by the hundred;
-connections that never end their handshake; a gateway's own replay that hangs, and a clock of 1972; a station that
-changes its shard; zones; a snapshot that stays open; a station that sends one event again and again, or long ones
-without end; a synchronous standby that is gone; a server whose file has synchronous_commit off and that is killed; a
-log of more than a replay reads; channels that PostgreSQL refuses. The status is 1 where something is not as it must be.
+It starts PostgreSQL 15 in a temporary folder, workers and gateways. Then come: workers that all stand still; a host of
+the list that lets nobody in; a server that would lose or spoil what is answered; a dump that a younger server takes;
+strangers by the hundred; connections that never end their handshake; a gateway's own replay that hangs, and a clock of
+1972; a station that changes its shard; zones; a snapshot that stays open; a station that sends one event again and
+again, or long ones without end; a synchronous standby that is gone; a server whose file has synchronous_commit off and
+that is killed; a log of more than a replay reads, compacted and closed; channels that PostgreSQL refuses. The status is
+1 where something is not as it must be.
 """
 
 import argparse
@@ -167,6 +168,30 @@ class Demo(Trial):
         """The sessions of workers."""
         query = "select pid from pg_stat_activity where application_name like 'worker_%' order by 1"
         return [row["pid"] for row in await self.owner.fetch(query)]
+
+    async def starved(self) -> None:
+        """All workers stand still for longer than one may hang, as where the machine has too much to do."""
+        await self.answered("before all workers are stopped")
+        before = await self.sessions()
+        for what in (signal.SIGSTOP, signal.SIGCONT):
+            for process in self.workers:
+                process.send_signal(what)
+            await asyncio.sleep(4.5)
+        after = await self.sessions()
+        log = (self.fleet.folder / "parts.log").read_text()
+        self.check(
+            before == after and "has not beaten" not in log,
+            f"workers that were all stopped keep their sessions: {before}, {after}",
+        )
+        await self.answered("behind that")
+        self.workers[0].send_signal(signal.SIGSTOP)
+
+        async def is_ended() -> bool:
+            return len(await self.sessions()) == len(before) // 2
+
+        self.check(await self.until(10, is_ended), "and one that alone is stopped is ended")
+        self.workers[0].send_signal(signal.SIGCONT)
+        await self.answered("and once it is woken")
 
     async def hosts(self) -> None:
         """The other host goes on rejecting them while the database is away."""
@@ -608,8 +633,8 @@ class Demo(Trial):
     async def run(self) -> None:
         await self.open()
         for job in (
-            self.hosts, self.servers, self.dump, self.strangers, self.handshakes, self.replay, self.clock,
-            self.plan, self.snapshot, self.flood, self.standby, self.crash, self.full_log,
+            self.starved, self.hosts, self.servers, self.dump, self.strangers, self.handshakes, self.replay,
+            self.clock, self.plan, self.snapshot, self.flood, self.standby, self.crash, self.full_log,
             self.channels,
         ):  # fmt: skip
             await job()
