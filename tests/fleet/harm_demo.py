@@ -170,13 +170,17 @@ class Demo(Trial):
         return [row["pid"] for row in await self.owner.fetch(query)]
 
     async def starved(self) -> None:
-        """All workers stand still for longer than one may hang, as where the machine has too much to do."""
+        """All workers stand still for longer than one may hang, as where the machine has too much to do, and one of
+        them for somewhat longer."""
         await self.answered("before all workers are stopped")
         before = await self.sessions()
-        for what in (signal.SIGSTOP, signal.SIGCONT):
-            for process in self.workers:
-                process.send_signal(what)
-            await asyncio.sleep(4.5)
+        for process in self.workers:
+            process.send_signal(signal.SIGSTOP)
+        await asyncio.sleep(4.5)
+        for process in self.workers:
+            process.send_signal(signal.SIGCONT)
+            await asyncio.sleep(1.5)
+        await asyncio.sleep(3)
         after = await self.sessions()
         log = (self.fleet.folder / "parts.log").read_text()
         self.check(
