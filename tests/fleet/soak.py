@@ -31,7 +31,7 @@ import asyncpg
 
 from ocpp_board.fleet.database import LOST, Unreachable
 from tests.fleet.client import Client
-from tests.fleet.fleet import BACKEND, CLOCK, CRASHES, children, ended, free_port
+from tests.fleet.fleet import BACKEND, CLOCK, CRASHES, UNTOLD, children, ended, free_port
 from tests.fleet.trials import Trial, parsed, parser_of, tried
 
 FIRST = date(2026, 3, 1)
@@ -40,6 +40,12 @@ EACH = 50
 # seconds at most each of these lasts.
 CLOCKS = (0, 3, -400)
 STOPS, LONGEST = ("open", "gateway", "worker"), 60
+# Lines without an answer, and boards that are of an earlier plan; and how often all is compared where it differs.
+BEHIND = f"""
+select ({UNTOLD}) + (select count(*) from own_shard s left join own_board b using (shard)
+                     where b.plan is distinct from s.plan)
+"""
+TRIES = 3
 # Bytes of the record from which events to void are chosen.
 RECENT = 1 << 17
 
@@ -320,16 +326,21 @@ class Soak(Trial):
             )
         await self.compare()
 
+    async def shown(self) -> None:
+        """Waits until all lines are answered and boards are of the plan, for a minute at most."""
+        end = time.monotonic() + 60
+        while await self.done(BEHIND) and time.monotonic() < end:
+            await asyncio.sleep(0.5)
+
     async def compare(self) -> None:
+        """Compares all at the end, where boards may be behind once more."""
         lines: dict[int, list[str]] = {}
         for line in [*self.fleet.sent(), *self.voids]:
             lines.setdefault(int(line.split(" ", 2)[1][3:]) // EACH, []).append(line)
-        # A long run takes longer to be replayed.
-        end, differ = time.monotonic() + 60 + self.words.seconds / 20, ["not compared"]
-        while differ and time.monotonic() < end:
+        for _ in range(TRIES):
             await self.close_all(False)
-            await asyncio.sleep(3)
-            differ = []
+            await self.shown()
+            differ = list[str]()
             for shard in range(-(-self.words.stations // EACH)):
                 differ += await self.fleet.compare_closed(
                     self.owner,
@@ -339,6 +350,8 @@ class Soak(Trial):
                     lines.get(shard, []),
                     str(self.day),
                 )
+            if not differ:
+                break
         archived = await self.owner.fetchval("select count(*) from own_archived_transaction")
         left = await self.owner.fetchval("select count(*) from own_log")
         self.check(
