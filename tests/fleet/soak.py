@@ -81,6 +81,7 @@ class Soak(Trial):
         self.voids: list[str] = []
         self.kills: dict[str, int] = dict.fromkeys(("worker", "gateway", "replay", "close_day"), 0)
         self.crashes = self.repeats = 0
+        self.asking = asyncio.Lock()
         self.is_down = False
         # What is stopped at the moment, by its place, and is not killed then.
         self.stopped: tuple[str, int] = ("", 0)
@@ -147,15 +148,18 @@ class Soak(Trial):
                 self.voids.append(f"void {words[0]} {words[1]} {words[2]}")
 
     async def done(self, query: str, *values: object) -> Any:
-        """What a statement gives, which is tried until the database does it."""
-        while True:
-            try:
-                if self.owner.is_closed():
-                    self.owner = await self.fleet.owner()
-                return await self.owner.fetchval(query, *values)
-            except (*LOST, Unreachable, asyncpg.PostgresError):
-                self.owner.terminate()
-                await asyncio.sleep(0.2)
+        """What a statement gives, which is tried until the database does it; one at a time."""
+        async with self.asking:
+            while True:
+                try:
+                    if self.owner.is_closed():
+                        self.owner = await self.fleet.owner()
+                    return await self.owner.fetchval(query, *values)
+                except asyncpg.DuplicateDatabaseError:
+                    return None  # The try before was lost behind it.
+                except (*LOST, Unreachable, asyncpg.PostgresError):
+                    self.owner.terminate()
+                    await asyncio.sleep(0.2)
 
     async def repeat(self) -> None:
         """Sends an event that was answered once more, over a gateway of its own."""
