@@ -25,7 +25,7 @@ from pathlib import Path
 from typing import Any
 
 from ocpp_board.fleet.database import Fault, connect
-from tests.fleet.fleet import BIN, SCHEMA, Fleet, children, ended, free_port, tool
+from tests.fleet.fleet import BIN, PATIENCE, SCHEMA, Fleet, children, ended, free_port, tool
 from tests.fleet.trials import Trial, parsed, parser_of, skipped, tried
 
 # Seconds: how long a primary stays one that is not heard of, and between two looks at it.
@@ -192,7 +192,7 @@ class Cells(Trial):
             self.fleet.worker("--boards", 0.5, dsn=self.dsn("ledger_worker", cell))
 
     async def until(self, node: Node, role: str) -> None:
-        end = time.monotonic() + 60
+        end = time.monotonic() + 3 * PATIENCE
         while (seen := node.role()) != role:
             if time.monotonic() > end:
                 raise Fault(f"{node.name} is {seen}, not {role}: {self.fleet.folder / 'parts.log'}")
@@ -201,7 +201,7 @@ class Cells(Trial):
     async def fill(self, cell: int, node: Node) -> None:
         first = await connect(f"postgresql://owner@127.0.0.1:{node.port}/postgres")
         await first.execute("create database ledger")
-        end = time.monotonic() + 30
+        end = time.monotonic() + PATIENCE
         while (
             await first.fetchval(
                 "select count(*) from pg_stat_replication where sync_state = 'sync'"
@@ -373,7 +373,7 @@ class Cells(Trial):
 
     async def moved_right(self) -> None:
         """All boards of both cells together, against what stations sent."""
-        end, differ = time.monotonic() + 15, ["not compared"]
+        end, differ = time.monotonic() + PATIENCE, ["not compared"]
         while differ and time.monotonic() < end:
             differ, in_log = [], set()
             for owner in self.owners[:2]:

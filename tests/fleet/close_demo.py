@@ -20,7 +20,7 @@ from datetime import date, datetime, timedelta
 import asyncpg
 
 from tests.fleet.closings import ZONE, ClosingTrial, line, local, session
-from tests.fleet.fleet import ended
+from tests.fleet.fleet import PATIENCE, ended
 from tests.fleet.trials import parsed, parser_of, tried
 
 # Ends the session of a closing, once it has begun to read.
@@ -150,7 +150,7 @@ class Demo(ClosingTrial):
         await self.closed("closing after it was killed", "2026-11-03", "3 transactions archived")
         await self.came(*session("A", "Kill-after", local("2026-11-04 08:00"), 4))
         process = self.fleet.start(*self.command("2026-11-05"), stdout=-1, stderr=subprocess.STDOUT)
-        end = time.monotonic() + 15
+        end = time.monotonic() + PATIENCE
         query = "select count(*) from own_closing where day = '2026-11-05'"
         while not await self.owner.fetchval(query) and time.monotonic() < end:
             await asyncio.sleep(0.002)
