@@ -109,9 +109,20 @@ class Soak(Trial):
 
     # What goes on while stations send ---------------------------------------------------------------------------------
 
+    def none_ended(self) -> None:
+        """Whether no part ended but by a kill; one that did is begun anew, as systemd would."""
+        for place, process in enumerate(self.workers):
+            if process.poll() not in (None, -signal.SIGKILL):
+                self.check(False, f"a worker ended by itself with status {process.returncode}")
+                self.workers[place] = self.start_worker(place)
+        for process in self.gateways:
+            if process.poll() not in (None, -signal.SIGKILL):
+                self.check(False, f"a gateway ended by itself with status {process.returncode}")
+
     async def kill(self) -> None:
         while True:
             await asyncio.sleep(self.words.each_kill)
+            self.none_ended()
             what = self.chance.choice(("worker", "gateway", "replay"))
             place = self.chance.randrange(3)
             if self.stopped == ("worker" if what == "replay" else what, place):
@@ -309,6 +320,7 @@ class Soak(Trial):
             job.cancel()
         await asyncio.gather(*jobs, return_exceptions=True)
         await closing
+        self.none_ended()
         for process in (*self.gateways, *self.workers):
             process.send_signal(signal.SIGCONT)
         self.check(status == 0, text)

@@ -1,5 +1,6 @@
 """The fleet's plans, figures, payloads and closings, without a database."""
 
+import argparse
 import asyncio
 from datetime import datetime, timezone
 from pathlib import Path
@@ -14,7 +15,7 @@ import asyncpg  # noqa: E402
 from ocpp_board.energies import Flow  # noqa: E402
 from ocpp_board.fleet.archives import Late, packed, unpacked, widened  # noqa: E402
 from ocpp_board.fleet.close_day import differences  # noqa: E402
-from ocpp_board.fleet import begun_anew, database, watched as watching  # noqa: E402
+from ocpp_board.fleet import begun_anew, database, metrics, watched as watching  # noqa: E402
 from ocpp_board.fleet.board_writer import Board, chunks  # noqa: E402
 from ocpp_board.fleet.database import (  # noqa: E402
     Fault,
@@ -53,7 +54,7 @@ from ocpp_board.fleet.lines import (  # noqa: E402
     transaction_of,
 )
 from ocpp_board.fleet.plans import Plan, Reckoning, known_lines  # noqa: E402
-from ocpp_board.fleet.worker import payloads_of  # noqa: E402
+from ocpp_board.fleet.worker import Session, payloads_of  # noqa: E402
 from ocpp_board.messages import Refused  # noqa: E402
 
 FLOW = "up=1 down=0 export_up=0 export_down=0"
@@ -105,6 +106,30 @@ def test_a_refused_login_is_a_fault_where_every_host_gives_it(
     hosts["b"] = Fault("b lets nobody in")
     with pytest.raises(Unreachable, match="b lets nobody in"):
         connected()
+
+
+class Ended:
+    """A session with the database that another task ends, after which it has no process."""
+
+    def __init__(self) -> None:
+        self.pids = [7]
+
+    def get_server_pid(self) -> int:
+        return self.pids.pop()
+
+    async def fetch(self, _query: str, *_values: object) -> None:
+        raise asyncpg.InterfaceError("connection is closed")
+
+
+def test_a_worker_whose_session_is_ended_beats_until_it_is_told() -> None:
+    async def beaten() -> None:
+        words = argparse.Namespace(hang=1.0, name="worker_1", seen=metrics.WorkerSeen(1.0))
+        session = Session(words, [Ended(), Ended(), Ended()])
+        for _ in range(2):
+            with pytest.raises(asyncpg.InterfaceError):
+                await session.beat_once()
+
+    asyncio.run(beaten())
 
 
 def test_payloads_of_wakes_fit() -> None:

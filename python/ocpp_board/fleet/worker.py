@@ -132,6 +132,8 @@ class Session:
 
     def __init__(self, words: argparse.Namespace, databases: Sequence[Any]) -> None:
         self.words, self.databases = words, databases
+        # The server's process of the session that holds the shards, which a session that was ended no longer tells.
+        self.pid = databases[0].get_server_pid()
         self.patience = max(ANSWER, words.hang)
         self.seen: metrics.WorkerSeen = words.seen
         # One holds the shards, moves their lines and tells answers; its commits may wait for a standby. So beats have
@@ -202,7 +204,7 @@ class Session:
             job, began = asyncio.ensure_future(database.fetch(query, *values)), time.monotonic()
             job.add_done_callback(seen)
             while not (await asyncio.wait([job], timeout=self.patience))[0]:
-                if not await self.beats.ask(WAITS, database.get_server_pid()):
+                if not await self.beats.ask(WAITS, self.pid):
                     raise asyncio.TimeoutError(f"no answer in {self.patience:g} seconds")
                 log.warning("commits wait for the synchronous standby")
                 self.seen.waits_since(began)
@@ -229,8 +231,7 @@ class Session:
 
     async def beat_once(self) -> None:
         """Tells that this worker lives, and looks how many do."""
-        pid = self.holder.database.get_server_pid()
-        rows = await self.beats.ask(BEAT, self.words.name, len(self.shards), pid)
+        rows = await self.beats.ask(BEAT, self.words.name, len(self.shards), self.pid)
         self.living, self.seen.beat = rows[0]["living"], time.monotonic()
 
     async def beat(self) -> None:
