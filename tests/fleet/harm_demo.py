@@ -214,7 +214,7 @@ class Demo(Trial):
         command = [*tool("gateway"), "--db", login, "--program", self.fleet.program, "--port", "0"]
         process = subprocess.Popen(command, stdout=subprocess.PIPE, stderr=subprocess.PIPE)
         try:
-            _, text = process.communicate(timeout=4)
+            _, text = process.communicate(timeout=20)
         except subprocess.TimeoutExpired:
             process.kill()
             return process.communicate()[0].decode().strip()
