@@ -24,6 +24,8 @@ import time
 from pathlib import Path
 from typing import Any
 
+import asyncpg
+
 from ocpp_board.fleet.database import Fault, connect
 from tests.fleet.fleet import BIN, PATIENCE, SCHEMA, Fleet, children, ended, free_port, tool
 from tests.fleet.trials import Trial, parsed, parser_of, skipped, tried
@@ -199,7 +201,8 @@ class Cells(Trial):
             await asyncio.sleep(0.3)
 
     async def fill(self, cell: int, node: Node) -> None:
-        first = await connect(f"postgresql://owner@127.0.0.1:{node.port}/postgres")
+        # A session without the schema, which tools would refuse.
+        first = await asyncpg.connect(f"postgresql://owner@127.0.0.1:{node.port}/postgres")
         await first.execute("create database ledger")
         end = time.monotonic() + PATIENCE
         while (
