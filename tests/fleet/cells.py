@@ -145,6 +145,8 @@ class Cells(Trial):
         self.owners: list[Any] = []
         self.firsts: list[int] = []
         self.gateways: list[str] = []
+        # The stations of each cell.
+        self.loads: list[subprocess.Popen[bytes]] = []
 
     def dsn(self, user: str, cell: int) -> str:
         return self.fleet.dsn(user, *(node.port for node in self.cells[cell]))
@@ -282,7 +284,7 @@ class Cells(Trial):
     async def faulty(self, what: str) -> list[tuple[int, str]]:
         await self.open(3)
         await self.start_gateways(2)
-        loads = [
+        loads = self.loads = [
             self.load(cell, "--events", self.words.events, "--rate", self.words.rate)
             for cell in range(3)
         ]
@@ -328,9 +330,7 @@ class Cells(Trial):
         for node in self.cells[1]:
             node.start()
         print("cell 2: its machines are started again", flush=True)
-        status, text = await ended(
-            [one for one in self.fleet.processes if "load.py" in str(one.args)][1]
-        )
+        status, text = await ended(self.loads[1])
         self.check(status == 0, f"cell 2, after it came back: {text}")
         await self.same([1])
 
