@@ -24,8 +24,20 @@ import time
 from pathlib import Path
 from typing import Any
 
+import asyncpg
+
 from ocpp_board.fleet.database import Fault, connect
-from tests.fleet.fleet import BIN, REASON, SCHEMA, Fleet, children, ended, free_port, tool
+from tests.fleet.fleet import (
+    BIN,
+    PATIENCE,
+    REASON,
+    SCHEMA,
+    Fleet,
+    children,
+    ended,
+    free_port,
+    tool,
+)
 from tests.fleet.trials import Trial, parsed, parser_of, skipped, tried
 
 # Seconds: how long a primary stays one that is not heard of, and between two looks at it.
@@ -143,6 +155,8 @@ class Cells(Trial):
         self.owners: list[Any] = []
         self.firsts: list[int] = []
         self.gateways: list[str] = []
+        # The stations of each cell.
+        self.loads: list[subprocess.Popen[bytes]] = []
 
     def dsn(self, user: str, cell: int) -> str:
         return self.fleet.dsn(user, *(node.port for node in self.cells[cell]))
@@ -192,16 +206,17 @@ class Cells(Trial):
             self.fleet.worker("--boards", 0.5, dsn=self.dsn("ledger_worker", cell))
 
     async def until(self, node: Node, role: str) -> None:
-        end = time.monotonic() + 60
+        end = time.monotonic() + 3 * PATIENCE
         while (seen := node.role()) != role:
             if time.monotonic() > end:
                 raise Fault(f"{node.name} is {seen}, not {role}: {self.fleet.folder / 'parts.log'}")
             await asyncio.sleep(0.3)
 
     async def fill(self, cell: int, node: Node) -> None:
-        first = await connect(f"postgresql://owner@127.0.0.1:{node.port}/postgres")
+        # A session without the schema, which tools would refuse.
+        first = await asyncpg.connect(f"postgresql://owner@127.0.0.1:{node.port}/postgres")
         await first.execute("create database ledger")
-        end = time.monotonic() + 30
+        end = time.monotonic() + PATIENCE
         while (
             await first.fetchval(
                 "select count(*) from pg_stat_replication where sync_state = 'sync'"
@@ -280,7 +295,7 @@ class Cells(Trial):
     async def faulty(self, what: str) -> list[tuple[int, str]]:
         await self.open(3)
         await self.start_gateways(2)
-        loads = [
+        loads = self.loads = [
             self.load(cell, "--events", self.words.events, "--rate", self.words.rate)
             for cell in range(3)
         ]
@@ -326,9 +341,7 @@ class Cells(Trial):
         for node in self.cells[1]:
             node.start()
         print("cell 2: its machines are started again", flush=True)
-        status, text = await ended(
-            [one for one in self.fleet.processes if "load.py" in str(one.args)][1]
-        )
+        status, text = await ended(self.loads[1])
         self.check(status == 0, f"cell 2, after it came back: {text}")
         await self.same([1])
 
@@ -376,7 +389,7 @@ class Cells(Trial):
 
     async def moved_right(self) -> None:
         """All boards of both cells together, against what stations sent."""
-        end, differ = time.monotonic() + 15, ["not compared"]
+        end, differ = time.monotonic() + PATIENCE, ["not compared"]
         while differ and time.monotonic() < end:
             differ, in_log = [], set()
             for owner in self.owners[:2]:

@@ -38,14 +38,21 @@ if [ ${#missing[@]} != 0 ]; then
         skip "no ${missing[*]}, and apt-get can't install them: $(grep '^E:' "$told" | head -n 1)"
     leave
 fi
-told=$(mktemp) || exit 1
-trap 'rm -f "$told"' EXIT
-# It begins once the words of demo.py were found to be right.
+told=$(mktemp) && more=$(mktemp) || exit 1
+trap 'rm -f "$told" "$more"' EXIT
+# They begin once the words of demo.py were found to be right. Where it has none, its faults are tried by two fleets.
 { sleep 2; exec "$here/../one" fleet.order_demo "$1"; } > "$told" 2>&1 &
-beside=$!
-"$here/../one" fleet.demo "$@"
+beside=($!) half=()
+if [ $# = 1 ]; then
+    half=(--half 1)
+    { sleep 2; exec "$here/../one" fleet.demo "$1" --half 2; } > "$more" 2>&1 &
+    beside+=($!)
+fi
+"$here/../one" fleet.demo "$@" "${half[@]}"
 status=$?
-[ $status != 2 ] || { kill $beside; exit 2; }
-wait $beside || status=1
-cat "$told"
+[ $status != 2 ] || { kill "${beside[@]}"; exit 2; }
+for one in "${beside[@]}"; do
+    wait "$one" || status=1
+done
+cat "$more" "$told"
 exit $status

@@ -5,7 +5,8 @@
 It starts PostgreSQL 15 in a temporary folder and a worker, and plays a site in Europe/Berlin: repeats, conflicts, a
 transaction over midnight, a day closed twice, a late event before and after its transaction was archived, a void
 and a restoration of one that was, a station that was offline for three days, days of 23 and of 25 hours, an
-`ocpp-board close-day` that is killed at each of its steps, and bad input. After each closing the live boards and
+`ocpp-board close-day` that is killed at each of its steps, whose session is ended, or that waits for another program,
+and bad input. After each closing the live boards and
 the archives together have to be the boards of a replay from scratch, and what is settled the periods of that, up to
 the closed day. The status is 1 where something is not as it must be.
 """
@@ -19,7 +20,15 @@ from datetime import date, datetime, timedelta
 import asyncpg
 
 from tests.fleet.closings import ZONE, ClosingTrial, line, local, session
+from tests.fleet.fleet import PATIENCE, ended
 from tests.fleet.trials import parsed, parser_of, tried
+
+# Ends the session of a closing, once it has begun to read.
+END = """
+select count(pg_terminate_backend(pid)) from pg_stat_activity
+where application_name = 'ocpp-board close-day' and query ~ 'own_'
+"""
+LOST = "the session with the database was lost: "
 
 
 class Demo(ClosingTrial):
@@ -141,13 +150,54 @@ class Demo(ClosingTrial):
         await self.closed("closing after it was killed", "2026-11-03", "3 transactions archived")
         await self.came(*session("A", "Kill-after", local("2026-11-04 08:00"), 4))
         process = self.fleet.start(*self.command("2026-11-05"), stdout=-1, stderr=subprocess.STDOUT)
-        end = time.monotonic() + 15
+        end = time.monotonic() + PATIENCE
         query = "select count(*) from own_closing where day = '2026-11-05'"
         while not await self.owner.fetchval(query) and time.monotonic() < end:
             await asyncio.sleep(0.002)
         process.kill()
         process.wait()
         await self.closed("closing after it was killed behind its rows", "2026-11-05")
+
+    async def lost(self) -> None:
+        """Its session is ended within its transaction, and each time; and another program has the shard."""
+        await self.came(*session("A", "Lost", local("2026-11-05 10:00"), 4))
+        command = self.command("2026-11-06")
+        async with self.held("own_closing", "exclusive"):
+            process, was_blocked = await self.blocked(command)
+            await self.owner.execute(END)
+        status, said = await ended(process)
+        self.check(
+            was_blocked
+            and status == 0
+            and LOST in said
+            and "; begun anew" in said
+            and "__aexit__" not in said,
+            f"a closing whose session is ended within its transaction: {said}",
+        )
+        await self.same("and is begun anew", "2026-11-06")
+        await self.came("void A Lost 1")
+        process = self.fleet.start(*command, stdout=-1, stderr=subprocess.STDOUT)
+        count = 0
+        while process.poll() is None:
+            count += await self.owner.fetchval(END)
+            await asyncio.sleep(0.01)
+        status, said = await ended(process)
+        self.check(
+            count == 5 and status == 2 and LOST in said.splitlines()[-1] and "__" not in said,
+            f"a closing each of whose {count} sessions is ended: {said}",
+        )
+        other = await self.fleet.owner()
+        await other.execute("select pg_advisory_lock(3, 0)")
+        process = self.fleet.start(*command, stdout=-1, stderr=subprocess.STDOUT)
+        await asyncio.sleep(2)
+        was_waiting = process.poll() is None
+        await other.close()
+        status, said = await ended(process)
+        self.check(
+            was_waiting and status == 0 and "1 late lines for lost of A" in said,
+            f"a closing waits for another program that has the shard: {said}",
+        )
+        await self.same("and is done behind it", "2026-11-06")
 
     async def bad_input(self) -> None:
         tomorrow = str(datetime.now(ZONE).date() + timedelta(days=1))
@@ -221,6 +271,7 @@ class Demo(ClosingTrial):
         await self.corrections()
         await self.long_days()
         await self.kills()
+        await self.lost()
         await self.bad_input()
         await self.owner.close()
 

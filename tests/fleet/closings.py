@@ -12,7 +12,7 @@ from typing import Any
 from zoneinfo import ZoneInfo
 
 from ocpp_board.fleet.database import connect
-from tests.fleet.fleet import ended
+from tests.fleet.fleet import PATIENCE, ended
 from tests.fleet.trials import Trial, event
 
 ZONE = ZoneInfo("Europe/Berlin")
@@ -97,8 +97,8 @@ class ClosingTrial(Trial):
         return [self.answers.get(token, "no answer") for token in tokens]
 
     async def until(self, query: str, wanted: object, *values: object) -> bool:
-        """Whether a query has this answer within 10 seconds."""
-        end = time.monotonic() + 10
+        """Whether a query comes to have this answer."""
+        end = time.monotonic() + PATIENCE
         while (found := await self.owner.fetchval(query, *values)) != wanted:
             if time.monotonic() > end:
                 print(f"not {wanted} but {found}: {query}", flush=True)
@@ -133,7 +133,7 @@ class ClosingTrial(Trial):
     async def blocked(self, command: list[str]) -> tuple[subprocess.Popen[bytes], bool]:
         """A command that begins, and whether it came to wait for a table."""
         process = self.fleet.start(*command, stdout=-1, stderr=subprocess.STDOUT)
-        end, count = time.monotonic() + 15, 0
+        end, count = time.monotonic() + PATIENCE, 0
         while not count and time.monotonic() < end and process.poll() is None:
             await asyncio.sleep(0.05)
             count = await self.owner.fetchval(BLOCKED)
@@ -149,7 +149,7 @@ class ClosingTrial(Trial):
 
     async def same(self, text: str, day: str) -> None:
         """Whether boards and archives together are the whole, and what is settled its periods up to the day."""
-        end, differ = time.monotonic() + 10, ["not compared"]
+        end, differ = time.monotonic() + PATIENCE, ["not compared"]
         while differ and time.monotonic() < end:
             differ = []
             for shard in sorted(set(self.homes.values())):

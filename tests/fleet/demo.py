@@ -46,6 +46,7 @@ from tests.fleet.fleet import (
     BIN,
     CLOCK,
     CRASHES,
+    PATIENCE,
     SCHEMA,
     children,
     ended,
@@ -242,7 +243,7 @@ class Demo(Trial):
 
     async def until_up(self) -> Any:
         """A session of the owner, once the database lets it in."""
-        end = time.monotonic() + 30
+        end = time.monotonic() + PATIENCE
         while True:
             try:
                 return await self.fleet.owner()
@@ -357,7 +358,7 @@ class Demo(Trial):
 
     async def is_told(self, fault: str, what: str) -> None:
         """Whether a worker tells what the program does not know."""
-        log, end = self.fleet.folder / "parts.log", time.monotonic() + 5
+        log, end = self.fleet.folder / "parts.log", time.monotonic() + PATIENCE
         while fault not in log.read_text() and time.monotonic() < end:
             await asyncio.sleep(0.1)
         self.check(
@@ -461,7 +462,7 @@ class Demo(Trial):
             process.kill()
         await self.owner.execute("delete from own_board")
         self.workers = [self.fleet.worker("--boards", 0.5)]
-        end = time.monotonic() + 15
+        end = time.monotonic() + PATIENCE
         while (
             await self.owner.fetchval("select count(*) from own_board") < self.shards
             and time.monotonic() < end
@@ -703,8 +704,14 @@ def main() -> int:
     parser.add_argument(
         "--open", type=float, default=4, help="seconds of open transactions (default: 4)"
     )
+    parser.add_argument(
+        "--half", type=int, choices=(1, 2), help="one half of the faults that share a fleet"
+    )
     words = parsed(parser)
     shared = [name for name in words.faults if name in COMMON]
+    if words.half:
+        middle = len(shared) // 2
+        shared = shared[:middle] if words.half == 1 else shared[middle:]
     status = RIGHT
     for faults in [shared] * bool(shared) + [[name] for name in words.faults if name in OWN]:
         some = argparse.Namespace(**vars(words) | {"faults": faults})

@@ -215,6 +215,10 @@ class Demo(Trial):
         shard, began, kills = self.shards - -(-self.words.stations // EACH), time.monotonic(), 0
         process, job = feed(), asyncio.ensure_future(hand_over)
         while not job.done() or kills < 3:
+            # On a busy machine one that just begins would never get further.
+            if self.chance.random() < 0.5:
+                assert process.stdout
+                await asyncio.to_thread(process.stdout.readline)
             await asyncio.sleep(self.chance.uniform(0.4, 1.6))
             self.check(
                 process.poll() is None, f"{name}: ocpp-board feed runs"
@@ -268,7 +272,9 @@ class Demo(Trial):
                 if number % 40 == 0:
                     await asyncio.sleep(0.15)
                 if number == len(mixed) // 2:
-                    # It is rotated: what comes from here on is in another file of its name.
+                    # It is rotated: what comes from here on is in another file of its name. A feed that had nothing of
+                    # it would not know that there was one before.
+                    await self.begun()
                     file.close()
                     path.rename(path.with_suffix(".log.1"))
                     file = open(path, "w")
@@ -289,6 +295,13 @@ class Demo(Trial):
             "another file of the same name", 2, "is another file than the one", *words
         )
         await self.copied(mixed)
+
+    async def begun(self) -> None:
+        """Waits until something of the file was taken."""
+        session = await self.fleet.owner()
+        while not await session.fetchval("select count(*) from fed"):
+            await asyncio.sleep(0.1)
+        await session.close()
 
     async def copied(self, mixed: list[Message]) -> None:
         """The rows of a CSMS's table by COPY, once as text and once as CSV; all were taken before."""

@@ -25,6 +25,8 @@ from ocpp_board.fleet.lines import COMMANDS, transaction_of
 from ocpp_board.fleet.plans import Plan, known_lines
 
 TOP = Path(__file__).resolve().parent.parent.parent
+# Seconds for what comes to be so, on a machine with much else to do.
+PATIENCE = 60
 SCHEMA = TOP / "python/ocpp_board/fleet/schema.sql"
 # As it was before stations could be retired, for trying that such a database is migrated.
 OLD_SCHEMA = TOP / "tests/fleet/old-schema.sql"
@@ -172,7 +174,7 @@ class Database:
                 cwd="/",
                 **self.fleet.user,
             )
-        end = time.monotonic() + 20
+        end = time.monotonic() + PATIENCE
         while subprocess.run(
             [BIN / "pg_isready", "-q", "-h127.0.0.1", f"-p{self.port}", "-Uowner", "-dpostgres"],
             check=False,
@@ -433,13 +435,13 @@ class Fleet:
                 found[row["station"], kind, name] = numbers
         return found
 
-    async def until_told(self, owner: Any, seconds: float = 20) -> None:
+    async def until_told(self, owner: Any, seconds: float = PATIENCE) -> None:
         """Waits until all lines are answered, for so many seconds at most."""
         end = time.monotonic() + seconds
         while await owner.fetchval(UNTOLD) and time.monotonic() < end:
             await asyncio.sleep(0.02)
 
-    async def compared(self, owner: Any, shard: int = 0, seconds: float = 15) -> list[str]:
+    async def compared(self, owner: Any, shard: int = 0, seconds: float = PATIENCE) -> list[str]:
         """What differs, once boards have had the time to be written."""
         end = time.monotonic() + seconds
         while (differ := await self.compare(owner, shard)) and time.monotonic() < end:

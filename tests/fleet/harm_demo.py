@@ -3,12 +3,13 @@
     tests/one fleet.harm_demo ocpp_board
     tests/one fleet.harm_demo ocpp_board --big      with a log of more than 1 GiB, for which it takes 4 GiB of memory
 
-It starts PostgreSQL 15 in a temporary folder, workers and gateways. Then come: a host of the list that lets nobody
-in; a server that would lose or spoil what is answered; a dump that a younger server takes; strangers by the hundred;
-connections that never end their handshake; a gateway's own replay that hangs, and a clock of 1972; a station that
-changes its shard; zones; a snapshot that stays open; a station that sends one event again and again, or long ones
-without end; a synchronous standby that is gone; a server whose file has synchronous_commit off and that is killed; a
-log of more than a replay reads; channels that PostgreSQL refuses. The status is 1 where something is not as it must be.
+It starts PostgreSQL 15 in a temporary folder, workers and gateways. Then come: workers that all stand still; a host of
+the list that lets nobody in; a server that would lose or spoil what is answered; a dump that a younger server takes;
+strangers by the hundred; connections that never end their handshake; a gateway's own replay that hangs, and a clock of
+1972; a station that changes its shard; zones; a snapshot that stays open; a station that sends one event again and
+again, or long ones without end; a synchronous standby that is gone; a server whose file has synchronous_commit off and
+that is killed; a log of more than a replay reads, compacted and closed; channels that PostgreSQL refuses. The status is
+1 where something is not as it must be.
 """
 
 import argparse
@@ -168,6 +169,34 @@ class Demo(Trial):
         query = "select pid from pg_stat_activity where application_name like 'worker_%' order by 1"
         return [row["pid"] for row in await self.owner.fetch(query)]
 
+    async def starved(self) -> None:
+        """All workers stand still for longer than one may hang, as where the machine has too much to do, and one of
+        them for somewhat longer."""
+        await self.answered("before all workers are stopped")
+        before = await self.sessions()
+        for process in self.workers:
+            process.send_signal(signal.SIGSTOP)
+        await asyncio.sleep(4.5)
+        for process in self.workers:
+            process.send_signal(signal.SIGCONT)
+            await asyncio.sleep(1.5)
+        await asyncio.sleep(3)
+        after = await self.sessions()
+        log = (self.fleet.folder / "parts.log").read_text()
+        self.check(
+            before == after and "has not beaten" not in log,
+            f"workers that were all stopped keep their sessions: {before}, {after}",
+        )
+        await self.answered("behind that")
+        self.workers[0].send_signal(signal.SIGSTOP)
+
+        async def is_ended() -> bool:
+            return len(await self.sessions()) == len(before) // 2
+
+        self.check(await self.until(10, is_ended), "and one that alone is stopped is ended")
+        self.workers[0].send_signal(signal.SIGCONT)
+        await self.answered("and once it is woken")
+
     async def hosts(self) -> None:
         """The other host goes on rejecting them while the database is away."""
         database = self.fleet.databases[0]
@@ -185,7 +214,7 @@ class Demo(Trial):
         command = [*tool("gateway"), "--db", login, "--program", self.fleet.program, "--port", "0"]
         process = subprocess.Popen(command, stdout=subprocess.PIPE, stderr=subprocess.PIPE)
         try:
-            _, text = process.communicate(timeout=4)
+            _, text = process.communicate(timeout=20)
         except subprocess.TimeoutExpired:
             process.kill()
             return process.communicate()[0].decode().strip()
@@ -557,9 +586,34 @@ class Demo(Trial):
             return bool(await self.owner.fetchval(COUNT, "FULL") == 200)
 
         self.check(await self.until(20, is_compacted), "a log that is nearly full is compacted")
-        log = (self.fleet.folder / "parts.log").read_text()
-        self.check("shard 900: its log has" in log, "and that is told")
+        told = (self.fleet.folder / "parts.log").read_text().count("shard 900: its log has")
+        self.check(told == 2, f"and that is told where it is half full and at nine tenths: {told}")
         self.check(await self.owner.fetchval(board) == before, "its board is as before")
+        await self.closed_in_parts(size // 2, lines)
+        self.check(await self.owner.fetchval(board) == before, "and so it is then")
+
+    async def closed_in_parts(self, most: int, lines: list[str]) -> None:
+        """A closing of a log of more than a replay reads, by a limit that is made small."""
+        for process in self.workers:
+            process.kill()
+        await self.owner.execute(FILL, 900, lines)
+        archives = self.fleet.folder / "archives"
+        archives.mkdir()
+        _, _, *words = self.fleet.closing("full", archives, "2026-03-02")
+        code = f"import ocpp_board.fleet.compact as one; one.PIECE = {most}"
+        process = self.fleet.patched(code, *words, stdout=-1, stderr=-2)
+        status, said = await ended(process)
+        self.check(
+            status == 0 and f"1 refused ones, {len(lines)} repeats" in said,
+            f"closed in parts: {said}",
+        )
+        self.workers = [self.fleet.worker("--boards", 0.5)]
+        query = "select b.plan = s.plan from own_board b join own_shard s using (shard) where shard = 900"
+
+        async def is_written() -> bool:
+            return bool(await self.owner.fetchval(query))
+
+        self.check(await self.until(20, is_written), "its board is written again")
 
     async def big_log(self) -> None:
         """A log of more than 1 GiB, of one event that came again and again."""
@@ -583,8 +637,8 @@ class Demo(Trial):
     async def run(self) -> None:
         await self.open()
         for job in (
-            self.hosts, self.servers, self.dump, self.strangers, self.handshakes, self.replay, self.clock,
-            self.plan, self.snapshot, self.flood, self.standby, self.crash, self.full_log,
+            self.starved, self.hosts, self.servers, self.dump, self.strangers, self.handshakes, self.replay,
+            self.clock, self.plan, self.snapshot, self.flood, self.standby, self.crash, self.full_log,
             self.channels,
         ):  # fmt: skip
             await job()

@@ -16,7 +16,7 @@ import asyncpg
 
 from ocpp_board.fleet.database import connect
 from tests.fleet.closings import ClosingTrial, line, local, session
-from tests.fleet.fleet import ended
+from tests.fleet.fleet import PATIENCE, ended
 from tests.fleet.trials import parsed, parser_of, tried
 
 ROWS = """
@@ -30,7 +30,7 @@ class Demo(ClosingTrial):
 
     async def rows(self, text: str, *wanted: tuple[str, str, str, str, int]) -> None:
         """Whether these are the rows of refusals, once they are written."""
-        end, found = time.monotonic() + 10, list[tuple[object, ...]]()
+        end, found = time.monotonic() + PATIENCE, list[tuple[object, ...]]()
         while time.monotonic() < end:
             found = [tuple(row) for row in await self.owner.fetch(ROWS)]
             if found == [*wanted]:

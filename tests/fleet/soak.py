@@ -31,7 +31,7 @@ import asyncpg
 
 from ocpp_board.fleet.database import LOST, Unreachable
 from tests.fleet.client import Client
-from tests.fleet.fleet import BACKEND, CLOCK, CRASHES, children, ended, free_port
+from tests.fleet.fleet import BACKEND, CLOCK, CRASHES, UNTOLD, children, ended, free_port
 from tests.fleet.trials import Trial, parsed, parser_of, tried
 
 FIRST = date(2026, 3, 1)
@@ -40,6 +40,12 @@ EACH = 50
 # seconds at most each of these lasts.
 CLOCKS = (0, 3, -400)
 STOPS, LONGEST = ("open", "gateway", "worker"), 60
+# Lines without an answer, and boards that are of an earlier plan; and how often all is compared where it differs.
+BEHIND = f"""
+select ({UNTOLD}) + (select count(*) from own_shard s left join own_board b using (shard)
+                     where b.plan is distinct from s.plan)
+"""
+TRIES = 3
 # Bytes of the record from which events to void are chosen.
 RECENT = 1 << 17
 
@@ -75,11 +81,14 @@ class Soak(Trial):
         self.voids: list[str] = []
         self.kills: dict[str, int] = dict.fromkeys(("worker", "gateway", "replay", "close_day"), 0)
         self.crashes = self.repeats = 0
+        self.asking = asyncio.Lock()
         self.is_down = False
         # What is stopped at the moment, by its place, and is not killed then.
         self.stopped: tuple[str, int] = ("", 0)
         self.stops: dict[str, float] = {}
-        self.day, self.closings = FIRST, 0
+        self.day, self.closings, self.anew = FIRST, 0, 0
+        # Set once stations have sent all: what closes days ends then, and a closing that is under way is waited for.
+        self.is_over = asyncio.Event()
         self.sizes: list[dict[str, float]] = []
         self.workers: list[subprocess.Popen[bytes]] = []
         self.gateways: list[subprocess.Popen[bytes]] = []
@@ -100,9 +109,20 @@ class Soak(Trial):
 
     # What goes on while stations send ---------------------------------------------------------------------------------
 
+    def none_ended(self) -> None:
+        """Whether no part ended but by a kill; one that did is begun anew, as systemd would."""
+        for place, process in enumerate(self.workers):
+            if process.poll() not in (None, -signal.SIGKILL):
+                self.check(False, f"a worker ended by itself with status {process.returncode}")
+                self.workers[place] = self.start_worker(place)
+        for process in self.gateways:
+            if process.poll() not in (None, -signal.SIGKILL):
+                self.check(False, f"a gateway ended by itself with status {process.returncode}")
+
     async def kill(self) -> None:
         while True:
             await asyncio.sleep(self.words.each_kill)
+            self.none_ended()
             what = self.chance.choice(("worker", "gateway", "replay"))
             place = self.chance.randrange(3)
             if self.stopped == ("worker" if what == "replay" else what, place):
@@ -139,15 +159,18 @@ class Soak(Trial):
                 self.voids.append(f"void {words[0]} {words[1]} {words[2]}")
 
     async def done(self, query: str, *values: object) -> Any:
-        """What a statement gives, which is tried until the database does it."""
-        while True:
-            try:
-                if self.owner.is_closed():
-                    self.owner = await self.fleet.owner()
-                return await self.owner.fetchval(query, *values)
-            except (*LOST, Unreachable, asyncpg.PostgresError):
-                self.owner.terminate()
-                await asyncio.sleep(0.2)
+        """What a statement gives, which is tried until the database does it; one at a time."""
+        async with self.asking:
+            while True:
+                try:
+                    if self.owner.is_closed():
+                        self.owner = await self.fleet.owner()
+                    return await self.owner.fetchval(query, *values)
+                except asyncpg.DuplicateDatabaseError:
+                    return None  # The try before was lost behind it.
+                except (*LOST, Unreachable, asyncpg.PostgresError):
+                    self.owner.terminate()
+                    await asyncio.sleep(0.2)
 
     async def repeat(self) -> None:
         """Sends an event that was answered once more, over a gateway of its own."""
@@ -219,26 +242,32 @@ class Soak(Trial):
         self.stopped = ("", 0)
 
     async def close_all(self, may_kill: bool) -> None:
+        """Closes the day of each site. A closing that was not killed has to be done, whatever was killed meanwhile."""
         for site in range(-(-self.words.stations // EACH)):
             command = self.fleet.closing(f"site-{site}", self.archives, self.day)
-            crashes, was_down = self.crashes, self.is_down
             process = self.fleet.start(*command, stdout=subprocess.PIPE, stderr=subprocess.STDOUT)
+            was_killed = False
             if may_kill and self.chance.random() < 0.25:
                 await asyncio.sleep(self.chance.random())
-                if process.poll() is None:
+                if was_killed := process.poll() is None:
                     process.kill()
                     self.kills["close_day"] += 1
             status, text = await ended(process)
-            # Where the plan or a worker's place changed in between it closed nothing, and is called again next time.
-            is_told = "changed meanwhile" in text or crashes != self.crashes or was_down
-            if status not in (0, -9) and not is_told:
+            if status and not was_killed:
                 self.check(False, f"ocpp-board close-day: {text}")
             self.closings += status == 0
+            self.anew += status == 0 and "begun anew" in text
+            if may_kill and self.is_over.is_set():
+                return
 
     async def finish(self, began: float) -> None:
         """Closes the day before the one that stations' clocks have now."""
-        while True:
-            await asyncio.sleep(self.words.each_close)
+        while not self.is_over.is_set():
+            try:
+                await asyncio.wait_for(self.is_over.wait(), self.words.each_close)
+                return
+            except asyncio.TimeoutError:
+                pass
             passed = (
                 (time.monotonic() - began) * self.words.rate / self.words.stations * self.words.step
             )
@@ -275,22 +304,23 @@ class Soak(Trial):
             ),
             *("--step", self.words.step, "--seconds", self.words.seconds * 2),
         )
-        began = time.monotonic()
         jobs = [
             asyncio.create_task(job)
-            for job in (
-                self.kill(), self.void(), self.repeat(), self.crash(), self.finish(began), self.weigh(),
-            )  # fmt: skip
+            for job in (self.kill(), self.void(), self.repeat(), self.crash(), self.weigh())
         ]
+        closing = asyncio.create_task(self.finish(time.monotonic()))
         waiting = asyncio.create_task(ended(load))
-        await asyncio.wait([waiting, *jobs], return_when=asyncio.FIRST_COMPLETED)
-        for job in jobs:
+        await asyncio.wait([waiting, closing, *jobs], return_when=asyncio.FIRST_COMPLETED)
+        for job in (closing, *jobs):
             if job.done():
                 job.result()
         status, text = await waiting
+        self.is_over.set()
         for job in jobs:
             job.cancel()
         await asyncio.gather(*jobs, return_exceptions=True)
+        await closing
+        self.none_ended()
         for process in (*self.gateways, *self.workers):
             process.send_signal(signal.SIGCONT)
         self.check(status == 0, text)
@@ -300,7 +330,8 @@ class Soak(Trial):
         )
         print(
             f"killed: {self.kills}; the database or one of its processes: {self.crashes}; voided: {len(self.voids)}; "
-            f"sent again: {self.repeats}; closings: {self.closings}, the last of {self.day}"
+            f"sent again: {self.repeats}; closings: {self.closings}, {self.anew} of them begun anew, the last of "
+            f"{self.day}"
         )
         stops = ", ".join(f"{what} {seconds:.0f}" for what, seconds in self.stops.items())
         print(f"seconds for which was stopped, or open: {stops}")
@@ -311,16 +342,21 @@ class Soak(Trial):
             )
         await self.compare()
 
+    async def shown(self) -> None:
+        """Waits until all lines are answered and boards are of the plan, for a minute at most."""
+        end = time.monotonic() + 60
+        while await self.done(BEHIND) and time.monotonic() < end:
+            await asyncio.sleep(0.5)
+
     async def compare(self) -> None:
+        """Compares all at the end, where boards may be behind once more."""
         lines: dict[int, list[str]] = {}
         for line in [*self.fleet.sent(), *self.voids]:
             lines.setdefault(int(line.split(" ", 2)[1][3:]) // EACH, []).append(line)
-        # A long run takes longer to be replayed.
-        end, differ = time.monotonic() + 60 + self.words.seconds / 20, ["not compared"]
-        while differ and time.monotonic() < end:
+        for _ in range(TRIES):
             await self.close_all(False)
-            await asyncio.sleep(3)
-            differ = []
+            await self.shown()
+            differ = list[str]()
             for shard in range(-(-self.words.stations // EACH)):
                 differ += await self.fleet.compare_closed(
                     self.owner,
@@ -330,6 +366,8 @@ class Soak(Trial):
                     lines.get(shard, []),
                     str(self.day),
                 )
+            if not differ:
+                break
         archived = await self.owner.fetchval("select count(*) from own_archived_transaction")
         left = await self.owner.fetchval("select count(*) from own_log")
         self.check(

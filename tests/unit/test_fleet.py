@@ -1,5 +1,6 @@
 """The fleet's plans, figures, payloads and closings, without a database."""
 
+import argparse
 import asyncio
 from datetime import datetime, timezone
 from pathlib import Path
@@ -9,13 +10,16 @@ import pytest
 pytest.importorskip("asyncpg")
 pytest.importorskip("websockets")
 
+import asyncpg  # noqa: E402
+
 from ocpp_board.energies import Flow  # noqa: E402
 from ocpp_board.fleet.archives import Late, packed, unpacked, widened  # noqa: E402
 from ocpp_board.fleet.close_day import differences  # noqa: E402
-from ocpp_board.fleet import database, watched as watching  # noqa: E402
+from ocpp_board.fleet import begun_anew, database, metrics, watched as watching  # noqa: E402
 from ocpp_board.fleet.board_writer import Board, chunks  # noqa: E402
 from ocpp_board.fleet.database import (  # noqa: E402
     Fault,
+    SessionLost,
     Unreachable,
     places,
     said,
@@ -50,7 +54,7 @@ from ocpp_board.fleet.lines import (  # noqa: E402
     transaction_of,
 )
 from ocpp_board.fleet.plans import Plan, Reckoning, known_lines  # noqa: E402
-from ocpp_board.fleet.worker import payloads_of  # noqa: E402
+from ocpp_board.fleet.worker import Session, payloads_of  # noqa: E402
 from ocpp_board.messages import Refused  # noqa: E402
 
 FLOW = "up=1 down=0 export_up=0 export_down=0"
@@ -104,6 +108,30 @@ def test_a_refused_login_is_a_fault_where_every_host_gives_it(
         connected()
 
 
+class Ended:
+    """A session with the database that another task ends, after which it has no process."""
+
+    def __init__(self) -> None:
+        self.pids = [7]
+
+    def get_server_pid(self) -> int:
+        return self.pids.pop()
+
+    async def fetch(self, _query: str, *_values: object) -> None:
+        raise asyncpg.InterfaceError("connection is closed")
+
+
+def test_a_worker_whose_session_is_ended_beats_until_it_is_told() -> None:
+    async def beaten() -> None:
+        words = argparse.Namespace(hang=1.0, name="worker_1", seen=metrics.WorkerSeen(1.0))
+        session = Session(words, [Ended(), Ended(), Ended()])
+        for _ in range(2):
+            with pytest.raises(asyncpg.InterfaceError):
+                await session.beat_once()
+
+    asyncio.run(beaten())
+
+
 def test_payloads_of_wakes_fit() -> None:
     firsts = {shard: 10 * shard for shard in range(4_000)}
     texts = list(wakes(firsts))
@@ -122,6 +150,72 @@ def test_tokens_are_not_counted_and_what_is_no_answer_is_left() -> None:
 
 def test_what_a_fault_says() -> None:
     assert said(OSError("no file")) == "no file" and said(TimeoutError()) == "TimeoutError"
+
+
+def left_behind(ended: Exception) -> Exception:
+    """What a session tells that ended within a transaction, once that is left."""
+    fault: Exception = asyncpg.InterfaceError("cannot call Transaction.__aexit__()")
+    fault.__context__ = ended
+    return fault
+
+
+def test_a_session_that_ended_is_told_by_why_it_did() -> None:
+    fault = left_behind(asyncpg.AdminShutdownError("terminating connection"))
+    assert said(fault) == "terminating connection"
+    assert said(left_behind(ValueError("of the work"))).startswith("cannot call")
+    assert (
+        str(SessionLost(fault)) == "the session with the database was lost: terminating connection"
+    )
+
+
+class Given:
+    """A session that was entered, which is lost by this fault, or closed by it."""
+
+    def __init__(self, fault: Exception | None, is_ended: bool = False) -> None:
+        self.fault, self.is_ended = fault, is_ended
+
+    def is_closed(self) -> bool:
+        return self.is_ended
+
+    def terminate(self) -> None:
+        self.is_ended = True
+
+
+def anew(monkeypatch: pytest.MonkeyPatch, *given: Given | Exception) -> str:
+    """What comes of work in sessions that are given one after the other."""
+    left = list(given)
+
+    async def connect(_dsn: str, **_settings: str) -> Given:
+        if isinstance(one := left.pop(0), Exception):
+            raise one
+        return one
+
+    async def work(session: Given) -> str:
+        if session.fault:
+            raise session.fault
+        return f"done, {len(left)} left"
+
+    monkeypatch.setattr(begun_anew, "connect", connect)
+    monkeypatch.setattr(begun_anew, "PAUSE", 0.0)
+    made = asyncio.run(begun_anew.begun_anew("postgresql://u@a/ledger", work))
+    assert all(one.is_ended for one in given[: -len(left) or None] if isinstance(one, Given))
+    return made
+
+
+def test_work_is_begun_anew_where_its_session_is_lost(monkeypatch: pytest.MonkeyPatch) -> None:
+    lost, ended = asyncpg.ConnectionDoesNotExistError("gone"), asyncpg.InterfaceError("closed")
+    away, fine = Unreachable("a: none"), Given(None)
+    assert (
+        anew(monkeypatch, away, Given(lost), away, Given(ended, True), fine, fine) == "done, 1 left"
+    )
+    with pytest.raises(SessionLost, match="was lost: gone"):
+        anew(monkeypatch, *(Given(lost) for _ in range(5)), fine)
+    for other in (Fault("of the plan"), asyncpg.InterfaceError("odd"), OSError("No space left")):
+        with pytest.raises(type(other)):
+            anew(monkeypatch, Given(other), fine)
+    monkeypatch.setattr(begun_anew, "PATIENCE", -1.0)
+    with pytest.raises(Unreachable):
+        anew(monkeypatch, away, fine)
 
 
 def test_a_plan_declares_limits_where_they_change() -> None:

@@ -15,8 +15,10 @@ transaction is told here, and replayed behind its archived ones; the file of thi
 are removed, as `ocpp-board compact` does. Before anything is taken from the log, the file and the lines that are left
 are replayed, and their figures together have to be those of the log.
 
-It may end at any time: call it again. A line that the ledger took and that can't be read here, such as one with a
-time of a second 60, is told with its number, and its transaction stays in the log.
+It may end at any time: call it again. Where its session with the database is lost it begins anew by itself, up to five
+times and for two minutes without any, and it waits as long for another program that has the shard. A line that the
+ledger took and that can't be read here, such as one with a time of a second 60, is told with its number, and its
+transaction stays in the log.
 """
 
 import argparse
@@ -32,7 +34,8 @@ from zoneinfo import ZoneInfo
 from ocpp_board.energies import FLOW, Flow, flow_of
 from ocpp_board.fleet import compact, findings, parts
 from ocpp_board.fleet.archives import ARCHIVED, packed, unpacked, widened
-from ocpp_board.fleet.database import Fault, connect, said
+from ocpp_board.fleet.begun_anew import begun_anew, reserve
+from ocpp_board.fleet.database import Fault, said
 from ocpp_board.fleet.figures import Figures, Flows, added, figures, periods
 from ocpp_board.fleet.findings import Findings
 from ocpp_board.fleet.lines import (
@@ -59,6 +62,11 @@ REPLAN = "update own_shard set plan = plan + 1 where shard = $1 and plan = $2 an
 # The same where lines came to be known: it tells the worker.
 ANEW = "with one as (update own_shard set plan = plan + 1 where shard = $1) select pg_notify('plan', $1::text)"
 BEFORE = "select day, period, reading_order from own_closing where shard = $1 and site = $2 order by closing"
+# Which of these transactions are archived.
+HAD = """
+select station, transaction from own_archived_transaction
+where shard = $1 and (station, transaction) in (select * from unnest($2::text[], $3::text[]))
+"""
 # What an earlier version archived, whose lines are in its files alone.
 UNPACKED = """
 select t.station, t.transaction, t.site, t.closing, c.archive
@@ -183,6 +191,8 @@ class Closing:
         )
         self.zone, self.reckoning = zone_of(site), Reckoning.of(site)
         self.stations: list[dict[str, Any]] = []
+        # Transactions that were named to be archived, and are.
+        self.had = set[Transaction]()
 
     async def fetch(self, query: str, *values: Any) -> Any:
         """The rows of a query about the shard."""
@@ -194,12 +204,12 @@ class Closing:
 
     async def reserve(self) -> None:
         """Keeps others from moving, compacting or closing the shard, and reads the site's stations."""
-        if not await self.session.fetchval("select reserve_shard($1)", self.shard):
-            raise Fault(
-                f"shard {self.shard} is being moved, compacted or closed by another program"
-            )
+        await reserve(self.session, self.shard)
         query = "select * from own_station where shard = $1 and site = $2 order by place"
         self.stations = [dict(row) for row in await self.fetch(query, self.site)]
+        named = ([one[part] for one in self.named()] for part in (0, 1))
+        rows = await self.fetch(HAD, *named)
+        self.had = {(row["station"], row["transaction"]) for row in rows}
 
     async def read(self) -> tuple[int, int, list[Any]]:
         """The shard's plan, the last place of its log, and the lines of the site's stations."""
@@ -252,20 +262,24 @@ class Closing:
             for (station, kind, name), numbers in whole.items()
             if kind == "tx" and numbers["complete"] and station not in unread
         }
-        return complete - open_ones | self.named({line.transaction for line in changes})
+        return complete - open_ones | self.named_in({line.transaction for line in changes})
 
-    def named(self, there: set[Transaction | None]) -> set[Transaction]:
-        """The transactions that an operator has archived as they are. Raises Fault where one is not there."""
-        named = {
+    def named(self) -> set[Transaction]:
+        """The transactions of the shard that an operator has archived as they are."""
+        return {
             (station, name.lower())
             for station, name in self.words.incomplete
             if station in self.names()
         }
-        for station, name in sorted(named - there):
+
+    def named_in(self, there: set[Transaction | None]) -> set[Transaction]:
+        """Those among them that are in the log. Raises Fault where one is neither there nor archived already."""
+        named = self.named()
+        for station, name in sorted(named - there - self.had):
             raise Fault(
                 f"shard {self.shard}: the log has no transaction {name} of {station}; nothing was taken from it"
             )
-        return named
+        return named - self.had
 
     def tell_unread(self, line: Line, fault: Unreadable) -> None:
         """Names a line that can't be read, and what stays in the log for that."""
@@ -560,10 +574,14 @@ async def run(words: argparse.Namespace) -> None:
     words.known = known_lines(words.program)
     if not words.archive.is_dir():
         raise Fault(f"{words.archive}: no folder for archives")
+    done = set[int]()
     # Within its transaction it reckons: on a busy machine that takes longer than others may be idle.
-    session = await connect(
-        words.db, application_name=NAME, idle_in_transaction_session_timeout="60s"
-    )
+    settings = {"application_name": NAME, "idle_in_transaction_session_timeout": "60s"}
+    await begun_anew(words.db, lambda session: closed(words, session, done), **settings)
+
+
+async def closed(words: argparse.Namespace, session: Any, done: set[int]) -> None:
+    """Closes the day in each of these shards that is not done, and notes those that are."""
     sites = await session.fetch(
         "select shard, site, period, reading_order, zone from own_site where site = $1 order by 1",
         words.site,
@@ -579,11 +597,10 @@ async def run(words: argparse.Namespace) -> None:
         today = datetime.now(zone_of(site)).date()
         if words.day and words.day >= today:
             raise Fault(f"{words.day} is not over in {site['zone']}")
-        print(
-            await Closing(words, session, site).run(words.day or today - timedelta(days=1)),
-            flush=True,
-        )
-    await session.close()
+        if site["shard"] not in done:
+            told = await Closing(words, session, site).run(words.day or today - timedelta(days=1))
+            done.add(site["shard"])
+            print(told, flush=True)
 
 
 def day_of(text: str) -> date:

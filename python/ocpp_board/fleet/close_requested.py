@@ -18,7 +18,8 @@ from pathlib import Path
 from typing import Any
 
 from ocpp_board.fleet import parts
-from ocpp_board.fleet.database import Fault, connect
+from ocpp_board.fleet.begun_anew import begun_anew
+from ocpp_board.fleet.database import Fault
 from ocpp_board.processes import PACKAGES
 from ocpp_board.statuses import Status
 from ocpp_board.words import add_program, parser_of
@@ -70,21 +71,29 @@ async def closed(words: argparse.Namespace, row: Any) -> tuple[int, str]:
     return process.returncode or 0, text[-TOLD:]
 
 
+async def asked(words: argparse.Namespace, query: str, *values: Any) -> Any:
+    """The first row of a statement, by a session of its own: a closing may take longer than the database is there."""
+
+    async def work(session: Any) -> Any:
+        return await session.fetchrow(query, *values)
+
+    return await begun_anew(words.db, work, application_name=NAME)
+
+
 async def run(words: argparse.Namespace) -> int:
     """Does all requests that wait. Raises Fault where archives have no folder."""
     if not words.archives.is_dir():
         raise Fault(f"{words.archives}: no folder for archives")
-    session, failed = await connect(words.db, application_name=NAME), 0
-    while row := await session.fetchrow(TAKE):
+    failed = 0
+    while row := await asked(words, TAKE):
         status, told = await closed(words, row)
-        await session.execute(DONE, row["request"], status, told)
+        await asked(words, DONE, row["request"], status, told)
         what = f"request {row['request']} of {row['operator']}: {row['site']} up to {row['day']}"
         if status:
             log.error("%s: status %d: %s", what, status, told.splitlines()[-1:])
             failed += 1
         else:
             print(f"{what}: done", flush=True)
-    await session.close()
     return Status.TOLD if failed else Status.DONE
 
 

@@ -12,14 +12,15 @@ replay reads is replayed in parts.
 
 import argparse
 import logging
-from collections.abc import Iterator, Sequence
+from collections.abc import Awaitable, Iterator, Sequence
 from typing import Any, NamedTuple
 
 import asyncpg
 
 from ocpp_board.fleet import parts
 from ocpp_board.fleet.archives import Late
-from ocpp_board.fleet.database import Fault, connect, said
+from ocpp_board.fleet.begun_anew import begun_anew, entered, reserve
+from ocpp_board.fleet.database import Fault, said
 from ocpp_board.fleet.lines import is_repeat, station_of
 from ocpp_board.fleet.plans import Plan, known_lines
 from ocpp_board.fleet.replays import Replay, ReplayEnded
@@ -116,17 +117,16 @@ async def replayed(program: str, plan: Plan, lines: list[str]) -> Replayed:
 async def compact(words: argparse.Namespace, shard: int) -> None:
     """Removes the repeats of a shard's log. Raises Fault where that would change a board."""
     known = known_lines(words.program)
-    session = await connect(words.db, application_name=NAME)
-    try:
-        print(await compacted(words.program, known, session, shard), flush=True)
-    finally:
-        await session.close()
+
+    def work(session: Any) -> Awaitable[str]:
+        return compacted(words.program, known, session, shard)
+
+    print(await begun_anew(words.db, work, application_name=NAME), flush=True)
 
 
 async def compacted(program: str, known: frozenset[str], session: Any, shard: int) -> str:
     """The same in this session, and what it was in one line."""
-    if not await session.fetchval("select reserve_shard($1)", shard):
-        raise Fault(f"shard {shard} is being moved, compacted or closed by another program")
+    await reserve(session, shard)
     number = await session.fetchval("select plan from own_shard where shard = $1", shard)
     if number is None:
         raise Fault(f"no shard {shard} in this cell")
@@ -149,7 +149,7 @@ async def run(words: argparse.Namespace) -> int:
     if not words.all:
         await compact(words, words.shard)
         return 0
-    session = await connect(words.db, application_name=NAME)
+    session = await entered(words.db, application_name=NAME)
     rows = await session.fetch("select shard from own_shard where moving_to is null order by 1")
     await session.close()
     wrong = 0

@@ -71,6 +71,13 @@ class Unreachable(Exception):
     """No host of a cell takes writes at the moment."""
 
 
+class SessionLost(Fault):
+    """A session ended in the middle of work: by its end, or by what a statement of it met."""
+
+    def __init__(self, fault: BaseException) -> None:
+        super().__init__(f"the session with the database was lost: {said(fault)}")
+
+
 def places(dsn: str) -> tuple[list[tuple[str, int]], str, str]:
     """The hosts with their ports, the user and the database of postgresql://user@host:port,host:port/database.
 
@@ -223,7 +230,11 @@ def answers_in(payload: str) -> Iterator[tuple[int, str]]:
 
 
 def said(fault: BaseException) -> str:
-    """What a fault says; the name of its kind where it says nothing."""
+    """What a fault says; the name of its kind where it says nothing. Where a session ended within a transaction,
+    leaving that is a fault of its own, and what the session ended by is said."""
+    odd = (asyncpg.InterfaceError, asyncpg.InternalClientError)
+    while isinstance(fault, odd) and isinstance(fault.__context__, LOST):
+        fault = fault.__context__
     return str(fault) or type(fault).__name__
 
 

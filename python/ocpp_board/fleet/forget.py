@@ -27,6 +27,7 @@ import asyncpg
 from ocpp_board.fleet import compact, parts
 from ocpp_board.fleet.archives import Late, packed, unpacked, widened
 from ocpp_board.fleet.backup import at_least_one
+from ocpp_board.fleet.begun_anew import reserve
 from ocpp_board.fleet.database import Fault, connect, said
 from ocpp_board.fleet.lines import station_of
 from ocpp_board.fleet.plans import Plan, known_lines
@@ -78,8 +79,7 @@ class Keeper:
 
     async def shard(self, number: int) -> None:
         """Forgets what a shard has. Raises Fault where it is in use, or where an answer or a board would change."""
-        if not await self.session.fetchval("select reserve_shard($1)", number):
-            raise Fault(f"shard {number} is being moved, compacted or closed by another program")
+        await reserve(self.session, number)
         plan = await Plan.of(self.session.fetch, number, self.words.known)
         await self.log(number, plan)
         for row in await self.session.fetch(CLOSINGS, number, self.before):

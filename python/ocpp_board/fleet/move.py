@@ -19,6 +19,7 @@ from typing import Any
 from ocpp_board.boards import TOTAL
 from ocpp_board.energies import FLOW
 from ocpp_board.fleet import parts
+from ocpp_board.fleet.begun_anew import reserve
 from ocpp_board.fleet.database import Fault, connect
 from ocpp_board.words import parser_of
 
@@ -185,8 +186,7 @@ async def run(words: argparse.Namespace) -> None:
     ]
     if here == there:
         raise Fault(f"both are cell {here}")
-    if not await source.fetchval("select reserve_shard($1)", words.shard):
-        raise Fault(f"shard {words.shard} is being moved or compacted by another program")
+    await reserve(source, words.shard)
     row = await source.fetchrow("select moving_to from own_shard where shard = $1", words.shard)
     has_landed = (
         await target.fetchval("select count(*) from own_shard where shard = $1", words.shard) > 0

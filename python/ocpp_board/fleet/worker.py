@@ -98,6 +98,8 @@ NOTING, CONTEST = 0.5, 0.05
 SHOWN = 8
 # Shards taken at once, and seconds in which the program has to open a plan.
 TAKEN, OPENING_TIME = 16, 60
+# Seconds in which the database has to answer at least, however soon workers that hang are ended.
+ANSWER = 10.0
 
 
 class Shard:
@@ -130,10 +132,13 @@ class Session:
 
     def __init__(self, words: argparse.Namespace, databases: Sequence[Any]) -> None:
         self.words, self.databases = words, databases
+        # The server's process of the session that holds the shards, which a session that was ended no longer tells.
+        self.pid = databases[0].get_server_pid()
+        self.patience = max(ANSWER, words.hang)
         self.seen: metrics.WorkerSeen = words.seen
         # One holds the shards, moves their lines and tells answers; its commits may wait for a standby. So beats have
         # another one, and boards, which are many rows, a third.
-        self.holder, self.beats, self.boards = (Asked(one, words.hang) for one in databases)
+        self.holder, self.beats, self.boards = (Asked(one, self.patience) for one in databases)
         self.writer = BoardWriter(self.boards, self.is_answering)
         # When lines were read last.
         self.read_at = 0.0
@@ -198,9 +203,9 @@ class Session:
             database = self.holder.database
             job, began = asyncio.ensure_future(database.fetch(query, *values)), time.monotonic()
             job.add_done_callback(seen)
-            while not (await asyncio.wait([job], timeout=self.words.hang))[0]:
-                if not await self.beats.ask(WAITS, database.get_server_pid()):
-                    raise asyncio.TimeoutError(f"no answer in {self.words.hang:g} seconds")
+            while not (await asyncio.wait([job], timeout=self.patience))[0]:
+                if not await self.beats.ask(WAITS, self.pid):
+                    raise asyncio.TimeoutError(f"no answer in {self.patience:g} seconds")
                 log.warning("commits wait for the synchronous standby")
                 self.seen.waits_since(began)
             self.seen.standby_since = None
@@ -226,15 +231,19 @@ class Session:
 
     async def beat_once(self) -> None:
         """Tells that this worker lives, and looks how many do."""
-        pid = self.holder.database.get_server_pid()
-        rows = await self.beats.ask(BEAT, self.words.name, len(self.shards), pid)
+        rows = await self.beats.ask(BEAT, self.words.name, len(self.shards), self.pid)
         self.living, self.seen.beat = rows[0]["living"], time.monotonic()
 
     async def beat(self) -> None:
-        """Tells again and again that this worker lives, and ends those that hang."""
+        """Tells again and again that this worker lives, and ends those that hang. Where it just began, or its own beats
+        came late, the machine or the database may be slow for all: it ends nobody for as long as it would have waited.
+        """
+        last = late = time.monotonic()
         for beats in itertools.count():
             await self.beat_once()
-            if beats % FENCING == 0:
+            now = time.monotonic()
+            last, late = now, now if now > last + self.words.hang / 2 else late
+            if beats % FENCING == 0 and now > late + self.words.hang:
                 for row in await self.beats.ask(FENCE, self.words.hang):
                     self.seen.counts["fenced"] += 1
                     log.warning(
@@ -654,7 +663,7 @@ async def opened(words: argparse.Namespace) -> list[Any]:
                 )
             )
             if len(databases) == 1:
-                await within(words.hang, databases[0], "fetch", FORMER, words.name)
+                await within(max(ANSWER, words.hang), databases[0], "fetch", FORMER, words.name)
     except BaseException:
         for database in databases:
             database.terminate()
