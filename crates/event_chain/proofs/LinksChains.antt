@@ -10,11 +10,6 @@ pub head_append : (after : Option ℕ) (xs ys : List ℕ) → head_or after (xs 
 head_append after [] ys = refl
 head_append after (x ∷ xs) ys = refl
 
--- The last slot of two lists.
-pub last_append : (before : Option ℕ) (xs ys : List ℕ) → last_or before (xs ++ ys) ≡ last_or (last_or before xs) ys
-last_append before [] ys = refl
-last_append before (x ∷ xs) ys = last_append (Some x) xs ys
-
 -- The first slot of a list that has one, whatever comes after the list.
 pub head_some : (after : Option ℕ) (xs : List ℕ) (first : ℕ) → head_or None xs ≡ Some first → head_or after xs ≡ Some first
 head_some after [] first e = absurd (cc)
@@ -122,8 +117,3 @@ chain_back_in l back first last prev before apart slots hf hl hb chain =
 pub slot_in : (l : Links) (before : Option ℕ) (first last : ℕ) (after : Option ℕ) (s : ℕ) → IsSlot l s → IsSlot (linked_in l before first last after) s
 slot_in l before first last after s slot = let lens = length-linked_in l before first last after in
     (slots_kept l (linked_in l before first last after) (s ∷ []) lens.0 lens.1 (slot, tt)).0
-
--- A slot is one after a run was left out.
-pub slot_out : (l : Links) (before after : Option ℕ) (s : ℕ) → IsSlot l s → IsSlot (linked_out l before after) s
-slot_out l before after s slot = let lens = length-linked_out l before after in
-    (slots_kept l (linked_out l before after) (s ∷ []) lens.0 lens.1 (slot, tt)).0

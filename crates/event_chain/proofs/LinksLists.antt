@@ -49,18 +49,6 @@ linked_with_slot l front s back slot absent list = linked_with_run l front (s �
 pub run_of_list : (l : Links) (ss : List ℕ) → IsLinked l ss → IsRun l ss
 run_of_list l ss list = record { before = None; after = None; chain = list.chain; apart = list.apart; slots = list.slots }
 
--- A part of a list is a run.
-pub run_of_part : (l : Links) (front mid back : List ℕ) → IsLinked l (front ++ (mid ++ back)) → IsRun l mid
-run_of_part l front mid back list =
-    let chain = chain_parts l (last_or None front) mid back None (chain_parts l None front (mid ++ back) None list.chain).1 in
-    record {
-      before = last_or None front;
-      after = head_or None back;
-      chain = chain.0;
-      apart = (apart_parts mid back (apart_parts front (mid ++ back) list.apart).1).0;
-      slots = (slots_parts l mid back (slots_parts l front (mid ++ back) list.slots).1).0;
-    }
-
 -- A run left out of a list is gone from it.
 pub linked_without_run : (l : Links) (front mid back : List ℕ) → IsLinked l (front ++ (mid ++ back)) → IsLinked (linked_out l (last_or None front) (head_or None back)) (front ++ back)
 linked_without_run l front mid back list =
@@ -80,20 +68,6 @@ linked_without_run l front mid back list =
       chain = chain_both m None front back None in_front in_back;
       apart = apart_both front back apart.0 apart_rest.1 front_back;
       slots = slots_kept l m (front ++ back) lens.0 lens.1 (slots_both l front back slots.0 slots_rest.1);
-    }
-
--- A run left out keeps its own links.
-pub run_left_out : (l : Links) (front mid back : List ℕ) → IsLinked l (front ++ (mid ++ back)) → IsRun (linked_out l (last_or None front) (head_or None back)) mid
-run_left_out l front mid back list =
-    let before = last_or None front in let after = head_or None back in let run = run_of_part l front mid back list in
-    let apart = apart_parts front (mid ++ back) list.apart in let front_mid = (elsewhere_parts front mid back apart.2).0 in let back_mid = elsewhere_back mid back (apart_parts mid back apart.1).2 in
-    let lens = length-linked_out l before after in
-    record {
-      before = run.before;
-      after = run.after;
-      chain = chain_beside_out l before after run.before mid run.after (last_beside None front mid tt front_mid) (head_beside back mid back_mid) run.chain;
-      apart = run.apart;
-      slots = slots_kept l (linked_out l before after) mid lens.0 lens.1 run.slots;
     }
 
 -- A slot left out of a list is gone from it.

@@ -4,7 +4,7 @@ use Rattle.std.specs.Ordering.{eq_by_cmp}
 use Rattle.transaction_map.proofs.Rising.{same_id}
 use Rattle.transaction_map.proofs.Found.{put_cases, out_cases, rising_put, rising_out, length_put, length_out}
 use Rattle.event_chain.specs.declared.row.TableRow.{TableRow}
-use Rattle.event_chain.specs.Table.{TxRow, IsFresh, id_cmp, row_of, with_row, without_row}
+use Rattle.event_chain.specs.Table.{Table, TxRow, AreSlotted, IsFresh, id_cmp, row_of, with_row, without_row}
 use Rattle.event_chain.specs.TableKept.{IsNone, AreSpare, IsTable}
 
 -- The last of the slots to spare.
@@ -81,6 +81,7 @@ IsTable-add rows spare ss capacity slot tx r is table absent same =
         | inr a ↦ was q x a e
       ]) last.rest;
       total = let n = length_put tx r rows table.rising ∙ ap (λ (o : Option TableRow). cond (is_some o) (length rows) (length rows + 1)) absent in omega (arith, n, table.total, ap length is, length-append ss (slot ∷ []));
+      few = table.few;
     }
 
 -- What is kept of a transaction changed, but for its slot.
@@ -96,6 +97,7 @@ IsTable-set rows ss capacity tx old r table there same =
       below = λ q x at. let a = back q x at in subst (λ n. n < capacity) (sym a.1.1) (table.below q a.0 a.1.0);
       spare_are = spare_on capacity rows (with_row tx r rows) old.slot ss (none_fresh capacity tx old rows ss there table.spare_are) (λ s other was q x at e. let a = back q x at in was q a.0 a.1.0 (sym a.1.1 ∙ e)) table.spare_are;
       total = let n = length_put tx r rows table.rising ∙ ap (λ (o : Option TableRow). cond (is_some o) (length rows) (length rows + 1)) there in omega (arith, n, table.total);
+      few = table.few;
     }
 
 -- A transaction taken out, and its slot given back.
@@ -114,6 +116,7 @@ IsTable-remove rows ss capacity tx r table there =
         rest = spare_on capacity rows new r.slot ss (none_fresh capacity tx r rows ss there table.spare_are) (λ s other was q x at e. was q x (out_cases q tx x rows at).1 e) table.spare_are;
       });
       total = let n = length_out tx rows table.rising in let one = ap (λ (o : Option TableRow). cond {A = ℕ} (is_some o) 1 0) there in omega (arith, n, one, table.total, length-append ss (r.slot ∷ []));
+      few = table.few;
     }
 
 -- Each of them is the number or above it.
@@ -142,3 +145,7 @@ open_spare capacity n ss new is lt above h = (
 pub slot_there : (o : Option TableRow) (n : ℕ) → option_map (λ (r : TableRow). r.slot) o ≡ Some n → (row : TableRow) × ((o ≡ Some row) × (n ≡ row.slot))
 slot_there None n h = cc
 slot_there (Some row) n h = (row, (refl, cc))
+
+-- Such rows rise, each with a slot of its own.
+pub slotted : (t : Table) (ss : List ℕ) → IsTable t.rows ss t.capacity → AreSlotted t
+slotted t ss table = record { rising = table.rising; apart = table.apart; below = table.below; few = table.few }
