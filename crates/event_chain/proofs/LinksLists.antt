@@ -1,18 +1,19 @@
 -- Whole lists: a run put in, left out, and lists beside.
 use Rattle.std.proofs.Common.{◌≡◌, ℕ, List, [], ◌∷◌, ◌++◌, Some, None, refl, sym, ◌∙◌, subst}
 use Rattle.event_chain.specs.Links.{Links, links, linked_in, linked_out, written, IsSlot}
-use Rattle.event_chain.specs.LinkChain.{head_or, last_or, IsChain, IsAbsent, IsBeside, AreElsewhere, IsLinked, IsRun}
+use Rattle.slot_arena.specs.Free.{IsApart}
+use Rattle.event_chain.specs.LinkChain.{head_or, last_or, IsChain, IsBeside, AreElsewhere, IsLinked, IsRun}
 use Rattle.event_chain.proofs.LinksApart.{elsewhere_back, elsewhere_parts, elsewhere_both, parts_elsewhere, apart_parts, apart_both}
 use Rattle.event_chain.proofs.LinksWritten.{last_beside, head_beside}
 use Rattle.event_chain.proofs.LinksEnds.{chain_prev_beside, chain_next_beside, chain_prev_first, chain_next_last}
 use Rattle.event_chain.proofs.LinksChains.{head_append, head_some, last_some, chain_both, chain_parts, slots_kept, slots_both, slots_parts, length-linked_in, length-linked_out, chain_beside_in, chain_beside_out, chain_front_in, chain_run_in, chain_back_in}
 
 -- The first slot of a run is absent where the run is elsewhere.
-first_absent : (mid zs : List ℕ) (first : ℕ) → head_or None mid ≡ Some first → AreElsewhere mid zs → IsAbsent first zs
+first_absent : (mid zs : List ℕ) (first : ℕ) → head_or None mid ≡ Some first → AreElsewhere mid zs → IsApart first zs
 first_absent mid zs first is elsewhere = subst (λ o. IsBeside o zs) is (head_beside mid zs elsewhere)
 
 -- The last one, too.
-last_absent : (mid zs : List ℕ) (last : ℕ) → last_or None mid ≡ Some last → AreElsewhere mid zs → IsAbsent last zs
+last_absent : (mid zs : List ℕ) (last : ℕ) → last_or None mid ≡ Some last → AreElsewhere mid zs → IsApart last zs
 last_absent mid zs last is elsewhere = subst (λ o. IsBeside o zs) is (last_beside None mid zs tt elsewhere)
 
 -- A run put in between the two parts of a list stands there.
@@ -41,7 +42,7 @@ pub run_of_one : (l : Links) (s : ℕ) → IsSlot l s → IsRun l (s ∷ [])
 run_of_one l s slot = record { before = _; after = _; chain = (refl, refl, tt); apart = (tt, tt); slots = (slot, tt) }
 
 -- A slot put in between the two parts of a list stands there.
-pub linked_with_slot : (l : Links) (front : List ℕ) (s : ℕ) (back : List ℕ) → IsSlot l s → IsAbsent s (front ++ back)
+pub linked_with_slot : (l : Links) (front : List ℕ) (s : ℕ) (back : List ℕ) → IsSlot l s → IsApart s (front ++ back)
     → IsLinked l (front ++ back) → IsLinked (linked_in l (last_or None front) s s (head_or None back)) (front ++ s ∷ back)
 linked_with_slot l front s back slot absent list = linked_with_run l front (s ∷ []) back s s refl refl (absent, tt) (run_of_one l s slot) list
 

@@ -5,17 +5,18 @@ use Rattle.transaction_map.proofs.Rising.{same_id}
 use Rattle.transaction_map.proofs.Found.{put_cases, out_cases, rising_put, rising_out, length_put, length_out}
 use Rattle.event_chain.specs.declared.row.TableRow.{TableRow}
 use Rattle.event_chain.specs.Table.{Table, TxRow, AreSlotted, IsFresh, id_cmp, row_of, with_row, without_row}
-use Rattle.event_chain.specs.TableKept.{IsNone, AreSpare, IsTable}
+use Rattle.slot_arena.specs.Free.{IsApart}
+use Rattle.event_chain.specs.TableKept.{AreSpare, IsTable}
 
 -- The last of the slots to spare.
 pub record IsLast (capacity slot : ℕ) (rows : List TxRow) (ss : List ℕ) : Type 0 where
   pub fresh : IsFresh slot rows
   pub below : slot < capacity
-  pub none : IsNone slot ss
+  pub none : IsApart slot ss
   pub rest : AreSpare capacity rows ss
 
 -- A number is no element of the parts of a list that it is none of.
-none_parts : (n s : ℕ) (ss : List ℕ) → IsNone n (ss ++ s ∷ []) → IsNone n ss × (n ≡ s → ⊥)
+none_parts : (n s : ℕ) (ss : List ℕ) → IsApart n (ss ++ s ∷ []) → IsApart n ss × (n ≡ s → ⊥)
 none_parts n s [] h = (tt, h.0)
 none_parts n s (m ∷ ss) h = let rest = none_parts n s ss h.1 in ((h.0, rest.0), rest.1)
 
@@ -27,7 +28,7 @@ last_spare capacity slot rows (s ∷ ss) h =
     record { fresh = rest.fresh; below = rest.below; none = ((λ e. none.1 (sym e)), rest.none); rest = (h.0, (h.1.0, (none.0, rest.rest))) }
 
 -- A slot of none of them goes to the end.
-none_more : (n s : ℕ) (ss : List ℕ) → IsNone n ss → (n ≡ s → ⊥) → IsNone n (ss ++ s ∷ [])
+none_more : (n s : ℕ) (ss : List ℕ) → IsApart n ss → (n ≡ s → ⊥) → IsApart n (ss ++ s ∷ [])
 none_more n s [] h apart = (apart, tt)
 none_more n s (m ∷ ss) h apart = (h.0, none_more n s ss h.1 apart)
 
@@ -46,12 +47,12 @@ more_spare capacity slot rows (s ∷ ss) last = (
 )
 
 -- Slots to spare, among other rows where each is as fresh.
-pub spare_on : (capacity : ℕ) (rows new : List TxRow) (n : ℕ) (ss : List ℕ) → IsNone n ss → ((s : ℕ) → (n ≡ s → ⊥) → IsFresh s rows → IsFresh s new) → AreSpare capacity rows ss → AreSpare capacity new ss
+pub spare_on : (capacity : ℕ) (rows new : List TxRow) (n : ℕ) (ss : List ℕ) → IsApart n ss → ((s : ℕ) → (n ≡ s → ⊥) → IsFresh s rows → IsFresh s new) → AreSpare capacity rows ss → AreSpare capacity new ss
 spare_on capacity rows new n [] none turn h = tt
 spare_on capacity rows new n (s ∷ ss) none turn h = (turn s none.0 h.0, (h.1.0, (h.1.1.0, spare_on capacity rows new n ss none.1 turn h.1.1.1)))
 
 -- A slot that is no transaction's is none of those to spare where it is one's.
-pub none_fresh : (capacity : ℕ) (tx : List ℕ) (row : TableRow) (rows : List TxRow) (ss : List ℕ) → row_of tx rows ≡ Some row → AreSpare capacity rows ss → IsNone row.slot ss
+pub none_fresh : (capacity : ℕ) (tx : List ℕ) (row : TableRow) (rows : List TxRow) (ss : List ℕ) → row_of tx rows ≡ Some row → AreSpare capacity rows ss → IsApart row.slot ss
 none_fresh capacity tx row rows [] there h = tt
 none_fresh capacity tx row rows (s ∷ ss) there h = (h.0 tx row there, none_fresh capacity tx row rows ss there h.1.1.1)
 
@@ -125,7 +126,7 @@ AreFrom n [] = Unit {0}
 AreFrom n (s ∷ ss) = (n ≤ s) × AreFrom n ss
 
 -- A number is none of those above it.
-none_from : (n : ℕ) (ss : List ℕ) → AreFrom (n + 1) ss → IsNone n ss
+none_from : (n : ℕ) (ss : List ℕ) → AreFrom (n + 1) ss → IsApart n ss
 none_from n [] h = tt
 none_from n (s ∷ ss) h = let le = h.0 in ((λ (e : n ≡ s). let f : n ≡ s = e in absurd (omega arith)), none_from n ss h.1)
 
