@@ -130,6 +130,10 @@ found_alike sites name site k once less lk named = ⊎_elim
     ∙ sym (ne_eqb k site e))
     (cases_eq k site)
   where
+    no_match : (c : Bool) → bytes_eq name (site_name sites k) ≡ c → (bytes_eq name (site_name sites k) ≡ true → ⊥) → c ≡ false
+    no_match true is never = absurd (never is)
+    no_match false is never = refl
+
 -- the boards of a site's stations, found by its name
 shown_alike : (order : Order) (period : ℕ) (sites : List SitePlan) (stations : List StationPlan) (cells : List Cell) (name : List ℕ) (site : ℕ) → All (λ s. bytes_eq name (site_name sites s.site) ≡ eqb s.site site) stations
     → map (shown_station order period) (stations_of name (filled (planned_world sites stations) cells)) ≡ boards_at order period stations cells site

@@ -61,5 +61,3 @@ pub totals-part : (log : List Post) (k : ℕ) (totals old f : Figures) → total
     → plus_figures (totals_after (log ++ (k, f) ∷ [])) old ≡ plus_figures totals f
 totals-part log k totals old f is row =
     ap (plus_figures (totals_after (log ++ (k, f) ∷ []))) row ∙ totals-push k f log ∙ ap (λ t. plus_figures t f) (sym is)
-
-}
