@@ -150,7 +150,3 @@ flat_rising (r ∷ rows) es slots rising ranks = entries_rising r.0 r.1.slot slo
 -- Entries that rise, and in which each key finds the same, are the same.
 pub same_flat : (xs ys : List Entry) → IsRising xs → IsRising ys → ((q : KeyName) → find key_cmp q xs ≡ find key_cmp q ys) → xs ≡ ys
 same_flat xs ys a b same = same_entries key_cmp key_total exact_keys xs ys a b same
-
--- Places that rise, and under which each rank finds the same, are the same.
-pub same_places : (xs ys : List EventPlace) → AreRanks xs → AreRanks ys → ((r : ℕ) → place_of r xs ≡ place_of r ys) → xs ≡ ys
-same_places xs ys a b same = same_entries nat_cmp nat_cmp_total nat_cmp-IsAntisymmetric xs ys a b same

@@ -1,14 +1,15 @@
 -- Lists of slots that share none.
 use Rattle.std.proofs.Common.{ℕ, List, [], ◌∷◌, ◌++◌, sym}
-use Rattle.event_chain.specs.LinkChain.{IsAbsent, AreApart, AreElsewhere}
+use Rattle.slot_arena.specs.Free.{IsApart, AreApart}
+use Rattle.event_chain.specs.LinkChain.{AreElsewhere}
 
 -- A slot absent from a list is absent from both its parts.
-pub absent_parts : (s : ℕ) (xs ys : List ℕ) → IsAbsent s (xs ++ ys) → IsAbsent s xs × IsAbsent s ys
+pub absent_parts : (s : ℕ) (xs ys : List ℕ) → IsApart s (xs ++ ys) → IsApart s xs × IsApart s ys
 absent_parts s [] ys absent = (tt, absent)
 absent_parts s (x ∷ xs) ys absent = let rest = absent_parts s xs ys absent.1 in ((absent.0, rest.0), rest.1)
 
 -- A slot absent from two lists is absent from both together.
-pub absent_both : (s : ℕ) (xs ys : List ℕ) → IsAbsent s xs → IsAbsent s ys → IsAbsent s (xs ++ ys)
+pub absent_both : (s : ℕ) (xs ys : List ℕ) → IsApart s xs → IsApart s ys → IsApart s (xs ++ ys)
 absent_both s [] ys a b = b
 absent_both s (x ∷ xs) ys a b = (a.0, absent_both s xs ys a.1 b)
 
@@ -18,7 +19,7 @@ elsewhere_none [] = tt
 elsewhere_none (x ∷ xs) = (tt, elsewhere_none xs)
 
 -- A list that shares no slot with another, one slot more of which is none of it.
-elsewhere_more : (xs : List ℕ) (y : ℕ) (ys : List ℕ) → IsAbsent y xs → AreElsewhere xs ys → AreElsewhere xs (y ∷ ys)
+elsewhere_more : (xs : List ℕ) (y : ℕ) (ys : List ℕ) → IsApart y xs → AreElsewhere xs ys → AreElsewhere xs (y ∷ ys)
 elsewhere_more [] y ys absent elsewhere = tt
 elsewhere_more (x ∷ xs) y ys absent elsewhere = (((λ e. absent.0 (sym e)), elsewhere.0), elsewhere_more xs y ys absent.1 elsewhere.1)
 

@@ -1,7 +1,8 @@
 -- Chains put together, cut, and left alone.
 use Rattle.std.proofs.Common.{◌≡◌, ℕ, ◌<◌, List, [], ◌∷◌, ◌++◌, Option, Some, None, length, refl, sym, ◌∙◌, subst}
 use Rattle.event_chain.specs.Links.{Links, links, linked_in, linked_out, written, IsSlot}
-use Rattle.event_chain.specs.LinkChain.{head_or, last_or, IsChain, IsAbsent, IsBeside, AreApart, AreSlots}
+use Rattle.slot_arena.specs.Free.{IsApart, AreApart}
+use Rattle.event_chain.specs.LinkChain.{head_or, last_or, IsChain, IsBeside, AreSlots}
 use Rattle.event_chain.proofs.LinksWritten.{length-written}
 use Rattle.event_chain.proofs.LinksEnds.{chain_prev_beside, chain_next_beside, chain_prev_first, chain_next_last}
 
@@ -9,11 +10,6 @@ use Rattle.event_chain.proofs.LinksEnds.{chain_prev_beside, chain_next_beside, c
 pub head_append : (after : Option ℕ) (xs ys : List ℕ) → head_or after (xs ++ ys) ≡ head_or (head_or after ys) xs
 head_append after [] ys = refl
 head_append after (x ∷ xs) ys = refl
-
--- The last slot of two lists.
-pub last_append : (before : Option ℕ) (xs ys : List ℕ) → last_or before (xs ++ ys) ≡ last_or (last_or before xs) ys
-last_append before [] ys = refl
-last_append before (x ∷ xs) ys = last_append (Some x) xs ys
 
 -- The first slot of a list that has one, whatever comes after the list.
 pub head_some : (after : Option ℕ) (xs : List ℕ) (first : ℕ) → head_or None xs ≡ Some first → head_or after xs ≡ Some first
@@ -61,7 +57,7 @@ pub length-linked_out : (l : Links) (before after : Option ℕ) → (length (lin
 length-linked_out l before after = (length-written l.prevs after before, length-written l.nexts before after)
 
 -- A run put in elsewhere leaves a chain.
-pub chain_beside_in : (l : Links) (before : Option ℕ) (first last : ℕ) (after b : Option ℕ) (zs : List ℕ) (a : Option ℕ) → IsBeside before zs → IsAbsent first zs → IsAbsent last zs → IsBeside after zs
+pub chain_beside_in : (l : Links) (before : Option ℕ) (first last : ℕ) (after b : Option ℕ) (zs : List ℕ) (a : Option ℕ) → IsBeside before zs → IsApart first zs → IsApart last zs → IsBeside after zs
     → IsChain l b zs a → IsChain (linked_in l before first last after) b zs a
 chain_beside_in l before first last after b zs a hb hf hl ha chain =
     let p1 = written l.prevs (Some first) before in let p2 = written p1 after (Some last) in let n1 = written l.nexts (Some last) after in
@@ -79,7 +75,7 @@ chain_beside_out l before after b zs a hb ha chain =
     chain_next_beside (written l.prevs after before) l.nexts before after b zs a hb (chain_prev_beside l.prevs l.nexts after before b zs a ha chain)
 
 -- What stands in front of a run, once that is put in.
-pub chain_front_in : (l : Links) (front : List ℕ) (first last : ℕ) (next after : Option ℕ) → AreApart front → AreSlots l front → IsAbsent first front → IsAbsent last front → IsBeside after front
+pub chain_front_in : (l : Links) (front : List ℕ) (first last : ℕ) (next after : Option ℕ) → AreApart front → AreSlots l front → IsApart first front → IsApart last front → IsBeside after front
     → IsChain l None front next → IsChain (linked_in l (last_or None front) first last after) None front (Some first)
 chain_front_in l front first last next after apart slots hf hl ha chain =
     let before = last_or None front in let p1 = written l.prevs (Some first) before in let p2 = written p1 after (Some last) in let n1 = written l.nexts (Some last) after in
@@ -105,7 +101,7 @@ chain_run_in l mid first last b a before after is_first is_last apart slots hb h
     chain_next_beside p2 n1 before (Some first) before mid after hb ended
 
 -- What stands behind a run, once that is put in.
-pub chain_back_in : (l : Links) (back : List ℕ) (first last : ℕ) (prev before : Option ℕ) → AreApart back → AreSlots l back → IsAbsent first back → IsAbsent last back → IsBeside before back
+pub chain_back_in : (l : Links) (back : List ℕ) (first last : ℕ) (prev before : Option ℕ) → AreApart back → AreSlots l back → IsApart first back → IsApart last back → IsBeside before back
     → IsChain l prev back None → IsChain (linked_in l before first last (head_or None back)) (Some last) back None
 chain_back_in l back first last prev before apart slots hf hl hb chain =
     let after = head_or None back in let p1 = written l.prevs (Some first) before in let p2 = written p1 after (Some last) in let n1 = written l.nexts (Some last) after in
@@ -122,8 +118,3 @@ chain_back_in l back first last prev before apart slots hf hl hb chain =
 pub slot_in : (l : Links) (before : Option ℕ) (first last : ℕ) (after : Option ℕ) (s : ℕ) → IsSlot l s → IsSlot (linked_in l before first last after) s
 slot_in l before first last after s slot = let lens = length-linked_in l before first last after in
     (slots_kept l (linked_in l before first last after) (s ∷ []) lens.0 lens.1 (slot, tt)).0
-
--- A slot is one after a run was left out.
-pub slot_out : (l : Links) (before after : Option ℕ) (s : ℕ) → IsSlot l s → IsSlot (linked_out l before after) s
-slot_out l before after s slot = let lens = length-linked_out l before after in
-    (slots_kept l (linked_out l before after) (s ∷ []) lens.0 lens.1 (slot, tt)).0

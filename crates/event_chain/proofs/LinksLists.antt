@@ -1,18 +1,19 @@
 -- Whole lists: a run put in, left out, and lists beside.
 use Rattle.std.proofs.Common.{◌≡◌, ℕ, List, [], ◌∷◌, ◌++◌, Some, None, refl, sym, ◌∙◌, subst}
 use Rattle.event_chain.specs.Links.{Links, links, linked_in, linked_out, written, IsSlot}
-use Rattle.event_chain.specs.LinkChain.{head_or, last_or, IsChain, IsAbsent, IsBeside, AreElsewhere, IsLinked, IsRun}
+use Rattle.slot_arena.specs.Free.{IsApart}
+use Rattle.event_chain.specs.LinkChain.{head_or, last_or, IsChain, IsBeside, AreElsewhere, IsLinked, IsRun}
 use Rattle.event_chain.proofs.LinksApart.{elsewhere_back, elsewhere_parts, elsewhere_both, parts_elsewhere, apart_parts, apart_both}
 use Rattle.event_chain.proofs.LinksWritten.{last_beside, head_beside}
 use Rattle.event_chain.proofs.LinksEnds.{chain_prev_beside, chain_next_beside, chain_prev_first, chain_next_last}
 use Rattle.event_chain.proofs.LinksChains.{head_append, head_some, last_some, chain_both, chain_parts, slots_kept, slots_both, slots_parts, length-linked_in, length-linked_out, chain_beside_in, chain_beside_out, chain_front_in, chain_run_in, chain_back_in}
 
 -- The first slot of a run is absent where the run is elsewhere.
-first_absent : (mid zs : List ℕ) (first : ℕ) → head_or None mid ≡ Some first → AreElsewhere mid zs → IsAbsent first zs
+first_absent : (mid zs : List ℕ) (first : ℕ) → head_or None mid ≡ Some first → AreElsewhere mid zs → IsApart first zs
 first_absent mid zs first is elsewhere = subst (λ o. IsBeside o zs) is (head_beside mid zs elsewhere)
 
 -- The last one, too.
-last_absent : (mid zs : List ℕ) (last : ℕ) → last_or None mid ≡ Some last → AreElsewhere mid zs → IsAbsent last zs
+last_absent : (mid zs : List ℕ) (last : ℕ) → last_or None mid ≡ Some last → AreElsewhere mid zs → IsApart last zs
 last_absent mid zs last is elsewhere = subst (λ o. IsBeside o zs) is (last_beside None mid zs tt elsewhere)
 
 -- A run put in between the two parts of a list stands there.
@@ -41,25 +42,13 @@ pub run_of_one : (l : Links) (s : ℕ) → IsSlot l s → IsRun l (s ∷ [])
 run_of_one l s slot = record { before = _; after = _; chain = (refl, refl, tt); apart = (tt, tt); slots = (slot, tt) }
 
 -- A slot put in between the two parts of a list stands there.
-pub linked_with_slot : (l : Links) (front : List ℕ) (s : ℕ) (back : List ℕ) → IsSlot l s → IsAbsent s (front ++ back)
+pub linked_with_slot : (l : Links) (front : List ℕ) (s : ℕ) (back : List ℕ) → IsSlot l s → IsApart s (front ++ back)
     → IsLinked l (front ++ back) → IsLinked (linked_in l (last_or None front) s s (head_or None back)) (front ++ s ∷ back)
 linked_with_slot l front s back slot absent list = linked_with_run l front (s ∷ []) back s s refl refl (absent, tt) (run_of_one l s slot) list
 
 -- A whole list is a run.
 pub run_of_list : (l : Links) (ss : List ℕ) → IsLinked l ss → IsRun l ss
 run_of_list l ss list = record { before = None; after = None; chain = list.chain; apart = list.apart; slots = list.slots }
-
--- A part of a list is a run.
-pub run_of_part : (l : Links) (front mid back : List ℕ) → IsLinked l (front ++ (mid ++ back)) → IsRun l mid
-run_of_part l front mid back list =
-    let chain = chain_parts l (last_or None front) mid back None (chain_parts l None front (mid ++ back) None list.chain).1 in
-    record {
-      before = last_or None front;
-      after = head_or None back;
-      chain = chain.0;
-      apart = (apart_parts mid back (apart_parts front (mid ++ back) list.apart).1).0;
-      slots = (slots_parts l mid back (slots_parts l front (mid ++ back) list.slots).1).0;
-    }
 
 -- A run left out of a list is gone from it.
 pub linked_without_run : (l : Links) (front mid back : List ℕ) → IsLinked l (front ++ (mid ++ back)) → IsLinked (linked_out l (last_or None front) (head_or None back)) (front ++ back)
@@ -80,20 +69,6 @@ linked_without_run l front mid back list =
       chain = chain_both m None front back None in_front in_back;
       apart = apart_both front back apart.0 apart_rest.1 front_back;
       slots = slots_kept l m (front ++ back) lens.0 lens.1 (slots_both l front back slots.0 slots_rest.1);
-    }
-
--- A run left out keeps its own links.
-pub run_left_out : (l : Links) (front mid back : List ℕ) → IsLinked l (front ++ (mid ++ back)) → IsRun (linked_out l (last_or None front) (head_or None back)) mid
-run_left_out l front mid back list =
-    let before = last_or None front in let after = head_or None back in let run = run_of_part l front mid back list in
-    let apart = apart_parts front (mid ++ back) list.apart in let front_mid = (elsewhere_parts front mid back apart.2).0 in let back_mid = elsewhere_back mid back (apart_parts mid back apart.1).2 in
-    let lens = length-linked_out l before after in
-    record {
-      before = run.before;
-      after = run.after;
-      chain = chain_beside_out l before after run.before mid run.after (last_beside None front mid tt front_mid) (head_beside back mid back_mid) run.chain;
-      apart = run.apart;
-      slots = slots_kept l (linked_out l before after) mid lens.0 lens.1 run.slots;
     }
 
 -- A slot left out of a list is gone from it.

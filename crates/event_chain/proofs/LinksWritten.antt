@@ -1,7 +1,8 @@
 -- What a written link changes, and what it leaves.
 use Rattle.std.proofs.Common.{◌≡◌, ◌≢◌, ℕ, ◌<◌, List, [], ◌∷◌, Option, Some, None, length, get_or, refl, sym, get_or-set_other, get_or-set_same, length-set}
 use Rattle.event_chain.specs.Links.{written}
-use Rattle.event_chain.specs.LinkChain.{last_or, head_or, IsAbsent, IsBeside, AreElsewhere}
+use Rattle.slot_arena.specs.Free.{IsApart}
+use Rattle.event_chain.specs.LinkChain.{last_or, head_or, IsBeside, AreElsewhere}
 
 -- The slot is another one than this, where this is one.
 abbrev pub IsOther : ℕ → Option ℕ → Type 0
@@ -23,7 +24,7 @@ length-written row None link = refl
 length-written row (Some t) link = length-set row t link
 
 -- A slot is another one than the last of a list that it is absent from.
-pub last_other : (s : ℕ) (before : Option ℕ) (ts : List ℕ) → IsOther s before → IsAbsent s ts → IsOther s (last_or before ts)
+pub last_other : (s : ℕ) (before : Option ℕ) (ts : List ℕ) → IsOther s before → IsApart s ts → IsOther s (last_or before ts)
 last_other s before [] other absent = other
 last_other s before (t ∷ ts) other absent = last_other s (Some t) ts absent.0 absent.1
 

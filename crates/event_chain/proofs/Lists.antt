@@ -11,7 +11,8 @@ use Rattle.std.specs.FinMap.Entries.{is_sorted-put}
 use Rattle.event_chain.specs.Ranked.{last_of, AreRising}
 use Rattle.event_chain.specs.Placed.{Index, index}
 use Rattle.event_chain.specs.Links.{Links, links, linked_in, linked_out, prev_of, next_of, IsSlot}
-use Rattle.event_chain.specs.LinkChain.{head_or, last_or, IsChain, IsAbsent, AreElsewhere, AreSlots, IsLinked}
+use Rattle.slot_arena.specs.Free.{IsApart}
+use Rattle.event_chain.specs.LinkChain.{head_or, last_or, IsChain, AreElsewhere, AreSlots, IsLinked}
 use Rattle.event_chain.proofs.LinksChains.{chain_parts, slots_parts, length-linked_in, length-linked_out}
 use Rattle.event_chain.proofs.LinksLists.{linked_with_slot, linked_without_slot, linked_beside_in, linked_beside_out}
 use Rattle.event_chain.specs.Flat.{EventPlace, place_of}
@@ -53,15 +54,15 @@ after_last l before (x ∷ []) after s chain last = let same : x ≡ s = cc in a
 after_last l before (x ∷ y ∷ ys) after s chain last = after_last l (Some x) (y ∷ ys) after s chain.2 last
 
 -- A slot is absent where no place that passes a test has it.
-absent_left : (s : ℕ) (f : EventPlace → Bool) (ps : List EventPlace) → AllPlaces (λ p. f p ≡ true → s ≢ p.1) ps → IsAbsent s (map slot_in (filter f ps))
+absent_left : (s : ℕ) (f : EventPlace → Bool) (ps : List EventPlace) → AllPlaces (λ p. f p ≡ true → s ≢ p.1) ps → IsApart s (map slot_in (filter f ps))
 absent_left s f [] h = tt
-absent_left s f (p ∷ ps) h = elim (f p) as (λ b. f p ≡ b → IsAbsent s (map slot_in (cond b (p ∷ filter f ps) (filter f ps)))) [
+absent_left s f (p ∷ ps) h = elim (f p) as (λ b. f p ≡ b → IsApart s (map slot_in (cond b (p ∷ filter f ps) (filter f ps)))) [
   | true ↦ λ y. (h.0 y, absent_left s f ps h.1)
   | false ↦ λ _. absent_left s f ps h.1
 ] refl
 
 -- Slots are elsewhere where those of the places that pass a test are absent.
-elsewhere_left : (f : EventPlace → Bool) (zs : List ℕ) (ps : List EventPlace) → AllPlaces (λ p. f p ≡ true → IsAbsent p.1 zs) ps → AreElsewhere (map slot_in (filter f ps)) zs
+elsewhere_left : (f : EventPlace → Bool) (zs : List ℕ) (ps : List EventPlace) → AllPlaces (λ p. f p ≡ true → IsApart p.1 zs) ps → AreElsewhere (map slot_in (filter f ps)) zs
 elsewhere_left f zs [] h = tt
 elsewhere_left f zs (p ∷ ps) h = elim (f p) as (λ b. f p ≡ b → AreElsewhere (map slot_in (cond b (p ∷ filter f ps) (filter f ps))) zs) [
   | true ↦ λ y. (h.0 y, elsewhere_left f zs ps h.1)
@@ -69,12 +70,12 @@ elsewhere_left f zs (p ∷ ps) h = elim (f p) as (λ b. f p ≡ b → AreElsewhe
 ] refl
 
 -- A slot that has no place of a transaction is absent from its list.
-pub absent_of : (s t : ℕ) (es : List EventPlace) → AreRanks es → ((r : ℕ) → place_of r es ≡ Some s → r / 2 ^ 31 ≡ t → ⊥) → IsAbsent s (slots_of t es)
+pub absent_of : (s t : ℕ) (es : List EventPlace) → AreRanks es → ((r : ℕ) → place_of r es ≡ Some s → r / 2 ^ 31 ≡ t → ⊥) → IsApart s (slots_of t es)
 absent_of s t es ranks never = absent_left s (λ e. e.0 / 2 ^ 31 == t) es (all_found (λ p. (p.0 / 2 ^ 31 == t) ≡ true → s ≢ p.1) es ranks (λ p at y e. never p.0 (at ∙ ap Some (sym e)) ((Decides-eqb (p.0 / 2 ^ 31) t).0 y)))
 
 -- The lists of two transactions share no slot.
 pub lists_elsewhere : (t q : ℕ) (es : List EventPlace) → AreRanks es → AreOwn es → (t ≡ q → ⊥) → AreElsewhere (slots_of t es) (slots_of q es)
-lists_elsewhere t q es ranks own other = elsewhere_left (λ e. e.0 / 2 ^ 31 == t) (slots_of q es) es (all_found (λ p. (p.0 / 2 ^ 31 == t) ≡ true → IsAbsent p.1 (slots_of q es)) es ranks (λ p at y.
+lists_elsewhere t q es ranks own other = elsewhere_left (λ e. e.0 / 2 ^ 31 == t) (slots_of q es) es (all_found (λ p. (p.0 / 2 ^ 31 == t) ≡ true → IsApart p.1 (slots_of q es)) es ranks (λ p at y.
     absent_of p.1 q es ranks (λ r there home. other (sym ((Decides-eqb (p.0 / 2 ^ 31) t).0 y) ∙ ap (λ k. k / 2 ^ 31) (own p.0 r p.1 at there) ∙ home))))
 
 -- No slot gets two ranks where one is put in that had none.
@@ -172,7 +173,7 @@ module _ (live : Index) (l : Links) (listed : AreListed live l) (rising : AreRis
             own = own;
             lists = λ q. elim (cases_eq t q) [
               | inl same ↦ subst (λ k. IsLinked m (slots_of k more)) same (subst (IsLinked m) (sym more_is) (subst (λ x. IsLinked x (front ++ s ∷ back)) linked
-                  (linked_with_slot l front s back slot_within (subst (IsAbsent s) list_is (absent_of s t es (ranks_of es rising) (λ k at _. unused k at))) list)))
+                  (linked_with_slot l front s back slot_within (subst (IsApart s) list_is (absent_of s t es (ranks_of es rising) (λ k at _. unused k at))) list)))
               | inr other ↦
                   let apart = subst (λ zs. AreElsewhere zs (slots_of q more)) more_is (lists_elsewhere t q more up own other) in
                   let same = ap (map slot_in) (seg_put_other r es rising none s q other) in

@@ -41,10 +41,6 @@ pub record Made : Type 0 where
   pub carriers : Direction → Index
   pub naming : Index
 
--- Chains made of the same.
-pub sealed : (limits : Bounds) (a b : Made) → a ≡ b → IsChains limits a.table a.store a.stored a.live a.carriers a.naming → IsChains limits b.table b.store b.stored b.live b.carriers b.naming
-sealed limits a b e h = subst (λ (m : Made). IsChains limits m.table m.store m.stored m.live m.carriers m.naming) e h
-
 -- An event counts as live for its transaction.
 pub live_mine : (key : KeyName) (s : Stored) → live_one key.tx (key, s) ≡ cond (not s.voided) 1 0
 live_mine key s = ap (λ b. cond {A = ℕ} (b && not s.voided) 1 0) ((bytes_eq-Decides key.tx key.tx).1 refl)

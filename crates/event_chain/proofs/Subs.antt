@@ -53,8 +53,3 @@ out_if_others false r0 es r other = refl
 pub put_if_here : (b : Bool) (r0 s0 : ℕ) (es : List EventPlace) → place_of r0 es ≡ None → place_of r0 (put_if b r0 s0 es) ≡ cond b (Some s0) None
 put_if_here true r0 s0 es none = put_here r0 s0 es
 put_if_here false r0 s0 es none = none
-
--- What was taken out is not.
-pub out_if_here : (b : Bool) (r0 s0 : ℕ) (es : List EventPlace) → place_of r0 es ≡ cond b (Some s0) None → place_of r0 (out_if b r0 es) ≡ None
-out_if_here true r0 s0 es is = out_here r0 es
-out_if_here false r0 s0 es is = is

@@ -4,18 +4,19 @@ use Rattle.std.specs.Ordering.{eq_by_cmp}
 use Rattle.transaction_map.proofs.Rising.{same_id}
 use Rattle.transaction_map.proofs.Found.{put_cases, out_cases, rising_put, rising_out, length_put, length_out}
 use Rattle.event_chain.specs.declared.row.TableRow.{TableRow}
-use Rattle.event_chain.specs.Table.{TxRow, IsFresh, id_cmp, row_of, with_row, without_row}
-use Rattle.event_chain.specs.TableKept.{IsNone, AreSpare, IsTable}
+use Rattle.event_chain.specs.Table.{Table, TxRow, AreSlotted, IsFresh, id_cmp, row_of, with_row, without_row}
+use Rattle.slot_arena.specs.Free.{IsApart}
+use Rattle.event_chain.specs.TableKept.{AreSpare, IsTable}
 
 -- The last of the slots to spare.
 pub record IsLast (capacity slot : ℕ) (rows : List TxRow) (ss : List ℕ) : Type 0 where
   pub fresh : IsFresh slot rows
   pub below : slot < capacity
-  pub none : IsNone slot ss
+  pub none : IsApart slot ss
   pub rest : AreSpare capacity rows ss
 
 -- A number is no element of the parts of a list that it is none of.
-none_parts : (n s : ℕ) (ss : List ℕ) → IsNone n (ss ++ s ∷ []) → IsNone n ss × (n ≡ s → ⊥)
+none_parts : (n s : ℕ) (ss : List ℕ) → IsApart n (ss ++ s ∷ []) → IsApart n ss × (n ≡ s → ⊥)
 none_parts n s [] h = (tt, h.0)
 none_parts n s (m ∷ ss) h = let rest = none_parts n s ss h.1 in ((h.0, rest.0), rest.1)
 
@@ -27,7 +28,7 @@ last_spare capacity slot rows (s ∷ ss) h =
     record { fresh = rest.fresh; below = rest.below; none = ((λ e. none.1 (sym e)), rest.none); rest = (h.0, (h.1.0, (none.0, rest.rest))) }
 
 -- A slot of none of them goes to the end.
-none_more : (n s : ℕ) (ss : List ℕ) → IsNone n ss → (n ≡ s → ⊥) → IsNone n (ss ++ s ∷ [])
+none_more : (n s : ℕ) (ss : List ℕ) → IsApart n ss → (n ≡ s → ⊥) → IsApart n (ss ++ s ∷ [])
 none_more n s [] h apart = (apart, tt)
 none_more n s (m ∷ ss) h apart = (h.0, none_more n s ss h.1 apart)
 
@@ -46,12 +47,12 @@ more_spare capacity slot rows (s ∷ ss) last = (
 )
 
 -- Slots to spare, among other rows where each is as fresh.
-pub spare_on : (capacity : ℕ) (rows new : List TxRow) (n : ℕ) (ss : List ℕ) → IsNone n ss → ((s : ℕ) → (n ≡ s → ⊥) → IsFresh s rows → IsFresh s new) → AreSpare capacity rows ss → AreSpare capacity new ss
+pub spare_on : (capacity : ℕ) (rows new : List TxRow) (n : ℕ) (ss : List ℕ) → IsApart n ss → ((s : ℕ) → (n ≡ s → ⊥) → IsFresh s rows → IsFresh s new) → AreSpare capacity rows ss → AreSpare capacity new ss
 spare_on capacity rows new n [] none turn h = tt
 spare_on capacity rows new n (s ∷ ss) none turn h = (turn s none.0 h.0, (h.1.0, (h.1.1.0, spare_on capacity rows new n ss none.1 turn h.1.1.1)))
 
 -- A slot that is no transaction's is none of those to spare where it is one's.
-pub none_fresh : (capacity : ℕ) (tx : List ℕ) (row : TableRow) (rows : List TxRow) (ss : List ℕ) → row_of tx rows ≡ Some row → AreSpare capacity rows ss → IsNone row.slot ss
+pub none_fresh : (capacity : ℕ) (tx : List ℕ) (row : TableRow) (rows : List TxRow) (ss : List ℕ) → row_of tx rows ≡ Some row → AreSpare capacity rows ss → IsApart row.slot ss
 none_fresh capacity tx row rows [] there h = tt
 none_fresh capacity tx row rows (s ∷ ss) there h = (h.0 tx row there, none_fresh capacity tx row rows ss there h.1.1.1)
 
@@ -81,6 +82,7 @@ IsTable-add rows spare ss capacity slot tx r is table absent same =
         | inr a ↦ was q x a e
       ]) last.rest;
       total = let n = length_put tx r rows table.rising ∙ ap (λ (o : Option TableRow). cond (is_some o) (length rows) (length rows + 1)) absent in omega (arith, n, table.total, ap length is, length-append ss (slot ∷ []));
+      few = table.few;
     }
 
 -- What is kept of a transaction changed, but for its slot.
@@ -96,6 +98,7 @@ IsTable-set rows ss capacity tx old r table there same =
       below = λ q x at. let a = back q x at in subst (λ n. n < capacity) (sym a.1.1) (table.below q a.0 a.1.0);
       spare_are = spare_on capacity rows (with_row tx r rows) old.slot ss (none_fresh capacity tx old rows ss there table.spare_are) (λ s other was q x at e. let a = back q x at in was q a.0 a.1.0 (sym a.1.1 ∙ e)) table.spare_are;
       total = let n = length_put tx r rows table.rising ∙ ap (λ (o : Option TableRow). cond (is_some o) (length rows) (length rows + 1)) there in omega (arith, n, table.total);
+      few = table.few;
     }
 
 -- A transaction taken out, and its slot given back.
@@ -114,6 +117,7 @@ IsTable-remove rows ss capacity tx r table there =
         rest = spare_on capacity rows new r.slot ss (none_fresh capacity tx r rows ss there table.spare_are) (λ s other was q x at e. was q x (out_cases q tx x rows at).1 e) table.spare_are;
       });
       total = let n = length_out tx rows table.rising in let one = ap (λ (o : Option TableRow). cond {A = ℕ} (is_some o) 1 0) there in omega (arith, n, one, table.total, length-append ss (r.slot ∷ []));
+      few = table.few;
     }
 
 -- Each of them is the number or above it.
@@ -122,7 +126,7 @@ AreFrom n [] = Unit {0}
 AreFrom n (s ∷ ss) = (n ≤ s) × AreFrom n ss
 
 -- A number is none of those above it.
-none_from : (n : ℕ) (ss : List ℕ) → AreFrom (n + 1) ss → IsNone n ss
+none_from : (n : ℕ) (ss : List ℕ) → AreFrom (n + 1) ss → IsApart n ss
 none_from n [] h = tt
 none_from n (s ∷ ss) h = let le = h.0 in ((λ (e : n ≡ s). let f : n ≡ s = e in absurd (omega arith)), none_from n ss h.1)
 
@@ -142,3 +146,7 @@ open_spare capacity n ss new is lt above h = (
 pub slot_there : (o : Option TableRow) (n : ℕ) → option_map (λ (r : TableRow). r.slot) o ≡ Some n → (row : TableRow) × ((o ≡ Some row) × (n ≡ row.slot))
 slot_there None n h = cc
 slot_there (Some row) n h = (row, (refl, cc))
+
+-- Such rows rise, each with a slot of its own.
+pub slotted : (t : Table) (ss : List ℕ) → IsTable t.rows ss t.capacity → AreSlotted t
+slotted t ss table = record { rising = table.rising; apart = table.apart; below = table.below; few = table.few }

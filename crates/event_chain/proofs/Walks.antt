@@ -37,11 +37,6 @@ above_first : (n : ℕ) (ns : List ℕ) → AreRising (n ∷ ns) → AllAbove n 
 above_first n [] h = tt
 above_first n (m ∷ ms) h = (h.0, above_less n m ms h.0 (above_first m ms h.1))
 
--- Without their first they rise.
-rising_rest : (n : ℕ) (ns : List ℕ) → AreRising (n ∷ ns) → AreRising ns
-rising_rest n [] h = tt
-rising_rest n (m ∷ ms) h = h.1
-
 -- They rise with a smaller one in front.
 rising_more : (n : ℕ) (ns : List ℕ) → AllAbove n ns → AreRising ns → AreRising (n ∷ ns)
 rising_more n [] h rising = tt

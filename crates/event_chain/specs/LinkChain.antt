@@ -1,5 +1,6 @@
 -- Lists of slots that links hold together.
 use Rattle.std.specs.Prelude.{◌≡◌, ◌≢◌, ℕ, List, [], ◌∷◌, Option, None, Some}
+use Rattle.slot_arena.specs.Free.{IsApart, AreApart}
 use Rattle.event_chain.specs.Links.{Links, prev_of, next_of, IsSlot}
 
 -- The first slot of a list, or what comes after the list where it has none.
@@ -17,25 +18,15 @@ abbrev pub IsChain : Links → Option ℕ → List ℕ → Option ℕ → Type 0
 IsChain l before [] after = Unit {0}
 IsChain l before (s ∷ ss) after = (prev_of l s ≡ before) × (next_of l s ≡ head_or after ss) × IsChain l (Some s) ss after
 
--- The slot is none of the list.
-abbrev pub IsAbsent : ℕ → List ℕ → Type 0
-IsAbsent s [] = Unit {0}
-IsAbsent s (t ∷ ts) = (s ≢ t) × IsAbsent s ts
-
 -- The slot, where it is one, is none of the list.
 abbrev pub IsBeside : Option ℕ → List ℕ → Type 0
 IsBeside None ts = Unit {0}
-IsBeside (Some s) ts = IsAbsent s ts
-
--- No slot stands in the list twice.
-abbrev pub AreApart : List ℕ → Type 0
-AreApart [] = Unit {0}
-AreApart (s ∷ ss) = IsAbsent s ss × AreApart ss
+IsBeside (Some s) ts = IsApart s ts
 
 -- No slot of the first list stands in the second.
 abbrev pub AreElsewhere : List ℕ → List ℕ → Type 0
 AreElsewhere [] ts = Unit {0}
-AreElsewhere (s ∷ ss) ts = IsAbsent s ts × AreElsewhere ss ts
+AreElsewhere (s ∷ ss) ts = IsApart s ts × AreElsewhere ss ts
 
 -- Each number of the list is that of a slot.
 abbrev pub AreSlots : Links → List ℕ → Type 0

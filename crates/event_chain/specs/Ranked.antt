@@ -1,5 +1,6 @@
 -- Places in the order of their ranks, cut at a rank.
 use Rattle.std.specs.Prelude.{ℕ, ◌<◌, List, [], ◌∷◌, Option, Some, None, length, nat_lt, nat_eq, if◌then◌else◌, slice_get, ◌-◌}
+use Rattle.std.specs.Coded.{×_prop, Unit-prop, le_prop}
 use Rattle.event_chain.specs.Flat.{EventPlace}
 
 -- The places in front that stand before the rank.
@@ -34,3 +35,13 @@ AreAbove n (e ∷ es) = (n < e.0) × AreAbove n es
 abbrev pub AreRising : List EventPlace → Type 0
 AreRising [] = Unit {0}
 AreRising (e ∷ es) = AreAbove e.0 es × AreRising es
+
+-- That each rank is above a number is a fact: it has one proof.
+pub AreAbove-prop : (n : ℕ) (es : List EventPlace) → IsProp (AreAbove n es)
+AreAbove-prop n [] = Unit-prop
+AreAbove-prop n (e ∷ es) = ×_prop le_prop (AreAbove-prop n es)
+
+-- So is that they rise.
+pub AreRising-prop : (es : List EventPlace) → IsProp (AreRising es)
+AreRising-prop [] = Unit-prop
+AreRising-prop (e ∷ es) = ×_prop (AreAbove-prop e.0 es) (AreRising-prop es)

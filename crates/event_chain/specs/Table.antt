@@ -1,5 +1,5 @@
 -- A table of transactions as its callers see it.
-use Rattle.std.specs.Prelude.{◌≡◌, ℕ, ◌<◌, List, Option, Some, not}
+use Rattle.std.specs.Prelude.{◌≡◌, ℕ, ◌<◌, ◌≤◌, List, Option, Some, not}
 use Rattle.std.specs.List.{filter}
 use Rattle.std.specs.Ordering.{eq_by_cmp}
 use Rattle.std.specs.FinMap.{find, put}
@@ -49,3 +49,10 @@ AreApart rows = (tx other : List ℕ) (a b : TableRow) → row_of tx rows ≡ So
 -- Each slot is below the number.
 abbrev pub AreBelow : ℕ → List TxRow → Type 0
 AreBelow n rows = (tx : List ℕ) (row : TableRow) → row_of tx rows ≡ Some row → row.slot < n
+
+-- The transactions rise, each with a slot of its own below what the table may hold, which is a number of 32 bits.
+pub record AreSlotted (t : Table) : Type 0 where
+  pub rising : AreRising t.rows
+  pub apart : AreApart t.rows
+  pub below : AreBelow t.capacity t.rows
+  pub few : t.capacity ≤ 4_294_967_295

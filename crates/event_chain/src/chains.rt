@@ -251,7 +251,6 @@ impl Chains {
         self.places.insert(place, at, slot, carries, names);
         let after = row_with(row, event.kind());
         renew(&mut self.table, known, tx, after);
-        self.table.rows_rise();
         around
     }
 
@@ -268,7 +267,6 @@ impl Chains {
         self.places.void(at.key, at.slot);
         let after = row_without(at.row, kind);
         self.table.set(key.tx(), after);
-        self.table.rows_rise();
     }
 
     /// Makes a voided event live again; it takes no slot.
@@ -286,7 +284,6 @@ impl Chains {
         self.places.restore(at.key, at.slot, carries, names);
         let after = row_with(at.row, kind);
         self.table.set(key.tx(), after);
-        self.table.rows_rise();
     }
 
     /// Takes out a voided event with its readings; a transaction without events gives its place back.
@@ -299,7 +296,6 @@ impl Chains {
         self.places.remove(at.key);
         self.store.take_out(at.slot);
         leave(&mut self.table, &self.places, key.tx(), at.row);
-        self.table.rows_rise();
     }
 
     /// The readings of a direction of the event of a key, in the order in which they were sent; none
@@ -385,7 +381,6 @@ impl Chains {
     pub fn last(&self, tx: &TxId) -> Option<u32>
         ensures { let numbers = numbers_of tx.now (stored self.now) in result ≡ slice_get numbers (length numbers - 1) }
     {
-        self.table.rows_rise();
         number_of(last_live(&self.places, self.table.get(tx)))
     }
 
@@ -411,7 +406,6 @@ impl Chains {
     pub fn standing(&self, tx: &TxId) -> TxStanding
         ensures { IsTxStanding tx.now (stored self.now) result }
     {
-        self.table.rows_rise();
         let row = self.table.get(tx);
         let first = first_live(&self.places, row);
         let last = last_live(&self.places, row);

@@ -15,12 +15,10 @@
 //! [`Chains::walk`] goes over its live numbers, one link a step. [`Chains::neighbours`] gives the live
 //! readings on either side of a key.
 //!
-//! Below the chains stand two types of their own. [`TransactionTable`] has a station's transactions as rows by
+//! Below the chains stands a type of its own. [`TransactionTable`] has a station's transactions as rows by
 //! rising id, each with a slot number that is no other's and that is handed out again when its transaction
-//! goes: a look-up among 4,096 is twelve comparisons. [`SlotLinks`] has the links of doubly linked lists over
-//! numbered slots: a list is there in the links alone, and is joined and cut by its ends, whatever its length.
-//! What that does to a list is proved too ([`link_laws`]): a run put in stands where it was put, a run left out
-//! is gone, and lists over other slots are untouched.
+//! goes: a look-up among 4,096 is twelve comparisons. The list of a transaction's live events is there in links
+//! by slot alone, and an event is put in and left out by its neighbours, whatever the list's length.
 //!
 //! ```text
 //! let mut chains = Chains::open(rt.alloc(), &limits)?;
@@ -36,7 +34,6 @@ mod around;
 mod carries;
 mod chains;
 mod lane;
-pub mod link_laws;
 mod links;
 mod place_index;
 mod row;
@@ -49,7 +46,6 @@ pub use answers::{Found, Room, TxStanding};
 pub use around::{Around, Sides};
 pub use carries::Carries;
 pub use chains::Chains;
-pub use links::SlotLinks;
 pub use row::TableRow;
 pub use table::TransactionTable;
 pub use tx_ids::TxIds;

@@ -1,13 +1,13 @@
-ghost use Rattle.std.specs.Prelude.{◌≡◌, ◌↔◌, None, IfOk, IsTrue, replicate};
+ghost use Rattle.std.specs.Prelude.{◌≡◌, None, IfOk, replicate};
 ghost use Rattle.std.specs.Option.{ForSome};
 ghost use Rattle.event_chain.specs.Links.{links, prev_of, next_of, linked_in, linked_out, IsSlot};
 
 use std::alloc::{AllocError, Global};
 use std::marker::Model;
 
-/// For each slot the one before it and the one after it. Contracts see two lists by slot.
+// For each slot the one before it and the one after it. Contracts see two lists by slot.
 #[derive(Drop)]
-pub struct SlotLinks {
+pub(crate) struct SlotLinks {
     prevs: Vec<Option<u32>>,
     nexts: Vec<Option<u32>>,
 }
@@ -24,8 +24,8 @@ impl Model for SlotLinks {
 }
 
 impl SlotLinks {
-    /// Links for so many slots, none of them linked.
-    pub fn open(alloc: Global, capacity: u32) -> Result<Self, AllocError>
+    // Links for so many slots, none of them linked.
+    pub(crate) fn open(alloc: Global, capacity: u32) -> Result<Self, AllocError>
         ensures { IfOk result (λ l. l ≡ links (replicate capacity None) (replicate capacity None)) }
     {
         let prevs = vec![in alloc; None; capacity as usize]?;
@@ -33,32 +33,25 @@ impl SlotLinks {
         Ok(SlotLinks { prevs, nexts })
     }
 
-    /// Tells whether there is a slot of this number.
-    pub fn is_slot(&self, slot: u32) -> bool
-        ensures { IsTrue result ↔ IsSlot self.now slot }
-    {
-        (slot as usize) < self.prevs.len()
-    }
-
-    /// The slot after this one. There is a slot of the number; `is_slot` tells.
-    pub fn next(&self, slot: u32) -> Option<u32>
+    // The slot after this one. There is a slot of the number.
+    pub(crate) fn next(&self, slot: u32) -> Option<u32>
         requires { IsSlot self.now slot }
         ensures { result ≡ next_of self.now slot }
     {
         self.nexts[slot as usize]
     }
 
-    /// The slot before this one. There is a slot of the number; `is_slot` tells.
-    pub fn prev(&self, slot: u32) -> Option<u32>
+    // The slot before this one. There is a slot of the number.
+    pub(crate) fn prev(&self, slot: u32) -> Option<u32>
         requires { IsSlot self.now slot }
         ensures { result ≡ prev_of self.now slot }
     {
         self.prevs[slot as usize]
     }
 
-    /// Puts the run from `first` to `last` between two slots; a side that is absent is an end of the
-    /// list. The run's inner links stay as they are.
-    pub fn link_in(&mut self, before: Option<u32>, first: u32, last: u32, after: Option<u32>)
+    // Puts the run from `first` to `last` between two slots; a side that is absent is an end of the
+    // list. The run's inner links stay as they are.
+    pub(crate) fn link_in(&mut self, before: Option<u32>, first: u32, last: u32, after: Option<u32>)
         requires ends { IsSlot self.old first × IsSlot self.old last }
         requires sides { ForSome before (IsSlot self.old) × ForSome after (IsSlot self.old) }
         ensures { self.new ≡ linked_in self.old before first last after }
@@ -73,9 +66,9 @@ impl SlotLinks {
         }
     }
 
-    /// Leaves out the run that stands between two slots; a side that is absent is an end of the list.
-    /// The run's own links stay, so it can be put in again as it is.
-    pub fn link_out(&mut self, before: Option<u32>, after: Option<u32>)
+    // Leaves out the run that stands between two slots; a side that is absent is an end of the list.
+    // The run's own links stay, so it can be put in again as it is.
+    pub(crate) fn link_out(&mut self, before: Option<u32>, after: Option<u32>)
         requires { ForSome before (IsSlot self.old) × ForSome after (IsSlot self.old) }
         ensures { self.new ≡ linked_out self.old before after }
     {

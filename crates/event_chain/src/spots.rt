@@ -5,7 +5,7 @@ ghost use Rattle.event_chain.specs.Placed.{carriers_of};
 ghost use Rattle.event_chain.specs.Ranked.{from, first_of, last_of};
 ghost use Rattle.key_index.specs.Key.{rank};
 ghost use Rattle.ledger_model.specs.Ranges.{sequence_end};
-ghost use Rattle.event_chain.specs.Table.{row_of, with_row, IsRowAt};
+ghost use Rattle.event_chain.specs.Table.{row_of, with_row, AreApart, AreRising, AreSlotted, IsRowAt};
 ghost use Rattle.event_chain.specs.Flat.{place_of, segment};
 ghost use Rattle.event_chain.specs.Kept.{HasPlace, IsBare, IsEntered, IsLeft};
 ghost use Rattle.event_chain.specs.Edits.{place_at, first_under, last_under, at_home, places_before, places_behind, first_at, last_at, kind_in, evse_at, IsSpot, IsStored};
@@ -108,6 +108,7 @@ pub(crate) fn renew(table: &mut TransactionTable, at: Option<usize>, tx: &TxId, 
     requires slot { option_map (λ r. r.slot) (row_of tx.now table.old.rows) ≡ Some row.slot }
     ensures rows { table.new.rows ≡ with_row tx.now row table.old.rows }
     ensures capacity { table.new.capacity ≡ table.old.capacity }
+    ensures slotted { AreSlotted table.new }
 {
     match at {
         Some(at) => table.set_at(at, tx, row),
@@ -344,6 +345,8 @@ pub(crate) fn leave(table: &mut TransactionTable, places: &PlaceIndex, tx: &TxId
     requires { row_of tx.now table.old.rows ≡ Some row }
     ensures left { IsLeft table.old.rows table.new.rows places.now.stored.entries tx.now row }
     ensures capacity { table.new.capacity ≡ table.old.capacity }
+    ensures rising { AreRising table.old.rows → AreRising table.new.rows }
+    ensures apart { AreApart table.old.rows → AreApart table.new.rows }
 {
     if !has_place(places, row.slot) {
         table.remove(tx);

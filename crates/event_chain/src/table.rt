@@ -1,5 +1,5 @@
 ghost use Rattle.std.specs.Prelude.{◌≡◌, ◌≢◌, ◌<◌, ◌≤◌, [], length, map, Some, None, IfOk, IfSome, option_map, slice_get};
-ghost use Rattle.event_chain.specs.Table.{AreRising, AreApart, AreBelow, IsFresh, IsRowAt, row_of, with_row, without_row};
+ghost use Rattle.event_chain.specs.Table.{AreSlotted, IsFresh, IsRowAt, row_of, with_row, without_row};
 
 use crate::row::TableRow;
 use ledger_model::TxId;
@@ -45,23 +45,9 @@ impl TransactionTable {
     pub fn len(&self) -> u32
         ensures len { result ≡ length self.now.rows }
         ensures within { length self.now.rows ≤ self.now.capacity }
-        ensures rising { AreRising self.now.rows }
-        ensures apart { AreApart self.now.rows }
-        ensures below { AreBelow self.now.capacity self.now.rows }
+        ensures slotted { AreSlotted self.now }
     {
         self.rows.len()
-    }
-
-    /// The transactions rise, each with a slot of its own below the capacity. It does nothing: a caller
-    /// names the fact by it.
-    pub fn rows_rise(&self)
-        ensures rising { AreRising self.now.rows }
-        ensures apart { AreApart self.now.rows }
-        ensures below { AreBelow self.now.capacity self.now.rows }
-        ensures within { length self.now.rows ≤ self.now.capacity }
-        ensures few { self.now.capacity ≤ 4294967295 }
-    {
-        let _ = (self.len(), self.capacity());
     }
 
     /// How many transactions it may hold.
@@ -89,14 +75,16 @@ impl TransactionTable {
 
     /// What is kept of a transaction; none where it is absent.
     pub fn get(&self, tx: &TxId) -> Option<TableRow>
-        ensures { result ≡ row_of tx.now self.now.rows }
+        ensures value { result ≡ row_of tx.now self.now.rows }
+        ensures slotted { AreSlotted self.now }
     {
         self.rows.get(tx)
     }
 
     /// The id at a place, the first at 0; none past the last.
     pub fn id_at(&self, place: usize) -> Option<&TxId>
-        ensures { option_map (λ id. id.now) result ≡ slice_get (map (λ r. r.0) self.now.rows) place }
+        ensures id { option_map (λ id. id.now) result ≡ slice_get (map (λ r. r.0) self.now.rows) place }
+        ensures few { length self.now.rows ≤ 4_294_967_295 }
     {
         self.rows.id_at(place)
     }
@@ -111,6 +99,7 @@ impl TransactionTable {
         ensures within { result.slot < self.old.capacity }
         ensures none_live { result.live ≡ 0 }
         ensures no_ends { result.ends ≡ 0 }
+        ensures slotted { AreSlotted self.new }
     {
         let slot = match self.spare.pop() {
             Some(slot) => slot,
@@ -130,6 +119,7 @@ impl TransactionTable {
         requires { option_map (λ r. r.slot) (row_of tx.now self.old.rows) ≡ Some row.slot }
         ensures rows { self.new.rows ≡ with_row tx.now row self.old.rows }
         ensures capacity { self.new.capacity ≡ self.old.capacity }
+        ensures slotted { AreSlotted self.new }
     {
         self.rows.put(tx, row);
     }
@@ -140,6 +130,7 @@ impl TransactionTable {
         requires slot { option_map (λ r. r.slot) (row_of tx.now self.old.rows) ≡ Some row.slot }
         ensures rows { self.new.rows ≡ with_row tx.now row self.old.rows }
         ensures capacity { self.new.capacity ≡ self.old.capacity }
+        ensures slotted { AreSlotted self.new }
     {
         self.rows.set_at(place, tx, row);
     }
@@ -149,6 +140,7 @@ impl TransactionTable {
         requires { row_of tx.now self.old.rows ≢ None }
         ensures rows { self.new.rows ≡ without_row tx.now self.old.rows }
         ensures capacity { self.new.capacity ≡ self.old.capacity }
+        ensures slotted { AreSlotted self.new }
     {
         if let Some(row) = self.rows.remove(tx) {
             self.spare.push_reserved(row.slot);

@@ -39,7 +39,6 @@ impl<'a> Iterator for TxIds<'a> {
     ghost remaining = { item_count (λ s. s) };
 
     fn next(&mut self) -> Option<TxId> {
-        self.table.rows_rise();
         match self.table.id_at(self.next) {
             Some(id) => {
                 self.next += 1;

@@ -1,4 +1,6 @@
 ghost use Rattle.std.specs.Prelude.{◌≡◌, true};
+ghost use Rattle.event_chain.specs.Lists.{AreOwn};
+ghost use Rattle.event_chain.specs.Ranked.{AreRising, AreRising-prop};
 ghost use Rattle.event_chain.specs.Walk.{numbers_at, are_under};
 
 use crate::place_index::PlaceIndex;
@@ -35,6 +37,9 @@ pub struct TxPlace<'a> {
     live: &'a PlaceIndex,
     store: &'a EventStore,
     slot: u32,
+    // The indexed keys rise, each with a slot of its own.
+    ghost rising: { AreRising live.now.live.entries } by { AreRising-prop live.now.live.entries },
+    ghost own: { AreOwn live.now.live.entries },
 }
 
 impl<'a> TxWalk<'a> {
@@ -72,16 +77,16 @@ impl<'a> NumberWalk for TxWalk<'a> {
     }
 
     fn number(&self, place: TxPlace<'a>) -> u32 {
-        // The indexed keys rise, each with a slot of its own.
-        let _index = place.live.live(KeyPlace::UNKNOWN);
         place.store.get(place.slot).key().number()
     }
 
     fn next(&self, place: TxPlace<'a>) -> Option<TxPlace<'a>> {
-        // The indexed keys rise, each with a slot of its own.
-        let _index = place.live.live(KeyPlace::UNKNOWN);
         match place.live.next(place.slot) {
-            Some(slot) => Some(TxPlace { slot, ..place }),
+            Some(slot) => Some(TxPlace {
+                live: place.live,
+                store: place.store,
+                slot,
+            }),
             None => None,
         }
     }

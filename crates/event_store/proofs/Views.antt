@@ -26,17 +26,6 @@ slots_set links [] i e = refl
 slots_set links (x ∷ events) zero e = refl
 slots_set links (x ∷ events) (suc i) e = ap (λ (es : List (Option Held)). slot_in links x ∷ es) (slots_set links events i e)
 
--- As many slots are held.
-pub slots_held : (links : LinkRow) (events : Events) → held_count (slots_in links events) ≡ held_count events
-slots_held links [] = refl
-slots_held links (None ∷ events) = slots_held links events
-slots_held links (Some e ∷ events) = omega (arith, slots_held links events, sum_by-cons (one {X = Held}) (slot_in links (Some e)) (slots_in links events), sum_by-cons (one {X = EventSlot}) (Some e) events)
-
--- As many slots there are.
-pub slots_long : (links : LinkRow) (events : Events) → length (slots_in links events) ≡ length events
-slots_long links [] = refl
-slots_long links (e ∷ events) = ap suc (slots_long links events)
-
 -- No slot is held.
 pub slots_free : (links : LinkRow) (n : ℕ) → slots_in links (replicate n None) ≡ replicate n None
 slots_free links zero = refl
@@ -76,19 +65,6 @@ voided_slots links events slots slot id e voided is value view =
     slots_set links events id (Some (record e { voided = voided }))
     ∙ ap (λ (o : Option Held). set (slots_in links events) id (voided_as voided o)) (sym (slot_at links events id ∙ ap (slot_in links) value))
     ∙ ap (λ k. voided_at (slots_in links events) k voided) is ∙ ap (λ ss. voided_at ss slot voided) view
-
--- A slot that was written is chained where what was written is.
-written_chained : (links : LinkRow) (events : Events) (id : ℕ) (old : EventSlot) (new : Option EventSlot) → value_at events id ≡ Some old → AreChained events links → (IsChained links id (Some old) → IsChained links id new) → AreChained (set events id new) links
-written_chained links events id old new was chained turn i =
-    elim (cases_eq i id) [
-      | inl same ↦ subst (λ k. IsChained links k (value_at (set events id new) k)) (sym same)
-          (subst (IsChained links id) (sym (get_or-set_same events id new None (there_within events id (ap is_some was)))) (turn (subst (IsChained links id) was (chained id))))
-      | inr other ↦ subst (IsChained links i) (sym (get_or-set_other events id i new None other)) (chained i)
-    ]
-
--- A slot whose event was voided is chained as before.
-pub voided_chained : (links : LinkRow) (events : Events) (id : ℕ) (e : EventSlot) (voided : Bool) → value_at events id ≡ Some e → AreChained events links → AreChained (set events id (Some (record e { voided = voided }))) links
-voided_chained links events id e voided value chained = written_chained links events id e (Some (record e { voided = voided })) value chained (λ run. run)
 
 -- A slot that was emptied is free.
 none_set : (events : Events) (i : ℕ) → value_at (set events i None) i ≡ None

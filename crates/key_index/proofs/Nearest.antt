@@ -81,14 +81,6 @@ module _ {V : Type 0} where
       sym (ap (λ n. last_of (marked m (all_of (take n ls)))) next ∙ ap (λ l. last_of (marked m l)) (all_more ls i lt) ∙ ap last_of (marked_both m (all_of (take i ls)) (get_or ls i []))
       ∙ ap (λ l. last_of (marked m (all_of (take i ls)) ++ marked m l)) (sym here) ∙ last_both (marked m (all_of (take i ls))) (marked m leaf) some)
 
-  -- A leaf behind that has none is passed over.
-  pub back_passed : (m : Mark) (ls : List (List (Entry V))) (i j : ℕ) (leaf : List (Entry V)) → i < length ls → j ≡ i + 1 → leaf ≡ get_or ls i leaf → length (marked m leaf) ≡ 0 → marked m (all_of (drop j ls)) ≡ marked m (all_of (drop i ls))
-  back_passed m ls i j leaf lt up read none =
-      let here = read_leaf ls i leaf lt read in let next : j ≡ suc i = omega (arith, up) in
-      ap (λ n. marked m (all_of (drop n ls))) next
-      ∙ sym (ap (marked m) (all_less ls i lt) ∙ marked_both m (get_or ls i []) (all_of (drop (suc i) ls)) ∙ ap (λ l. marked m l ++ marked m (all_of (drop (suc i) ls))) (sym here)
-      ∙ ap (λ l. l ++ marked m (all_of (drop (suc i) ls))) (none_is (marked m leaf) (omega (arith, none))))
-
   -- One that has some has the first.
   pub back_found : (m : Mark) (ls : List (List (Entry V))) (i : ℕ) (leaf : List (Entry V)) → i < length ls → leaf ≡ get_or ls i leaf → 0 < length (marked m leaf) → first_of (marked m leaf) ≡ first_of (marked m (all_of (drop i ls)))
   back_found m ls i leaf lt read some =

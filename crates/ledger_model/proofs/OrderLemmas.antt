@@ -1,27 +1,22 @@
 -- The readings of a transaction in either order, with one event more.
-use Rattle.std.proofs.Common.{◌≡◌, ℕ, ◌+◌, ◌*◌, ◌<◌, ◌≤◌, Bool, true, false, cond, not, ◌&&◌, ◌||◌, List, [], ◌∷◌, ◌++◌, length, map, refl, sym, ap, subst, ◌∙◌, ⊎_elim, bytes_eq, eqb, nat_lt, arith, length-append}
+use Rattle.std.proofs.Common.{◌≡◌, ℕ, ◌+◌, ◌*◌, ◌<◌, ◌≤◌, Bool, false, cond, not, ◌||◌, List, [], ◌∷◌, ◌++◌, length, map, refl, sym, ap, subst, ◌∙◌, ⊎_elim, bytes_eq, eqb, nat_lt, arith}
 use Rattle.std.specs.List.{filter, flat_map, sum_by, zip}
-use Rattle.std.specs.Prelude.{drop}
 use Rattle.std.proofs.Math.Path.{fun_ext}
-use Rattle.std.proofs.lemmas.Bool.{cases_lt, cases_eq, eq-eqb, ne_eqb, lt-ltb, le-ltb}
+use Rattle.std.proofs.lemmas.Bool.{cases_lt, eq-eqb, ne_eqb, lt-ltb, le-ltb}
 use Rattle.std.proofs.lemmas.Grind.{flat_map-append}
 use Rattle.std.proofs.lemmas.List.Elements.{filter-append}
 use Rattle.std.proofs.lemmas.List.Sums.{sum_by-append}
 use Rattle.ledger_model.specs.declared.order.Order.{Order}
 use Rattle.ledger_model.specs.declared.order.Order.TheVariants.{Sequence, Moment}
 use Rattle.ledger_model.specs.declared.reading.Direction.{Direction}
-use Rattle.ledger_model.specs.declared.reading.Direction.TheVariants.{Import, Export}
-use Rattle.ledger_model.specs.Board.{Board, board_by}
-use Rattle.ledger_model.specs.Complete.{is_complete}
 use Rattle.ledger_model.specs.Content.{Entry, live, live_of, transactions_of}
 use Rattle.ledger_model.specs.Deltas.{before_key, behind_key, own_events, IsOneMore}
-use Rattle.ledger_model.specs.Energy.{Pair, all_pairs_by, followed, pairs_by, readings_by, readings_of, energy_over, quarter_of, rising}
+use Rattle.ledger_model.specs.Energy.{Pair, all_pairs_by, followed, pairs_by, readings_by, readings_of}
 use Rattle.ledger_model.specs.Event.{MeterReading, toward}
-use Rattle.ledger_model.specs.Evse.{evse_of, evses, first_or_none, transactions_at}
-use Rattle.ledger_model.specs.InTime.{AreInTime, across_runs, in_order, in_pairs, in_time, runs}
-use Rattle.ledger_model.specs.Key.{KeyName}
-use Rattle.ledger_model.specs.ReadingOrder.{Numbered, bare, is_own, numbered, numbered_by, pairs_across, pairs_with, runs_of, taken_when}
-use Rattle.ledger_model.proofs.InTimeLemmas.{in_time-map, in_time-passed, in_time-same, in_time-sum}
+use Rattle.ledger_model.specs.Evse.{evse_of, transactions_at}
+use Rattle.ledger_model.specs.InTime.{across_runs, in_order, in_pairs, runs}
+use Rattle.ledger_model.specs.ReadingOrder.{Numbered, bare, is_own, numbered, numbered_by, pairs_across, pairs_with, runs_of}
+use Rattle.ledger_model.proofs.InTimeLemmas.{in_time-map, in_time-passed, in_time-sum}
 use Rattle.ledger_model.proofs.KeysByNumber.{own_before_key, own_behind_key}
 use Rattle.ledger_model.proofs.OneMore.{by_transaction_sums, evse_else, live_else, live_with, live_without, nothing_taken, passed_sum, taken}
 use Rattle.ledger_model.proofs.RunLemmas.{AreForeign, AreOwn, few_by_runs, foreign_passed, one_run, own_passed, runs_sums}

@@ -1,17 +1,16 @@
 -- Readings that repeat others, by moment.
-use Rattle.std.proofs.Common.{◌≡◌, ℕ, ◌+◌, ◌-◌, ◌<◌, ◌≤◌, ◌⊎◌, inl, inr, Bool, true, false, cond, List, [], ◌∷◌, ◌++◌, Option, Some, None, length, refl, sym, ap, subst, ◌∙◌, ⊎_elim, slice_get, bytes_eq, eqb, map, arith, append_assoc}
-use Rattle.std.specs.List.{filter, filter_map, cons_option, flat_map, sum_by, All, AllByRecursion}
+use Rattle.std.proofs.Common.{◌≡◌, ℕ, ◌+◌, ◌-◌, ◌<◌, ◌≤◌, ◌⊎◌, inl, inr, Bool, true, false, cond, List, [], ◌∷◌, ◌++◌, Option, Some, None, refl, sym, ap, subst, ◌∙◌, ⊎_elim, bytes_eq, eqb, map, arith, append_assoc}
+use Rattle.std.specs.List.{filter, filter_map, cons_option, flat_map, sum_by, AllByRecursion}
 use Rattle.std.proofs.lemmas.Bool.{cases_Bool, cases_eq, eq-eqb, ne_eqb}
 use Rattle.std.proofs.lemmas.Grind.{flat_map-append}
 use Rattle.std.proofs.lemmas.List.Elements.{filter-append, recursion_from_All}
-use Rattle.std.proofs.lemmas.List.Sums.{sum_by-append, sum_by-cons}
-use Rattle.energy_flow.specs.Flow.{Energy, difference_of}
+use Rattle.std.proofs.lemmas.List.Sums.{sum_by-cons}
 use Rattle.ledger_model.specs.declared.order.Order.TheVariants.{Moment}
 use Rattle.ledger_model.specs.declared.reading.Direction.{Direction}
 use Rattle.ledger_model.specs.declared.reading.Direction.TheVariants.{Import, Export}
 use Rattle.ledger_model.specs.Content.{Entry, distinct, live, transactions_of}
 use Rattle.ledger_model.specs.Deltas.{across, first_reading, last_reading, pairs_between}
-use Rattle.ledger_model.specs.Energy.{Pair, all_pairs_by, difference, energy_by, energy_in_by, energy_of_by, energy_over, followed, pairs_by, quarter_of, readings_by, readings_of}
+use Rattle.ledger_model.specs.Energy.{Pair, energy_by, energy_in_by, energy_of_by, energy_over, followed, pairs_by, quarter_of, readings_by, readings_of}
 use Rattle.ledger_model.specs.Event.{MeterReading, same_direction, toward}
 use Rattle.ledger_model.specs.Evse.{energy_at_by, evse_of, first_or_none, transactions_at}
 use Rattle.ledger_model.specs.InTime.{AreInTime, in_time}

@@ -3,10 +3,11 @@ use Rattle.energy_flow.specs.Flow.{Energy, no_energy}
 use Rattle.ledger_model.specs.declared.kind.Kind.{Kind}
 use Rattle.ledger_model.specs.declared.kind.Kind.TheVariants.{Started, Updated, Ended}
 use Rattle.ledger_model.specs.declared.reading.Direction.TheVariants.{Import, Export}
+use Rattle.ledger_model.specs.declared.figures.Figures.{Figures}
 use Rattle.ledger_model.specs.Event.{MeterReading}
 use Rattle.ledger_model.specs.Content.{Entry}
 use Rattle.ledger_model.specs.Energy.{Flows, flows_toward}
-use Rattle.ledger_model.specs.Board.{Board, SiteBoard}
+use Rattle.ledger_model.specs.Board.{Board, Flowed, SiteBoard}
 
 -- So many minutes after 2026-03-01T10:00:00Z, in nanoseconds from 1970.
 abbrev pub minute : ℕ → ℕ
@@ -91,6 +92,13 @@ readings_again_at_end =
     metered Started 0 0 1_000 ∷ metered Updated 1 14 1_200 ∷ metered Updated 2 31 1_600
     ∷ told Ended 3 45 None (reading 0 1_000 ∷ reading 14 1_200 ∷ reading 31 1_600 ∷ reading 45 1_700 ∷ []) ∷ []
 
+-- Its quarters, and its figures.
+abbrev pub readings_again_quarters : List Flowed
+readings_again_quarters = (ten, flows_toward Import (record { up = 400_000; down = 600_000 })) ∷ (ten + 2, took 800_000) ∷ (ten + 3, took 100_000) ∷ []
+
+abbrev pub readings_again_counts : Figures
+readings_again_counts = record { events = 4; voided = 0; transactions = 1; complete = 1; missing = 0; up = 1_300_000; down = 600_000; export_up = 0; export_down = 0 }
+
 -- The second of three events alone names an EVSE.
 abbrev pub evse_moves : List Entry
 evse_moves = metered Started 0 0 1_000 ∷ told Updated 1 5 (Some 2) (reading 5 1_100 ∷ []) ∷ metered Ended 2 10 1_250 ∷ []
@@ -106,6 +114,10 @@ start_voided = voided (metered Started 0 0 1_000) ∷ told Updated 1 5 (Some 2) 
 -- The lowest and the highest number that there can be, and the greatest fall.
 abbrev pub widest_gap : List Entry
 widest_gap = metered Started 0 0 10_000_000_000 ∷ metered Ended 2_147_483_647 5 0 ∷ []
+
+-- Its figures.
+abbrev pub widest_gap_counts : Figures
+widest_gap_counts = record { events = 2; voided = 0; transactions = 1; complete = 0; missing = 2_147_483_646; up = 0; down = 10_000_000_000_000; export_up = 0; export_down = 0 }
 
 -- The register of what was fed back is read with the first event and with the last.
 abbrev pub exported : List Entry

@@ -1,9 +1,14 @@
-use Rattle.std.specs.Prelude.{ℕ, List, [], ◌∷◌, ◌≡◌, ◌≢◌, ◌<◌, ◌≤◌, ◌+◌, ◌-◌, ◌⊎◌, Some, length, sum_by}
-use Rattle.std.specs.List.{slice_get}
+use Rattle.std.specs.Prelude.{ℕ, List, [], ◌∷◌, ◌++◌, ◌≡◌, ◌≢◌, ◌<◌, ◌≤◌, ◌+◌, ◌-◌, ◌⊎◌, Some, length, map, sum_by}
+use Rattle.std.specs.List.{flat_map, slice_get}
 use Rattle.energy_flow.specs.Flow.{Energy, no_energy, plus}
 use Rattle.ledger_model.specs.declared.figures.Figures.{Figures}
 use Rattle.ledger_model.specs.declared.kind.Kind.{Kind}
 use Rattle.ledger_model.specs.declared.kind.Kind.TheVariants.{Started, Ended}
+use Rattle.ledger_model.specs.declared.order.Order.{Order}
+use Rattle.ledger_model.specs.declared.reading.Direction.TheVariants.{Import, Export}
+use Rattle.ledger_model.specs.Board.{Board, Flowed, board_by}
+use Rattle.ledger_model.specs.Content.{Entry}
+use Rattle.ledger_model.specs.Energy.{Flows, Pair, all_pairs_by, energy_in_by}
 use Rattle.ledger_model.specs.Gaps.{Gap}
 
 -- Rising numbers: each is below the next.
@@ -52,6 +57,25 @@ pub record AreComplete (kinds : List Kind) (missing : ℕ) : Type 0 where
 abbrev pub sum_of_energies : List Energy → Energy
 sum_of_energies [] = no_energy
 sum_of_energies (e ∷ es) = plus e (sum_of_energies es)
+
+-- The pairs of a station of both directions, the readings of each transaction in an order.
+abbrev pub pairs_of_both : Order → List Entry → List Pair
+pairs_of_both order es = all_pairs_by order Import es ++ all_pairs_by order Export es
+
+-- The quarters of several stations' boards, one behind the other.
+abbrev pub quarters_over : Order → ℕ → List (List Entry) → List Flowed
+quarters_over order period stations = flat_map (λ es. (board_by order period es).quarters) stations
+
+-- The energies of several stations in a quarter, added up in each direction.
+abbrev pub flows_over : Order → ℕ → ℕ → List (List Entry) → Flows
+flows_over order period quarter stations = record {
+  flow = sum_of_energies (map (energy_in_by order Import period quarter) stations);
+  export = sum_of_energies (map (energy_in_by order Export period quarter) stations);
+}
+
+-- A board that tells so many voided events.
+abbrev pub with_voided : ℕ → Board → Board
+with_voided voided board = record board { figures = record board.figures { voided = voided } }
 
 -- Each figure is the sum of that figure over these.
 pub record AreSums (total : Figures) (fs : List Figures) : Type 0 where

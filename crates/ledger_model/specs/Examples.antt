@@ -5,6 +5,9 @@ use Rattle.ledger_model.specs.declared.reading.Direction.{Direction}
 use Rattle.ledger_model.specs.declared.reading.Direction.TheVariants.{Import, Export}
 use Rattle.ledger_model.specs.declared.command.Command.{Command}
 use Rattle.ledger_model.specs.declared.command.Command.TheVariants.{Deliver, Void, Restore, Erase}
+use Rattle.ledger_model.specs.declared.answer.Answer.{Answer}
+use Rattle.ledger_model.specs.declared.answer.Answer.TheVariants.{Accepted, Repeat, Refused}
+use Rattle.ledger_model.specs.declared.answer.Refusal.TheVariants.{ConflictingEvent, NoSuchEvent, AlreadyVoided, NotVoided}
 use Rattle.ledger_model.specs.Key.{KeyName}
 use Rattle.ledger_model.specs.Limits.{Bounds}
 
@@ -66,6 +69,12 @@ void_and_restore =
     ∷ Restore (numbered 1)
     ∷ Restore (numbered 1)
     ∷ []
+
+-- The answers to these.
+abbrev pub void_and_restore_answers : List Answer
+void_and_restore_answers =
+    Accepted 1 ∷ Accepted 2 ∷ Accepted 3 ∷ Repeat ∷ Refused ConflictingEvent ∷ Accepted 4 ∷ Repeat ∷ Refused AlreadyVoided
+    ∷ Refused NoSuchEvent ∷ Refused NotVoided ∷ Accepted 5 ∷ Refused NotVoided ∷ []
 
 -- A register that falls from 1600 Wh to 100 Wh and then rises to 150 Wh.
 abbrev pub falling_register : List Command

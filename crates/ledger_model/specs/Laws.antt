@@ -62,3 +62,8 @@ pub record IsLeftByRun (limits : Bounds) (n : ℕ) (c : Content) (commands : Lis
   pub admissible : All IsAdmissible commands
   pub accepted : AreAccepted limits empty_content commands
   pub left : left_by limits empty_content commands ≡ c
+
+-- The second deliveries are accepted as the first are, and leave the content that those leave.
+pub record DeliversTheSame (limits : Bounds) (c : Content) (one other : List Sent) : Type 0 where
+  pub accepted : AreAccepted limits c (deliveries other)
+  pub content : left_by limits c (deliveries other) ≡ left_by limits c (deliveries one)

@@ -28,3 +28,5 @@ pub mod WorldLaws
 pub mod BoardExamples
 pub mod Deltas
 pub mod ReadingOrder
+pub mod DeltaLaws
+pub mod OrderLaws

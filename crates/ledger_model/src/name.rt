@@ -20,11 +20,14 @@ pub struct Name {
 }
 
 impl Model for Name {
-    ghost use Rattle.std.specs.Prelude.{List, ℕ};
+    ghost use Rattle.std.specs.Prelude.{◌≡◌, true, List, ℕ};
+    ghost use Rattle.ledger_model.specs.Name.{is_name};
 
     ghost Value = { List ℕ };
 
     ghost view = { λ n. n.text.bytes };
+
+    ghost invariant = { λ n. is_name n.text.bytes ≡ true };
 }
 
 // Tells whether a name may have this byte.
@@ -62,7 +65,8 @@ impl Name {
 
     /// The text.
     pub fn text(&self) -> &str
-        ensures { result.now ≡ self.now }
+        ensures value { result.now ≡ self.now }
+        ensures named { is_name result.now ≡ true }
     {
         self.text.as_str()
     }

@@ -1,5 +1,6 @@
 -- The rows that pairs make.
-use Rattle.std.specs.Prelude.{ℕ, ◌==◌, List, [], ◌∷◌, ◌++◌, map, filter, length, sum_by}
+use Rattle.std.specs.Prelude.{◌≡◌, ◌<◌, ℕ, ◌==◌, List, [], ◌∷◌, ◌++◌, map, filter, length, sum_by}
+use Rattle.energy_flow.specs.Flow.{CanMinus}
 use Rattle.ledger_model.specs.declared.order.Order.{Order}
 use Rattle.ledger_model.specs.declared.order.Order.TheVariants.{Sequence}
 use Rattle.ledger_model.specs.declared.reading.Direction.{Direction}
@@ -52,12 +53,35 @@ came_flows period front e back = flows_of period Import (came_by Import front e 
 abbrev pub line_of : QuarterRow → Flowed
 line_of row = (row.quarter, record { flow = row.flow; export = row.export })
 
+-- Rows after a pair was added.
+abbrev pub rows_plus : Flowed → List QuarterRow → List QuarterRow
+rows_plus f rows = set_row (with_pair f.1 (row_at f.0 rows)) rows
+
+-- Rows after a pair was taken out.
+abbrev pub rows_minus : Flowed → List QuarterRow → List QuarterRow
+rows_minus f rows = set_row (without_pair f.1 (row_at f.0 rows)) rows
+
 -- Rows after these pairs were added, one after the other.
 abbrev pub rows_with : List Flowed → List QuarterRow → List QuarterRow
 rows_with [] rows = rows
-rows_with (f ∷ fs) rows = rows_with fs (set_row (with_pair f.1 (row_at f.0 rows)) rows)
+rows_with (f ∷ fs) rows = rows_with fs (rows_plus f rows)
 
 -- Rows after these pairs were taken out, one after the other.
 abbrev pub rows_without : List Flowed → List QuarterRow → List QuarterRow
 rows_without [] rows = rows
-rows_without (f ∷ fs) rows = rows_without fs (set_row (without_pair f.1 (row_at f.0 rows)) rows)
+rows_without (f ∷ fs) rows = rows_without fs (rows_minus f rows)
+
+-- A row has a pair of this difference: it counts it, its sums hold it in each direction, and are just that where it counts no other.
+pub record HasPair (flows : Flows) (row : QuarterRow) : Type 0 where
+  pub there : 0 < row.pairs
+  pub within : CanMinus row.flow flows.flow
+  pub within_export : CanMinus row.export flows.export
+  pub last : row.pairs ≡ 1 → row.flow ≡ flows.flow
+  pub last_export : row.pairs ≡ 1 → row.export ≡ flows.export
+
+-- With one live event more, the rows follow where the pairs that go are taken out and those that come are added; with one less, the other way round.
+pub record RowsFollow (period : ℕ) (es more front : List Entry) (e : Entry) (back : List Entry) : Type 0 where
+  pub one_more : rows_with (came_flows period front e back) (rows_without (gone_flows period front e back) (rows_of (station_flows period es)))
+      ≡ rows_of (station_flows period more)
+  pub one_less : rows_with (gone_flows period front e back) (rows_without (came_flows period front e back) (rows_of (station_flows period more)))
+      ≡ rows_of (station_flows period es)

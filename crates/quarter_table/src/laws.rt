@@ -1,22 +1,21 @@
 //! Laws of rows, each the contract of a function with nothing to do. A pair is given by its quarter
 //! and its difference in each direction.
-ghost use Rattle.std.specs.Prelude.{◌≡◌, ◌≢◌, ◌<◌, ◌≤◌, ℕ, List, [], ◌∷◌, ◌++◌, length, map, sum_by};
-ghost use Rattle.energy_flow.specs.Flow.{CanMinus};
+ghost use Rattle.std.specs.Prelude.{◌≡◌, ◌≢◌, ◌≤◌, ℕ, List, [], ◌∷◌, ◌++◌, length, map, sum_by};
 ghost use Rattle.ledger_model.specs.declared.order.Order.{Order};
 ghost use Rattle.ledger_model.specs.Board.{Flowed, board_by};
 ghost use Rattle.ledger_model.specs.Content.{Entry};
 ghost use Rattle.ledger_model.specs.Deltas.{IsOneMore};
 ghost use Rattle.ledger_model.specs.Energy.{Flows};
-ghost use Rattle.quarter_table.specs.Pairs.{total, row_of, rows_of, rows_with, rows_without, station_flows, station_flows_by, gone_flows, came_flows, line_of};
-ghost use Rattle.quarter_table.specs.Rows.{no_row, row_at, set_row, with_pair, without_pair};
+ghost use Rattle.quarter_table.specs.Pairs.{total, row_of, rows_of, rows_minus, rows_plus, rows_with, rows_without, station_flows_by, line_of, HasPair, RowsFollow};
+ghost use Rattle.quarter_table.specs.Rows.{no_row, row_at, with_pair};
 
 /// The rows of pairs, after a pair was added or taken out wherever it stood among them, are those of
 /// the pairs that are then there. The order of the pairs makes no difference, nor does anything that
 /// no sum over them shows.
 pub fn rows_follow_pairs()
     ensures empty { rows_of [] ≡ [] }
-    ensures added { (front : List Flowed) (quarter : ℕ) (flow : Flows) (back : List Flowed) → set_row (with_pair flow (row_at quarter (rows_of (front ++ back)))) (rows_of (front ++ back)) ≡ rows_of (front ++ (quarter, flow) ∷ back) }
-    ensures removed { (front : List Flowed) (quarter : ℕ) (flow : Flows) (back : List Flowed) → set_row (without_pair flow (row_at quarter (rows_of (front ++ (quarter, flow) ∷ back)))) (rows_of (front ++ (quarter, flow) ∷ back)) ≡ rows_of (front ++ back) }
+    ensures added { (front : List Flowed) (f : Flowed) (back : List Flowed) → rows_plus f (rows_of (front ++ back)) ≡ rows_of (front ++ f ∷ back) }
+    ensures removed { (front : List Flowed) (f : Flowed) (back : List Flowed) → rows_minus f (rows_of (front ++ f ∷ back)) ≡ rows_of (front ++ back) }
     ensures alike { (xs ys : List Flowed) → ((measure : Flowed → ℕ) → sum_by measure xs ≡ sum_by measure ys) → rows_of xs ≡ rows_of ys }
 {}
 
@@ -33,11 +32,7 @@ pub fn each_row_is_of_its_pairs()
 /// A pair that is there may be taken out: the row of its quarter counts it, its sum holds the
 /// difference, and that is all of it where no other pair is left.
 pub fn pair_may_be_taken_out()
-    ensures there { (front : List Flowed) (quarter : ℕ) (flow : Flows) (back : List Flowed) → 0 < (row_at quarter (rows_of (front ++ (quarter, flow) ∷ back))).pairs }
-    ensures within { (front : List Flowed) (quarter : ℕ) (flow : Flows) (back : List Flowed) → CanMinus (row_at quarter (rows_of (front ++ (quarter, flow) ∷ back))).flow flow.flow }
-    ensures within_export { (front : List Flowed) (quarter : ℕ) (flow : Flows) (back : List Flowed) → CanMinus (row_at quarter (rows_of (front ++ (quarter, flow) ∷ back))).export flow.export }
-    ensures last { (front : List Flowed) (quarter : ℕ) (flow : Flows) (back : List Flowed) → (row_at quarter (rows_of (front ++ (quarter, flow) ∷ back))).pairs ≡ 1 → (row_at quarter (rows_of (front ++ (quarter, flow) ∷ back))).flow ≡ flow.flow }
-    ensures last_export { (front : List Flowed) (quarter : ℕ) (flow : Flows) (back : List Flowed) → (row_at quarter (rows_of (front ++ (quarter, flow) ∷ back))).pairs ≡ 1 → (row_at quarter (rows_of (front ++ (quarter, flow) ∷ back))).export ≡ flow.export }
+    ensures { (front : List Flowed) (f : Flowed) (back : List Flowed) → HasPair f.1 (row_at f.0 (rows_of (front ++ f ∷ back))) }
 {}
 
 /// There are no more rows than pairs, and no row counts or adds up to more than all pairs.
@@ -56,8 +51,7 @@ pub fn rows_are_within_pairs()
 pub fn rows_follow_events()
     ensures several_added { (flows others : List Flowed) → rows_with flows (rows_of others) ≡ rows_of (flows ++ others) }
     ensures several_removed { (flows others : List Flowed) → rows_without flows (rows_of (flows ++ others)) ≡ rows_of others }
-    ensures more { (period : ℕ) (es more front : List Entry) (e : Entry) (back : List Entry) → IsOneMore es more front e back → rows_with (came_flows period front e back) (rows_without (gone_flows period front e back) (rows_of (station_flows period es))) ≡ rows_of (station_flows period more) }
-    ensures less { (period : ℕ) (es more front : List Entry) (e : Entry) (back : List Entry) → IsOneMore es more front e back → rows_with (gone_flows period front e back) (rows_without (came_flows period front e back) (rows_of (station_flows period more))) ≡ rows_of (station_flows period es) }
+    ensures events { (period : ℕ) (es more front : List Entry) (e : Entry) (back : List Entry) → IsOneMore es more front e back → RowsFollow period es more front e back }
 {}
 
 /// The rows of a station's pairs are the quarters of its board, in either order.

@@ -141,18 +141,6 @@ module _ (sites : List SitePlan) (stations : List StationPlan) (cells : List Cel
       apart = apart_step cells k c c' at (ap (λ (x : Cell). x.site) cell_is) (ap (λ (x : Cell). x.row) cell_is) r.apart;
     }
 
--- one post more at most
-pub one_post_more : (books : List Book) (site : ℕ) (b b' : Book) (c' : Cell) (a : Answer) → slice_get books site ≡ Some b → b' ≡ record b { posts = posts_after b.posts c' a } → posts_in (set books site b') ≤ posts_in books + 1
-one_post_more books site b b' c' a at is =
-    let less = slice_get_within books site b at in
-    let more : length b'.posts ≤ length b.posts + 1 = omega (arith, ap (λ (x : Book). length x.posts) is, one a) in
-    omega (arith, more, sum_by-set (λ (y : Book). length y.posts) books site b' b less, ap (λ (y : Book). length y.posts) (get_or_from_slice_get books site b b at))
-  where
-    one : (x : Answer) → length (posts_after b.posts c' x) ≤ length b.posts + 1
-    one (Accepted n) = omega (arith, length-append b.posts ((c'.row, figures_by c'.order (entries c'.content)) ∷ []))
-    one Repeat = omega arith
-    one (Refused why) = omega arith
-
 -- ---- the script
 
 -- the world of running ledgers has the stations' names

@@ -1,5 +1,5 @@
 -- What a running script makes of a message that was read.
-use Rattle.std.specs.Prelude.{◌≡◌, ℕ, true, false, List, codes}
+use Rattle.std.specs.Prelude.{◌≡◌, ℕ, true, false, List, IfSome, codes, slice_get}
 use Rattle.ledger_model.specs.declared.command.Command.TheVariants.{Deliver}
 use Rattle.ledger_model.specs.Step.{answer}
 use Rattle.ledger_model.specs.World.{Station, world_after}
@@ -22,3 +22,11 @@ TakesMessage old new s message.Silent reply = (new ≡ old) × (reply ≡ ended_
 -- a text means something at the script's moment, and that is taken
 abbrev pub ReceivesText : Script → Script → Station → List ℕ → List ℕ → Type 0
 ReceivesText old new s text reply = (m : Message) × IsMeaningOf text old.moment m × TakesMessage old new s m reply
+
+-- a message is taken so by the station of this number, where there is one
+abbrev pub TakesMessageAt : ℕ → Script → Script → Message → List ℕ → Type 0
+TakesMessageAt number old new m reply = IfSome (slice_get old.world number) (λ s. TakesMessage old new s m reply)
+
+-- a text is received so by the station of this number, where there is one
+abbrev pub ReceivesTextAt : ℕ → Script → Script → List ℕ → List ℕ → Type 0
+ReceivesTextAt number old new text reply = IfSome (slice_get old.world number) (λ s. ReceivesText old new s text reply)

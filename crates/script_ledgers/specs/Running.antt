@@ -1,5 +1,5 @@
 -- How the opened ledgers of a script are kept, and how they are seen as its state.
-use Rattle.std.specs.Prelude.{◌≡◌, ℕ, true, List, [], ◌∷◌, length, map, sum_by, Some, slice_get}
+use Rattle.std.specs.Prelude.{◌≡◌, ℕ, true, List, [], ◌∷◌, length, map, sum_by, Some, IfSome, slice_get}
 use Rattle.ledger_model.specs.declared.answer.Answer.{Answer}
 use Rattle.ledger_model.specs.declared.command.Command.{Command}
 use Rattle.ledger_model.specs.Step.{answer}
@@ -58,3 +58,7 @@ pub record IsRunning (sites : List SitePlan) (stations : List StationPlan) (cell
 pub record Settles (old new : Script) (s : Station) (command : Command) (a : Answer) : Type 0 where
   pub answer_is : a ≡ answer s.limits s.content command
   pub script_is : new ≡ record old { world = world_after old.world (s.name, command) }
+
+-- A command was settled so on the station of this number, where there is one.
+abbrev pub SettlesAt : ℕ → Script → Script → Command → Answer → Type 0
+SettlesAt number old new command a = IfSome (slice_get old.world number) (λ s. Settles old new s command a)

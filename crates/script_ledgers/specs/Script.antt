@@ -189,9 +189,13 @@ period_named s site = period_of (site_number site s.sites) s.periods
 abbrev pub order_named : Script → List ℕ → Order
 order_named s site = order_of (site_number site s.sites) s.orders
 
--- the board of a site by its order and its settlement period, computed from all events of its stations
+-- the board of the site of this name by its order and its settlement period, computed from all events of its stations
+abbrev pub board_of_site : Script → List ℕ → NamedBoard
+board_of_site s site = shown_site site (order_named s site) (period_named s site) (stations_of site s.world)
+
+-- the text of a site's board, where there is a site of this name
 abbrev pub board_answer : Script → List ℕ → List ℕ
-board_answer s site = if is_among site s.sites then board_text (shown_site site (order_named s site) (period_named s site) (stations_of site s.world)) else fault_line UnknownSite
+board_answer s site = if is_among site s.sites then board_text (board_of_site s site) else fault_line UnknownSite
 
 -- a message of a station: an event is delivered, and all else is answered as it stands
 abbrev pub by_meaning : Meaning → Station → Script → Script × List ℕ

@@ -1,4 +1,4 @@
-ghost use Rattle.std.specs.Prelude.{◌≡◌, ℕ, ◌+◌, ◌<◌, ◌≤◌, ◌^◌, ◌++◌, ◌∷◌, [], All, length, map, true, OnOk, IfOk, IfSome, slice_get, take, None, Some, refl};
+ghost use Rattle.std.specs.Prelude.{◌≡◌, ℕ, ◌+◌, ◌<◌, ◌≤◌, ◌^◌, ◌++◌, ◌∷◌, [], All, length, map, true, OnOk, IfOk, slice_get, take, None, Some, refl};
 ghost use Rattle.std.specs.Io.KnownBytes.{Keeps};
 ghost use Rattle.std.specs.List.{position};
 ghost use Rattle.std.specs.Str.{bytes_eq};
@@ -8,10 +8,11 @@ ghost use Rattle.station_cell.specs.Cell.{Cell, new_pass};
 ghost use Rattle.site_desk.specs.Plan.{plan_fault};
 ghost use Rattle.site_desk.specs.Roster.{AreCellsOf};
 ghost use Rattle.script_ledgers.specs.Drafts.{planned};
+ghost use Rattle.script_lines.specs.LineMeaning.{asks_energy, asks_export, asks_total, commands, sends};
 ghost use Rattle.script_lines.specs.ScriptLines.{meaning_of};
-ghost use Rattle.script_ledgers.specs.Received.{ReceivesText, TakesMessage};
-ghost use Rattle.script_ledgers.specs.Running.{IsRunning, Settles, posts_in, running};
-ghost use Rattle.script_ledgers.specs.Script.{board_answer, commanded_to, energy_answer, export_answer, order_named, period_named, sent_to, shown_site, station_named, stations_of, step_by, total_answer};
+ghost use Rattle.script_ledgers.specs.Received.{ReceivesTextAt, TakesMessageAt};
+ghost use Rattle.script_ledgers.specs.Running.{IsRunning, SettlesAt, posts_in, running};
+ghost use Rattle.script_ledgers.specs.Script.{board_answer, board_of_site, step_by};
 ghost use Rattle.transaction_event.specs.MessageMeaning.{HasShortId, asking, with_reply};
 
 use crate::draft::Draft;
@@ -160,7 +161,7 @@ impl<J: Naming> OpenedScript<J> {
     fn receive(&mut self, name: &Name, text: &str, reply: &mut Vec<u8>) -> Result<(), AllocError>
         requires empty { reply.old.items ≡ [] }
         requires few { posts_in self.old.books.items < 2 ^ 62 }
-        ensures step { OnOk result (sent_to (station_named name.now (running self.old.draft self.old.cells.items).world) (running self.old.draft self.old.cells.items) text.now ≡ (running self.new.draft self.new.cells.items, reply.new.items)) }
+        ensures step { OnOk result (step_by (running self.old.draft self.old.cells.items) (sends name.now text.now) ≡ (running self.new.draft self.new.cells.items, reply.new.items)) }
         ensures posts { OnOk result (posts_in self.new.books.items ≤ posts_in self.old.books.items + 1) }
     {
         match self.draft.station(name) {
@@ -180,7 +181,7 @@ impl<J: Naming> OpenedScript<J> {
         requires empty { reply.old.items ≡ [] }
         requires there { number < length self.old.draft.stations }
         requires few { posts_in self.old.books.items < 2 ^ 62 }
-        ensures receives { OnOk result (IfSome (slice_get (running self.old.draft self.old.cells.items).world number) (λ s. ReceivesText (running self.old.draft self.old.cells.items) (running self.new.draft self.new.cells.items) s text.now reply.new.items)) }
+        ensures receives { OnOk result (ReceivesTextAt number (running self.old.draft self.old.cells.items) (running self.new.draft self.new.cells.items) text.now reply.new.items) }
         ensures posts { OnOk result (posts_in self.new.books.items ≤ posts_in self.old.books.items + 1) }
     {
         match self.ahead.take(text) {
@@ -201,7 +202,7 @@ impl<J: Naming> OpenedScript<J> {
     ) -> Result<(), AllocError>
         requires empty { reply.old.items ≡ [] }
         requires few { posts_in self.old.books.items < 2 ^ 62 }
-        ensures step { OnOk result (commanded_to (station_named name.now (running self.old.draft self.old.cells.items).world) (running self.old.draft self.old.cells.items) command ≡ (running self.new.draft self.new.cells.items, reply.new.items)) }
+        ensures step { OnOk result (step_by (running self.old.draft self.old.cells.items) (commands name.now command) ≡ (running self.new.draft self.new.cells.items, reply.new.items)) }
         ensures posts { OnOk result (posts_in self.new.books.items ≤ posts_in self.old.books.items + 1) }
     {
         match self.draft.station(name) {
@@ -225,7 +226,7 @@ impl<J: Naming> OpenedScript<J> {
         requires there { number < length self.old.draft.stations }
         requires short { HasShortId (with_reply asked self.old.text) }
         requires few { posts_in self.old.books.items < 2 ^ 62 }
-        ensures takes { OnOk result (IfSome (slice_get (running self.old.draft self.old.cells.items).world number) (λ s. TakesMessage (running self.old.draft self.old.cells.items) (running self.new.draft self.new.cells.items) s (with_reply asked self.old.text) reply.new.items)) }
+        ensures takes { OnOk result (TakesMessageAt number (running self.old.draft self.old.cells.items) (running self.new.draft self.new.cells.items) (with_reply asked self.old.text) reply.new.items) }
         ensures posts { OnOk result (posts_in self.new.books.items ≤ posts_in self.old.books.items + 1) }
     {
         match asked {
@@ -251,7 +252,7 @@ impl<J: Naming> OpenedScript<J> {
         requires there { number < length self.old.draft.stations }
         requires short { HasShortId (asking delivery) }
         requires few { posts_in self.old.books.items < 2 ^ 62 }
-        ensures takes { OnOk result (IfSome (slice_get (running self.old.draft self.old.cells.items).world number) (λ s. TakesMessage (running self.old.draft self.old.cells.items) (running self.new.draft self.new.cells.items) s (asking delivery) reply.new.items)) }
+        ensures takes { OnOk result (TakesMessageAt number (running self.old.draft self.old.cells.items) (running self.new.draft self.new.cells.items) (asking delivery) reply.new.items) }
         ensures posts { OnOk result (posts_in self.new.books.items ≤ posts_in self.old.books.items + 1) }
     {
         let Delivery {
@@ -269,7 +270,7 @@ impl<J: Naming> OpenedScript<J> {
     fn settle(&mut self, number: usize, command: Command) -> Answer
         requires there { number < length self.old.draft.stations }
         requires few { posts_in self.old.books.items < 2 ^ 62 }
-        ensures settled { IfSome (slice_get (running self.old.draft self.old.cells.items).world number) (λ s. Settles (running self.old.draft self.old.cells.items) (running self.new.draft self.new.cells.items) s command result) }
+        ensures settled { SettlesAt number (running self.old.draft self.old.cells.items) (running self.new.draft self.new.cells.items) command result }
         ensures posts { posts_in self.new.books.items ≤ posts_in self.old.books.items + 1 }
     {
         let cell = &mut self.cells[number];
@@ -281,7 +282,7 @@ impl<J: Naming> OpenedScript<J> {
 
     // Puts the energy that a station imported into the reply.
     fn put_energy(&self, name: &Name, reply: &mut Vec<u8>) -> Result<(), AllocError>
-        ensures { OnOk result (reply.new.items ≡ reply.old.items ++ energy_answer (order_named (running self.now.draft self.now.cells.items)) (station_named name.now (running self.now.draft self.now.cells.items).world)) }
+        ensures { OnOk result (reply.new.items ≡ reply.old.items ++ (step_by (running self.now.draft self.now.cells.items) (asks_energy name.now)).1) }
     {
         match self.draft.station(name) {
             Some(number) => {
@@ -294,7 +295,7 @@ impl<J: Naming> OpenedScript<J> {
 
     // Puts the energy that a station exported into the reply.
     fn put_export(&self, name: &Name, reply: &mut Vec<u8>) -> Result<(), AllocError>
-        ensures { OnOk result (reply.new.items ≡ reply.old.items ++ export_answer (order_named (running self.now.draft self.now.cells.items)) (station_named name.now (running self.now.draft self.now.cells.items).world)) }
+        ensures { OnOk result (reply.new.items ≡ reply.old.items ++ (step_by (running self.now.draft self.now.cells.items) (asks_export name.now)).1) }
     {
         match self.draft.station(name) {
             Some(number) => {
@@ -307,7 +308,7 @@ impl<J: Naming> OpenedScript<J> {
 
     // Puts the figures of a station into the reply.
     fn put_total(&self, name: &Name, reply: &mut Vec<u8>) -> Result<(), AllocError>
-        ensures { OnOk result (reply.new.items ≡ reply.old.items ++ total_answer (order_named (running self.now.draft self.now.cells.items)) (station_named name.now (running self.now.draft self.now.cells.items).world)) }
+        ensures { OnOk result (reply.new.items ≡ reply.old.items ++ (step_by (running self.now.draft self.now.cells.items) (asks_total name.now)).1) }
     {
         match self.draft.station(name) {
             Some(number) => {
@@ -335,7 +336,7 @@ impl<J: Naming> OpenedScript<J> {
     // The text of the board of the site of this name and number. Its totals are the book's.
     fn board_text(&self, name: &Name, site: usize) -> Result<Vec<u8>, AllocError>
         requires { position (λ s. bytes_eq name.now s.name) self.now.draft.sites ≡ Some site }
-        ensures { IfOk result (λ text. text.items ≡ board_text (shown_site name.now (order_named (running self.now.draft self.now.cells.items) name.now) (period_named (running self.now.draft self.now.cells.items) name.now) (stations_of name.now (running self.now.draft self.now.cells.items).world))) }
+        ensures { IfOk result (λ text. text.items ≡ board_text (board_of_site (running self.now.draft self.now.cells.items) name.now)) }
     {
         let totals = self.books[site].totals();
         site_text(

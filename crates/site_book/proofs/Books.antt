@@ -61,13 +61,3 @@ pub totals-part : (log : List Post) (k : ℕ) (totals old f : Figures) → total
     → plus_figures (totals_after (log ++ (k, f) ∷ [])) old ≡ plus_figures totals f
 totals-part log k totals old f is row =
     ap (plus_figures (totals_after (log ++ (k, f) ∷ []))) row ∙ totals-push k f log ∙ ap (λ t. plus_figures t f) (sym is)
-
--- rows for which nothing was posted
-pub rows-blank : (rows : List BookRow) → All (λ r. r.figures ≡ no_figures) rows → ArePlanned (map (λ r. r.limits) rows) → AreRows rows []
-rows-blank rows blank planned = record {
-  figures = λ k r at.
-      let less : k < length rows = slice_get_within rows k r at in
-      ap (λ q. q.figures) (sym (get_or_from_slice_get rows k r r at)) ∙ All-get_or (λ (q : BookRow). q.figures ≡ no_figures) rows k r less blank;
-  posted = All-nil (λ (p : Post). p.0 < length rows);
-  planned = planned;
-}

@@ -35,18 +35,6 @@ module _ {A : Type 0} where
   get_last [] y = refl
   get_last (z ∷ xs) y = get_last xs y
 
--- what is there after one was taken was there before
-taken-other : (tables : Unopened) (site k : ℕ) (z : TableId) → slice_get (set tables site None) k ≡ Some (Some z) → slice_get tables k ≡ Some (Some z)
-taken-other [] site k z at = at
-taken-other (x ∷ tables) zero zero z at = absurd (cc (at))
-taken-other (x ∷ tables) zero (suc k) z at = at
-taken-other (x ∷ tables) (suc site) zero z at = at
-taken-other (x ∷ tables) (suc site) (suc k) z at = taken-other tables site k z at
-
--- the tables that are left are named as before
-pub named-taken : (naming : ℕ → TableId) (tables : Unopened) (site : ℕ) → NamedBy naming tables → NamedBy naming (set tables site None)
-named-taken naming tables site named k z at = named k z (taken-other tables site k z at)
-
 -- another site's table stays
 pub has-others : (tables : Unopened) (site other : ℕ) → other ≢ site → HasTable tables other → HasTable (set tables site None) other
 has-others tables site other apart has = record { table = has.table; there = get_else tables site other None apart ∙ has.there }

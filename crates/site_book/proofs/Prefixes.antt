@@ -10,9 +10,6 @@ module _ {A : Type 0} where
   pub prefix_none : (xs : List A) → IsPrefix [] xs
   prefix_none xs = record { rest = xs; is = refl }
 
-  pub prefix_push : (xs : List A) (x : A) → IsPrefix xs (xs ++ x ∷ [])
-  prefix_push xs x = record { rest = x ∷ []; is = refl }
-
   pub prefix_trans : (xs ys zs : List A) → IsPrefix xs ys → IsPrefix ys zs → IsPrefix xs zs
   prefix_trans xs ys zs p q = record { rest = p.rest ++ q.rest; is = sym (append_assoc xs p.rest q.rest) ∙ (ap (λ w. w ++ q.rest) p.is ∙ q.is) }
 

@@ -102,3 +102,9 @@ abbrev pub Checked : At → Sat → ℕ → Sat → Type 0
 Checked step v n w = MatchBool (n == v.0.version)
     ((w ≡ (seeing w.0.log [], v.1)) × IsPrefix v.0.log w.0.log × (v.0.read ≡ shown w.0.log) × (n ≡ 2 * length w.0.log))
     (w ≡ (seeing v.0.log [], v.1))
+
+-- What a viewer knows once it looked again and saw this version: where it is that of its first look, a list of posts that begins with what it knew, has the totals that it read, and is half as long as the version; else what it knew.
+abbrev pub HasSeen : ℕ → Sat → Sat → Type 0
+HasSeen version old new = MatchBool (version == old.0.version)
+    ((new ≡ (seeing new.0.log [], [])) × IsPrefix old.0.log new.0.log × (old.0.read ≡ shown new.0.log) × (version ≡ 2 * length new.0.log))
+    (new ≡ (seeing old.0.log [], []))

@@ -1,8 +1,8 @@
 //! The single steps on a site's table. Each tells what its seat knows then.
-ghost use Rattle.std.specs.Prelude.{◌≡◌, ℕ, ◌+◌, ◌*◌, ◌%◌, ◌<◌, ◌≤◌, ◌^◌, ◌==◌, false, List, [], ◌∷◌, ◌++◌, length, slice_index, MatchBool};
+ghost use Rattle.std.specs.Prelude.{◌≡◌, ℕ, ◌+◌, ◌*◌, ◌%◌, ◌<◌, ◌≤◌, ◌^◌, false, List, [], ◌∷◌, ◌++◌, length, slice_index};
 ghost use Rattle.site_book.specs.Kept.{Sits};
 ghost use Rattle.site_book.specs.Prefix.{IsPrefix};
-ghost use Rattle.site_book.specs.Rule.{shown, writing, seeing, looking};
+ghost use Rattle.site_book.specs.Rule.{shown, writing, seeing, looking, HasSeen};
 
 use crate::table::{
     Checks, Closes, Grows, Keeps, Loads, Looks, Opens, Recalls, Shares, Stores, TableSeat, TakesIn,
@@ -92,9 +92,7 @@ pub(crate) fn look_again(words: &Words, seat: &mut TableSeat) -> u64
     requires even { seat.old.me.0.version % 2 ≡ 0 }
     requires all { length seat.old.me.0.read ≡ 9 }
     ensures sits { Sits words.now.table_id seat.new.table_id }
-    ensures sees { MatchBool (result == seat.old.me.0.version)
-        ((seat.new.me ≡ (seeing seat.new.me.0.log [], [])) × IsPrefix seat.old.me.0.log seat.new.me.0.log × (seat.old.me.0.read ≡ shown seat.new.me.0.log) × (result ≡ 2 * length seat.new.me.0.log))
-        (seat.new.me ≡ (seeing seat.old.me.0.log [], [])) }
+    ensures sees { HasSeen result seat.old.me seat.new.me }
 {
     words.load::<Checks>(seat, 0)
 }

@@ -47,9 +47,3 @@ tied_at cells books k c tied less is = tied k c (slice_get_read cells (length ce
 -- the book of its site
 pub book_at : (books : List Book) (c : Cell) (b : Book) → (t : IsTied books c) → b ≡ get_or books c.site b → b ≡ t.book
 book_at books c b t is = is ∙ get_or_from_slice_get books c.site t.book b t.there
-
--- an element is written where it stood
-pub set_same : {A : Type 0} (xs : List A) (k : ℕ) (x : A) → slice_get xs k ≡ Some x → set xs k x ≡ xs
-set_same [] k x at = refl
-set_same (y ∷ xs) zero x at = let e : y ≡ x = cc in ap (λ z. z ∷ xs) (sym e)
-set_same (y ∷ xs) (suc k) x at = ap (λ ys. y ∷ ys) (set_same xs k x at)

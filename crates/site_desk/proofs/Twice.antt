@@ -36,10 +36,6 @@ module _ {X : Type 0} (name : X → List ℕ) where
       → has_twice (map name (drop (i + 1) xs)) ≡ has_twice (map name (drop i xs))
   twice_later xs i x less once = sym (left xs i x less ∙ ap (λ b. b || has_twice (map name (drop (i + 1) xs))) (rest xs (i + 1) (get_or xs i x) ∙ once))
 
-  -- nothing is left
-  pub twice_end : (xs : List X) (i : ℕ) → length xs ≤ i → has_twice (map name (drop i xs)) ≡ false
-  twice_end xs i past = ap (λ ys. has_twice (map name ys)) (drop_all i xs past)
-
   -- the first that stands again, where what is left begins with this element
   first_left : (xs : List X) (i : ℕ) (x : X) → i < length xs
       → first_twice (map name (drop i xs)) ≡ (if list_any (λ y. bytes_eq (name (get_or xs i x)) (name y)) (drop (i + 1) xs) then Some (name (get_or xs i x)) else first_twice (map name (drop (i + 1) xs)))

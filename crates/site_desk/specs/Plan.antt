@@ -55,6 +55,10 @@ abbrev pub sites_with : Option ℕ → List ℕ → ℕ → ℕ → Order → Li
 sites_with (Some number) name viewers period order sites = sites
 sites_with None name viewers period order sites = sites ++ record { name = name; viewers = viewers; period = period; order = order } ∷ []
 
+-- The stations once one more is declared, of a site that was found at this place or begins, with this name and these limits.
+abbrev pub stations_with : Option ℕ → List SitePlan → List ℕ → Bounds → List StationPlan → List StationPlan
+stations_with found sites name limits stations = stations ++ record { site = site_number found sites; name = name; limits = limits } ∷ []
+
 -- The settlement period of a site, if there is the site.
 abbrev pub period_or_default : Option SitePlan → ℕ
 period_or_default None = default_period

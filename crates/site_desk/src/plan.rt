@@ -3,7 +3,7 @@ ghost use Rattle.std.specs.List.{list_all, list_any, position};
 ghost use Rattle.std.specs.Option.{is_some};
 ghost use Rattle.std.specs.Str.{bytes_eq};
 ghost use Rattle.ledger_model.specs.Ranges.{most_sites};
-ghost use Rattle.site_desk.specs.Plan.{blank_name, first_twice, has_twice, is_past, is_within_limits, most_viewers, order_at, period_at, plan_fault, site_number, sites_by, sites_in, sites_with};
+ghost use Rattle.site_desk.specs.Plan.{blank_name, first_twice, has_twice, is_past, is_within_limits, most_viewers, order_at, period_at, plan_fault, site_number, sites_by, sites_in, sites_with, stations_with};
 
 use crate::fault::DeskFault;
 use arrayvec::ArrayVec;
@@ -100,7 +100,7 @@ impl Plan {
     )
         requires room { is_past (position (λ s. bytes_eq site s.name) self.old.sites.items) self.old.sites.items self.old.stations.items limits ≡ false }
         ensures sites { self.new.sites.items ≡ sites_with (position (λ s. bytes_eq site s.name) self.old.sites.items) site viewers period order self.old.sites.items }
-        ensures stations { self.new.stations.items ≡ self.old.stations.items ++ record { site = site_number (position (λ s. bytes_eq site s.name) self.old.sites.items) self.old.sites.items; name = name; limits = limits } ∷ [] }
+        ensures stations { self.new.stations.items ≡ stations_with (position (λ s. bytes_eq site s.name) self.old.sites.items) self.old.sites.items name limits self.old.stations.items }
     {
         let site = self.mention(site, viewers, period, order);
         self.stations.push(StationPlan { site, name, limits });

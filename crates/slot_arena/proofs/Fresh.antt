@@ -11,16 +11,6 @@ module _ {X : Type 0} where
   linked_more zero place rest = refl
   linked_more (suc i) place rest = ap (λ row. None ∷ row) (linked_more i place rest)
 
-  -- That place was empty.
-  pub linked_room : (i : ℕ) (rest : List (Option X)) → get_or (replicate (suc i) None ++ rest) i None ≡ None
-  linked_room zero rest = refl
-  linked_room (suc i) rest = linked_room i rest
-
-  -- It lies in the row.
-  pub linked_within : (i : ℕ) (rest : List (Option X)) → i < length (replicate (suc i) None ++ rest)
-  linked_within zero rest = omega arith
-  linked_within (suc i) rest = omega (arith, linked_within i rest)
-
   -- The first full place emptied leaves one more empty place in front.
   pub cleared_more : (i : ℕ) (row : List (Option X)) → i < length row → set (replicate i None ++ drop i row) i None ≡ replicate (suc i) None ++ drop (suc i) row
   cleared_more i [] lt = absurd (omega arith)

@@ -1,4 +1,4 @@
-ghost use Rattle.std.specs.Prelude.{◌≡◌, ◌↔◌, ◌<◌, ◌^◌, ◌++◌, ◌∷◌, [], length, sum, IsTrue, IsErr, IfOk, OnOk, OnErr};
+ghost use Rattle.std.specs.Prelude.{◌≡◌, ◌↔◌, ◌++◌, ◌∷◌, [], length, sum, IsTrue, IsErr, IfOk, OnOk, OnErr};
 ghost use Rattle.ledger_model.specs.Step.{Reached, answer};
 ghost use Rattle.station_cell.specs.Cell.{IsInService, Knows, most_passes, new_cell, new_pass, no_station};
 ghost use Rattle.station_cell.specs.Settle.{cell_after, pass_after};
@@ -59,7 +59,6 @@ impl StationCell {
     {
         let ledger = StationLedger::open(alloc, limits, period, order)?;
         let counts = Vec::with_capacity(alloc, MAX_PASSES)?;
-        counts_commands(&ledger);
         Ok(StationCell {
             station,
             site,
@@ -164,22 +163,12 @@ impl StationCell {
         ensures pass { pass.new ≡ pass_after pass.old result }
     {
         let answer = self.ledger.apply(command, &mut pass.work);
-        counts_commands(&self.ledger);
         if let Answer::Accepted(_) = answer {
             self.counts[pass.slot] += 1;
             pass.changes += 1;
         }
         answer
     }
-}
-
-// A ledger's content is one that as many accepted commands lead to as the ledger counts. The one call of the
-// getter for what it ensures.
-fn counts_commands(ledger: &StationLedger)
-    ensures fits { ledger.now.content.changes < 2 ^ 64 }
-    ensures reached { Reached ledger.now.limits ledger.now.content.changes ledger.now.content }
-{
-    ledger.changes();
 }
 
 /// Gives out one more pass of the station, which made no change yet; `TooManyPasses` exactly after

@@ -386,19 +386,6 @@ module _ (slot : ℕ) (d : Direction) (es new : List Entry) (e : Entry) (one : I
   pub foreign : AreForeign (own_timed e.0.seq) (timed_of slot d e.0.tx es)
   foreign = are_foreign (own_timed e.0.seq) (timed_of slot d e.0.tx es) stand_foreign
 
-  -- of the event are those that were put in
-  pub own_are : filter (own_timed e.0.seq) (timed_of slot d e.0.tx new) ≡ put_each (ranked slot d e) []
-  own_are =
-      let p = own_timed e.0.seq in
-      let front = flat_map (ranked slot d) here in
-      let back = flat_map (ranked slot d) there in
-      sym (in_time-passed at p (flat_map (ranked slot d) (live_of e.0.tx new)))
-      ∙ ap (λ us. in_time at (filter p us)) with_it
-      ∙ ap (in_time at) (filter-append p front (ranked slot d e ++ back) ∙ ap (λ us. filter p front ++ us) (filter-append p (ranked slot d e) back))
-      ∙ (λ i. in_time at ((foreign_passed p front (are_foreign p front before_foreign)).0 i ++ ((own_passed p (ranked slot d e) (are_own p (ranked slot d e) own)).0 i ++ (foreign_passed p back (are_foreign p back behind_foreign)).0 i)))
-      ∙ ap (in_time at) (append-none (ranked slot d e))
-      ∙ sym (listed_sorted (ranked slot d e) distinct)
-
 -- An event more brings its readings.
 pub live_readings-more : (es new front : List Entry) (e : Entry) (back : List Entry) → IsOneMore es new front e back → live_readings new ≡ live_readings es + length e.1.event.readings
 live_readings-more es new front e back one =

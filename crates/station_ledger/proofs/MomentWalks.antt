@@ -55,12 +55,6 @@ three_up a x b = ap (λ (e : Energy). e.up) (energy_over-append a (x ++ b)) ∙ 
 pub three_down : (a x b : List Pair) → (energy_over (a ++ (x ++ b))).down ≡ (energy_over a).down + ((energy_over x).down + (energy_over b).down)
 three_down a x b = ap (λ (e : Energy). e.down) (energy_over-append a (x ++ b)) ∙ ap (λ (e : Energy). (energy_over a).down + e.down) (energy_over-append x b)
 
--- How many pairs readings in a row make.
-pub followed_few : (rs : List MeterReading) → length (followed rs) ≤ length rs
-followed_few [] = omega arith
-followed_few (r ∷ []) = omega arith
-followed_few (r ∷ s ∷ rs) = let rest = followed_few (s ∷ rs) in omega (arith, rest)
-
 pub followed_fewer : (r : MeterReading) (rs : List MeterReading) → length (followed (r ∷ rs)) ≡ length rs
 followed_fewer r [] = refl
 followed_fewer r (s ∷ rs) = let rest = followed_fewer s rs in omega (arith, rest)
@@ -185,18 +179,6 @@ pub ranked-apart : (ts us : List Timed) → IsRanked (ts ++ us) → AreInFront t
 ranked-apart [] us h = tt
 ranked-apart (t ∷ ts) us h = ((behind-parts t.0 ts us h.0).1, ranked-apart ts us h.1)
 
-over-front : (ts us : List Timed) → AreInFront ts us → AreOver ts us
-over-front ts [] h = tt
-over-front ts (u ∷ us) h = (under_first ts us h, over-front ts us (tails ts h))
-  where
-    under_first : (ts us : List Timed) → AreInFront ts (u ∷ us) → AreUnder u.0 ts
-    under_first [] us h = tt
-    under_first (t ∷ ts) us h = (h.0.0, under_first ts us h.1)
-
-    tails : (ts : List Timed) → AreInFront ts (u ∷ us) → AreInFront ts us
-    tails [] h = tt
-    tails (t ∷ ts) h = (h.0.1, tails ts h.1)
-
 -- Those in front of a rank are below it, and those from it on are not.
 pub in_front-under : (k : ℕ) (ts : List Timed) → AreUnder k (in_front k ts)
 in_front-under k [] = tt
@@ -207,10 +189,6 @@ in_front-under k (t ∷ ts) = ⊎_elim
 
 pub in_front-append : (k : ℕ) (ts us : List Timed) → in_front k (ts ++ us) ≡ in_front k ts ++ in_front k us
 in_front-append k ts us = filter-append (λ t. nat_lt t.0 k) ts us
-
-pub in_front-all : (k : ℕ) (ts : List Timed) → AreUnder k ts → in_front k ts ≡ ts
-in_front-all k [] h = refl
-in_front-all k (t ∷ ts) h = ap (λ b. cond b (t ∷ in_front k ts) (in_front k ts)) (lt-ltb t.0 k h.0) ∙ ap (λ l. t ∷ l) (in_front-all k ts h.1)
 
 -- The first readings that fit, and those beyond.
 pub fitting-beyond : (a : Option Timed) (xs : List Timed) → fitting a xs ++ beyond a xs ≡ xs

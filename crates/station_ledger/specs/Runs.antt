@@ -1,8 +1,9 @@
 -- An event's readings among the others of its transaction, run by run.
-use Rattle.std.specs.Prelude.{◌≡◌, ◌==◌, ℕ, ◌+◌, ◌*◌, ◌^◌, ◌<◌, ◌≤◌, Bool, List, ◌++◌, length}
+use Rattle.std.specs.Prelude.{◌≡◌, ◌==◌, ℕ, ◌+◌, ◌*◌, ◌^◌, ◌<◌, ◌≤◌, Bool, List, ◌++◌, Option, length}
 use Rattle.std.specs.List.{AllByRecursion}
 use Rattle.energy_flow.specs.Flow.{Energy}
 use Rattle.ledger_model.specs.Board.{Flowed}
+use Rattle.ledger_model.specs.Deltas.{across, pairs_between}
 use Rattle.ledger_model.specs.declared.reading.Direction.{Direction}
 use Rattle.ledger_model.specs.Energy.{Pair, energy_over, flows_toward, followed}
 use Rattle.ledger_model.specs.InTime.{runs}
@@ -15,8 +16,8 @@ use Rattle.ledger_model.specs.Key.{KeyName}
 use Rattle.reading_index.specs.Ranks.{number_of, owner, owner_of}
 use Rattle.reading_index.specs.Timed.{Timed, TimedReadings, IsRanked, owned}
 use Rattle.station_ledger.specs.declared.by_moment.Moved.{Moved}
-use Rattle.station_ledger.specs.ByMoment.{bare, listed_of, put_each, take_each, ArePuttable}
-use Rattle.station_ledger.specs.Quarters.{IsAdded, IsTaken, IsWork, quartered, readings_at}
+use Rattle.station_ledger.specs.ByMoment.{bare, bare_one, listed_of, put_each, take_each, ArePuttable}
+use Rattle.station_ledger.specs.Quarters.{HasRoom, IsAdded, IsTaken, IsWithout, IsWork, quartered, readings_at}
 
 -- Tells whether a reading is of the event of a number.
 abbrev pub own_timed : ℕ → Timed → Bool
@@ -60,6 +61,48 @@ pub record AreSwapped (period : ℕ) (d : Direction) (gone came : List Pair) (ol
   pub meanwhile : ℕ
   pub taken : IsTaken period d gone old left before meanwhile m.less
   pub added : IsAdded period d came left new meanwhile after m.more
+
+-- The pair across a gap between two readings, where there are both.
+abbrev pub gap_pairs : Option Timed → Option Timed → List Pair
+gap_pairs before behind = across (bare_one before) (bare_one behind)
+
+-- The pairs that a run of readings makes in a gap.
+abbrev pub run_pairs : Option Timed → List Timed → Option Timed → List Pair
+run_pairs before run behind = pairs_between (bare_one before) (bare run) (bare_one behind)
+
+-- Once these pairs of a direction are taken out, the quarters have room for so many.
+abbrev pub HasRoomWithout : ℕ → Direction → List Pair → ℕ → Table → Type 0
+HasRoomWithout period d gone more t = (left : Table) → IsWithout (quartered period d gone) t left → HasRoom more left
+
+-- The readings of an owner in an index, with these.
+abbrev pub with_readings : ℕ → List Timed → TimedReadings → List Timed
+with_readings o readings index = put_each readings (owned o index.entries)
+
+-- An event's readings are none of their owner's in an index, and the quarters have the pairs that these make, and the rest.
+abbrev pub AreToCome : ℕ → ℕ → ℕ → Direction → List Timed → TimedReadings → Table → List Flowed → Type 0
+AreToCome o seq period d readings index t rest = AreApart o seq period d readings (owned o index.entries) (pairs_among (owned o index.entries)) t rest
+
+-- An event's readings are none of their owner's in an index, and the quarters have the pairs that these make with them, and the rest.
+abbrev pub AreToGo : ℕ → ℕ → ℕ → Direction → List Timed → TimedReadings → Table → List Flowed → Type 0
+AreToGo o seq period d readings index t rest = AreApart o seq period d readings (owned o index.entries) (pairs_among (with_readings o readings index)) t rest
+
+-- The pairs that an owner's readings make with an event's came in place of those without them, for one difference a reading of the event, and two a run of them.
+pub record HaveCome (o seq period : ℕ) (d : Direction) (readings : List Timed) (index : TimedReadings) (rest : List Flowed) (next : Table) (w v : ℕ) (m : Moved) : Type 0 where
+  pub moved : AreExchanged period d (pairs_among (owned o index.entries)) (pairs_among (with_readings o readings index)) rest next m
+  pub work : IsWork (length readings + 2 * runs (own_timed seq) (with_readings o readings index)) w v
+
+-- They went, and those without them came.
+pub record HaveGone (o seq period : ℕ) (d : Direction) (readings : List Timed) (index : TimedReadings) (rest : List Flowed) (next : Table) (w v : ℕ) (m : Moved) : Type 0 where
+  pub moved : AreExchanged period d (pairs_among (with_readings o readings index)) (pairs_among (owned o index.entries)) rest next m
+  pub work : IsWork (length readings + 2 * runs (own_timed seq) (with_readings o readings index)) w v
+
+-- Of whichever event the readings are, and whatever the rest is: where they are to come, they have come.
+abbrev pub TheyCome : ℕ → Direction → List Timed → TimedReadings → Table → Table → ℕ → ℕ → Moved → Type 0
+TheyCome period d readings index t u w v m = (o seq : ℕ) (rest : List Flowed) → AreToCome o seq period d readings index t rest → HaveCome o seq period d readings index rest u w v m
+
+-- Of whichever event the readings are, and whatever the rest is: where they are to go, they have gone.
+abbrev pub TheyGo : ℕ → Direction → List Timed → TimedReadings → Table → Table → ℕ → ℕ → Moved → Type 0
+TheyGo period d readings index t u w v m = (o seq : ℕ) (rest : List Flowed) → AreToGo o seq period d readings index t rest → HaveGone o seq period d readings index rest u w v m
 
 -- The readings of a transaction's slot and a direction.
 abbrev pub side : ℕ → Direction → TimedReadings → List Timed

@@ -1,20 +1,19 @@
 //! The live readings of a station by moment, and what one event moves among their pairs.
 ghost use Rattle.std.specs.Prelude.{◌≡◌, ◌≤◌, ◌<◌, ◌+◌, ◌*◌, ◌^◌, ℕ, List, [], None, IfOk, drop, length, take, vec_capacity, vec_len};
 ghost use Rattle.event_chain.specs.Chains.{stored};
-ghost use Rattle.event_chain.specs.Table.{row_of};
+ghost use Rattle.event_chain.specs.Table.{row_of, AreSlotted};
 ghost use Rattle.ledger_model.specs.Board.{Flowed};
 ghost use Rattle.ledger_model.specs.Content.{Entry};
 ghost use Rattle.ledger_model.specs.Deltas.{across, pairs_between};
-ghost use Rattle.ledger_model.specs.InTime.{put_in_time, runs};
+ghost use Rattle.ledger_model.specs.InTime.{put_in_time};
 ghost use Rattle.ledger_model.specs.Ranges.{most_event_readings, most_readings};
 ghost use Rattle.ledger_model.specs.declared.order.Order.TheVariants.{Moment};
-ghost use Rattle.quarter_table.specs.Table.{Table};
-ghost use Rattle.reading_index.specs.Timed.{from_on, in_front, owned, IsRanked};
+ghost use Rattle.reading_index.specs.Timed.{from_on, in_front, IsRanked};
 ghost use Rattle.station_ledger.specs.ByMoment.{bare, bare_one, beyond, fits, fitting, listed_of, put_each, take_each, IsSlotGiven, AreByMoment, ArePuttable};
 ghost use Rattle.station_ledger.specs.Exchange.{IsComing, IsGoing};
 ghost use Rattle.station_ledger.specs.Moved.{IsExchanged};
-ghost use Rattle.station_ledger.specs.Quarters.{HasRoom, HoldsPairs, IsAdded, IsTaken, IsWithout, IsWork, quartered, readings_at};
-ghost use Rattle.station_ledger.specs.Runs.{own_timed, pairs_among, AreApart, AreExchanged, ArePutIn, AreSwapped, AreTakenOut, CanList, CanPutIn, CanTakeOut};
+ghost use Rattle.station_ledger.specs.Quarters.{HasRoom, HoldsPairs, IsAdded, IsTaken, IsWork, readings_at};
+ghost use Rattle.station_ledger.specs.Runs.{gap_pairs, run_pairs, ArePutIn, AreSwapped, AreTakenOut, AreToCome, AreToGo, CanList, CanPutIn, CanTakeOut, HasRoomWithout, TheyCome, TheyGo};
 ghost use Rattle.station_ledger.specs.Spent.{most_in_runs};
 ghost use Rattle.station_ledger.specs.Sums.{AreQuarterRows};
 
@@ -224,9 +223,9 @@ fn fill_gap(
     behind: &Option<KeyedReading>,
     work: &mut Work,
 ) -> Moved
-    requires holds { HoldsPairs period direction (across (bare_one before.now) (bare_one behind.now)) quarters.old }
-    requires room { (left : Table) → IsWithout (quartered period direction (across (bare_one before.now) (bare_one behind.now))) quarters.old left → HasRoom (length (pairs_between (bare_one before.now) (bare run.now) (bare_one behind.now))) left }
-    ensures { AreSwapped period direction (across (bare_one before.now) (bare_one behind.now)) (pairs_between (bare_one before.now) (bare run.now) (bare_one behind.now)) quarters.old quarters.new work.old work.new result }
+    requires holds { HoldsPairs period direction (gap_pairs before.now behind.now) quarters.old }
+    requires room { HasRoomWithout period direction (gap_pairs before.now behind.now) (length (run_pairs before.now run.now behind.now)) quarters.old }
+    ensures { AreSwapped period direction (gap_pairs before.now behind.now) (run_pairs before.now run.now behind.now) quarters.old quarters.new work.old work.new result }
 {
     let less = take_across(
         quarters,
@@ -258,10 +257,10 @@ fn clear_gap(
     behind: &Option<KeyedReading>,
     work: &mut Work,
 ) -> Moved
-    requires holds { HoldsPairs period direction (pairs_between (bare_one before.now) (bare run.now) (bare_one behind.now)) quarters.old }
-    requires few { length (pairs_between (bare_one before.now) (bare run.now) (bare_one behind.now)) ≤ most_readings }
-    requires room { (left : Table) → IsWithout (quartered period direction (pairs_between (bare_one before.now) (bare run.now) (bare_one behind.now))) quarters.old left → HasRoom (length (across (bare_one before.now) (bare_one behind.now))) left }
-    ensures { AreSwapped period direction (pairs_between (bare_one before.now) (bare run.now) (bare_one behind.now)) (across (bare_one before.now) (bare_one behind.now)) quarters.old quarters.new work.old work.new result }
+    requires holds { HoldsPairs period direction (run_pairs before.now run.now behind.now) quarters.old }
+    requires few { length (run_pairs before.now run.now behind.now) ≤ most_readings }
+    requires room { HasRoomWithout period direction (run_pairs before.now run.now behind.now) (length (gap_pairs before.now behind.now)) quarters.old }
+    ensures { AreSwapped period direction (run_pairs before.now run.now behind.now) (gap_pairs before.now behind.now) quarters.old quarters.new work.old work.new result }
 {
     let less = take_row(
         quarters,
@@ -293,10 +292,9 @@ fn come(
     readings: &[KeyedReading],
     work: &mut Work,
 ) -> Moved
-    requires { (o : ℕ) × (seq : ℕ) × (rest : List Flowed) × AreApart o seq period direction readings.now (owned o index.now.entries) (pairs_among (owned o index.now.entries)) quarters.old rest }
-    ensures moved { (o seq : ℕ) (rest : List Flowed) → AreApart o seq period direction readings.now (owned o index.now.entries) (pairs_among (owned o index.now.entries)) quarters.old rest → AreExchanged period direction (pairs_among (owned o index.now.entries)) (pairs_among (put_each readings.now (owned o index.now.entries))) rest quarters.new result }
+    requires { (o : ℕ) × (seq : ℕ) × (rest : List Flowed) × AreToCome o seq period direction readings.now index.now quarters.old rest }
+    ensures moved { TheyCome period direction readings.now index.now quarters.old quarters.new work.old work.new result }
     ensures capacity { quarters.new.capacity ≡ quarters.old.capacity }
-    ensures work { (o seq : ℕ) (rest : List Flowed) → AreApart o seq period direction readings.now (owned o index.now.entries) (pairs_among (owned o index.now.entries)) quarters.old rest → IsWork (length readings.now + 2 * runs (own_timed seq) (put_each readings.now (owned o index.now.entries))) work.old work.new }
 {
     let mut less = Flow::zero();
     let mut more = Flow::zero();
@@ -324,10 +322,9 @@ fn go(
     readings: &[KeyedReading],
     work: &mut Work,
 ) -> Moved
-    requires { (o : ℕ) × (seq : ℕ) × (rest : List Flowed) × AreApart o seq period direction readings.now (owned o index.now.entries) (pairs_among (put_each readings.now (owned o index.now.entries))) quarters.old rest }
-    ensures moved { (o seq : ℕ) (rest : List Flowed) → AreApart o seq period direction readings.now (owned o index.now.entries) (pairs_among (put_each readings.now (owned o index.now.entries))) quarters.old rest → AreExchanged period direction (pairs_among (put_each readings.now (owned o index.now.entries))) (pairs_among (owned o index.now.entries)) rest quarters.new result }
+    requires { (o : ℕ) × (seq : ℕ) × (rest : List Flowed) × AreToGo o seq period direction readings.now index.now quarters.old rest }
+    ensures moved { TheyGo period direction readings.now index.now quarters.old quarters.new work.old work.new result }
     ensures capacity { quarters.new.capacity ≡ quarters.old.capacity }
-    ensures work { (o seq : ℕ) (rest : List Flowed) → AreApart o seq period direction readings.now (owned o index.now.entries) (pairs_among (put_each readings.now (owned o index.now.entries))) quarters.old rest → IsWork (length readings.now + 2 * runs (own_timed seq) (put_each readings.now (owned o index.now.entries))) work.old work.new }
 {
     let mut less = Flow::zero();
     let mut more = Flow::zero();
@@ -393,9 +390,9 @@ fn take_side(
 // The slot of a transaction; where it has none, one is given.
 fn slot_of(slots: &mut TransactionTable, tx: &TxId) -> u32
     requires { row_of tx.now slots.old.rows ≡ None → length slots.old.rows < slots.old.capacity }
-    ensures { IsSlotGiven tx.now slots.old slots.new result }
+    ensures given { IsSlotGiven tx.now slots.old slots.new result }
+    ensures slotted { AreSlotted slots.new }
 {
-    slots.rows_rise();
     match slots.get(tx) {
         Some(row) => row.slot,
         None => slots.add(tx).slot,
@@ -464,7 +461,6 @@ pub(crate) fn put_event(
     ensures work { IsWork (most_in_runs key.now (stored chains.now)) work.old work.new }
 {
     let slot = slot_of(&mut by_moment.slots, key.tx());
-    by_moment.slots.rows_rise();
     let import = put_side(
         chains,
         &mut by_moment.index,
@@ -507,7 +503,6 @@ pub(crate) fn take_event(
 {
     let tx = key.tx();
     let slot = slot_of(&mut by_moment.slots, tx);
-    by_moment.slots.rows_rise();
     let import = take_side(
         chains,
         &mut by_moment.index,

@@ -1,6 +1,7 @@
-ghost use Rattle.std.specs.Prelude.{◌≡◌, ◌+◌, ◌≤◌, IfOk};
+ghost use Rattle.std.specs.Prelude.{◌≡◌, ◌+◌, ◌<◌, ◌≤◌, ◌^◌, IfOk};
 ghost use Rattle.std.specs.FinMap as finite;
 ghost use Rattle.ledger_model.specs.Ranges.{most_event_readings};
+ghost use Rattle.ledger_model.specs.Admissible.{IsAdmissible};
 ghost use Rattle.ledger_model.specs.Content.{empty_content, entries};
 ghost use Rattle.ledger_model.specs.declared.reading.Direction.TheVariants.{Import, Export};
 ghost use Rattle.ledger_model.specs.Energy.{energy_by};
@@ -61,6 +62,7 @@ impl StationLedger {
         ensures period { IfOk result (λ l. l.period ≡ period) }
         ensures order { IfOk result (λ l. l.order ≡ order) }
         ensures empty { IfOk result (λ l. l.content ≡ empty_content) }
+        ensures reached { IfOk result (λ l. Reached l.limits l.content.changes l.content) }
     {
         limits.keep_ranges();
         Ok(StationLedger {
@@ -80,13 +82,14 @@ impl StationLedger {
 
     // The same, and where the command's key stands or belongs, where that was searched.
     fn judge_at(&self, command: &Command) -> (Answer, KeyPlace)
-        ensures { result.0 ≡ answer self.now.limits self.now.content command.now }
+        ensures answer { result.0 ≡ answer self.now.limits self.now.content command.now }
+        ensures admissible { IsAdmissible command.now }
     {
+        let key = command.key();
         match command {
-            Command::Deliver(key, event) => self.judge_delivery(key, event),
-            Command::Void(key) => (self.judge_void(key), KeyPlace::UNKNOWN),
-            Command::Restore(key) => (self.judge_voided(key), KeyPlace::UNKNOWN),
-            Command::Erase(key) => (self.judge_voided(key), KeyPlace::UNKNOWN),
+            Command::Deliver(_, event) => self.judge_delivery(key, event),
+            Command::Void(_) => (self.judge_void(key), KeyPlace::UNKNOWN),
+            Command::Restore(_) | Command::Erase(_) => (self.judge_voided(key), KeyPlace::UNKNOWN),
         }
     }
 
@@ -160,8 +163,9 @@ impl StationLedger {
         ensures content { self.new ≡ record self.old { content = (step self.old.limits self.old.content command).0 } }
         ensures work { IsSpent result work.old work.new }
         ensures bound { work.new ≤ work.old + most_spent self.old.order self.old.content.events command }
+        ensures reached { Reached self.new.limits self.new.content.changes self.new.content }
+        ensures fits { self.new.content.changes < 2 ^ 64 }
     {
-        command.keeps_ranges();
         let (answer, place) = self.judge_at(&command);
         if let Answer::Accepted(changes) = answer {
             carry_out(&mut self.chains, &mut self.sums, place, &command, work);

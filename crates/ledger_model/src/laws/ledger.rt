@@ -7,7 +7,7 @@ ghost use Rattle.ledger_model.specs.declared.command.Command.{Command};
 ghost use Rattle.ledger_model.specs.declared.command.Command.TheVariants.{Void, Restore};
 ghost use Rattle.ledger_model.specs.declared.answer.Answer.TheVariants.{Accepted, Repeat, Refused};
 ghost use Rattle.ledger_model.specs.declared.answer.Refusal.{Refusal};
-ghost use Rattle.ledger_model.specs.declared.answer.Refusal.TheVariants.{ConflictingEvent, EventsFull, NoSuchEvent, AlreadyVoided, NotVoided};
+ghost use Rattle.ledger_model.specs.declared.answer.Refusal.TheVariants.{ConflictingEvent, EventsFull};
 ghost use Rattle.ledger_model.specs.Key.{KeyName};
 ghost use Rattle.ledger_model.specs.Limits.{Bounds, default_limits};
 ghost use Rattle.ledger_model.specs.Content.{Content, empty_content, entries, transactions_of};
@@ -16,8 +16,8 @@ ghost use Rattle.ledger_model.specs.declared.order.Order.{Order};
 ghost use Rattle.ledger_model.specs.Figures.{AreWithin};
 ghost use Rattle.ledger_model.specs.Step.{step, Reached, readings_stored};
 ghost use Rattle.ledger_model.specs.Energy.{readings_of, energy};
-ghost use Rattle.ledger_model.specs.Laws.{AreAccepted, left_by, answers, by_number, Sent, deliveries, IsLeftByRun};
-ghost use Rattle.ledger_model.specs.Examples.{narrow_limits, first_run, late_event, falling_register, conflict, void_and_restore, full_until_erased, other_direction};
+ghost use Rattle.ledger_model.specs.Laws.{AreAccepted, left_by, answers, by_number, Sent, deliveries, DeliversTheSame, IsLeftByRun};
+ghost use Rattle.ledger_model.specs.Examples.{narrow_limits, first_run, late_event, falling_register, conflict, void_and_restore, void_and_restore_answers, full_until_erased, other_direction};
 
 /// An accepted void, then an accepted restoration of the same key, gives back the events and which of
 /// them are voided; both are counted.
@@ -35,8 +35,7 @@ pub fn unchanged()
 /// Deliveries that are all accepted in one order are, from the same content, all accepted in every
 /// order, and they leave the same content.
 pub fn orders()
-    ensures accepted { (limits : Bounds) (c : Content) (one other : List Sent) → IsPermutation one other → AreAccepted limits c (deliveries one) → AreAccepted limits c (deliveries other) }
-    ensures content { (limits : Bounds) (c : Content) (one other : List Sent) → IsPermutation one other → AreAccepted limits c (deliveries one) → left_by limits c (deliveries other) ≡ left_by limits c (deliveries one) }
+    ensures { (limits : Bounds) (c : Content) (one other : List Sent) → IsPermutation one other → AreAccepted limits c (deliveries one) → DeliversTheSame limits c one other }
 {}
 
 /// A content is reached by so many changes exactly where some list of so many admissible commands, each
@@ -66,6 +65,6 @@ pub fn examples()
     ensures falling_register { energy Import (entries (left_by default_limits empty_content falling_register)) ≡ record { up = 50_000; down = 1_500_000 } }
     ensures conflict { answers default_limits empty_content conflict ≡ Accepted 1 ∷ Accepted 2 ∷ Accepted 3 ∷ Repeat ∷ Refused ConflictingEvent ∷ [] }
     ensures other_direction { answers default_limits empty_content other_direction ≡ Accepted 1 ∷ Refused ConflictingEvent ∷ [] }
-    ensures void_and_restore { answers default_limits empty_content void_and_restore ≡ Accepted 1 ∷ Accepted 2 ∷ Accepted 3 ∷ Repeat ∷ Refused ConflictingEvent ∷ Accepted 4 ∷ Repeat ∷ Refused AlreadyVoided ∷ Refused NoSuchEvent ∷ Refused NotVoided ∷ Accepted 5 ∷ Refused NotVoided ∷ [] }
+    ensures void_and_restore { answers default_limits empty_content void_and_restore ≡ void_and_restore_answers }
     ensures full_until_erased { answers narrow_limits empty_content full_until_erased ≡ Accepted 1 ∷ Accepted 2 ∷ Refused EventsFull ∷ Accepted 3 ∷ Refused EventsFull ∷ Accepted 4 ∷ Accepted 5 ∷ [] }
 {}

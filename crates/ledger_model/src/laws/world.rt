@@ -3,6 +3,7 @@
 ghost use Rattle.std.specs.Prelude.{◌≡◌, ℕ, List, map};
 ghost use Rattle.ledger_model.specs.declared.order.Order.{Order};
 ghost use Rattle.ledger_model.specs.Board.{board_by, figures_by};
+ghost use Rattle.ledger_model.specs.BoardLaws.{with_voided};
 ghost use Rattle.ledger_model.specs.Content.{Entry, live};
 ghost use Rattle.ledger_model.specs.World.{World, Happens, run};
 ghost use Rattle.ledger_model.specs.WorldLaws.{AreReordered, station_left};
@@ -20,5 +21,5 @@ pub fn orders_of_runs()
 
 /// Contents with the same live events have boards that differ in the number of voided events alone.
 pub fn live_events_alone()
-    ensures { (order : Order) (period : ℕ) (es fs : List Entry) → live es ≡ live fs → board_by order period es ≡ record (board_by order period fs) { figures = record (figures_by order fs) { voided = (figures_by order es).voided } } }
+    ensures { (order : Order) (period : ℕ) (es fs : List Entry) → live es ≡ live fs → board_by order period es ≡ with_voided (figures_by order es).voided (board_by order period fs) }
 {}

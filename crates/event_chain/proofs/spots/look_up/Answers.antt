@@ -10,4 +10,4 @@ returns-in-Some c =
     let es = c.args.places.now.stored.entries in let rows = c.args.table.now.rows in let row = c.in-Some.row in let key = c.args.key.now in
     let lt : key.seq < 2 ^ 31 = omega (arith, c.seq.ensures.value, c.seq.ensures.range) in
     c.find.ensures ∙ ap (λ r. place_of r es) (c.new.ensures ∙ ap (rank row.slot) c.seq.ensures.value)
-    ∙ sym (place_at_row rows es key row (sym (c.in-Some.ensures ∙ ap (λ t. row_of t rows) c.tx.ensures)) lt)
+    ∙ sym (place_at_row rows es key row (sym (c.in-Some.ensures.value ∙ ap (λ t. row_of t rows) c.tx.ensures)) lt)

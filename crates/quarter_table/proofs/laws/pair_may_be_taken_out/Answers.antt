@@ -2,4 +2,10 @@ use Rattle.quarter_table.proofs.Held.{pair_counted, pair_held, export_held, last
 use Rattle.quarter_table.proofs.laws.pair_may_be_taken_out.Goals as goal
 
 pub returns : goal.returns
-returns c = record { there = pair_counted; within = pair_held; within_export = export_held; last = last_pair; last_export = all_exported }
+returns c front f back = record {
+  there = pair_counted front f.0 f.1 back;
+  within = pair_held front f.0 f.1 back;
+  within_export = export_held front f.0 f.1 back;
+  last = last_pair front f.0 f.1 back;
+  last_export = all_exported front f.0 f.1 back;
+}

@@ -50,7 +50,7 @@ loop-left-preserved c =
     }
 
 pub returns-clause-moved : goal.returns-clause-moved
-returns-clause-moved c = λ o seq rest a. going_end a (c.loop-left.invariant.moving o seq rest a) (none_left c.loop-left.left.now c.in_default.len_below)
-
-pub returns-clause-work : goal.returns-clause-work
-returns-clause-work c = λ o seq rest a. going_work a (c.loop-left.invariant.moving o seq rest a) (none_left c.loop-left.left.now c.in_default.len_below)
+returns-clause-moved c = λ o seq rest a.
+    let h = c.loop-left.invariant.moving o seq rest a in
+    let none = none_left c.loop-left.left.now c.in_default.len_below in
+    record { moved = going_end a h none; work = going_work a h none }

@@ -17,6 +17,6 @@ returns-clause-put c =
       entries = c.put_all.ensures.entries ∙ ap (λ (s : List Timed). put_each s c.args.index.now.entries) again;
       capacity = c.put_all.ensures.capacity;
       room = c.come-moved.ensures.capacity;
-      moved = subst (λ (s : List Timed). (rest : List Flowed) → AreApart o seq c.args.period c.args.direction s l (pairs_among l) t rest → AreExchanged c.args.period c.args.direction (pairs_among l) (pairs_among (put_each s l)) rest u c.come-moved.result) listed (λ rest a. c.come-moved.ensures.moved o seq rest a);
-      work = subst (λ (s : List Timed). (rest : List Flowed) → AreApart o seq c.args.period c.args.direction s l (pairs_among l) t rest → IsWork (length s + 2 * runs (own_timed seq) (put_each s l)) c.args.work.now c.come-moved.new.work) listed (λ rest a. c.come-moved.ensures.work o seq rest a);
+      moved = subst (λ (s : List Timed). (rest : List Flowed) → AreApart o seq c.args.period c.args.direction s l (pairs_among l) t rest → AreExchanged c.args.period c.args.direction (pairs_among l) (pairs_among (put_each s l)) rest u c.come-moved.result) listed (λ rest a. (c.come-moved.ensures.moved o seq rest a).moved);
+      work = subst (λ (s : List Timed). (rest : List Flowed) → AreApart o seq c.args.period c.args.direction s l (pairs_among l) t rest → IsWork (length s + 2 * runs (own_timed seq) (put_each s l)) c.args.work.now c.come-moved.new.work) listed (λ rest a. (c.come-moved.ensures.moved o seq rest a).work);
     }

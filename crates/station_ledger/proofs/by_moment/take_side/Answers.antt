@@ -17,6 +17,6 @@ returns-clause-taken c =
       entries = c.take_all.ensures.entries ∙ ap (λ (s : List Timed). take_each s c.args.index.now.entries) listed;
       capacity = c.take_all.ensures.capacity;
       room = c.go.ensures.capacity;
-      moved = subst (λ (s : List Timed). (rest : List Flowed) → AreApart o seq c.args.period c.args.direction s l (pairs_among (put_each s l)) t rest → AreExchanged c.args.period c.args.direction (pairs_among (put_each s l)) (pairs_among l) rest u c.go.result) again (λ rest a. c.go.ensures.moved o seq rest a);
-      work = subst (λ (s : List Timed). (rest : List Flowed) → AreApart o seq c.args.period c.args.direction s l (pairs_among (put_each s l)) t rest → IsWork (length s + 2 * runs (own_timed seq) (put_each s l)) c.args.work.now c.go.new.work) again (λ rest a. c.go.ensures.work o seq rest a);
+      moved = subst (λ (s : List Timed). (rest : List Flowed) → AreApart o seq c.args.period c.args.direction s l (pairs_among (put_each s l)) t rest → AreExchanged c.args.period c.args.direction (pairs_among (put_each s l)) (pairs_among l) rest u c.go.result) again (λ rest a. (c.go.ensures.moved o seq rest a).moved);
+      work = subst (λ (s : List Timed). (rest : List Flowed) → AreApart o seq c.args.period c.args.direction s l (pairs_among (put_each s l)) t rest → IsWork (length s + 2 * runs (own_timed seq) (put_each s l)) c.args.work.now c.go.new.work) again (λ rest a. (c.go.ensures.moved o seq rest a).work);
     }

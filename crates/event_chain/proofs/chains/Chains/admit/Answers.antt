@@ -84,8 +84,8 @@ invariant_of-self c =
     (record {
       rows = c.renew.ensures.rows ∙ ap (λ t. with_row t c.row_with-after.result c.enter-known.new.table.rows) c.tx-tx.ensures;
       transactions = c.renew.ensures.capacity ∙ c.enter-known.ensures.capacity ∙ ap (λ (x : Table). x.capacity) c.seek-found.ensures.same;
-      rising = c.rows_rise.ensures.rising;
-      apart = c.rows_rise.ensures.apart;
+      rising = c.renew.ensures.slotted.rising;
+      apart = c.renew.ensures.slotted.apart;
       free = c.put-slot.ensures.was_free;
       within = c.put-slot.ensures.within;
       slots = c.put-slot.ensures.slots;
@@ -112,8 +112,8 @@ returns-clause-events c =
     (record {
       rows = c.renew.ensures.rows ∙ ap (λ t. with_row t c.row_with-after.result c.enter-known.new.table.rows) c.tx-tx.ensures;
       transactions = c.renew.ensures.capacity ∙ c.enter-known.ensures.capacity ∙ ap (λ (x : Table). x.capacity) c.seek-found.ensures.same;
-      rising = c.rows_rise.ensures.rising;
-      apart = c.rows_rise.ensures.apart;
+      rising = c.renew.ensures.slotted.rising;
+      apart = c.renew.ensures.slotted.apart;
       free = c.put-slot.ensures.was_free;
       within = c.put-slot.ensures.within;
       slots = c.put-slot.ensures.slots;

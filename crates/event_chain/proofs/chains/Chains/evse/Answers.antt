@@ -16,6 +16,6 @@ evse_at-requires c =
 pub returns : goal.returns
 returns c =
     let m = c.self.inside in let k = c.self.invariant in let rows = m.table.rows in let es = m.places.stored.entries in let slots = m.store.slots in
-    c.evse_at.ensures ∙ ap (evse_at slots) (c.first_naming.ensures ∙ ap (first_under m.places.naming.entries) c.get.ensures)
+    c.evse_at.ensures ∙ ap (evse_at slots) (c.first_naming.ensures ∙ ap (first_under m.places.naming.entries) c.get.ensures.value)
     ∙ sym (evse_number rows es m.places.naming.entries slots k.keyed.rising k.keyed.ranks k.indexed.names c.args.tx.now)
     ∙ ap (λ xs. evse_of c.args.tx.now xs) (sym (entries_all k)) ∙ ap (λ (x : Chained). evse_of c.args.tx.now (stored x)) c.self.view_is

@@ -8,5 +8,5 @@ use Rattle.event_chain.proofs.chains.Chains.live_count.Goals as goal
 pub returns : goal.returns
 returns c =
     let m = c.self.inside in let k = c.self.invariant in let rows = m.table.rows in let es = m.places.stored.entries in let slots = m.store.slots in
-    ap (λ (p : ℕ × ℕ). p.0) c.counts_in.ensures ∙ live_counted rows es slots k.figured c.args.tx.now c.get.result c.get.ensures
+    ap (λ (p : ℕ × ℕ). p.0) c.counts_in.ensures ∙ live_counted rows es slots k.figured c.args.tx.now c.get.result c.get.ensures.value
     ∙ ap (λ xs. length (live_of c.args.tx.now xs)) (sym (entries_all k)) ∙ ap (λ (x : Chained). length (live_of c.args.tx.now (stored x))) c.self.view_is

@@ -12,7 +12,7 @@ pub sides_of-requires-clause-carry : goal.sides_of-requires-clause-carry
 sides_of-requires-clause-carry c = c.self.invariant.indexed.carry c.args.direction
 
 pub sides_of-requires-clause-row : goal.sides_of-requires-clause-row
-sides_of-requires-clause-row c = c.get-row.ensures ∙ ap (λ t. row_of t c.self.inside.table.rows) c.tx.ensures
+sides_of-requires-clause-row c = c.get-row.ensures.value ∙ ap (λ t. row_of t c.self.inside.table.rows) c.tx.ensures
 
 pub returns-clause-before : goal.returns-clause-before
 returns-clause-before c =

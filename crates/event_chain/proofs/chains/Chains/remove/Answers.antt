@@ -44,7 +44,7 @@ invariant_of-self c =
     seal m.limits c.leave.new.table c.take_out.new.self c.remove.new.self.stored c.remove.new.self.live (carriers_of c.remove.new.self) c.remove.new.self.naming c.leave.new.table.rows m.table.capacity (set m.store.slots spot.slot None) c.take_out.new.self.readings m.store.capacity left m.places.live.entries (λ d. (carriers_of m.places d).entries) m.places.naming.entries m.limits.events
     refl c.leave.ensures.capacity c.take_out.ensures.slots refl c.take_out.ensures.capacity (λ i. (e.stored i).entries) (λ i. (e.lives.live i).entries) (λ d i. (e.lives.carriers d i).entries) (λ i. (e.lives.naming i).entries)
     ((λ i. (e.stored i).capacity) ∙ r.for_stored) ((λ i. (e.lives.live i).capacity) ∙ r.for_live) (λ d. (λ i. (e.lives.carriers d i).capacity) ∙ r.for_carriers d) ((λ i. (e.lives.naming i).capacity) ∙ r.for_naming)
-    (out_chains m.limits m.table.rows c.leave.new.table.rows m.places.stored.entries m.places.live.entries (λ d. (carriers_of m.places d).entries) m.places.naming.entries m.store.slots key spot.row spot.key spot.slot m.table.capacity m.store.readings c.take_out.new.self.readings m.store.capacity (spot_event k key at) k.keyed k.indexed k.figured k.counted gone at.number at.key_is c.rows_rise.ensures.rising c.rows_rise.ensures.apart (spot_here k key at) (spot_within k key at) at.slot void (ap (λ n. c.take_out.new.self.readings + n) (sym (ap readings_in (spot_here k key at))) ∙ c.take_out.ensures.readings) (record { for_stored = refl; for_live = refl; for_carriers = λ d. refl; for_naming = refl }))
+    (out_chains m.limits m.table.rows c.leave.new.table.rows m.places.stored.entries m.places.live.entries (λ d. (carriers_of m.places d).entries) m.places.naming.entries m.store.slots key spot.row spot.key spot.slot m.table.capacity m.store.readings c.take_out.new.self.readings m.store.capacity (spot_event k key at) k.keyed k.indexed k.figured k.counted gone at.number at.key_is (c.leave.ensures.rising k.keyed.rising) (c.leave.ensures.apart k.keyed.apart) (spot_here k key at) (spot_within k key at) at.slot void (ap (λ n. c.take_out.new.self.readings + n) (sym (ap readings_in (spot_here k key at))) ∙ c.take_out.ensures.readings) (record { for_stored = refl; for_live = refl; for_carriers = λ d. refl; for_naming = refl }))
 
 pub returns-clause-events : goal.returns-clause-events
 returns-clause-events c =
@@ -54,5 +54,5 @@ returns-clause-events c =
     let gone = subst (λ t. IsLeft m.table.rows c.leave.new.table.rows left t spot.row) c.tx.ensures (subst (λ (es : List EventPlace). IsLeft m.table.rows c.leave.new.table.rows es c.tx.result.now spot.row) (λ i. (c.remove.ensures.stored i).entries) c.leave.ensures.left) in
     (λ i. finite.from_sorted {R = key_cmp} (flat c.leave.new.table.rows ((c.remove.ensures.stored i).entries) (c.take_out.ensures.slots i)))
     ∙ map_out (flat m.table.rows m.places.stored.entries m.store.slots) (flat c.leave.new.table.rows left (set m.store.slots spot.slot None)) key (all_rising k)
-    (out_all m.limits m.table.rows c.leave.new.table.rows m.places.stored.entries m.places.live.entries (λ d. (carriers_of m.places d).entries) m.places.naming.entries m.store.slots key spot.row spot.key spot.slot m.table.capacity m.store.readings c.take_out.new.self.readings m.store.capacity (spot_event k key at) k.keyed k.indexed k.figured k.counted gone at.number at.key_is c.rows_rise.ensures.rising c.rows_rise.ensures.apart (spot_here k key at) (spot_within k key at) at.slot void)
+    (out_all m.limits m.table.rows c.leave.new.table.rows m.places.stored.entries m.places.live.entries (λ d. (carriers_of m.places d).entries) m.places.naming.entries m.store.slots key spot.row spot.key spot.slot m.table.capacity m.store.readings c.take_out.new.self.readings m.store.capacity (spot_event k key at) k.keyed k.indexed k.figured k.counted gone at.number at.key_is (c.leave.ensures.rising k.keyed.rising) (c.leave.ensures.apart k.keyed.apart) (spot_here k key at) (spot_within k key at) at.slot void)
     ∙ ap (λ (x : Chained). finite.remove x.events key) c.self.view_is

@@ -43,12 +43,12 @@ invariant_of-self c =
     (marked_chains k key at c.set.new.self c.set_voided.new.self c.void.new.self.live (carriers_of c.void.new.self) c.void.new.self.naming c.row_without-after.result true (record {
       rows = c.set.ensures.rows ∙ ap (λ t. with_row t c.row_without-after.result m.table.rows) c.tx.ensures;
       transactions = c.set.ensures.capacity;
-      rising = c.rows_rise.ensures.rising;
-      apart = c.rows_rise.ensures.apart;
+      rising = c.set.ensures.slotted.rising;
+      apart = c.set.ensures.slotted.apart;
       slots = c.set_voided.ensures.slots;
       readings = c.set_voided.ensures.readings;
       room = c.set_voided.ensures.capacity;
-      indexes = out_indexes k key at c.set.new.self.rows c.row_without-after.result (c.set.ensures.rows ∙ ap (λ t. with_row t c.row_without-after.result m.table.rows) c.tx.ensures) (ap (λ (r : TableRow). r.slot) c.row_without-after.ensures) c.rows_rise.ensures.rising c.rows_rise.ensures.apart true
+      indexes = out_indexes k key at c.set.new.self.rows c.row_without-after.result (c.set.ensures.rows ∙ ap (λ t. with_row t c.row_without-after.result m.table.rows) c.tx.ensures) (ap (λ (r : TableRow). r.slot) c.row_without-after.ensures) c.set.ensures.slotted.rising c.set.ensures.slotted.apart true
           c.void.new.self.live.entries (λ d. (carriers_of c.void.new.self d).entries) c.void.new.self.naming.entries refl (λ i. (c.void.ensures.lives.live i).entries) (λ d i. (c.void.ensures.lives.carriers d i).entries) (λ i. (c.void.ensures.lives.naming i).entries);
       live_cap = (λ i. (c.void.ensures.lives.live i).capacity);
       carriers_cap = (λ d i. (c.void.ensures.lives.carriers d i).capacity);
@@ -67,12 +67,12 @@ returns-clause-events c =
     ∙ marked_events k key at c.set.new.self c.set_voided.new.self c.void.new.self.live (carriers_of c.void.new.self) c.void.new.self.naming c.row_without-after.result true (record {
       rows = c.set.ensures.rows ∙ ap (λ t. with_row t c.row_without-after.result m.table.rows) c.tx.ensures;
       transactions = c.set.ensures.capacity;
-      rising = c.rows_rise.ensures.rising;
-      apart = c.rows_rise.ensures.apart;
+      rising = c.set.ensures.slotted.rising;
+      apart = c.set.ensures.slotted.apart;
       slots = c.set_voided.ensures.slots;
       readings = c.set_voided.ensures.readings;
       room = c.set_voided.ensures.capacity;
-      indexes = out_indexes k key at c.set.new.self.rows c.row_without-after.result (c.set.ensures.rows ∙ ap (λ t. with_row t c.row_without-after.result m.table.rows) c.tx.ensures) (ap (λ (r : TableRow). r.slot) c.row_without-after.ensures) c.rows_rise.ensures.rising c.rows_rise.ensures.apart true
+      indexes = out_indexes k key at c.set.new.self.rows c.row_without-after.result (c.set.ensures.rows ∙ ap (λ t. with_row t c.row_without-after.result m.table.rows) c.tx.ensures) (ap (λ (r : TableRow). r.slot) c.row_without-after.ensures) c.set.ensures.slotted.rising c.set.ensures.slotted.apart true
           c.void.new.self.live.entries (λ d. (carriers_of c.void.new.self d).entries) c.void.new.self.naming.entries refl (λ i. (c.void.ensures.lives.live i).entries) (λ d i. (c.void.ensures.lives.carriers d i).entries) (λ i. (c.void.ensures.lives.naming i).entries);
       live_cap = (λ i. (c.void.ensures.lives.live i).capacity);
       carriers_cap = (λ d i. (c.void.ensures.lives.carriers d i).capacity);

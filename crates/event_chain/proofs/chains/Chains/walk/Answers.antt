@@ -17,13 +17,13 @@ over-requires-in-None c = let m = c.self.inside in let k = c.self.invariant in l
 pub returns-in-Some : goal.returns-in-Some
 returns-in-Some c =
     let m = c.self.inside in let k = c.self.invariant in
-    c.over.ensures ∙ ap (λ o. numbers_at m.places.live.entries (option_map (λ (r : TableRow). r.slot) o)) c.in-Some.ensures
+    c.over.ensures ∙ ap (λ o. numbers_at m.places.live.entries (option_map (λ (r : TableRow). r.slot) o)) c.in-Some.ensures.value
     ∙ sym (live_numbers m.table.rows m.places.stored.entries m.places.live.entries m.store.slots k.keyed.rising k.keyed.ranks k.indexed.lives c.args.tx.now)
     ∙ ap (numbers_of c.args.tx.now) (sym (entries_all k)) ∙ ap (λ (x : Chained). numbers_of c.args.tx.now (stored x)) c.self.view_is
 
 pub returns-in-None : goal.returns-in-None
 returns-in-None c =
     let m = c.self.inside in let k = c.self.invariant in
-    c.over-in-None.ensures ∙ ap (λ o. numbers_at m.places.live.entries (option_map (λ (r : TableRow). r.slot) o)) c.in-None.ensures
+    c.over-in-None.ensures ∙ ap (λ o. numbers_at m.places.live.entries (option_map (λ (r : TableRow). r.slot) o)) c.in-None.ensures.value
     ∙ sym (live_numbers m.table.rows m.places.stored.entries m.places.live.entries m.store.slots k.keyed.rising k.keyed.ranks k.indexed.lives c.args.tx.now)
     ∙ ap (numbers_of c.args.tx.now) (sym (entries_all k)) ∙ ap (λ (x : Chained). numbers_of c.args.tx.now (stored x)) c.self.view_is

@@ -2,7 +2,7 @@ use Rattle.std.proofs.Common.{ap, sym, ◌∙◌, subst, arith, option_map}
 use Rattle.event_chain.specs.declared.row.TableRow.{TableRow}
 use Rattle.event_chain.specs.Table.{Table, row_of}
 use Rattle.event_chain.specs.TableKept.{IsTable}
-use Rattle.event_chain.proofs.TableKept.{IsTable-set, slot_there}
+use Rattle.event_chain.proofs.TableKept.{IsTable-set, slot_there, slotted}
 use Rattle.event_chain.proofs.table.TransactionTable.set_at.Goals as goal
 
 pub invariant_of-self : goal.invariant_of-self
@@ -13,3 +13,12 @@ invariant_of-self c =
           (subst (IsTable _ c.self.inside.spare.items) (sym same) (IsTable-set rows c.self.inside.spare.items c.self.inside.rows.capacity c.args.tx.now old.0 c.args.row was.0 old.1.0 old.1.1)),
       omega (arith, was.1, same),
     )
+
+-- The rows that are there then, with their slots.
+pub returns-clause-slotted : goal.returns-clause-slotted
+returns-clause-slotted c =
+    let was = c.self.invariant in let rows = c.self.inside.rows.rows in let same = c.set_at.ensures.capacity in
+    let old = slot_there (row_of c.args.tx.now rows) c.args.row.slot (ap (λ (t : Table). option_map (λ (r : TableRow). r.slot) (row_of c.args.tx.now t.rows)) c.self.view_is ∙ c.requires.slot) in
+    slotted c.set_at.new.self c.self.inside.spare.items (
+    subst (λ rs. IsTable rs c.self.inside.spare.items c.set_at.new.self.capacity) (sym c.set_at.ensures.rows)
+    (subst (IsTable _ c.self.inside.spare.items) (sym same) (IsTable-set rows c.self.inside.spare.items c.self.inside.rows.capacity c.args.tx.now old.0 c.args.row was.0 old.1.0 old.1.1)))

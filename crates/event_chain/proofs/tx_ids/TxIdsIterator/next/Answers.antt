@@ -12,7 +12,7 @@ ids rows = map (λ (r : TxRow). r.0) rows
 
 -- The id that was read stands at the place.
 read_id : (c : After-copied) → slice_get (ids c.self.inside.table.now.rows) c.self.inside.next ≡ Some c.copied.result
-read_id c = sym c.in-Some.ensures ∙ ap (λ (t : List ℕ). Some t) (sym c.copied.ensures)
+read_id c = sym c.in-Some.ensures.id ∙ ap (λ (t : List ℕ). Some t) (sym c.copied.ensures)
 
 -- It is the first of those that were to come.
 first_is : (c : After-copied) → c.args.self.now ≡ c.copied.result ∷ drop (c.self.inside.next + 1) (ids c.self.inside.table.now.rows)
@@ -35,4 +35,4 @@ returns-in-Some-clause-goes c =
     record { on = λ _. (tt, tt, fewer); keeps = tt; rests = λ _. tt }
 
 pub returns-in-None-clause-steps : goal.returns-in-None-clause-steps
-returns-in-None-clause-steps c = let none = sym c.self.view_is ∙ drop_none (ids c.self.inside.table.now.rows) c.self.inside.next (sym c.in-None.ensures) in (none, none)
+returns-in-None-clause-steps c = let none = sym c.self.view_is ∙ drop_none (ids c.self.inside.table.now.rows) c.self.inside.next (sym c.in-None.ensures.id) in (none, none)

@@ -2,4 +2,10 @@ use Rattle.ledger_model.proofs.OneMoreFigures.{energy_more, energy_of_more, ener
 use Rattle.ledger_model.proofs.laws.deltas.energies_with_one_event_more.Goals as goal
 
 pub returns : goal.returns
-returns c = record { station = energy_more; transaction = energy_of_more; quarter = energy_in_more; quarter_pairs = pairs_in_more; evse = energy_at_more }
+returns c d es more front e back one = record {
+  station = energy_more d es more front e back one;
+  transaction = energy_of_more d es more front e back one;
+  quarter = λ period q. energy_in_more d period q es more front e back one;
+  quarter_pairs = λ period q. pairs_in_more d period q es more front e back one;
+  evse = λ order evse. energy_at_more order d evse es more front e back one;
+}

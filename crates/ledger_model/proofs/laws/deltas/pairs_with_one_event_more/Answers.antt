@@ -3,14 +3,16 @@ use Rattle.ledger_model.proofs.laws.deltas.pairs_with_one_event_more.Goals as go
 
 pub returns : goal.returns
 returns c = record {
-  own_without = pairs_without;
-  own_with = pairs_with;
+  moved = λ d es more front e back one. record {
+    own_without = pairs_without d es more front e back one;
+    own_with = pairs_with d es more front e back one;
+    station_without = λ f. pairs_less_kept d f es more front e back one;
+    station_with = λ f. pairs_more_kept d f es more front e back one;
+    less_kept = λ f. taken_and_left d f es more front e back one;
+    more_kept = λ f. brought_and_left d f es more front e back one;
+  };
   events_without = live_without;
   events_with = live_with;
   other_events = live_else;
-  station_without = pairs_less_kept;
-  station_with = pairs_more_kept;
-  less_kept = taken_and_left;
-  more_kept = brought_and_left;
-  few_moved = few_come_and_go;
+  few_moved = λ d e front back. few_come_and_go d front e back;
 }

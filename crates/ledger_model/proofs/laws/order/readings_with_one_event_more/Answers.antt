@@ -4,11 +4,13 @@ use Rattle.ledger_model.proofs.laws.order.readings_with_one_event_more.Goals as 
 pub returns : goal.returns
 returns c = record {
   readings = numbered_readings;
-  without = λ order d es more e one. less_numbered d es more e one order;
-  own = λ order d es more e one. own_numbered d es more e one order;
+  moved = λ order d es more e one. record {
+    without = less_numbered d es more e one order;
+    own = own_numbered d es more e one order;
+    transaction = transaction_moves d es more e one order;
+    station = station_moves d es more e one order;
+    few = few_come_and_go d es more e one order;
+  };
   others = others_stay;
-  transaction = λ order d f es more e one. transaction_moves d es more e one order f;
-  station = λ order d f es more e one. station_moves d es more e one order f;
-  few = λ order d es more e one. few_come_and_go d es more e one order;
   one_run = runs_by_sequence;
 }

@@ -12,7 +12,7 @@ overflow_add-index_mut c =
     let part = count_part c.self.inside.counts.items c.pass.inside.slot c.pass.inside.changes at in
     let more = one_more c.self.inside.ledger.limits c.self.inside.ledger.content c.args.command c.in-Accepted.field-0 (sym c.apply-answer.ensures.answer ∙ c.in-Accepted.is) in
     let left = ap (λ (l : Ledger). l.content.changes) c.apply-answer.ensures.content in
-    omega (arith, read, part, more, left, c.self.invariant.counted, c.counts_commands.ensures.fits)
+    omega (arith, read, part, more, left, c.self.invariant.counted, c.apply-answer.ensures.fits)
 
 pub overflow_add-pass : goal.overflow_add-pass
 overflow_add-pass c =
@@ -20,7 +20,7 @@ overflow_add-pass c =
     let part = count_part c.self.inside.counts.items c.pass.inside.slot c.pass.inside.changes at in
     let more = one_more c.self.inside.ledger.limits c.self.inside.ledger.content c.args.command c.in-Accepted.field-0 (sym c.apply-answer.ensures.answer ∙ c.in-Accepted.is) in
     let left = ap (λ (l : Ledger). l.content.changes) c.apply-answer.ensures.content in
-    omega (arith, part, more, left, c.self.invariant.counted, c.counts_commands.ensures.fits)
+    omega (arith, part, more, left, c.self.invariant.counted, c.apply-answer.ensures.fits)
 
 pub invariant_of-self : goal.invariant_of-self
 invariant_of-self c =
@@ -28,7 +28,7 @@ invariant_of-self c =
     let read = count_read c.self.inside.counts.items c.pass.inside.slot c.pass.inside.changes at _ c.index_mut.ensures.value in
     let more = one_more c.self.inside.ledger.limits c.self.inside.ledger.content c.args.command c.in-Accepted.field-0 (sym c.apply-answer.ensures.answer ∙ c.in-Accepted.is) in
     let left = ap (λ (l : Ledger). l.content.changes) c.apply-answer.ensures.content in
-    cell_more _ _ _ _ c.self.inside.counts.items c.pass.inside.slot c.pass.inside.changes _ _ _ c.self.invariant at read (left ∙ more) refl c.counts_commands.ensures.reached
+    cell_more _ _ _ _ c.self.inside.counts.items c.pass.inside.slot c.pass.inside.changes _ _ _ c.self.invariant at read (left ∙ more) refl c.apply-answer.ensures.reached
 
 pub returns-in-Accepted-clause-cell : goal.returns-in-Accepted-clause-cell
 returns-in-Accepted-clause-cell c =

@@ -7,13 +7,14 @@ use Rattle.station_ledger.specs.Kept.{content_in}
 use Rattle.station_ledger.specs.Ledger.{Ledger}
 use Rattle.station_ledger.specs.Sums.{AreAllowed, AreSummed, order_in}
 use Rattle.station_ledger.proofs.Reaching.{allowed, reached_next}
+use Rattle.station_ledger.proofs.ledger.StationLedger.apply.Goals.{in-Accepted, in_default}
 use Rattle.station_ledger.proofs.ledger.StationLedger.apply.Goals as goal
 
 pub carry_out-requires : goal.carry_out-requires
 carry_out-requires c =
     let l = c.self.inside in let k = c.self.invariant in let m = c.in-Accepted.changes in
-    let a = ap (λ (x : Ledger). answer x.limits x.content c.args.command) c.self.view_is ∙ sym (sym c.in-Accepted.is ∙ c.judge_at-answer.ensures) in
-    let reached = reached_next l.limits (content_in l.chains l.changes) l.changes m c.args.command refl c.keeps_ranges.ensures k.reached a in
+    let a = ap (λ (x : Ledger). answer x.limits x.content c.args.command) c.self.view_is ∙ sym (sym c.in-Accepted.is ∙ c.judge_at-answer.ensures.answer) in
+    let reached = reached_next l.limits (content_in l.chains l.changes) l.changes m c.args.command refl c.judge_at-answer.ensures.admissible k.reached a in
     record {
       ready = search rules;
       before = subst (λ (b : Bounds). AreAllowed (order_in l.sums) b (stored l.chains)) (sym k.limits_are) (allowed (order_in l.sums) l.limits k.few_transactions k.few_events k.few_readings l.changes (content_in l.chains l.changes) k.reached);
@@ -25,8 +26,8 @@ carry_out-requires c =
 pub invariant_of-self : goal.invariant_of-self
 invariant_of-self c =
     let l = c.self.inside in let k = c.self.invariant in let m = c.in-Accepted.changes in let e = c.carry_out.ensures.done in let s = c.carry_out.new.sums in
-    let a = ap (λ (x : Ledger). answer x.limits x.content c.args.command) c.self.view_is ∙ sym (sym c.in-Accepted.is ∙ c.judge_at-answer.ensures) in
-    let reached = reached_next l.limits (content_in l.chains l.changes) l.changes m c.args.command refl c.keeps_ranges.ensures k.reached a in
+    let a = ap (λ (x : Ledger). answer x.limits x.content c.args.command) c.self.view_is ∙ sym (sym c.in-Accepted.is ∙ c.judge_at-answer.ensures.answer) in
+    let reached = reached_next l.limits (content_in l.chains l.changes) l.changes m c.args.command refl c.judge_at-answer.ensures.admissible k.reached a in
     let same = e.limits ∙ k.limits_are in
     record {
       limits_are = same;
@@ -37,3 +38,15 @@ invariant_of-self c =
       few_events = k.few_events;
       few_readings = k.few_readings;
     }
+
+pub returns-clause-reached : goal.returns-clause-reached
+returns-clause-reached c =
+    let l = c.self.inside in let k = c.self.invariant in
+    elim c.match-answer.branch [
+      | in-Accepted w ↦
+          let m = w.in-Accepted.changes in let e = w.carry_out.ensures.done in
+          let a = ap (λ (x : Ledger). answer x.limits x.content c.args.command) c.self.view_is ∙ sym (sym w.in-Accepted.is ∙ c.judge_at-answer.ensures.answer) in
+          let reached = reached_next l.limits (content_in l.chains l.changes) l.changes m c.args.command refl c.judge_at-answer.ensures.admissible k.reached a in
+          subst (λ (x : Ledger). Reached x.limits x.content.changes x.content) (sym w.self-is) (subst (Reached l.limits m) (sym (λ i. record { events = e.events i; changes = m })) reached)
+      | in_default w ↦ subst (λ (x : Ledger). Reached x.limits x.content.changes x.content) (sym w.self-is) (subst (λ (x : Ledger). Reached x.limits x.content.changes x.content) c.self.view_is k.reached)
+    ]

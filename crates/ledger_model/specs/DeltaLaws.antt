@@ -1,0 +1,103 @@
+-- What one live event more changes, law by law.
+use Rattle.std.specs.Prelude.{◌≡◌, ℕ, ◌+◌, ◌≤◌, ◌==◌, true, false, if◌then◌else◌, List, ◌++◌, None, Some, count_by, filter, length, sum_by}
+use Rattle.std.specs.FinMap.{find}
+use Rattle.energy_flow.specs.Flow.{plus}
+use Rattle.ledger_model.specs.declared.command.Command.TheVariants.{Deliver, Void, Restore}
+use Rattle.ledger_model.specs.declared.order.Order.{Order}
+use Rattle.ledger_model.specs.declared.reading.Direction.{Direction}
+use Rattle.ledger_model.specs.Complete.{is_complete}
+use Rattle.ledger_model.specs.Content.{Entry, Stored, has_transaction, live, transactions_of}
+use Rattle.ledger_model.specs.Deltas.{across, before_key, behind_key, came_by, first_reading, flow_if, gone_by, kept_by, last_reading, own_readings, pairs_between, pairs_kept, pairs_less, pairs_more, IsOneMore}
+use Rattle.ledger_model.specs.Energy.{Pair, energy, energy_in, energy_of, energy_of_by, energy_over, followed, pairs, pairs_of, quarter_of}
+use Rattle.ledger_model.specs.Entries.{entries_after, IsRising}
+use Rattle.ledger_model.specs.Event.{EventContent, MeterReading}
+use Rattle.ledger_model.specs.Evse.{energy_at_by, evse_of, transactions_at}
+use Rattle.ledger_model.specs.Gaps.{missing, numbers_of}
+use Rattle.ledger_model.specs.Key.{KeyName, key_cmp}
+
+-- The middle readings are put in between the others: the pair across their place goes, and those come that they make with one another and with the readings on either side. So do the sums of each measure of a pair. One pair goes at most, and one more comes at most than there are readings in the middle.
+pub record ArePutBetween (front mid back : List MeterReading) : Type 0 where
+  pub pairs : followed (front ++ (mid ++ back)) ≡ followed front ++ (pairs_between (last_reading front) mid (first_reading back) ++ followed back)
+  pub sums : (f : Pair → ℕ)
+      → sum_by f (followed (front ++ (mid ++ back))) + sum_by f (across (last_reading front) (first_reading back))
+      ≡ sum_by f (followed (front ++ back)) + sum_by f (pairs_between (last_reading front) mid (first_reading back))
+  pub one_goes : length (across (last_reading front) (first_reading back)) ≤ 1
+  pub few_come : length (pairs_between (last_reading front) mid (first_reading back)) ≤ length mid + 1
+
+-- An event under its key, live.
+abbrev pub live_under : KeyName → EventContent → Entry
+live_under key event = (key, record { event = event; voided = false })
+
+-- The delivery of a key that holds nothing makes one live event more, in the place of its key.
+abbrev pub DeliveryMakesOneMore : Type 0
+DeliveryMakesOneMore = (es : List Entry) (key : KeyName) (event : EventContent) → IsRising es → find key_cmp key es ≡ None
+    → IsOneMore es (entries_after es (Deliver key event)) (before_key key es) (live_under key event) (behind_key key es)
+
+-- An event stands under a key of rising entries, live or voided.
+pub record Holds (es : List Entry) (key : KeyName) (s : Stored) : Type 0 where
+  pub rising : IsRising es
+  pub stored : find key_cmp key es ≡ Some s
+
+-- The restoration of a voided event makes one live event more, in the place of its key.
+abbrev pub RestorationMakesOneMore : Type 0
+RestorationMakesOneMore = (es : List Entry) (key : KeyName) (s : Stored) → Holds es key s → s.voided ≡ true
+    → IsOneMore es (entries_after es (Restore key)) (before_key key es) (live_under key s.event) (behind_key key es)
+
+-- Before the void of a live event there was one more, in the place of its key.
+abbrev pub VoidMakesOneLess : Type 0
+VoidMakesOneLess = (es : List Entry) (key : KeyName) (s : Stored) → Holds es key s → s.voided ≡ false
+    → IsOneMore (entries_after es (Void key)) es (before_key key es) (key, s) (behind_key key es)
+
+-- With one live event more, the pairs of its transaction in a direction change at its place alone. The station's pairs with the event and without it are, in some order, those that are kept, and those that come or go.
+pub record PairsMove (d : Direction) (es more front : List Entry) (e : Entry) (back : List Entry) : Type 0 where
+  pub own_without : pairs_of d e.0.tx es ≡ followed (own_readings d e.0.tx front) ++ (pairs_less d front e back ++ followed (own_readings d e.0.tx back))
+  pub own_with : pairs_of d e.0.tx more ≡ followed (own_readings d e.0.tx front) ++ (pairs_more d front e back ++ followed (own_readings d e.0.tx back))
+  pub station_without : (f : Pair → ℕ) → sum_by f (pairs d es) ≡ sum_by f (pairs_less d front e back ++ pairs_kept d es front e back)
+  pub station_with : (f : Pair → ℕ) → sum_by f (pairs d more) ≡ sum_by f (pairs_more d front e back ++ pairs_kept d es front e back)
+  pub less_kept : (f : Pair → ℕ) → sum_by f (pairs d es) ≡ sum_by f (gone_by d front e back ++ kept_by d es front e back)
+  pub more_kept : (f : Pair → ℕ) → sum_by f (pairs d more) ≡ sum_by f (came_by d front e back ++ kept_by d es front e back)
+
+-- Those of these pairs that are of a quarter.
+abbrev pub pairs_in : ℕ → ℕ → List Pair → List Pair
+pairs_in period quarter ps = filter (λ p. quarter_of period p == quarter) ps
+
+-- How many of these pairs are of a quarter.
+abbrev pub count_in : ℕ → ℕ → List Pair → ℕ
+count_in period quarter ps = count_by (λ p. quarter_of period p == quarter) ps
+
+-- With one live event more, the energies in a direction of the station, of the event's transaction and of each quarter lose the pair that goes and gain those that come, and so does the number of a quarter's pairs. The transaction's energy is taken from the EVSE where it was and brought to the one where it is.
+pub record EnergiesMove (d : Direction) (es more front : List Entry) (e : Entry) (back : List Entry) : Type 0 where
+  pub station : plus (energy d more) (energy_over (gone_by d front e back)) ≡ plus (energy d es) (energy_over (came_by d front e back))
+  pub transaction : plus (energy_of d e.0.tx more) (energy_over (gone_by d front e back)) ≡ plus (energy_of d e.0.tx es) (energy_over (came_by d front e back))
+  pub quarter : (period q : ℕ)
+      → plus (energy_in d period q more) (energy_over (pairs_in period q (gone_by d front e back)))
+      ≡ plus (energy_in d period q es) (energy_over (pairs_in period q (came_by d front e back)))
+  pub quarter_pairs : (period q : ℕ)
+      → count_in period q (pairs d more) + count_in period q (gone_by d front e back)
+      ≡ count_in period q (pairs d es) + count_in period q (came_by d front e back)
+  pub evse : (order : Order) (evse : ℕ)
+      → plus (energy_at_by order d evse more) (flow_if (evse_of e.0.tx es == evse) (energy_of_by order d e.0.tx es))
+      ≡ plus (energy_at_by order d evse es) (flow_if (evse_of e.0.tx more == evse) (energy_of_by order d e.0.tx more))
+
+-- How many of a station's transactions are complete.
+abbrev pub count_complete : List Entry → ℕ
+count_complete es = count_by (λ tx. is_complete tx es) (transactions_of (live es))
+
+-- How many numbers a station's transactions miss.
+abbrev pub count_missing : List Entry → ℕ
+count_missing es = sum_by (λ tx. missing (numbers_of tx es)) (transactions_of (live es))
+
+-- How many events are voided.
+abbrev pub count_voided : List Entry → ℕ
+count_voided es = count_by (λ e. e.1.voided) es
+
+-- With one live event more, of this transaction, one event more is live, and a transaction more where it had none. How many are complete, how many numbers are missing and how many transactions an EVSE has change by that transaction alone.
+pub record CountsMove (tx : List ℕ) (es more : List Entry) : Type 0 where
+  pub events : length (live more) ≡ length (live es) + 1
+  pub transactions : length (transactions_of (live more))
+      ≡ (if has_transaction tx (live es) then length (transactions_of (live es)) else length (transactions_of (live es)) + 1)
+  pub complete : count_complete more + (if is_complete tx es then 1 else 0) ≡ count_complete es + (if is_complete tx more then 1 else 0)
+  pub missing : count_missing more + missing (numbers_of tx es) ≡ count_missing es + missing (numbers_of tx more)
+  pub at_evse : (evse : ℕ)
+      → length (transactions_at evse more) + (if has_transaction tx (live es) then (if evse_of tx es == evse then 1 else 0) else 0)
+      ≡ length (transactions_at evse es) + (if evse_of tx more == evse then 1 else 0)
