@@ -1,7 +1,7 @@
 //! An operator's lines, which a thread of their own reads.
 ghost use Rattle.std.specs.Prelude.{◌≡◌};
 
-use live_server::{Came, Orders, ending_of, fault_of};
+use running_desk::{Came, Orders, ending_of, fault_of};
 use script_lines::{LineEnd, LineReader, MAX_LINE_BYTES};
 use site_server::ServiceFault;
 use std::alloc::{AllocError, Global};

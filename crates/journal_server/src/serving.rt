@@ -14,7 +14,7 @@ use crate::speech::ScriptSpeech;
 use journal_script::{is_script_line, laws, message_line};
 use kept_desk::{KeptCell, KeptDesk, Opening, Ties};
 use ledger_model::{Answer, Command, Event, Key, Name, Refusal};
-use live_server::Serves;
+use running_desk::Serves;
 use site_book::{Naming, Told};
 use site_desk::{Desk, Gate, NoGate, Pass};
 use station_link::Delivers;

@@ -166,13 +166,13 @@ impl<J: Naming, K: Ties + Opening, L: Speaks, W: Write + Drop> KeptDesk<J, K, L,
     {
         let KeptDesk { desk, log, spare } = self;
         match desk.take_apart(passes, viewers) {
-            Ok((kept, books)) => {
+            Ok((kept, books, passes)) => {
                 let (mut log, mut cells) = (log.into_inner(), spare);
                 free_cells(kept, &mut log, &mut cells);
                 confirm_all(receipts, &mut log);
                 let (writer, is_broken) = log.into_writer();
                 Ok(KeptClosed {
-                    closed: Closed::of(cells, books),
+                    closed: Closed::of(cells, books, passes),
                     writer,
                     is_broken,
                 })

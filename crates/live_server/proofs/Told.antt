@@ -14,8 +14,9 @@ use Rattle.site_desk.specs.declared.roster.StationPlace.{StationPlace}
 use Rattle.site_desk.specs.Roster.{AreNewPlaces}
 use Rattle.site_server.specs.Written.{listening}
 use Rattle.station_cell.specs.Cell.{Held}
-use Rattle.live_server.specs.Replied.{IsReplyOrMemory}
-use Rattle.live_server.specs.Told.{AddsReplies, IsServed, Tells, boards_at, ports}
+use Rattle.running_desk.specs.Replied.{IsReplyOrMemory}
+use Rattle.running_desk.specs.Replies.{AddsReplies}
+use Rattle.live_server.specs.Told.{IsServed, Tells, boards_at, ports}
 
 module _ (sites : List SitePlan) (places : List StationPlace) where
   -- a line and its answer
@@ -25,24 +26,6 @@ module _ (sites : List SitePlan) (places : List StationPlace) where
   -- what lines were answered
   abbrev texts : List (LineMeaning × List ℕ) → List ℕ
   texts lines = flat_map (λ l. l.1) lines
-
-  -- nothing was written
-  pub nothing : (w : Option (List ℕ)) → AddsReplies sites places w w
-  nothing w = record { lines = []; replies = All-nil Own; adds = Appends-nil w }
-
-  -- one answer
-  pub one : (w0 w1 : Option (List ℕ)) (meaning : LineMeaning) (text : List ℕ) → Appends w0 w1 text → IsReplyOrMemory sites places meaning text → AddsReplies sites places w0 w1
-  one w0 w1 meaning text told own =
-      record { lines = (meaning, text) ∷ []; replies = All-cons Own (meaning, text) [] own (All-nil Own); adds = subst (Appends w0 w1) (sym (append-nil text)) told }
-
-  -- answers, and then more of them
-  pub more : (w0 w1 w2 : Option (List ℕ)) → AddsReplies sites places w0 w1 → AddsReplies sites places w1 w2 → AddsReplies sites places w0 w2
-  more w0 w1 w2 first then =
-      record {
-        lines = first.lines ++ then.lines;
-        replies = All-append Own first.lines then.lines first.replies then.replies;
-        adds = subst (Appends w0 w2) (sym (flat_map-append (λ (l : LineMeaning × List ℕ). l.1) first.lines then.lines)) (Appends-trans w0 w1 w2 (texts first.lines) (texts then.lines) first.adds then.adds);
-      }
 
   -- where it listens, and nothing else yet
   pub ports_told : (w0 w1 : Option (List ℕ)) (port : ℕ) (browsers : Option ℕ) → Appends w0 w1 (ports port browsers) → Tells sites places w0 w1
@@ -66,7 +49,7 @@ module _ (sites : List SitePlan) (places : List StationPlace) where
   then_replies_ok (Err _) w0 w1 w2 first then = then
 
   -- where it listens, answers, and the boards
-  pub then_boards : (stations : List StationPlan) (passes : List Held) (w0 w1 w2 : Option (List ℕ)) → AreNewPlaces sites stations places → Tells sites places w0 w1 → (boards : List ℕ) × Appends w1 w2 boards × AreBoards sites stations passes boards → IsServed sites stations w0 w2
+  pub then_boards : (stations : List StationPlan) (passes : List Held) (w0 w1 w2 : Option (List ℕ)) → AreNewPlaces sites stations places → Tells sites places w0 w1 → (boards : List ℕ) × Appends w1 w2 boards × AreBoards sites stations passes boards → IsServed sites stations w0 w2 passes
   then_boards stations passes w0 w1 w2 placed first then =
       record {
         port = first.port;
@@ -75,16 +58,10 @@ module _ (sites : List SitePlan) (places : List StationPlace) where
         placed = placed;
         lines = first.lines;
         replies = first.replies;
-        passes = passes;
         boards = then.0;
         writes = subst (Appends w0 w2) (append_assoc (ports first.port first.browsers) (texts first.lines) then.0) (Appends-trans w0 w1 w2 (ports first.port first.browsers ++ texts first.lines) then.0 first.adds then.1);
         shown = then.2;
       }
-
-  -- the same, of a call that writes it
-  pub one_ok : {T E : Type 0} (r : Result T E) (w0 w1 : Option (List ℕ)) (meaning : LineMeaning) → OnOk r ((text : List ℕ) × Appends w0 w1 text × IsReplyOrMemory sites places meaning text) → OnOk r (AddsReplies sites places w0 w1)
-  one_ok (Ok _) w0 w1 meaning h = one w0 w1 meaning h.0 h.1 h.2
-  one_ok (Err _) w0 w1 meaning h = h
 
 -- where it listens for stations, and then for browsers
 pub both_told : {T E : Type 0} (r : Result T E) (w0 w1 w2 : Option (List ℕ)) → (port : ℕ) × Appends w0 w1 (listening port) → OnOk r ((port : ℕ) × Appends w1 w2 (boards_at port)) → OnOk r ((port : ℕ) × (browsers : Option ℕ) × Appends w0 w2 (ports port browsers))
@@ -103,8 +80,8 @@ of_ok (Ok _) t P is h = h
 of_ok (Err _) t P is h = cc
 
 -- all that was written, where the operator's lines and the close ended well
-pub served_ok : {W E F : Type 0} (r : Result W E) (contents : W → Option (List ℕ)) (ended : Result (Unit {0}) F) (sites : List SitePlan) (stations : List StationPlan) (places : List StationPlace) (passes : List Held) (w0 w1 : Option (List ℕ)) → AreNewPlaces sites stations places
-    → OnOk ended (Tells sites places w0 w1) → OnOk r (ended ≡ Ok tt) → IfOk r (λ w. (boards : List ℕ) × Appends w1 (contents w) boards × AreBoards sites stations passes boards)
-    → IfOk r (λ w. IsServed sites stations w0 (contents w))
-served_ok (Ok w) contents ended sites stations places passes w0 w1 placed told well boards = then_boards sites places stations passes w0 w1 (contents w) placed (of_ok ended tt (Tells sites places w0 w1) well told) boards
-served_ok (Err _) contents ended sites stations places passes w0 w1 placed told well boards = boards
+pub served_ok : {R E F : Type 0} (r : Result R E) (contents : R → Option (List ℕ)) (passes : R → List Held) (ended : Result (Unit {0}) F) (sites : List SitePlan) (stations : List StationPlan) (places : List StationPlace) (w0 w1 : Option (List ℕ)) → AreNewPlaces sites stations places
+    → OnOk ended (Tells sites places w0 w1) → OnOk r (ended ≡ Ok tt) → IfOk r (λ x. (boards : List ℕ) × Appends w1 (contents x) boards × AreBoards sites stations (passes x) boards)
+    → IfOk r (λ x. IsServed sites stations w0 (contents x) (passes x))
+served_ok (Ok x) contents passes ended sites stations places w0 w1 placed told well boards = then_boards sites places stations (passes x) w0 w1 (contents x) placed (of_ok ended tt (Tells sites places w0 w1) well told) boards
+served_ok (Err _) contents passes ended sites stations places w0 w1 placed told well boards = boards

@@ -11,7 +11,7 @@ use Rattle.site_desk.specs.declared.roster.StationPlace.{StationPlace}
 use Rattle.site_desk.specs.Roster.{AreNewPlaces}
 use Rattle.site_server.specs.Written.{listening}
 use Rattle.station_cell.specs.Cell.{Held}
-use Rattle.live_server.specs.Replied.{IsReplyOrMemory}
+use Rattle.running_desk.specs.Replied.{IsReplyOrMemory}
 
 -- The line that tells the port of 127.0.0.1 where browsers find boards.
 abbrev pub boards_at : ℕ → List ℕ
@@ -22,12 +22,6 @@ abbrev pub ports : ℕ → Option ℕ → List ℕ
 ports port None = listening port
 ports port (Some browsers) = listening port ++ boards_at browsers
 
--- Behind what stood before, answers to an operator's lines were written, one behind the other, and nothing else. Each line is what it says and its answer.
-pub record AddsReplies (sites : List SitePlan) (places : List StationPlace) (before now : Option (List ℕ)) : Type 0 where
-  pub lines : List (LineMeaning × List ℕ)
-  pub replies : All (λ l. IsReplyOrMemory sites places l.0 l.1) lines
-  pub adds : Appends before now (flat_map (λ l. l.1) lines)
-
 -- Behind what stood before, it was written where the server listens, and then answers to an operator's lines.
 pub record Tells (sites : List SitePlan) (places : List StationPlace) (before now : Option (List ℕ)) : Type 0 where
   pub port : ℕ
@@ -36,15 +30,14 @@ pub record Tells (sites : List SitePlan) (places : List StationPlace) (before no
   pub replies : All (λ l. IsReplyOrMemory sites places l.0 l.1) lines
   pub adds : Appends before now (ports port browsers ++ flat_map (λ l. l.1) lines)
 
--- All that a server wrote behind what stood before: where it listens; answers to an operator's lines, at a desk of the plan's stations; and the boards of the plan's sites, of as many changes as the passes made.
-pub record IsServed (sites : List SitePlan) (stations : List StationPlan) (before now : Option (List ℕ)) : Type 0 where
+-- All that a server wrote behind what stood before: where it listens; answers to an operator's lines, at a desk of the plan's stations; and the boards of the plan's sites, of as many changes as these passes made.
+pub record IsServed (sites : List SitePlan) (stations : List StationPlan) (before now : Option (List ℕ)) (passes : List Held) : Type 0 where
   pub port : ℕ
   pub browsers : Option ℕ
   pub places : List StationPlace
   pub placed : AreNewPlaces sites stations places
   pub lines : List (LineMeaning × List ℕ)
   pub replies : All (λ l. IsReplyOrMemory sites places l.0 l.1) lines
-  pub passes : List Held
   pub boards : List ℕ
   pub writes : Appends before now (ports port browsers ++ (flat_map (λ l. l.1) lines ++ boards))
   pub shown : AreBoards sites stations passes boards

@@ -1,7 +1,7 @@
 //! The time of one connection: how long its stream is waited for, and whether it is still wanted.
 ghost use Rattle.std.specs.Io.{ReadsAtMost, WritesAtMost};
 
-use station_link::{Attendant, Dismissal};
+use station_link::{Attendant, Why};
 use std::cell::Cell;
 use std::io;
 use std::io::{ErrorKind, Read, Write};
@@ -116,14 +116,26 @@ impl<'a, R: Clock> Connection<'a, R> {
 }
 
 impl<R: Clock> Attendant for Connection<'_, R> {
-    fn dismissal(&self) -> Option<Dismissal> {
+    ghost use Rattle.station_link.specs.Session.{IsDismissal};
+
+    ghost dismisses = { λ _ why. IsDismissal why };
+
+    fn dismissal(&self) -> Option<Why> {
         if self.closing.load(Ordering::SeqCst) {
-            Some(Dismissal::ServerCloses)
+            Some(Why::ServerCloses)
         } else if self.mark.load(Ordering::SeqCst) {
-            Some(Dismissal::Replaced)
+            Some(Why::Replaced)
         } else {
             None
         }
+    }
+
+    fn is_patient(&self) -> bool {
+        true
+    }
+
+    fn reason(&self, why: Why) -> &'static str {
+        why.name()
     }
 
     fn leaves(&self) {

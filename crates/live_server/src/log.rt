@@ -1,7 +1,7 @@
 //! Where a live server tells of sessions and totals.
 use arrayvec::ArrayString;
 use ledger_model::{MAX_NAME, Name};
-use station_link::{Cause, Why};
+use station_link::Why;
 use std::io::Write;
 use std::sync::{Mutex, Wait};
 
@@ -34,16 +34,16 @@ impl<L: Write + Drop> Log<L> {
         &self,
         rt: &R,
         name: &Name,
-        cause: Cause,
+        why: Why,
         texts: u64,
         changes: u64,
     ) {
         if self.has_sessions {
             let name = name.text();
-            let cause = cause.name();
+            let why = why.name();
             let _ = writeln!(
                 self.lines.lock(rt),
-                "session {name} ended {cause} messages={texts} changes={changes}"
+                "session {name} ended {why} messages={texts} changes={changes}"
             );
         }
     }

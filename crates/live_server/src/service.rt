@@ -6,18 +6,17 @@ ghost use Rattle.site_book.specs.Tables.{HasTable, NamedBy};
 ghost use Rattle.ledger_model.specs.Ranges.{most_plan_readings};
 ghost use Rattle.site_desk.specs.Roster.{AreNewPlaces};
 ghost use Rattle.desk_report.specs.Closed.{AreBoards};
-ghost use Rattle.live_server.specs.Told.{AddsReplies, IsServed, Tells};
+ghost use Rattle.live_server.specs.Told.{IsServed, Tells};
+ghost use Rattle.running_desk.specs.Replies.{AddsReplies};
 
 use crate::acceptor::{Acceptor, Acceptors};
 use crate::boards::serve_boards;
 use crate::listeners::Listeners;
-use crate::operator::operate;
-use crate::orders::{Orders, ReadOrders};
-use crate::serves::Serves;
 use crate::session::work;
 use crate::shared::Shared;
 use crate::watch::watch;
 use core::thread::{Anything, Stack};
+use running_desk::{Orders, ReadOrders, Serves, operate};
 use site_book::{Naming, Tables, Viewer};
 use site_desk::{Desk, HasCell, Pass, Plan};
 use site_server::{Host, ServiceFault, close_desk, open_desk};
@@ -56,7 +55,8 @@ pub struct Live {
 /// `listening 127.0.0.1:<port>` to `output`, and serves connections without end, two sessions of each station at once.
 /// Meanwhile it answers the lines of `input`, each answer out before the next line is read. Then it ends all sessions,
 /// closes the desk and writes the board of each site, in the plan's order. What it tells of sessions and totals goes to
-/// `lines`.
+/// `lines`. It gives back the output, and the passes of all sessions and of the operator, whose changes are those that the
+/// boards count.
 ///
 /// A plan with a fault is told before anything is listened on.
 pub fn serve_live<R: Host, I: BufRead, W: Write + Drop, L: Write + Send + Drop>(
@@ -67,8 +67,8 @@ pub fn serve_live<R: Host, I: BufRead, W: Write + Drop, L: Write + Send + Drop>(
     input: &mut I,
     output: W,
     lines: L,
-) -> Result<W, ServiceFault>
-    ensures { IfOk result (λ w. IsServed plan.now.sites.items plan.now.stations.items (W.contents output) (W.contents w)) }
+) -> Result<(W, Vec<Pass>), ServiceFault>
+    ensures { IfOk result (λ r. IsServed plan.now.sites.items plan.now.stations.items (W.contents output) (W.contents r.0) r.1.items) }
 {
     let tables = Tables::make(alloc, plan.sites.len() as u16)?;
     serve_under::<Brand, R, I, W, L>(rt, alloc, tables, plan, live, input, output, lines)
@@ -90,10 +90,10 @@ fn serve_under<
     input: &mut I,
     output: W,
     lines: L,
-) -> Result<W, ServiceFault>
+) -> Result<(W, Vec<Pass>), ServiceFault>
     requires named { NamedBy J.table tables }
     requires there { (site : ℕ) → site < length plan.now.sites.items → HasTable tables site }
-    ensures { IfOk result (λ w. IsServed plan.now.sites.items plan.now.stations.items (W.contents output) (W.contents w)) }
+    ensures { IfOk result (λ r. IsServed plan.now.sites.items plan.now.stations.items (W.contents output) (W.contents r.0) r.1.items) }
 {
     let (desk, viewers) = open_desk::<J>(alloc, tables, plan)?;
     let mut orders = ReadOrders::open(alloc, input);
@@ -121,11 +121,11 @@ fn serve_desk<J: Naming + Send + Sync, R: Host, O: Orders, W: Write + Drop, L: W
     orders: &mut O,
     output: W,
     lines: L,
-) -> Result<W, ServiceFault>
+) -> Result<(W, Vec<Pass>), ServiceFault>
     requires sites { desk.sites ≡ length plan.now.sites.items }
     requires opened { AreNewPlaces plan.now.sites.items plan.now.stations.items desk.stations }
     requires readings { sum_by (λ s. s.limits.readings) plan.now.stations.items ≤ most_plan_readings }
-    ensures { IfOk result (λ w. IsServed plan.now.sites.items plan.now.stations.items (W.contents output) (W.contents w)) }
+    ensures { IfOk result (λ r. IsServed plan.now.sites.items plan.now.stations.items (W.contents output) (W.contents r.0) r.1.items) }
 {
     let passes = Vec::new(alloc);
     let ran = serve_plan_at(
@@ -134,18 +134,19 @@ fn serve_desk<J: Naming + Send + Sync, R: Host, O: Orders, W: Write + Drop, L: W
     end_run(alloc, plan, desk, ran)
 }
 
-// Closes the desk, and writes the boards behind what its output has. How the operator's lines ended is told after that.
+// Closes the desk, writes the boards behind what its output has, and gives the passes. How the operator's lines ended is told after that.
 fn end_run<J: Naming, W: Write + Drop>(
     alloc: Global,
     plan: &Plan,
     desk: Desk<J>,
     ran: Ran<J, W>,
-) -> Result<W, ServiceFault>
+) -> Result<(W, Vec<Pass>), ServiceFault>
     requires sites { desk.sites ≡ length plan.now.sites.items }
     requires opened { AreNewPlaces plan.now.sites.items plan.now.stations.items desk.stations }
     requires readings { sum_by (λ s. s.limits.readings) plan.now.stations.items ≤ most_plan_readings }
     ensures ended { OnOk result (ran.ended ≡ Ok tt) }
-    ensures boards { IfOk result (λ w. (boards : List ℕ) × Appends (W.contents ran.output) (W.contents w) boards × AreBoards plan.now.sites.items plan.now.stations.items ran.passes.items boards) }
+    ensures boards { IfOk result (λ r. (boards : List ℕ) × Appends (W.contents ran.output) (W.contents r.0) boards
+        × AreBoards plan.now.sites.items plan.now.stations.items r.1.items boards) }
 {
     let Ran {
         passes,
@@ -153,9 +154,9 @@ fn end_run<J: Naming, W: Write + Drop>(
         ended,
         mut output,
     } = ran;
-    close_desk(alloc, plan, desk, passes, viewers, &mut output)?;
+    let passes = close_desk(alloc, plan, desk, passes, viewers, &mut output)?;
     match ended {
-        Ok(()) => Ok(output),
+        Ok(()) => Ok((output, passes)),
         Err(fault) => Err(fault),
     }
 }

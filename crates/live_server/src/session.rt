@@ -1,14 +1,14 @@
 //! A worker's connections, from accept to end.
 use crate::acceptor::Acceptor;
 use crate::connection::{Connection, ConnectionStream, Patience};
-use crate::serves::Serves;
 use crate::shared::Shared;
 use arrayvec::ArrayString;
 use ledger_model::Name;
+use running_desk::Serves;
 use site_book::Naming;
 use site_desk::{HasCell, NoGate, Pass};
 use site_server::SystemMoments;
-use station_link::{Attendant, Greeted, LiveEnd, greet, refuse, serve_live};
+use station_link::{Attendant, Greeted, SessionEnd, greet, refuse, serve_session};
 use std::alloc::Global;
 use std::io::Write;
 use std::net::TcpStream;
@@ -113,7 +113,7 @@ fn attend<J: Naming, C: HasCell, S: Serves<J, C>, R: Threads + Wait + Clock, L: 
     let before = pass.changes();
     let desk = shared.running.serves;
     let mut clock = SystemMoments { rt };
-    let end = serve_live(
+    let end = serve_session(
         rt, alloc, socket, desk, name, pass, &NoGate, &mut clock, connection,
     );
     finish(rt, shared, name, before, end);
@@ -125,12 +125,14 @@ fn finish<J: Naming, C: HasCell, S: Serves<J, C>, R: Wait, L: Write + Drop>(
     shared: &Shared<'_, J, C, S, L>,
     name: &Name,
     before: u64,
-    end: LiveEnd,
+    end: SessionEnd,
 ) {
-    let LiveEnd { cause, pass, texts } = end;
+    let SessionEnd {
+        why, pass, texts, ..
+    } = end;
     if let Some(pass) = pass {
         let changes = pass.changes().saturating_sub(before);
-        shared.log.tell_ended(rt, name, cause, texts, changes);
+        shared.log.tell_ended(rt, name, why, texts, changes);
         let _lost = shared.running.desk.lay(rt, pass);
     }
 }

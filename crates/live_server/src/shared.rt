@@ -4,9 +4,8 @@ ghost use Rattle.ledger_model.specs.Ranges.{most_plan_readings};
 ghost use Rattle.site_desk.specs.Roster.{AreNewPlaces};
 
 use crate::log::Log;
-use crate::running::Running;
-use crate::serves::Serves;
 use crate::workers::Workers;
+use running_desk::{Running, Serves};
 use site_book::Naming;
 use site_desk::{HasCell, Pass, Plan};
 use std::alloc::{AllocError, Global};

@@ -1,6 +1,6 @@
 //! A thread that glances at the totals while a live server serves.
-use crate::serves::Serves;
 use crate::shared::Shared;
+use running_desk::Serves;
 use site_book::{Naming, Viewer};
 use site_desk::HasCell;
 use site_server::tell_totals;

@@ -1,2 +1,4 @@
 pub mod Limits
 pub mod Words
+mod CommandLine
+mod Rows

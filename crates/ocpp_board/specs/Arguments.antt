@@ -2,6 +2,7 @@
 use Rattle.std.specs.Prelude.{◌≡◌, ◌≢◌, ℕ, ◌<◌, ◌≤◌, ◌^◌, ⊤, Bool, true, false, List, [], Option, None, Some, codes, nat_lt, if◌then◌else◌, option_map, unwrap_or}
 use Rattle.core.specs.Str.Parse.{IsNumeral, digits_value, without_leading_plus}
 use Rattle.clap.specs.Matches.{first_value, matched_of, one_text, raw_values}
+use Rattle.clap.specs.Walk.{Row, rows_of}
 use Rattle.clap.specs.declared.parser.matches.Found.{Found}
 use Rattle.std.specs.declared.result.Result.{Result}
 use Rattle.std.specs.declared.result.Result.TheVariants.{Err}
@@ -131,8 +132,12 @@ AsksSimulate found (ServeJournalled plan live) = ⊥
 AsksSimulate found (ServeRestored restoring journalled) = ⊥
 AsksSimulate found (Simulate stations events) = GivesWithin found (codes "stations") 16 2 1 64 stations × GivesWithin found (codes "events") 32 3 2 64 events
 
--- The command of this name is asked for: `serve` and `sim` by their options, and else a replay.
-pub record IsAskedBy (name : Option (List ℕ)) (asked : Asked) : Type 0 where
-  pub serves : name ≡ Some (codes "serve") → (found : Found) × AsksServe found asked
-  pub simulates : name ≡ Some (codes "sim") → (found : Found) × AsksSimulate found asked
-  pub replays : name ≢ Some (codes "serve") → name ≢ Some (codes "sim") → asked ≡ Replay
+-- What was found of a command's options, as rows of their ids and values.
+pub record IsFound (rows : List Row) (found : Found) : Type 0 where
+  pub same : rows_of found ≡ rows
+
+-- The command that words name, if they name one, is asked for: `serve` and `sim` by the rows of their options, and else a replay.
+pub record IsAskedBy (named : Option (List ℕ × List Row)) (asked : Asked) : Type 0 where
+  pub serves : (rows : List Row) → named ≡ Some (codes "serve", rows) → (found : Found) × IsFound rows found × AsksServe found asked
+  pub simulates : (rows : List Row) → named ≡ Some (codes "sim", rows) → (found : Found) × IsFound rows found × AsksSimulate found asked
+  pub replays : option_map (λ p. p.0) named ≢ Some (codes "serve") → option_map (λ p. p.0) named ≢ Some (codes "sim") → asked ≡ Replay

@@ -1,3 +1,4 @@
 pub mod Arguments
 pub mod LimitWords
 pub mod StationWords
+pub mod Options

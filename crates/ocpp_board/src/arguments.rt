@@ -1,323 +1,33 @@
-//! The program's commands and options.
-ghost use Rattle.std.specs.Prelude.{IfOk};
-ghost use Rattle.clap.specs.Matches.{subcommand_name_of};
+//! What the program's words ask for.
+ghost use Rattle.std.specs.Prelude.{◌≡◌, IfOk, map, true};
+ghost use Rattle.clap.specs.Simple.{app_of, is_simple, subcommand_of, subcommand_rows_of};
 ghost use Rattle.ocpp_board.specs.Arguments.{IsAskable, IsAskedBy};
 
-use crate::asked::{Asked, MAX_SIMULATED_STATIONS, serve_asked, sim_asked};
-use clap::{Arg, ArgAction, ArgMatches, Command, Error, value_parser};
-use site_server::{MAX_CONNECTIONS, MAX_SIMULATED_EVENTS};
-use std::alloc::{AllocError, Global};
+use crate::asked::{Asked, serve_asked, sim_asked};
+use clap::{ArgMatches, Command, Error};
 use std::convert::AsStr;
 
-// How many times a server's totals may be shown.
-const MAX_GLANCES: i64 = 600;
-
-// The seconds that a settlement period may have.
-const PERIODS: [&str; 4] = ["300", "900", "1800", "3600"];
-
-// The orders of readings that a site may have.
-const ORDERS: [&str; 2] = ["sequence", "moment"];
-
-// What help calls the four limits.
-const LIMITS: [&str; 4] = ["TRANSACTIONS", "EVENTS", "READINGS", "CHANGES"];
-
-const ABOUT: &str =
-    "The transaction ledger and site board of an OCPP 2.0.1 charging station management system";
-
-const VERSION: &str = "0.3.0";
-
-const LINES: &str = "\
-Without a command, ocpp_board replays.
-
-A script has one line for each step, and each answer is one line, or a board:
-  limits <transactions> <events> <readings> <changes>
-                             holds for the stations that follow; writes nothing
-  station <site> <station>   declares a station; writes nothing
-  period <site> <seconds>    the settlement period of the site's boards: 300, 900, 1800 or
-                             3600 seconds, 900 where none is told; writes nothing
-  order <site> <word>        how the site takes a transaction's readings: `sequence`, by the
-                             numbers of their events, or `moment`, by their own moments;
-                             `sequence` where none is told; writes nothing
-  now <time>                 sets the moment, as 2026-03-01T10:00:00Z; writes nothing
-  msg <station> <text>       an OCPP-J message of the station; writes the reply, or `silent`
-  void, restore or erase, with <station> <transaction id> <seqNo>
-                             an operator's command; writes `accepted <n>` or `refused <name>`
-  energy <station>           writes `energy up=<n> down=<n>`, what was imported, in
-                             milliwatt-hours
-  export <station>           writes `export up=<n> down=<n>`, what was exported
-  total <station>            writes the station's figures
-  board <site>               writes the board of the site, from its name to `end`
-Empty lines and lines that begin with # write nothing. A line with a fault writes
-`fault <name>` and changes no plan, content or moment: LineTooLong, BadLine,
-DeclaredLate, PlanLimit, StationTwice, UnknownStation or UnknownSite.
-
-Exit status: 0; 1 with `fault <name>` on standard error where a command stopped before its
-end (ReadFault, WriteFault, TooMuchInput, OutOfMemory, ListenFailed, HandshakeFailed, Torn);
-2 for a fault of the arguments.";
-
-const SERVE_EXAMPLE: &str = "\
-Writes `listening 127.0.0.1:<port>`, serves the connections, each of a station at
-ws://127.0.0.1:<port>/ocpp/<station> with the subprotocol ocpp2.0.1, and when all have ended
-writes the board of each site. It ends after one connection unless --connections says more.
-Nothing is kept when it ends, but by --journal.
-
-A connection is given up after 600 seconds in which its station sends nothing, and after 30
-seconds in which it takes nothing.
-
-Example: two stations of one site, the totals each second for a minute, four connections:
-  ocpp_board serve --port 9000 --connections 4 --watch 60 north/CS-01 north/CS-02
-
-With --live it serves connections without end, two of each station at once: a third ends the
-oldest. Meanwhile it answers lines on standard input, as `ocpp_board --help` lists them, but for
-declarations and `now`; it ends when its input ends or says `close`, and writes the boards.
-  ocpp_board serve --live --port 9000 --log --board-port 9080 north/CS-01 north/CS-02
-
-With --journal standard output is a script of the declarations and of each accepted change, which
-is out before its answer; all else goes to standard error. With --restore standard input begins
-with such a script, up to a line `listen`; the line before that has to end with `#`, which spoils
-what a kill may have left of a line. `left out <line> <answer>` tells a line that changed nothing,
-and `restored <n>` how many changes the stations hold. Where such a line is not one that a kill cut,
-the server ends with `fault LeftOut`, but with --allow-left-out.
-  ocpp_board serve --live --journal --port 9000 north/CS-01 north/CS-02 >> journal < orders
-  { cat journal; printf '#\nlisten\n'; tail -n 0 -f orders; } |
-    ocpp_board serve --live --journal --restore --port 9000 >> journal
-
-Exit status: 0; 1 with `fault <name>` (ListenFailed, ReadFault, WriteFault, OutOfMemory,
-Torn, NotRestored, NotMarked, LeftOut, TooMuchInput); 2 for a fault of the arguments, or with `fault BadLimits`, `fault BadStation`,
-`fault PlanLimit` or `fault StationTwice`. A second line tells the cause: the ranges of limits, the word, the station, or
-the system's words for the port.";
-
-const SIM_EXAMPLE: &str = "\
-Each station CS-<k> of site sim sends its transaction SIM-<k> out of order and its first event
-twice, over a WebSocket connection of its own to a server in the same process; then the board
-of the site is written.
-
-Example:
-  ocpp_board sim --stations 2 --events 3
-
-Exit status: 0; 1 with `fault <name>` (ListenFailed, HandshakeFailed, ReadFault, WriteFault,
-OutOfMemory, Torn); 2 for a fault of the arguments.";
-
-/// What these words ask for, the first of which is the program's name.
-pub fn read_arguments<'a, S: AsStr>(alloc: Global, words: &'a [S]) -> Result<Asked<'a>, Error>
-    ensures { IfOk result IsAskable }
+/// What these words ask for, the first of which is the program's name, where they fit the [`program`] that is handed in.
+pub fn read_arguments<'a, S: AsStr>(
+    program: Command<'a>,
+    words: &'a [S],
+) -> Result<Asked<'a>, Error>
+    requires { is_simple (app_of program) ≡ true }
+    ensures range { IfOk result IsAskable }
+    ensures asked { IfOk result (IsAskedBy (subcommand_of (app_of program.entry) (map S.text words.entry.now))) }
 {
-    let matches = program(alloc)?.try_get_matches_from(words)?;
+    let matches = program.try_get_matches_from(words)?;
     Ok(asked_of(&matches))
 }
 
 /// What the matches of the program's words ask for, by the command that they name; without one, to replay.
 pub fn asked_of<'a>(matches: &ArgMatches<'a>) -> Asked<'a>
     ensures range { IsAskable result }
-    ensures command { IsAskedBy (subcommand_name_of matches.now) result }
+    ensures command { IsAskedBy (subcommand_rows_of matches.now) result }
 {
     match matches.subcommand() {
         Some(("serve", matches)) => serve_asked(matches),
         Some(("sim", matches)) => sim_asked(matches),
         _ => Asked::Replay,
     }
-}
-
-// The program and its commands.
-fn program<'a>(alloc: Global) -> Result<Command<'a>, AllocError> {
-    let replay = Command::new(alloc, "replay").about(
-        "Answers a script from standard input on standard output",
-    );
-    let command = Command::new(alloc, "ocpp_board")
-        .version(VERSION)
-        .about(ABOUT)
-        .after_help(LINES);
-    with_servers(alloc, command.subcommand(replay)?)
-}
-
-// The program with its commands that serve stations.
-fn with_servers<'a>(alloc: Global, command: Command<'a>) -> Result<Command<'a>, AllocError> {
-    let command = command.subcommand(serve_command(alloc)?)?;
-    command.subcommand(sim_command(alloc)?)
-}
-
-// The command `serve`.
-fn serve_command<'a>(alloc: Global) -> Result<Command<'a>, AllocError> {
-    let command = Command::new(alloc, "serve")
-        .about("Serves charging stations over WebSocket, and writes the boards when all have left")
-        .after_help(SERVE_EXAMPLE);
-    let command = with_numbers(alloc, command)?;
-    let command = with_life(alloc, command)?;
-    command.arg(station_words(alloc)?)
-}
-
-// The command with the options that have a number.
-fn with_numbers<'a>(alloc: Global, command: Command<'a>) -> Result<Command<'a>, AllocError> {
-    command
-        .arg(port_option(alloc))?
-        .arg(connections_option(alloc))?
-        .arg(watch_option(alloc))?
-        .arg(period_option(alloc))?
-        .arg(order_option(alloc))?
-        .arg(limits_option(alloc))
-}
-
-// The command with the options of a server that lives.
-fn with_life<'a>(alloc: Global, command: Command<'a>) -> Result<Command<'a>, AllocError> {
-    let command = command.arg(live_option(alloc)?)?;
-    let command = command.arg(journal_option(alloc)?)?;
-    let command = command.arg(restore_option(alloc)?)?;
-    let command = command.arg(allow_left_out_option(alloc)?)?;
-    let command = command.arg(log_option(alloc)?)?;
-    command.arg(board_port_option(alloc)?)
-}
-
-// An option that has a value, and this one where it is not used.
-fn option<'a>(
-    alloc: Global,
-    name: &'a str,
-    value: &'a str,
-    default: &'a str,
-    help: &'a str,
-) -> Arg<'a> {
-    Arg::new(alloc, name)
-        .long(name)
-        .value_name(value)
-        .default_value(default)
-        .help(help)
-}
-
-fn port_option<'a>(alloc: Global) -> Arg<'a> {
-    let help = "The port of 127.0.0.1 to listen on; 0 lets the system choose";
-    option(alloc, "port", "PORT", "0", help).value_parser(value_parser!(u16))
-}
-
-fn connections_option<'a>(alloc: Global) -> Arg<'a> {
-    let help = "How many connections to serve before it ends, 1 to 64; one unless this is given";
-    option(alloc, "connections", "COUNT", "1", help).value_parser(value_parser!(u8).range(
-        1..=i64::from(MAX_CONNECTIONS),
-    ))
-}
-
-fn watch_option<'a>(alloc: Global) -> Arg<'a> {
-    let help =
-        "How many times to write each site's totals to standard error, one second apart, 0 to 600";
-    option(alloc, "watch", "TIMES", "0", help).value_parser(value_parser!(u16).range(
-        0..=MAX_GLANCES,
-    ))
-}
-
-fn period_option<'a>(alloc: Global) -> Arg<'a> {
-    let help = "The settlement period of all sites' boards, in seconds";
-    option(alloc, "period", "SECONDS", "900", help).value_parser(PERIODS.as_slice())
-}
-
-fn order_option<'a>(alloc: Global) -> Arg<'a> {
-    let help =
-        "How all sites take a transaction's readings: by the numbers of their events, or by their own moments";
-    option(alloc, "order", "WORD", "sequence", help).value_parser(ORDERS.as_slice())
-}
-
-fn limits_option<'a>(alloc: Global) -> Arg<'a> {
-    Arg::new(alloc, "limits")
-        .long("limits")
-        .value_names(LIMITS.as_slice())
-        .num_args(LIMITS.len())
-        .help(
-            "What each station may keep, as the script's line `limits` says it [default: 1024 16384 16384 9223372036854775808]",
-        )
-        .value_parser(value_parser!(u64))
-}
-
-fn live_option<'a>(alloc: Global) -> Result<Arg<'a>, AllocError> {
-    Arg::new(alloc, "live")
-        .long("live")
-        .action(ArgAction::SetTrue)
-        .help("Serve until standard input ends or says `close`, and answer its lines meanwhile")
-        .conflicts_with("connections")
-}
-
-fn journal_option<'a>(alloc: Global) -> Result<Arg<'a>, AllocError> {
-    Arg::new(alloc, "journal")
-        .long("journal")
-        .action(ArgAction::SetTrue)
-        .help(
-            "With --live, write a journal to standard output: a line for each change before its answer",
-        )
-        .requires_arg("live")
-}
-
-fn restore_option<'a>(alloc: Global) -> Result<Arg<'a>, AllocError> {
-    Arg::new(alloc, "restore")
-        .long("restore")
-        .action(ArgAction::SetTrue)
-        .help("With --live, begin with the script on standard input up to its line `listen`")
-        .conflicts_with("stations")?
-        .conflicts_with("period")?
-        .conflicts_with("order")?
-        .conflicts_with("limits")?
-        .requires_arg("live")
-}
-
-fn allow_left_out_option<'a>(alloc: Global) -> Result<Arg<'a>, AllocError> {
-    Arg::new(alloc, "allow-left-out")
-        .long("allow-left-out")
-        .action(ArgAction::SetTrue)
-        .help("With --restore, serve although a line of the script is lost")
-        .conflicts_with("stations")?
-        .requires_arg("restore")
-}
-
-fn log_option<'a>(alloc: Global) -> Result<Arg<'a>, AllocError> {
-    Arg::new(alloc, "log")
-        .long("log")
-        .action(ArgAction::SetTrue)
-        .help("With --live, tell on standard error which sessions begin and end")
-        .requires_arg("live")
-}
-
-fn board_port_option<'a>(alloc: Global) -> Result<Arg<'a>, AllocError> {
-    Arg::new(alloc, "board-port")
-        .long("board-port")
-        .value_name("PORT")
-        .value_parser(value_parser!(u16))
-        .help(
-            "With --live, the port of 127.0.0.1 where browsers find boards; 0 lets the system choose",
-        )
-        .requires_arg("live")
-}
-
-fn station_words<'a>(alloc: Global) -> Result<Arg<'a>, AllocError> {
-    Arg::new(alloc, "stations")
-        .value_name("SITE/STATION")
-        .num_args(1..)
-        .action(ArgAction::Append)
-        .help("The stations, each with its site")
-        .required_unless_present("restore")
-}
-
-// The command `sim`.
-fn sim_command<'a>(alloc: Global) -> Result<Command<'a>, AllocError> {
-    Command::new(alloc, "sim")
-        .about("Plays simulated stations against a server in the same process")
-        .after_help(SIM_EXAMPLE)
-        .arg(stations_option(alloc))?
-        .arg(events_option(alloc))
-}
-
-fn stations_option<'a>(alloc: Global) -> Arg<'a> {
-    option(
-        alloc,
-        "stations",
-        "COUNT",
-        "2",
-        "How many stations, 1 to 64",
-    )
-    .value_parser(value_parser!(u16).range(1..=i64::from(MAX_SIMULATED_STATIONS)))
-}
-
-fn events_option<'a>(alloc: Global) -> Arg<'a> {
-    option(
-        alloc,
-        "events",
-        "COUNT",
-        "3",
-        "How many events each sends, 2 to 64",
-    )
-    .value_parser(value_parser!(u32).range(2..=i64::from(MAX_SIMULATED_EVENTS)))
 }

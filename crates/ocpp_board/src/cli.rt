@@ -3,6 +3,7 @@ ghost use Rattle.ocpp_board.specs.Arguments.{IsAskable};
 
 use crate::arguments::read_arguments;
 use crate::asked::Asked;
+use crate::options::program;
 use crate::station_words::WordFault;
 use clap::Error;
 use clap::error::ErrorKind;
@@ -37,7 +38,10 @@ pub fn run_command_line<
     E: Write,
     L: Write + Send + Drop,
 >(rt: &X, words: &[S], reader: R, mut writer: BufWriter<W>, errors: &mut E, lines: L) -> u8 {
-    match read_arguments(rt.alloc(), words) {
+    let Ok(program) = program(rt.alloc()) else {
+        return tell_fault(errors, ReplayFault::OutOfMemory, STOPPED);
+    };
+    match read_arguments(program, words) {
         Ok(asked) => run_asked(rt, asked, reader, writer, errors, lines),
         Err(error) => tell_mistake(&mut writer, errors, &error),
     }
@@ -67,7 +71,7 @@ fn run_asked<
         }
         Asked::Simulate(stations, events) => tell_end(
             errors,
-            simulate(rt, rt.alloc(), stations, events, &mut writer),
+            simulate(rt, rt.alloc(), stations, events, &mut writer).map(|_passes| ()),
         ),
     }
 }
@@ -86,7 +90,7 @@ fn serve<X: AllocGlobal + Host, W: Write, E: Write, L: Write + Send + Drop>(
     match plan {
         Ok(plan) => {
             let ended = serve_plan(rt, rt.alloc(), &plan, service, writer, lines);
-            tell_server(errors, &plan, service.port, ended)
+            tell_server(errors, &plan, service.port, ended.map(|_passes| ()))
         }
         Err(fault) => tell_word(errors, fault),
     }
@@ -105,7 +109,7 @@ fn live_on<X: AllocGlobal + Host, R: BufRead, W: Write + Drop, E: Write, L: Writ
     match plan {
         Ok(plan) => {
             let ended = serve_live(rt, rt.alloc(), &plan, live, reader, writer, lines);
-            tell_server(errors, &plan, live.port, ended.map(|_writer| ()))
+            tell_server(errors, &plan, live.port, ended.map(|_served| ()))
         }
         Err(fault) => tell_word(errors, fault),
     }

@@ -3,7 +3,7 @@
 //! `ocpp_board` or `ocpp_board replay` answers a script from standard input on standard output, by
 //! `script_replay`; `serve` and `sim` run a server of stations, and simulated ones, by `site_server`, a server that
 //! lives by `live_server`, and one with a journal by `journal_server`.
-//! `arguments` has its commands and options, `asked`, `limit_words` and `station_words` say what they ask for, and
+//! `options` has its commands and options, `arguments`, `asked`, `limit_words` and `station_words` say what they ask for, and
 //! `cli` starts it and tells faults and exit statuses.
 #![tactic(auto)]
 
@@ -11,6 +11,7 @@ mod arguments;
 mod asked;
 mod cli;
 mod limit_words;
+mod options;
 mod station_words;
 
 use crate::cli::{STOPPED, run_command_line, tell_bytes, tell_fault};

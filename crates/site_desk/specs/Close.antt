@@ -14,10 +14,11 @@ use Rattle.station_cell.specs.Cell.{Cell, Held, cell_code}
 use Rattle.site_desk.specs.Parts.{IsTied}
 use Rattle.site_desk.specs.Roster.{StandsAt}
 
--- What is closed: the cells of all stations and the books of all sites, in the plan's order.
+-- What is closed: the cells of all stations and the books of all sites, in the plan's order, and the passes that had been given out.
 pub record Ended : Type 0 where
   pub cells : List Cell
   pub books : List Book
+  pub passes : List Held
 
 -- Figures are kept as the tuple of their parts.
 abbrev pub figures_code : Coded Figures
@@ -30,9 +31,13 @@ figures_code = code_by (ℕ × (ℕ × (ℕ × (ℕ × (ℕ × (ℕ × (ℕ × (
 abbrev pub book_code : Coded Book
 book_code = code_by (ℕ × (List Bounds × List Post)) (coded× coded_ℕ (coded× (coded_list bounds_code) (coded_list (coded× coded_ℕ figures_code)))) (λ b. (b.site, (b.limits, b.posts))) (λ p. record { site = p.0; limits = p.1.0; posts = p.1.1 }) (λ _. refl)
 
--- They are kept as the pair of both lists.
+-- A pass is kept as the tuple of its parts.
+abbrev pub held_code : Coded Held
+held_code = code_by (ℕ × (ℕ × ℕ)) (coded× coded_ℕ (coded× coded_ℕ coded_ℕ)) (λ h. (h.station, (h.slot, h.changes))) (λ p. record { station = p.0; slot = p.1.0; changes = p.1.1 }) (λ _. refl)
+
+-- They are kept as the tuple of these lists.
 abbrev pub ended_code : Coded Ended
-ended_code = code_by (List Cell × List Book) (coded× (coded_list cell_code) (coded_list book_code)) (λ e. (e.cells, e.books)) (λ p. record { cells = p.0; books = p.1 }) (λ _. refl)
+ended_code = code_by (List Cell × (List Book × List Held)) (coded× (coded_list cell_code) (coded× (coded_list book_code) (coded_list held_code))) (λ e. (e.cells, (e.books, e.passes))) (λ p. record { cells = p.0; books = p.1.0; passes = p.1.1 }) (λ _. refl)
 
 -- How many of these passes are a station's.
 abbrev pub passes_of : ℕ → List Held → ℕ

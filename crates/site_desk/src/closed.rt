@@ -14,11 +14,13 @@ use station_cell::{Pass, StationCell};
 use station_ledger::StationLedger;
 use std::marker::Model;
 
-/// A desk that was closed: all ledgers, rows and totals, which no lock guards any more.
+/// A desk that was closed: all ledgers, rows and totals, which no lock guards any more, and the passes that had
+/// been given out.
 #[derive(Drop)]
 pub struct Closed<J: Naming> {
     cells: Vec<StationCell>,
     books: Vec<SiteBook<J>>,
+    passes: Vec<Pass>,
 }
 
 impl<J: Naming> Model for Closed<J> {
@@ -30,20 +32,24 @@ impl<J: Naming> Model for Closed<J> {
 
     ghost use Rattle.site_desk.specs.Parts.{AreTied};
 
-    ghost view = { λ c. record { cells = c.cells.items; books = c.books.items } };
+    ghost view = { λ c. record { cells = c.cells.items; books = c.books.items; passes = c.passes.items } };
 
     ghost invariant = { λ c. AreTied c.cells.items c.books.items };
 }
 
 impl<J: Naming> Closed<J> {
-    /// What was under the locks of a desk.
+    /// What was under the locks of a desk, and its passes.
     ///
     /// Condition: each cell's row is tied, as [`Desk::take_apart`] tells.
-    pub fn of(cells: Vec<StationCell>, books: Vec<SiteBook<J>>) -> Self
+    pub fn of(cells: Vec<StationCell>, books: Vec<SiteBook<J>>, passes: Vec<Pass>) -> Self
         requires { AreTied cells.items books.items }
-        ensures { result ≡ record { cells = cells.items; books = books.items } }
+        ensures { result ≡ record { cells = cells.items; books = books.items; passes = passes.items } }
     {
-        Closed { cells, books }
+        Closed {
+            cells,
+            books,
+            passes,
+        }
     }
 
     /// How many stations it has.
@@ -96,6 +102,13 @@ impl<J: Naming> Closed<J> {
         ensures { (c : Cell) → slice_get self.now.cells station ≡ Some c → result ≡ c.content.changes }
     {
         self.cells[station as usize].ledger().changes()
+    }
+
+    /// The passes, as they were handed in. Each tells its station and how many changes it made.
+    pub fn into_passes(self) -> Vec<Pass>
+        ensures { result.items ≡ self.passes }
+    {
+        self.passes
     }
 
     /// The totals of the site of this number.

@@ -124,6 +124,7 @@ impl<J: Naming> Desk<J, StationCell> {
         ensures stations { IfOk result (λ s. length s.cells ≡ length self.stations) }
         ensures sites { IfOk result (λ s. length s.books ≡ self.sites) }
         ensures whole { IfOk result (λ s. IsClosable self.stations self.viewers s.cells s.books passes.items viewers.items) }
+        ensures kept { IfOk result (λ s. s.passes ≡ passes.items) }
         ensures seen { IfOk result (λ s. All (Saw s.books) viewers.items) }
         ensures viewer { IfErr result (λ r. r.fault ≡ CloseFault.ViewerMissing → length viewers.items ≢ self.viewers) }
         ensures desk { IfErr result (λ r. r.desk ≡ self) }
@@ -131,7 +132,7 @@ impl<J: Naming> Desk<J, StationCell> {
         ensures viewers { IfErr result (λ r. r.viewers ≡ viewers.items) }
     {
         match self.take_apart(passes, viewers) {
-            Ok((cells, books)) => Ok(Closed::of(cells, books)),
+            Ok((cells, books, passes)) => Ok(Closed::of(cells, books, passes)),
             Err(refused) => Err(refused),
         }
     }
@@ -330,17 +331,18 @@ impl<J: Naming, C: HasCell> Desk<J, C> {
     }
 
     /// Moves all values out of their locks and compares them as [`Desk::close`] does, and only then gives
-    /// anything up: what was behind the stations' locks, and the books, both in the plan's order.
+    /// anything up: what was behind the stations' locks, and the books, both in the plan's order, and the passes.
     pub fn take_apart(
         self,
         passes: Vec<Pass>,
         viewers: Vec<Viewer<J>>,
-    ) -> Result<(Vec<C>, Vec<SiteBook<J>>), CloseRefused<J, C>>
+    ) -> Result<(Vec<C>, Vec<SiteBook<J>>, Vec<Pass>), CloseRefused<J, C>>
         ensures stations { IfOk result (λ s. vec_len s.0 ≡ length self.stations) }
         ensures sites { IfOk result (λ s. length s.1.items ≡ self.sites) }
         ensures whole { IfOk result (λ s. IsClosable self.stations self.viewers (map C.cell s.0.items) s.1.items passes.items viewers.items) }
         ensures tied { IfOk result (λ s. AreTied (map C.cell s.0.items) s.1.items) }
         ensures seen { IfOk result (λ s. All (Saw s.1.items) viewers.items) }
+        ensures kept { IfOk result (λ s. s.2 ≡ passes) }
         ensures viewer { IfErr result (λ r. r.fault ≡ CloseFault.ViewerMissing → length viewers.items ≢ self.viewers) }
         ensures desk { IfErr result (λ r. r.desk ≡ self) }
         ensures passes { IfErr result (λ r. r.passes ≡ passes.items) }
@@ -362,7 +364,7 @@ impl<J: Naming, C: HasCell> Desk<J, C> {
         match fault_of(&places, given, &cells, &books, &passes, &viewers) {
             None => {
                 take_viewers(&mut books, viewers);
-                Ok((cells, books))
+                Ok((cells, books, passes))
             }
             Some(fault) => {
                 lock_up(&mut cells, &mut locked_cells);

@@ -1,13 +1,11 @@
 //! A whole server, from its desk to its boards.
-ghost use Rattle.std.specs.Prelude.{◌≡◌, ◌≤◌, ◌<◌, ℕ, List, ◌++◌, IfOk, OnOk, length, sum_by};
+ghost use Rattle.std.specs.Prelude.{◌≡◌, ◌≤◌, ◌<◌, ℕ, IfOk, OnOk, length, sum_by};
 ghost use Rattle.std.specs.Io.KnownBytes.{Appends};
 ghost use Rattle.site_book.specs.Tables.{HasTable, NamedBy};
 ghost use Rattle.ledger_model.specs.Ranges.{most_plan_readings};
 ghost use Rattle.site_desk.specs.Roster.{AreNewPlaces};
-ghost use Rattle.desk_report.specs.Closed.{AreBoards};
-ghost use Rattle.station_cell.specs.Cell.{Held};
 ghost use Rattle.site_server.specs.Passes.{AreOfSessions};
-ghost use Rattle.site_server.specs.Written.{listening};
+ghost use Rattle.site_server.specs.Written.{ShowsBoards, listening};
 
 use crate::close::close_desk;
 use crate::fault::ServiceFault;
@@ -48,7 +46,8 @@ pub struct Service {
 /// connections by [`serve_many`], closes the desk when all have ended, and writes the board of each site, in
 /// the plan's order. Meanwhile a thread glances so often at the totals of each site that has a viewer, and
 /// writes `live <site>` and a total line to `lines` each time; the close waits for its end. Where that
-/// thread can't start no such line is written.
+/// thread can't start no such line is written. It gives the passes of the sessions, whose changes are those
+/// that the boards count.
 ///
 /// A plan with a fault is told before anything is listened on.
 ///
@@ -60,13 +59,11 @@ pub fn serve_plan<R: Host, W: Write, L: Write + Send + Drop>(
     service: Service,
     output: &mut W,
     lines: L,
-) -> Result<(), ServiceFault>
+) -> Result<Vec<Pass>, ServiceFault>
     requires some { 1 ≤ service.connections }
     requires most { service.connections ≤ 64 }
-    ensures { OnOk result ((port : ℕ) × (passes : List Held) × (boards : List ℕ)
-        × Appends (W.contents output.old) (W.contents output.new) (listening port ++ boards)
-        × AreOfSessions service.connections (length plan.now.stations.items) passes
-        × AreBoards plan.now.sites.items plan.now.stations.items passes boards) }
+    ensures { IfOk result (λ passes. (port : ℕ) × ShowsBoards plan.now.sites.items plan.now.stations.items service.connections
+        (listening port) (W.contents output.old) (W.contents output.new) passes.items) }
 {
     let tables = Tables::make(alloc, plan.sites.len() as u16)?;
     serve_under::<Brand, R, W, L>(rt, alloc, tables, plan, service, output, lines)
@@ -81,15 +78,13 @@ fn serve_under<J: Naming + Send + Sync, R: Host, W: Write, L: Write + Send + Dro
     service: Service,
     output: &mut W,
     lines: L,
-) -> Result<(), ServiceFault>
+) -> Result<Vec<Pass>, ServiceFault>
     requires named { NamedBy J.table tables }
     requires there { (site : ℕ) → site < length plan.now.sites.items → HasTable tables site }
     requires some { 1 ≤ service.connections }
     requires most { service.connections ≤ 64 }
-    ensures { OnOk result ((port : ℕ) × (passes : List Held) × (boards : List ℕ)
-        × Appends (W.contents output.old) (W.contents output.new) (listening port ++ boards)
-        × AreOfSessions service.connections (length plan.now.stations.items) passes
-        × AreBoards plan.now.sites.items plan.now.stations.items passes boards) }
+    ensures { IfOk result (λ passes. (port : ℕ) × ShowsBoards plan.now.sites.items plan.now.stations.items service.connections
+        (listening port) (W.contents output.old) (W.contents output.new) passes.items) }
 {
     let (desk, viewers) = open_desk::<J>(alloc, tables, plan)?;
     let listener = listen(rt, service.port)?;

@@ -1,12 +1,10 @@
 //! Simulated stations that play against a server of their own.
-ghost use Rattle.std.specs.Prelude.{◌≡◌, ◌≤◌, ◌<◌, ℕ, List, IfOk, OnOk, codes, length, vec_len, vec_capacity};
-ghost use Rattle.std.specs.Io.KnownBytes.{Appends};
+ghost use Rattle.std.specs.Prelude.{◌≡◌, ◌≤◌, ◌<◌, ℕ, [], IfOk, codes, length, vec_len, vec_capacity};
 ghost use Rattle.site_book.specs.Tables.{HasTable, NamedBy};
-ghost use Rattle.desk_report.specs.Closed.{AreBoards};
 ghost use Rattle.station_link.specs.Sim.{IsSimulated};
-ghost use Rattle.station_cell.specs.Cell.{Held};
 ghost use Rattle.site_server.specs.Passes.{AreOfSessions};
 ghost use Rattle.site_server.specs.Simulated.{simulated_name, simulated_sites, simulated_stations};
+ghost use Rattle.site_server.specs.Written.{ShowsBoards};
 
 use crate::close::close_desk;
 use crate::fault::ServiceFault;
@@ -39,7 +37,7 @@ type Played = JoinHandle<Result<(), SimFault>>;
 
 /// Plays so many simulated stations, each with a transaction of so many events, against a server of their
 /// own on a port of 127.0.0.1 that the system chooses, and writes the board of their site, `sim`, when all
-/// have ended.
+/// have ended. It gives the passes of their sessions, whose changes are those that the board counts.
 ///
 /// Condition: 1 to 64 stations, and 2 to 64 events.
 pub fn simulate<R: Host + RandomSource, W: Write>(
@@ -48,12 +46,10 @@ pub fn simulate<R: Host + RandomSource, W: Write>(
     stations: u16,
     events: u32,
     output: &mut W,
-) -> Result<(), ServiceFault>
+) -> Result<Vec<Pass>, ServiceFault>
     requires { IsSimulated stations events }
-    ensures { OnOk result ((passes : List Held) × (boards : List ℕ)
-        × Appends (W.contents output.old) (W.contents output.new) boards
-        × AreOfSessions stations (length (simulated_stations stations)) passes
-        × AreBoards (simulated_sites stations) (simulated_stations stations) passes boards) }
+    ensures { IfOk result (λ passes. ShowsBoards (simulated_sites stations) (simulated_stations stations) stations
+        [] (W.contents output.old) (W.contents output.new) passes.items) }
 {
     let plan = simulated_plan(stations);
     let tables = Tables::make(alloc, plan.sites.len() as u16)?;
@@ -110,14 +106,12 @@ fn simulate_under<J: Naming + Send + Sync, R: Host + RandomSource, W: Write>(
     stations: u16,
     events: u32,
     output: &mut W,
-) -> Result<(), ServiceFault>
+) -> Result<Vec<Pass>, ServiceFault>
     requires named { NamedBy J.table tables }
     requires there { (site : ℕ) → site < length plan.now.sites.items → HasTable tables site }
     requires simulated { IsSimulated stations events }
-    ensures { OnOk result ((passes : List Held) × (boards : List ℕ)
-        × Appends (W.contents output.old) (W.contents output.new) boards
-        × AreOfSessions stations (length plan.now.stations.items) passes
-        × AreBoards plan.now.sites.items plan.now.stations.items passes boards) }
+    ensures { IfOk result (λ passes. ShowsBoards plan.now.sites.items plan.now.stations.items stations
+        [] (W.contents output.old) (W.contents output.new) passes.items) }
 {
     let (desk, viewers) = open_desk::<J>(alloc, tables, plan)?;
     let listener = listen(rt, 0)?;

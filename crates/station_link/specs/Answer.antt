@@ -63,3 +63,8 @@ AnswersMeaning stations p (Event id request) text p' told = IsDelivered stations
 abbrev pub Answers : List StationPlace → Held → List ℕ → ℕ → Option (List ℕ) → Held → Option Known → Bool → Type 0
 Answers stations p words now text p' told true = TellsMemory words p text p' told
 Answers stations p words now text p' told false = AnswersMeaning stations p (message words now) text p' told
+
+-- The reply in a text that was lent, where there is one.
+abbrev pub reply_of : Bool → List ℕ → Option (List ℕ)
+reply_of true text = Some text
+reply_of false text = None

@@ -1,5 +1,4 @@
 pub mod Answer
 pub mod Session
 pub mod Request
-pub mod Live
 pub mod Sim

@@ -1,7 +1,7 @@
 -- How sessions end.
-use Rattle.std.specs.Prelude.{ℕ, ⊤}
+use Rattle.std.specs.Prelude.{ℕ, ⊤, ◌⊎◌}
 use Rattle.station_link.specs.declared.ending.Why.{Why}
-use Rattle.station_link.specs.declared.ending.Why.TheVariants.{PeerClosed, ReadFault, WriteFault, HandshakeFailed, UnknownStation, NotOcpp, BinaryMessage, OutOfMemory, MessagesSpent, TooManyPasses}
+use Rattle.station_link.specs.declared.ending.Why.TheVariants.{PeerClosed, ReadFault, WriteFault, HandshakeFailed, UnknownStation, NotOcpp, BinaryMessage, OutOfMemory, MessagesSpent, TooManyPasses, Replaced, ServerCloses}
 
 -- How many messages a session takes (this product's profile).
 abbrev pub most_messages : ℕ
@@ -19,8 +19,10 @@ MayLackPass BinaryMessage = ⊥
 MayLackPass OutOfMemory = ⊤
 MayLackPass MessagesSpent = ⊥
 MayLackPass TooManyPasses = ⊤
+MayLackPass Replaced = ⊥
+MayLackPass ServerCloses = ⊥
 
--- A session that was given a pass can end so.
+-- A session that was given a pass can end so by itself.
 abbrev pub MayHavePass : Why → Type 0
 MayHavePass PeerClosed = ⊤
 MayHavePass ReadFault = ⊤
@@ -32,3 +34,24 @@ MayHavePass BinaryMessage = ⊤
 MayHavePass OutOfMemory = ⊤
 MayHavePass MessagesSpent = ⊤
 MayHavePass TooManyPasses = ⊥
+MayHavePass Replaced = ⊥
+MayHavePass ServerCloses = ⊥
+
+-- A live server ends a session so.
+abbrev pub IsDismissal : Why → Type 0
+IsDismissal PeerClosed = ⊥
+IsDismissal ReadFault = ⊥
+IsDismissal WriteFault = ⊥
+IsDismissal HandshakeFailed = ⊥
+IsDismissal UnknownStation = ⊥
+IsDismissal NotOcpp = ⊥
+IsDismissal BinaryMessage = ⊥
+IsDismissal OutOfMemory = ⊥
+IsDismissal MessagesSpent = ⊥
+IsDismissal TooManyPasses = ⊥
+IsDismissal Replaced = ⊤
+IsDismissal ServerCloses = ⊤
+
+-- A session that was given a pass can end so: by itself, or for a reason of who attends it.
+abbrev pub MayEnd : (Why → Type 0) → Why → Type 0
+MayEnd dismisses why = MayHavePass why ⊎ dismisses why

@@ -3,7 +3,7 @@ ghost use Rattle.std.specs.Prelude.{◌≡◌, ◌≤◌, IsTrue, IfOk, OnErr, c
 ghost use Rattle.ledger_model.specs.declared.command.Command.{Command};
 ghost use Rattle.ocppj_frame.specs.Ranges.{longest_message};
 ghost use Rattle.transaction_event.specs.Reply.{answers_delivery, memory_reply};
-ghost use Rattle.station_link.specs.Answer.{Answers, Asks, IsNextPass, IsSubmitted};
+ghost use Rattle.station_link.specs.Answer.{Answers, Asks, IsNextPass, IsSubmitted, reply_of};
 
 use crate::delivers::Delivers;
 use arrayvec::ArrayString;
@@ -14,13 +14,26 @@ use site_desk::{Gate, Pass};
 use std::alloc::{AllocError, Global};
 use std::sync::Wait;
 use std::time::Clock;
-use transaction_event::{Message, deliveries_are_answered, event_reply, message_of};
+use transaction_event::{
+    Asked, Delivery, deliveries_are_answered, put_event_reply, read_message,
+};
 
 /// What a text of a station came to.
 #[derive(Drop)]
 pub struct Answered<J: Naming> {
     /// The reply; `None` where the text gets none.
     pub text: Option<ArrayString<512>>,
+    /// What the site's book told, where the text's event was accepted.
+    pub told: Option<Told<J>>,
+    /// Whether the reply tells that there was no memory; nothing changed then.
+    pub memory: bool,
+}
+
+/// What a text of a station came to, whose reply was put into a text that was lent.
+#[derive(Drop)]
+pub struct Replied<J: Naming> {
+    /// Whether it has a reply, which is then the lent text.
+    pub has_reply: bool,
     /// What the site's book told, where the text's event was accepted.
     pub told: Option<Told<J>>,
     /// Whether the reply tells that there was no memory; nothing changed then.
@@ -72,31 +85,68 @@ pub fn answer_text<J: Naming, D: Delivers<J>, G: Gate, R: Wait + Clock>(
     ensures next { IsNextPass pass.old pass.new }
     ensures while_reading { IsTrue result.memory → length text.now ≤ longest_message }
 {
-    match message_of(alloc, text, now) {
-        Message::Event {
-            id,
-            key,
-            event,
-            token,
-        } => match deliver(desk, rt, alloc, pass, text, key, event, gate) {
-            Ok((answer, told)) => Answered {
-                text: Some(event_reply(id.as_str(), token, &answer)),
-                told,
-                memory: false,
+    let mut reply = ArrayString::new();
+    let Replied {
+        has_reply,
+        told,
+        memory,
+    } = put_answer(desk, rt, alloc, pass, text, now, gate, &mut reply);
+    Answered {
+        text: if has_reply { Some(reply) } else { None },
+        told,
+        memory,
+    }
+}
+
+/// Answers a text as [`answer_text`] does, and puts the reply into `reply`, in the place of what it had. What that holds
+/// where the text gets none has no meaning.
+pub fn put_answer<J: Naming, D: Delivers<J>, G: Gate, R: Wait + Clock>(
+    desk: &D,
+    rt: &R,
+    alloc: Global,
+    pass: &mut Pass,
+    text: &str,
+    now: Moment,
+    gate: &G,
+    reply: &mut ArrayString<512>,
+) -> Replied<J>
+    ensures answers { Answers (D.stations desk.now) pass.old text.now now (reply_of result.has_reply reply.new.bytes) pass.new result.told result.memory }
+    ensures next { IsNextPass pass.old pass.new }
+    ensures while_reading { IsTrue result.memory → length text.now ≤ longest_message }
+{
+    match read_message(alloc, text, now, reply) {
+        Asked::Event(
+            Delivery {
+                id,
+                key,
+                event,
+                token,
             },
-            Err(_) => Answered {
-                text: Some(memory_reply()),
-                told: None,
-                memory: true,
-            },
+        ) => match deliver(desk, rt, alloc, pass, text, key, event, gate) {
+            Ok((answer, told)) => {
+                put_event_reply(reply, id.as_str(), token, &answer);
+                Replied {
+                    has_reply: true,
+                    told,
+                    memory: false,
+                }
+            }
+            Err(_) => {
+                *reply = memory_reply();
+                Replied {
+                    has_reply: true,
+                    told: None,
+                    memory: true,
+                }
+            }
         },
-        Message::Reply { text, memory } => Answered {
-            text: Some(text),
+        Asked::Reply { memory } => Replied {
+            has_reply: true,
             told: None,
             memory,
         },
-        Message::Silent => Answered {
-            text: None,
+        Asked::Silent => Replied {
+            has_reply: false,
             told: None,
             memory: false,
         },

@@ -30,10 +30,14 @@ pub enum Why {
     MessagesSpent,
     /// The station gave out as many passes as it may (closed with code 1011).
     TooManyPasses,
+    /// A third session of its station began at a live server, and this was the oldest (closed with code 1001).
+    Replaced,
+    /// The live server closes (closed with code 1001).
+    ServerCloses,
 }
 
 impl Why {
-    /// Its name, as a live server tells it.
+    /// Its name, as a live server tells it and has it as the reason of its close frame.
     pub fn name(self) -> &'static str {
         match self {
             Why::PeerClosed => "PeerClosed",
@@ -46,6 +50,8 @@ impl Why {
             Why::OutOfMemory => "OutOfMemory",
             Why::MessagesSpent => "MessagesSpent",
             Why::TooManyPasses => "TooManyPasses",
+            Why::Replaced => "Replaced",
+            Why::ServerCloses => "ServerCloses",
         }
     }
 }

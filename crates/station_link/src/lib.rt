@@ -2,7 +2,8 @@
 //!
 //! [`serve_connection`] takes one connection of a station: it answers the opening handshake (RFC 6455),
 //! lets in the station that the path names ([`admit`]), and answers each text message in turn until the
-//! session ends ([`serve_session`]).
+//! session ends ([`serve_session`]). A server that lives greets its connections itself ([`greet`]), and an
+//! [`Attendant`] of each session says whether it is still wanted.
 //! The stream is anything that reads and writes. [`answer_text`] answers one text of a station. The other
 //! side is a [`SimStation`], to try a server of stations with: it sends one transaction, its first event, the
 //! others from the last one down, as if they had been queued and come late, and the first once more, as if
@@ -23,18 +24,20 @@
 #![tactic(auto)]
 
 mod answer;
+mod attendant;
 mod delivers;
 mod ending;
-mod live;
+mod greeting;
 mod moment;
 mod request;
 mod session;
 mod sim;
 
-pub use answer::{Answered, answer_text};
+pub use answer::{Answered, Replied, answer_text, put_answer};
+pub use attendant::{Attendant, Nobody};
 pub use delivers::Delivers;
 pub use ending::Why;
-pub use live::{Attendant, Cause, Dismissal, Greeted, LiveEnd, greet, refuse, serve_live};
+pub use greeting::{Greeted, greet, refuse};
 pub use moment::{MomentSource, present};
 pub use request::{Seen, admit};
 pub use session::{MAX_MESSAGES, SessionEnd, serve_connection, serve_session};

@@ -1,19 +1,21 @@
 //! A session: one connection of a station, from its handshake to its end.
 ghost use Rattle.std.specs.Prelude.{◌≡◌, ◌≢◌, ◌≤◌, ◌<◌, ◌+◌, IsNone, IsSome, IfErr, IfSome, None, length};
 ghost use Rattle.station_link.specs.declared.ending.Why.{Why};
-ghost use Rattle.station_link.specs.Session.{MayHavePass, MayLackPass, most_messages};
+ghost use Rattle.station_link.specs.Session.{MayEnd, MayHavePass, MayLackPass, most_messages};
 
-use crate::answer::{Answered, answer_text};
+use crate::answer::put_answer;
+use crate::attendant::{Attendant, Nobody};
 use crate::delivers::Delivers;
 use crate::ending::{Ending, Why, end_of_read, end_of_refusal};
 use crate::moment::{MomentSource, present};
 use crate::request::{Look, Seen, admit};
+use arrayvec::ArrayString;
 use ledger_model::Name;
 use site_book::Naming;
 use site_desk::{Desk, Gate, Pass};
 use std::alloc::Global;
 use std::cell::Cell;
-use std::io::{Read, Write};
+use std::io::{ErrorKind, Read, Write};
 use std::sync::Wait;
 use std::thread::Threads;
 use std::time::Clock;
@@ -45,28 +47,27 @@ pub struct SessionEnd {
     pub pass: Option<Pass>,
     /// How many messages it took, up to a million, with the one, or the try to read one, that ended it.
     pub messages: u64,
+    /// How many of them were texts that were answered, or got no reply.
+    pub texts: u64,
 }
 
 impl SessionEnd {
     // The end of a session that was given no pass.
     fn refused(why: Why) -> SessionEnd
-        ensures { result ≡ record { why = why; pass = None; messages = 0 } }
+        ensures { result ≡ record { why = why; pass = None; messages = 0; texts = 0 } }
     {
         SessionEnd {
             why,
             pass: None,
             messages: 0,
+            texts: 0,
         }
     }
 }
 
 /// Serves one connection until it ends: the opening handshake of a path `/ocpp/<station>` with the
-/// subprotocol `ocpp2.0.1` (RFC 6455; OCPP 2.0.1 Part 4), then up to a million messages. Each text is
-/// answered as by [`answer_text`] at the clock's moment, and `gate.after` is called with the text's number,
-/// from 1, once its reply was sent, or once it was decided that it gets none. Ping and Pong count as
-/// messages and reach neither. A text whose reply tells that there was no memory does not end the session.
-/// What was accepted stays accepted when its reply can't be sent, and the pass comes back whatever ends the
-/// session. It may wait for locks and for the stream.
+/// subprotocol `ocpp2.0.1` (RFC 6455; OCPP 2.0.1 Part 4), then a session ([`serve_session`]) that nobody attends.
+/// It may wait for locks and for the stream.
 pub fn serve_connection<
     J: Naming,
     R: Wait + Threads + Clock,
@@ -87,7 +88,17 @@ pub fn serve_connection<
         Err(why) => return SessionEnd::refused(why),
     };
     match admit(rt, desk, seen.into_inner()) {
-        Ok((name, pass)) => serve_session(rt, alloc, socket, desk, &name, pass, gate, clock),
+        Ok((name, pass)) => serve_session(
+            rt,
+            alloc,
+            &mut socket,
+            desk,
+            &name,
+            pass,
+            gate,
+            clock,
+            &Nobody,
+        ),
         Err(why) => {
             say_goodbye(&mut socket, end_of_refusal(why).code, "");
             SessionEnd::refused(why)
@@ -95,32 +106,50 @@ pub fn serve_connection<
     }
 }
 
-/// Serves a session that was let in with a pass, as [`serve_connection`] does behind its handshake, until it
-/// ends: up to a million messages, and the close frame. It gives the pass back whatever ends the session,
-/// want of memory included.
-pub fn serve_session<J: Naming, R: Wait + Clock, S: Read + Write + Drop, G: Gate, C: MomentSource>(
+/// Serves a session that was let in with a pass until it ends or is no longer wanted: up to a million messages. Each
+/// text is answered as by [`answer_text`](crate::answer_text) at the clock's moment, and `gate.after` is called with the
+/// text's number, from 1, once its reply was sent, or once it was decided that it gets none. Ping and Pong count as
+/// messages and reach neither. A text whose reply tells that there was no memory does not end the session. What was
+/// accepted stays accepted when its reply can't be sent. At the end the attendant is told, and then the close frame is
+/// sent. It gives the pass back whatever ends the session, want of memory included.
+pub fn serve_session<
+    J: Naming,
+    D: Delivers<J>,
+    R: Wait + Clock,
+    S: Read + Write + Drop,
+    G: Gate,
+    C: MomentSource,
+    A: Attendant,
+>(
     rt: &R,
     alloc: Global,
-    mut socket: WebSocket<S, NoMask>,
-    desk: &Desk<J>,
+    socket: &mut WebSocket<S, NoMask>,
+    desk: &D,
     name: &Name,
     mut pass: Pass,
     gate: &G,
     clock: &mut C,
+    attendant: &A,
 ) -> SessionEnd
     ensures given_back { IsSome result.pass }
-    ensures has { MayHavePass result.why }
+    ensures why { MayEnd (A.dismisses attendant.now) result.why }
     ensures station { IfSome result.pass (λ p. p.station ≡ pass.station) }
     ensures few { IfSome result.pass (λ p. p.changes ≤ pass.changes + result.messages) }
+    ensures texts { result.texts ≤ result.messages }
     ensures most { result.messages ≤ most_messages }
     ensures spent { result.why ≡ Why.MessagesSpent → result.messages ≡ most_messages }
 {
-    let (end, messages) = answer_all(rt, alloc, &mut socket, desk, name, &mut pass, gate, clock);
-    say_goodbye(&mut socket, end.code, "");
+    let ended = answer_all(
+        rt, alloc, socket, desk, name, &mut pass, gate, clock, attendant,
+    );
+    attendant.leaves();
+    let why = ended.end.why;
+    say_goodbye(socket, ended.end.code, attendant.reason(why));
     SessionEnd {
-        why: end.why,
+        why,
         pass: Some(pass),
-        messages,
+        messages: ended.messages,
+        texts: ended.texts,
     }
 }
 
@@ -143,67 +172,114 @@ pub(crate) fn shake_hands<S: Read + Write + Drop, L: Callback + Drop>(
     }
 }
 
-// Answers message after message until the session ends, and tells how many it took, with the one that ended it.
-fn answer_all<J: Naming, R: Wait + Clock, S: Read + Write + Drop, G: Gate, C: MomentSource>(
+// What messages came to: how the session ends, how many it took with the one that ended it, and how many texts.
+#[derive(Drop)]
+struct Ended {
+    end: Ending,
+    messages: u64,
+    texts: u64,
+}
+
+// Answers message after message until the session ends.
+fn answer_all<
+    J: Naming,
+    D: Delivers<J>,
+    R: Wait + Clock,
+    S: Read + Write + Drop,
+    G: Gate,
+    C: MomentSource,
+    A: Attendant,
+>(
     rt: &R,
     alloc: Global,
     socket: &mut WebSocket<S, NoMask>,
-    desk: &Desk<J>,
+    desk: &D,
     name: &Name,
     pass: &mut Pass,
     gate: &G,
     clock: &mut C,
-) -> (Ending, u64)
-    ensures has { MayHavePass result.0.why }
+    attendant: &A,
+) -> Ended
+    ensures why { MayEnd (A.dismisses attendant.now) result.end.why }
     ensures station { pass.new.station ≡ pass.old.station }
-    ensures few { pass.new.changes ≤ pass.old.changes + result.1 }
-    ensures most { result.1 ≤ most_messages }
-    ensures spent { result.0.why ≡ Why.MessagesSpent → result.1 ≡ most_messages }
+    ensures few { pass.new.changes ≤ pass.old.changes + result.messages }
+    ensures texts { result.texts ≤ result.messages }
+    ensures most { result.messages ≤ most_messages }
+    ensures spent { result.end.why ≡ Why.MessagesSpent → result.messages ≡ most_messages }
 {
-    let mut calls = 0;
+    let mut reply = ArrayString::new();
+    let mut texts = 0;
     for turn in 0..MAX_MESSAGES {
-        match take_message(rt, alloc, socket, desk, pass, gate, clock) {
+        let message = match await_message(rt, socket, attendant) {
+            Ok(message) => message,
+            Err(end) => return end_after(end, turn + 1, texts),
+        };
+        let taken = answer_message(
+            rt, alloc, socket, desk, pass, gate, clock, message, &mut reply,
+        );
+        match taken {
             Ok(true) => {
-                calls += 1;
-                gate.after(rt, name, calls);
+                texts += 1;
+                gate.after(rt, name, texts);
             }
             Ok(false) => {}
-            Err(end) => return (end, turn + 1),
+            Err(end) => return end_after(end, turn + 1, texts),
         }
     }
-    (
-        Ending::told(Why::MessagesSpent, CloseCode::Error),
-        MAX_MESSAGES,
-    )
+    let end = Ending::told(Why::MessagesSpent, CloseCode::Error);
+    end_after(end, MAX_MESSAGES, texts)
 }
 
-// Takes the next message, and tells whether it was a text. What waits to be sent goes first, so that a
-// fault of it is no fault of the read.
-fn take_message<J: Naming, R: Wait + Clock, S: Read + Write + Drop, G: Gate, C: MomentSource>(
-    rt: &R,
-    alloc: Global,
-    socket: &mut WebSocket<S, NoMask>,
-    desk: &Desk<J>,
-    pass: &mut Pass,
-    gate: &G,
-    clock: &mut C,
-) -> Result<bool, Ending>
-    ensures has { IfErr result (λ end. MayHavePass end.why) }
-    ensures unspent { IfErr result (λ end. end.why ≢ Why.MessagesSpent) }
-    ensures station { pass.new.station ≡ pass.old.station }
-    ensures one { pass.new.changes ≤ pass.old.changes + 1 }
+// The end of a session that took so many messages, and so many texts among them.
+fn end_after(end: Ending, messages: u64, texts: u64) -> Ended
+    ensures { result ≡ record { end = end; messages = messages; texts = texts } }
 {
-    if socket.flush().is_err() {
-        return Err(Ending::untold(Why::WriteFault));
-    }
-    match socket.read() {
-        Ok(message) => answer_message(rt, alloc, socket, desk, pass, gate, clock, message),
-        Err(error) => Err(end_of_read(&error)),
+    Ended {
+        end,
+        messages,
+        texts,
     }
 }
 
-// Answers a message that came, and tells whether it was a text.
-pub(crate) fn answer_message<
+// Waits for the next message for as long as the session is wanted. What waits to be sent goes first, so that a
+// fault of it is no fault of the read.
+fn await_message<R: Wait, S: Read + Write + Drop, A: Attendant>(
+    rt: &R,
+    socket: &mut WebSocket<S, NoMask>,
+    attendant: &A,
+) -> Result<Message, Ending>
+    ensures why { IfErr result (λ end. MayEnd (A.dismisses attendant.now) end.why) }
+    ensures unspent { IfErr result (λ end. end.why ≢ Why.MessagesSpent) }
+{
+    for _ in rt.forever() {
+        if let Some(why) = attendant.dismissal() {
+            return Err(Ending::told(why, CloseCode::Away));
+        }
+        if socket.flush().is_err() {
+            return Err(Ending::untold(Why::WriteFault));
+        }
+        match socket.read() {
+            Ok(message) => return Ok(message),
+            Err(error) => {
+                if !attendant.is_patient() || !is_tick(&error) {
+                    return Err(end_of_read(&error));
+                }
+            }
+        }
+    }
+    unreachable!()
+}
+
+// Tells whether a read gave up waiting, and may go on.
+fn is_tick(error: &Error) -> bool {
+    match error {
+        Error::Io(error) => error.kind() == ErrorKind::WouldBlock,
+        _ => false,
+    }
+}
+
+// Answers a message that came, with a text for the reply, and tells whether it was a text.
+fn answer_message<
     J: Naming,
     D: Delivers<J>,
     R: Wait + Clock,
@@ -219,6 +295,7 @@ pub(crate) fn answer_message<
     gate: &G,
     clock: &mut C,
     message: Message,
+    reply: &mut ArrayString<512>,
 ) -> Result<bool, Ending>
     ensures has { IfErr result (λ end. MayHavePass end.why) }
     ensures unspent { IfErr result (λ end. end.why ≢ Why.MessagesSpent) }
@@ -228,8 +305,11 @@ pub(crate) fn answer_message<
     match message {
         Message::Text(text) => {
             let now = present(clock);
-            let answered = answer_text(desk, rt, alloc, pass, text.as_str(), now, gate);
-            send_reply(alloc, socket, answered)?;
+            let text = text.as_str();
+            let replied = put_answer(desk, rt, alloc, pass, text, now, gate, reply);
+            if replied.has_reply {
+                send_reply(alloc, socket, reply.as_str())?;
+            }
             Ok(true)
         }
         Message::Ping(_bytes) | Message::Pong(_bytes) => Ok(false),
@@ -241,19 +321,16 @@ pub(crate) fn answer_message<
     }
 }
 
-// Sends the reply to a text, where it has one.
-fn send_reply<J: Naming, S: Read + Write + Drop>(
+// Sends the reply to a text.
+fn send_reply<S: Read + Write + Drop>(
     alloc: Global,
     socket: &mut WebSocket<S, NoMask>,
-    answered: Answered<J>,
+    reply: &str,
 ) -> Result<(), Ending>
     ensures has { IfErr result (λ end. MayHavePass end.why) }
     ensures unspent { IfErr result (λ end. end.why ≢ Why.MessagesSpent) }
 {
-    let Some(reply) = answered.text else {
-        return Ok(());
-    };
-    let Ok(message) = Message::text(alloc, reply.as_str()) else {
+    let Ok(message) = Message::text(alloc, reply) else {
         return Err(Ending::untold(Why::OutOfMemory));
     };
     match socket.send(message) {

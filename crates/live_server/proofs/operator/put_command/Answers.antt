@@ -1,9 +1,0 @@
-use Rattle.desk_report.proofs.ClosedSites.{value_told}
-use Rattle.live_server.proofs.Replied.{commanded}
-use Rattle.live_server.proofs.operator.put_command.Goals as goal
-
-pub returns-in-Ok : goal.returns-in-Ok
-returns-in-Ok g c =
-    let named = c.in-Ok.ensures.named in
-    let after = c.submit-submitted.new in
-    value_told c.submit-submitted.result _ _ (λ _ h. commanded c.args.running.now.desk.desk.now.stations c.args.name.now c.in-Ok.pass c.args.what after.pass after.reply.items named (h named.place named.there)) c.submit-submitted.ensures

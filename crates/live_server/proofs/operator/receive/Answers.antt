@@ -1,6 +1,0 @@
-use Rattle.desk_report.proofs.ClosedSites.{value_told}
-use Rattle.live_server.proofs.Replied.{sent}
-use Rattle.live_server.proofs.operator.receive.Goals as goal
-
-pub returns-in-Ok : goal.returns-in-Ok
-returns-in-Ok g c = value_told c.deliver-delivered.result _ _ (λ _ h. sent _ _ _ c.in-Ok.ensures.named _ _ _ h) c.deliver-delivered.ensures

@@ -1,8 +1,0 @@
-use Rattle.std.proofs.Common.{ap, ◌∙◌}
-use Rattle.site_desk.specs.Roster.{Roster}
-use Rattle.live_server.proofs.Replied.{submitted_line}
-use Rattle.live_server.proofs.operator.submit.Goals as goal
-
-pub returns : goal.returns
-returns g c =
-    submitted_line c.put_answer.result _ _ _ _ _ _ _ _ _ (ap (λ (d : Roster). d.stations) c.args.running.now.same) (c.in_ok-reserve.ensures.items ∙ c.requires.empty) c.command-answer.ensures.settled c.put_answer.ensures

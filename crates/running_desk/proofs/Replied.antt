@@ -1,0 +1,148 @@
+-- An operator's answers, from what the desk tells.
+use Rattle.std.proofs.Common.{◌≡◌, ℕ, zero, Bool, true, false, ◌⊎◌, inl, inr, List, [], ◌++◌, Option, Some, Result, Ok, Err, refl, ap, sym, subst, ◌∙◌, codes, slice_get}
+use Rattle.std.specs.Prelude.{OnOk, unwrap_or}
+use Rattle.board_report.specs.Texts.{total_text}
+use Rattle.energy_flow.specs.Flow.{Energy}
+use Rattle.ledger_model.specs.declared.answer.Answer.{Answer}
+use Rattle.ledger_model.specs.declared.answer.Answer.TheVariants.{Accepted, Repeat, Refused}
+use Rattle.ledger_model.specs.declared.answer.Refusal.TheVariants.{ConflictingEvent, TooManyTransactions, EventsFull, ReadingsFull, NoSuchEvent, AlreadyVoided, NotVoided, ChangesExhausted}
+use Rattle.ledger_model.specs.declared.command.Command.{Command}
+use Rattle.ledger_model.specs.declared.command.Command.TheVariants.{Deliver}
+use Rattle.ledger_model.specs.declared.figures.Figures as figures
+use Rattle.ledger_model.specs.Content.{Content, empty_content}
+use Rattle.ledger_model.specs.Limits.{Bounds}
+use Rattle.ledger_model.specs.Step.{Reached, answer}
+use Rattle.ledger_model.specs.World.{Station}
+use Rattle.script_ledgers.specs.Script.{by_meaning, energy_line, export_line, start}
+use Rattle.script_lines.specs.Texts.{answer_text, ended_line}
+use Rattle.site_book.specs.Book.{Known}
+use Rattle.site_desk.specs.declared.roster.StationPlace.{StationPlace}
+use Rattle.site_desk.specs.Operator.{AreTotalsOfName}
+use Rattle.site_desk.specs.Roster.{IsNamed}
+use Rattle.site_desk.specs.Submit.{IsAnswered, Submitted}
+use Rattle.station_cell.specs.Cell.{Held}
+use Rattle.station_link.specs.Answer.{Answers, AnswersMeaning}
+use Rattle.transaction_event.specs.Message.{Meaning, Event, Ready, Silence, message}
+use Rattle.transaction_event.specs.Reply.{event_reply_bytes}
+use Rattle.running_desk.specs.declared.operator.Asked.{Asked}
+use Rattle.running_desk.specs.declared.operator.Asked.TheVariants.{Figures, Import, Export}
+use Rattle.running_desk.specs.Replied.{AreTotals, IsCommandLine, IsCommanded, IsExhausted, IsMessageLine, IsSent, IsStationOf, IsTotals, totals_line}
+
+-- a station of a name with this content
+abbrev with_content : List ℕ → Bounds → Content → Station
+with_content name limits content = record { site = []; name = name; limits = limits; content = content }
+
+-- a replay may have the station of a name with a content that accepted commands leave
+stands_with : (places : List StationPlace) (name : List ℕ) (number : ℕ) (named : IsNamed places name number) (changes : ℕ) (content : Content) → Reached named.place.limits changes content
+    → IsStationOf places name (with_content name named.place.limits content)
+stands_with places name number named changes content reached = record { number = number; named = named; called = refl; limits = refl; changes = changes; reached = reached }
+
+-- the answer is the step's at this content
+record IsStepAt (limits : Bounds) (command : Command) (a : Answer) : Type 0 where
+  pub changes : ℕ
+  pub content : Content
+  pub reached : Reached limits changes content
+  pub answered : answer limits content command ≡ a
+
+step_of : (at : StationPlace) (p : Held) (command : Command) (a : Answer) (p' : Held) (told : Option Known) → IsAnswered at p command a p' told → IsStepAt at.limits command a
+step_of at p command a p' told h = record { changes = h.before.changes; content = h.before; reached = h.reached; answered = h.answered }
+
+-- what a submitted command is answered, in the words of the step
+stepped : (at : StationPlace) (p : Held) (command : Command) (a : Answer) (p' : Held) (told : Option Known) → Submitted at p command a p' told → IsStepAt at.limits command a ⊎ (a ≡ Refused ChangesExhausted)
+stepped at p command (Accepted n) p' told h = inl (record { changes = h.count; content = h.before; reached = h.reached; answered = h.answered })
+stepped at p command Repeat p' told h = inl (step_of at p command Repeat p' told h)
+stepped at p command (Refused ChangesExhausted) p' told h = inr refl
+stepped at p command (Refused ConflictingEvent) p' told h = inl (step_of at p command (Refused ConflictingEvent) p' told h)
+stepped at p command (Refused TooManyTransactions) p' told h = inl (step_of at p command (Refused TooManyTransactions) p' told h)
+stepped at p command (Refused EventsFull) p' told h = inl (step_of at p command (Refused EventsFull) p' told h)
+stepped at p command (Refused ReadingsFull) p' told h = inl (step_of at p command (Refused ReadingsFull) p' told h)
+stepped at p command (Refused NoSuchEvent) p' told h = inl (step_of at p command (Refused NoSuchEvent) p' told h)
+stepped at p command (Refused AlreadyVoided) p' told h = inl (step_of at p command (Refused AlreadyVoided) p' told h)
+stepped at p command (Refused NotVoided) p' told h = inl (step_of at p command (Refused NotVoided) p' told h)
+
+-- totals of a station are those that a replay tells
+pub totals_told : (asked : Asked) (places : List StationPlace) (name : List ℕ) (f : figures.Figures) (e x : Energy) → AreTotalsOfName places name f e x → AreTotals places name asked (totals_line asked f e x)
+unfolding stands_with
+totals_told Figures places name f e x h =
+    record {
+      station = Some (with_content name h.named.place.limits h.totals.content);
+      stands = stands_with places name h.number h.named _ h.totals.content h.totals.reached;
+      is = ap (λ (t : figures.Figures). ended_line (total_text t)) h.totals.figures;
+    }
+totals_told Import places name f e x h =
+    record {
+      station = Some (with_content name h.named.place.limits h.totals.content);
+      stands = stands_with places name h.number h.named _ h.totals.content h.totals.reached;
+      is = ap energy_line h.totals.imported;
+    }
+totals_told Export places name f e x h =
+    record {
+      station = Some (with_content name h.named.place.limits h.totals.content);
+      stands = stands_with places name h.number h.named _ h.totals.content h.totals.reached;
+      is = ap export_line h.totals.exported;
+    }
+
+-- the line of a command that was submitted is what a replay answers
+pub commanded : (places : List StationPlace) (name : List ℕ) (p : Held) (command : Command) (p' : Held) (line : List ℕ) (named : IsNamed places name p.station) → IsCommandLine named.place p command p' line → IsCommanded places name command line
+commanded places name p command p' line named h =
+    elim (stepped named.place p command h.answer p' h.told h.submitted) [
+      | inl s ↦ inl (record {
+        station = Some (with_content name named.place.limits s.content);
+        stands = stands_with places name p.station named s.changes s.content s.reached;
+        is = h.is ∙ ap (λ (a : Answer). ended_line (answer_text a)) (sym s.answered);
+      })
+      | inr e ↦ inr (h.is ∙ ap (λ (a : Answer). ended_line (answer_text a)) e)
+    ]
+
+-- a meaning's answer, as a line, is what a replay answers
+replied : (places : List StationPlace) (name : List ℕ) (p : Held) (named : IsNamed places name p.station) (moment : ℕ) (m : Meaning) (text : Option (List ℕ)) (p' : Held) (told : Option Known) (line : List ℕ)
+    → AnswersMeaning places p m text p' told → line ≡ ended_line (unwrap_or text (codes "silent"))
+    → ((s : Station) × IsStationOf places name s × (line ≡ (by_meaning m s (record start { moment = moment })).1)) ⊎ IsExhausted m line
+replied places name p named moment Silence text p' told line h is =
+    inl (with_content name named.place.limits empty_content, stands_with places name p.station named zero empty_content refl, is ∙ ap (λ (t : Option (List ℕ)). ended_line (unwrap_or t (codes "silent"))) h.same)
+replied places name p named moment (Ready reply) text p' told line h is =
+    inl (with_content name named.place.limits empty_content, stands_with places name p.station named zero empty_content refl, is ∙ ap (λ (t : Option (List ℕ)). ended_line (unwrap_or t (codes "silent"))) h.same)
+replied places name p named moment (Event id request) text p' told line h is =
+    let said = is ∙ ap (λ (t : Option (List ℕ)). ended_line (unwrap_or t (codes "silent"))) h.reply in
+    elim (stepped named.place p (Deliver request.key request.event) h.answer p' told (h.submitted.settled named.place named.there)) [
+      | inl s ↦ inl (
+        with_content name named.place.limits s.content,
+        stands_with places name p.station named s.changes s.content s.reached,
+        said ∙ ap (λ (a : Answer). ended_line (event_reply_bytes id request.token a)) (sym s.answered),
+      )
+      | inr e ↦ inr (said ∙ ap (λ (a : Answer). ended_line (event_reply_bytes id request.token a)) e)
+    ]
+
+-- words that were read
+sent_read : (places : List StationPlace) (name : List ℕ) (p : Held) (named : IsNamed places name p.station) (words : List ℕ) (moment : ℕ) (text : Option (List ℕ)) (p' : Held) (told : Option Known) (memory : Bool) (line : List ℕ)
+    → Answers places p words moment text p' told memory → line ≡ ended_line (unwrap_or text (codes "silent")) → IsSent places name words moment line
+sent_read places name p named words moment text p' told true line h is =
+    inr (inr (record { reply = h.reply; tells = h.tells; is = is ∙ ap (λ (t : Option (List ℕ)). ended_line (unwrap_or t (codes "silent"))) h.ready.same }))
+sent_read places name p named words moment text p' told false line h is =
+    elim (replied places name p named moment (message words moment) text p' told line h is) [
+      | inl s ↦ inl (record { station = Some s.0; stands = s.1; is = s.2 })
+      | inr e ↦ inr (inl e)
+    ]
+
+-- the line of a message that was answered is what a replay answers
+pub sent : (places : List StationPlace) (name : List ℕ) (p : Held) (named : IsNamed places name p.station) (words : List ℕ) (p' : Held) (line : List ℕ) → IsMessageLine places p words p' line → (moment : ℕ) × IsSent places name words moment line
+sent places name p named words p' line h = (h.moment, sent_read places name p named words h.moment h.text p' h.told h.memory line h.answers h.is)
+
+-- the line of the answer to a command that was submitted
+pub submitted_line : {T E : Type 0} (r : Result T E) (places roster : List StationPlace) (p p' : Held) (command : Command) (a : Answer) (told : Option Known) (before now : List ℕ) → places ≡ roster → before ≡ []
+    → ((at : StationPlace) → slice_get roster p.station ≡ Some at → Submitted at p command a p' told) → OnOk r (now ≡ before ++ ended_line (answer_text a))
+    → OnOk r ((at : StationPlace) → slice_get places p.station ≡ Some at → IsCommandLine at p command p' now)
+submitted_line (Ok _) places roster p p' command a told before now same empty settled put =
+    λ at there. record {
+      answer = a;
+      told = told;
+      submitted = settled at (ap (λ (x : List StationPlace). slice_get x p.station) (sym same) ∙ there);
+      is = put ∙ ap (λ (b : List ℕ). b ++ ended_line (answer_text a)) empty;
+    }
+submitted_line (Err _) places roster p p' command a told before now same empty settled put = put
+
+-- the line of the totals that are asked for
+pub totals_line_told : {T E : Type 0} (r : Result T E) (asked : Asked) (places : List StationPlace) (name : List ℕ) (f : figures.Figures) (e x : Energy) (now : List ℕ) → AreTotalsOfName places name f e x
+    → OnOk r (now ≡ totals_line asked f e x) → OnOk r (IsTotals places name asked now)
+totals_line_told (Ok _) asked places name f e x now totals put = inl (subst (AreTotals places name asked) (sym put) (totals_told asked places name f e x totals))
+totals_line_told (Err _) asked places name f e x now totals put = put

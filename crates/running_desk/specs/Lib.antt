@@ -1,0 +1,4 @@
+pub mod Ordered
+pub mod Pooled
+pub mod Replied
+pub mod Replies

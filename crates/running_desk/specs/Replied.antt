@@ -1,0 +1,147 @@
+-- What an operator's line is answered: what a replay answers to the same line once it has the desk's stations.
+use Rattle.std.specs.Prelude.{◌≡◌, ◌⊎◌, ℕ, Bool, false, List, [], Option, None, Some, codes, unwrap_or}
+use Rattle.std.specs.List.{list_any, position}
+use Rattle.std.specs.Str.{bytes_eq}
+use Rattle.ledger_model.specs.declared.answer.Answer.{Answer}
+use Rattle.ledger_model.specs.declared.answer.Answer.TheVariants.{Refused}
+use Rattle.ledger_model.specs.declared.answer.Refusal.TheVariants.{ChangesExhausted}
+use Rattle.ledger_model.specs.declared.command.Command.{Command}
+use Rattle.ledger_model.specs.declared.figures.Figures as figures
+use Rattle.ledger_model.specs.declared.order.Order.{Order}
+use Rattle.ledger_model.specs.declared.order.Order.TheVariants.{Sequence}
+use Rattle.ledger_model.specs.Step.{Reached}
+use Rattle.ledger_model.specs.World.{Station}
+use Rattle.board_report.specs.Texts.{total_text}
+use Rattle.desk_report.specs.Running.{IsRunningBoard}
+use Rattle.energy_flow.specs.Flow.{Energy}
+use Rattle.running_desk.specs.declared.operator.Asked.{Asked}
+use Rattle.running_desk.specs.declared.operator.Asked.TheVariants.{Figures, Import, Export}
+use Rattle.ocppj_frame.specs.Frame.{frame}
+use Rattle.script_ledgers.specs.Script.{commanded_to, energy_answer, energy_line, export_answer, export_line, sent_to, start, total_answer}
+use Rattle.script_lines.specs.declared.script_line.LineFault.TheVariants.{BadLine, DeclaredLate, UnknownSite}
+use Rattle.script_lines.specs.LineMeaning.{LineMeaning, nothing, fails, sets_limits, declares, sets_period, sets_order, tells, sends, commands, asks_energy, asks_export, asks_total, asks_board}
+use Rattle.script_lines.specs.Texts.{answer_text, ended_line, fault_line}
+use Rattle.site_book.specs.Book.{Known}
+use Rattle.site_desk.specs.declared.plan.SitePlan.{SitePlan}
+use Rattle.site_desk.specs.declared.roster.StationPlace.{StationPlace}
+use Rattle.site_desk.specs.Roster.{IsNamed}
+use Rattle.site_desk.specs.Submit.{Submitted}
+use Rattle.station_cell.specs.Cell.{Held}
+use Rattle.station_link.specs.Answer.{Answers}
+use Rattle.transaction_event.specs.Message.{Meaning, Event, Ready, Silence, message}
+use Rattle.transaction_event.specs.MessageMeaning.{IsMemoryReply}
+use Rattle.transaction_event.specs.Reply.{event_reply_bytes}
+
+-- A replay may have this station under the name: the desk has one of the name, of these limits, and some accepted commands lead to its content.
+pub record IsStationOf (places : List StationPlace) (name : List ℕ) (s : Station) : Type 0 where
+  pub number : ℕ
+  pub named : IsNamed places name number
+  pub called : s.name ≡ name
+  pub limits : s.limits ≡ named.place.limits
+  pub changes : ℕ
+  pub reached : Reached s.limits changes s.content
+
+-- What a replay may have under the name: no station, where the desk has none of it.
+abbrev pub MayStand : List StationPlace → List ℕ → Option Station → Type 0
+MayStand places name None = list_any (λ p. bytes_eq name p.name) places ≡ false
+MayStand places name (Some s) = IsStationOf places name s
+
+-- The text is a replay's answer to a line that names a station.
+pub record IsOf (places : List StationPlace) (name : List ℕ) (answer : Option Station → List ℕ) (text : List ℕ) : Type 0 where
+  pub station : Option Station
+  pub stands : MayStand places name station
+  pub is : text ≡ answer station
+
+-- What lies behind a lock is not as it should be, which no run meets.
+abbrev pub torn : List ℕ
+torn = ended_line (codes "fault Torn")
+
+-- The totals of a station that a line asks for, with its readings in this order.
+abbrev pub asked_answer : Asked → Order → Option Station → List ℕ
+asked_answer Figures order station = total_answer (λ _. order) station
+asked_answer Import order station = energy_answer (λ _. order) station
+asked_answer Export order station = export_answer (λ _. order) station
+
+-- The order of readings of what a replay may have under the name: that of the station's place, and by sequence where there is no station.
+abbrev pub order_under : (places : List StationPlace) (name : List ℕ) (station : Option Station) → MayStand places name station → Order
+order_under places name None none = Sequence
+order_under places name (Some s) stands = stands.named.place.order
+
+-- The text is a replay's answer to a question for the totals of the station of this name, by the order of its place.
+pub record AreTotals (places : List StationPlace) (name : List ℕ) (asked : Asked) (text : List ℕ) : Type 0 where
+  pub station : Option Station
+  pub stands : MayStand places name station
+  pub is : text ≡ asked_answer asked (order_under places name station stands) station
+
+-- The line of the totals that are asked for, of these figures and energies, imported and exported.
+abbrev pub totals_line : Asked → figures.Figures → Energy → Energy → List ℕ
+totals_line Figures f e x = ended_line (total_text f)
+totals_line Import f e x = energy_line e
+totals_line Export f e x = export_line x
+
+-- The answer to a question for a station's totals.
+abbrev pub IsTotals : List StationPlace → List ℕ → Asked → List ℕ → Type 0
+IsTotals places name asked text = AreTotals places name asked text ⊎ (text ≡ torn)
+
+-- The answer to a question for the board of the site of this number, if there is one.
+abbrev pub IsBoard : List SitePlan → List StationPlace → Option ℕ → List ℕ → Type 0
+IsBoard sites places None text = text ≡ fault_line UnknownSite
+IsBoard sites places (Some site) text = IsRunningBoard sites places site text ⊎ (text ≡ torn)
+
+-- The answer to a command, which may be that changes are exhausted whatever the content is.
+abbrev pub IsCommanded : List StationPlace → List ℕ → Command → List ℕ → Type 0
+IsCommanded places name command text = IsOf places name (λ station. (commanded_to station start command).1) text ⊎ (text ≡ ended_line (answer_text (Refused ChangesExhausted)))
+
+-- The reply to an event, that changes are exhausted.
+abbrev pub IsExhausted : Meaning → List ℕ → Type 0
+IsExhausted (Event id request) text = text ≡ ended_line (event_reply_bytes id request.token (Refused ChangesExhausted))
+IsExhausted (Ready reply) text = ⊥
+IsExhausted Silence text = ⊥
+
+-- The reply that there was no memory to read the words.
+pub record TellsMemory (words text : List ℕ) : Type 0 where
+  pub reply : List ℕ
+  pub tells : IsMemoryReply (frame words) reply
+  pub is : text ≡ ended_line reply
+
+-- The answer to a station's words at a moment, which may also be that changes are exhausted whatever the content is, or that there was no memory to read them.
+abbrev pub IsSent : List StationPlace → List ℕ → List ℕ → ℕ → List ℕ → Type 0
+IsSent places name words moment text =
+    IsOf places name (λ station. (sent_to station (record start { moment = moment }) words).1) text
+    ⊎ (IsExhausted (message words moment) text ⊎ TellsMemory words text)
+
+-- What an operator's line is answered at a desk of these sites and stations, by what it says. A moment is the clock's, so a line that tells one is at fault.
+abbrev pub IsReply : List SitePlan → List StationPlace → LineMeaning → List ℕ → Type 0
+IsReply sites places nothing text = text ≡ []
+IsReply sites places (fails fault) text = text ≡ fault_line fault
+IsReply sites places (sets_limits transactions events readings changes) text = text ≡ fault_line DeclaredLate
+IsReply sites places (declares site name) text = text ≡ fault_line DeclaredLate
+IsReply sites places (sets_period site seconds) text = text ≡ fault_line DeclaredLate
+IsReply sites places (sets_order site order) text = text ≡ fault_line DeclaredLate
+IsReply sites places (tells nanos) text = text ≡ fault_line BadLine
+IsReply sites places (sends name words) text = (moment : ℕ) × IsSent places name words moment text
+IsReply sites places (commands name command) text = IsCommanded places name command text
+IsReply sites places (asks_energy name) text = IsTotals places name Import text
+IsReply sites places (asks_export name) text = IsTotals places name Export text
+IsReply sites places (asks_total name) text = IsTotals places name Figures text
+IsReply sites places (asks_board name) text = IsBoard sites places (position (λ s. bytes_eq name s.name) sites) text
+
+-- An operator's line is answered so, or by `fault OutOfMemory`.
+abbrev pub IsReplyOrMemory : List SitePlan → List StationPlace → LineMeaning → List ℕ → Type 0
+IsReplyOrMemory sites places meaning text = IsReply sites places meaning text ⊎ (text ≡ ended_line (codes "fault OutOfMemory"))
+
+-- A command was submitted with a pass at a station of this place, and the line tells the answer to it.
+pub record IsCommandLine (at : StationPlace) (p : Held) (command : Command) (p' : Held) (line : List ℕ) : Type 0 where
+  pub answer : Answer
+  pub told : Option Known
+  pub submitted : Submitted at p command answer p' told
+  pub is : line ≡ ended_line (answer_text answer)
+
+-- A station's words were answered with a pass at some moment, and the line tells that answer.
+pub record IsMessageLine (places : List StationPlace) (p : Held) (words : List ℕ) (p' : Held) (line : List ℕ) : Type 0 where
+  pub moment : ℕ
+  pub text : Option (List ℕ)
+  pub told : Option Known
+  pub memory : Bool
+  pub answers : Answers places p words moment text p' told memory
+  pub is : line ≡ ended_line (unwrap_or text (codes "silent"))

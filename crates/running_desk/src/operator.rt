@@ -1,0 +1,335 @@
+//! An operator's lines, which are answered while stations are served.
+ghost use Rattle.std.specs.Prelude.{◌≡◌, ℕ, List, [], OnOk, Some, slice_get};
+ghost use Rattle.std.specs.Io.KnownBytes.{Appends};
+ghost use Rattle.std.specs.List.{position};
+ghost use Rattle.std.specs.Str.{bytes_eq};
+ghost use Rattle.script_lines.specs.LineMeaning.{commands, line_meaning};
+ghost use Rattle.script_lines.specs.Lines.{line_bytes};
+ghost use Rattle.script_lines.specs.declared.script_line.LineFault.{LineFault};
+ghost use Rattle.script_lines.specs.ScriptLines.{meaning_of};
+ghost use Rattle.script_lines.specs.Texts.{fault_line};
+ghost use Rattle.site_desk.specs.declared.roster.StationPlace.{StationPlace};
+ghost use Rattle.site_desk.specs.Roster.{IsNamed};
+ghost use Rattle.running_desk.specs.declared.pooled_desk.PassFault.{PassFault};
+ghost use Rattle.running_desk.specs.Replied.{IsBoard, IsCommandLine, IsCommanded, IsMessageLine, IsReply, IsReplyOrMemory, IsSent, IsTotals, totals_line};
+ghost use Rattle.running_desk.specs.Replies.{AddsReplies};
+
+use crate::orders::{Came, Orders};
+use crate::pooled_desk::PassFault;
+use crate::running::{Running, site_of};
+use crate::serves::Serves;
+use board_report::{energy_text, export_text, total_text};
+use desk_report::write_out;
+use energy_flow::Flow;
+use ledger_model::{Command, Figures, Name};
+use script_lines::{LineFault, ScriptLine, put_answer, put_fault, put_line, read_line};
+use site_book::Naming;
+use site_desk::{BoardFault, HasCell, NoGate, Pass};
+use site_server::{ServiceFault, SystemMoments};
+use station_link::{answer_text, present};
+use std::alloc::{AllocError, Global};
+use std::io::Write;
+use std::sync::Wait;
+use std::thread::Threads;
+use std::time::Clock;
+
+// The line that ends a live server.
+const CLOSE: &[u8] = b"close";
+
+// What a line is answered for which there is no memory.
+const NO_MEMORY: &[u8] = b"fault OutOfMemory\n";
+
+// How long the answer to a message or a command is at most; room for it is made before anything changes.
+const MOST_ANSWER: usize = 513;
+
+// What a line is answered whose station or site does not stand behind its lock as it should, which no run meets.
+const TORN: &str = "fault Torn";
+
+/// Answers line after line until the input ends, a line says `close`, or no change is accepted any more. An answer is out
+/// before the next line is read.
+pub fn operate<
+    J: Naming,
+    C: HasCell,
+    S: Serves<J, C>,
+    R: Threads + Wait + Clock,
+    O: Orders,
+    W: Write,
+>(
+    rt: &R,
+    alloc: Global,
+    running: &Running<'_, J, C, S>,
+    orders: &mut O,
+    writer: &mut W,
+) -> Result<(), ServiceFault>
+    ensures { OnOk result (AddsReplies running.now.plan.now.sites.items running.now.desk.desk.now.stations (W.contents writer.old) (W.contents writer.new)) }
+{
+    for _ in rt.forever() {
+        let came = orders.next(rt)?;
+        if is_last(came, orders.line()) {
+            return Ok(());
+        }
+        put_came(rt, alloc, running, came, orders.line(), writer)?;
+        if running.serves.is_broken() {
+            return Err(ServiceFault::WriteFault);
+        }
+        if came == Came::LastLine {
+            return Ok(());
+        }
+    }
+    unreachable!()
+}
+
+// Tells whether what came ends the server: a line that says `close`, or the end of the input and nothing else.
+fn is_last(came: Came, line: Option<&[u8]>) -> bool {
+    match came {
+        Came::End => true,
+        Came::Nothing => false,
+        Came::Line | Came::LastLine => line == Some(CLOSE),
+    }
+}
+
+// Writes the answer to a line, if one came.
+fn put_came<J: Naming, C: HasCell, S: Serves<J, C>, R: Threads + Wait + Clock, W: Write>(
+    rt: &R,
+    alloc: Global,
+    running: &Running<'_, J, C, S>,
+    came: Came,
+    line: Option<&[u8]>,
+    writer: &mut W,
+) -> Result<(), ServiceFault>
+    ensures { OnOk result (AddsReplies running.now.plan.now.sites.items running.now.desk.desk.now.stations (W.contents writer.old) (W.contents writer.new)) }
+{
+    if came == Came::Nothing {
+        return Ok(());
+    }
+    put_reply(rt, alloc, running, line, writer)
+}
+
+// Writes the answer to a line.
+fn put_reply<J: Naming, C: HasCell, S: Serves<J, C>, R: Threads + Wait + Clock, W: Write>(
+    rt: &R,
+    alloc: Global,
+    running: &Running<'_, J, C, S>,
+    line: Option<&[u8]>,
+    writer: &mut W,
+) -> Result<(), ServiceFault>
+    ensures { OnOk result ((text : List ℕ) × Appends (W.contents writer.old) (W.contents writer.new) text
+        × IsReplyOrMemory running.now.plan.now.sites.items running.now.desk.desk.now.stations (line_meaning (line_bytes line.entry)) text) }
+{
+    let mut reply = Vec::new(alloc);
+    let text = match answer_line(rt, alloc, running, line, &mut reply) {
+        Ok(()) => reply.as_slice(),
+        Err(_) => NO_MEMORY,
+    };
+    write_out(writer, text)?;
+    Ok(())
+}
+
+// Appends the answer to an operator's line, which is that of a script's line after its declarations. A moment is the
+// clock's, so a line that tells one is `BadLine`.
+fn answer_line<J: Naming, C: HasCell, S: Serves<J, C>, R: Threads + Wait + Clock>(
+    rt: &R,
+    alloc: Global,
+    running: &Running<'_, J, C, S>,
+    line: Option<&[u8]>,
+    reply: &mut Vec<u8>,
+) -> Result<(), AllocError>
+    requires { reply.old.items ≡ [] }
+    ensures { OnOk result (IsReply running.now.plan.now.sites.items running.now.desk.desk.now.stations (line_meaning (line_bytes line.entry)) reply.new.items) }
+{
+    answer_said(rt, alloc, running, read_line(line), line, reply)
+}
+
+// Appends the answer to what an operator's line says.
+fn answer_said<J: Naming, C: HasCell, S: Serves<J, C>, R: Threads + Wait + Clock>(
+    rt: &R,
+    alloc: Global,
+    running: &Running<'_, J, C, S>,
+    said: ScriptLine<'_>,
+    line: Option<&[u8]>,
+    reply: &mut Vec<u8>,
+) -> Result<(), AllocError>
+    requires said { meaning_of said ≡ line_meaning (line_bytes line) }
+    requires empty { reply.old.items ≡ [] }
+    ensures { OnOk result (IsReply running.now.plan.now.sites.items running.now.desk.desk.now.stations (meaning_of said.entry) reply.new.items) }
+{
+    match said {
+        ScriptLine::Nothing => Ok(()),
+        ScriptLine::Fails(fault) => put_fault(reply, fault),
+        ScriptLine::Limits(_, _, _, _)
+        | ScriptLine::Declares(_, _)
+        | ScriptLine::SetsPeriod(_, _)
+        | ScriptLine::SetsOrder(_, _) => put_fault(reply, LineFault::DeclaredLate),
+        ScriptLine::Tells(_) => put_fault(reply, LineFault::BadLine),
+        ScriptLine::Sends(name, text) => receive(rt, alloc, running, &name, text, reply),
+        ScriptLine::Commands(name, what) => put_command(rt, running, &name, what, line, reply),
+        ScriptLine::AsksEnergy(name) => put_totals(rt, running, &name, Asked::Import, reply),
+        ScriptLine::AsksExport(name) => put_totals(rt, running, &name, Asked::Export, reply),
+        ScriptLine::AsksTotal(name) => put_totals(rt, running, &name, Asked::Figures, reply),
+        ScriptLine::AsksBoard(name) => put_board(rt, alloc, running, &name, reply),
+    }
+}
+
+// Delivers a message of the station of this name at the clock's moment, and appends its reply.
+fn receive<J: Naming, C: HasCell, S: Serves<J, C>, R: Threads + Wait + Clock>(
+    rt: &R,
+    alloc: Global,
+    running: &Running<'_, J, C, S>,
+    name: &Name,
+    text: &str,
+    reply: &mut Vec<u8>,
+) -> Result<(), AllocError>
+    requires { reply.old.items ≡ [] }
+    ensures { OnOk result ((moment : ℕ) × IsSent running.now.desk.desk.now.stations name.now text.now moment reply.new.items) }
+{
+    match running.desk.pass_of(rt, name) {
+        Ok(mut pass) => {
+            let delivered = deliver(rt, alloc, running, &mut pass, text, reply);
+            let _lost = running.desk.lay(rt, pass);
+            delivered
+        }
+        Err(fault) => put_pass_fault(reply, fault),
+    }
+}
+
+// Delivers a message with a pass, and appends its reply.
+fn deliver<J: Naming, C: HasCell, S: Serves<J, C>, R: Threads + Wait + Clock>(
+    rt: &R,
+    alloc: Global,
+    running: &Running<'_, J, C, S>,
+    pass: &mut Pass,
+    text: &str,
+    reply: &mut Vec<u8>,
+) -> Result<(), AllocError>
+    requires { reply.old.items ≡ [] }
+    ensures { OnOk result (IsMessageLine running.now.desk.desk.now.stations pass.old text.now pass.new reply.new.items) }
+{
+    reply.reserve(MOST_ANSWER)?;
+    let now = present(&mut SystemMoments { rt });
+    let answered = answer_text(running.serves, rt, alloc, pass, text, now, &NoGate);
+    match answered.text {
+        Some(text) => put_line(reply, text.as_str()),
+        None => put_line(reply, "silent"),
+    }
+}
+
+// Submits an operator's command on the station of this name, and appends its answer.
+fn put_command<J: Naming, C: HasCell, S: Serves<J, C>, R: Threads + Wait + Clock>(
+    rt: &R,
+    running: &Running<'_, J, C, S>,
+    name: &Name,
+    what: Command,
+    line: Option<&[u8]>,
+    reply: &mut Vec<u8>,
+) -> Result<(), AllocError>
+    requires line { line_meaning (line_bytes line) ≡ commands name.now what }
+    requires empty { reply.old.items ≡ [] }
+    ensures { OnOk result (IsCommanded running.now.desk.desk.now.stations name.now what reply.new.items) }
+{
+    match running.desk.pass_of(rt, name) {
+        Ok(mut pass) => {
+            let submitted = submit(rt, running, &mut pass, name, what, line, reply);
+            let _lost = running.desk.lay(rt, pass);
+            submitted
+        }
+        Err(fault) => put_pass_fault(reply, fault),
+    }
+}
+
+// Submits an operator's command with a pass of the station of this name, and appends its answer.
+fn submit<J: Naming, C: HasCell, S: Serves<J, C>, R: Threads + Wait + Clock>(
+    rt: &R,
+    running: &Running<'_, J, C, S>,
+    pass: &mut Pass,
+    name: &Name,
+    what: Command,
+    line: Option<&[u8]>,
+    reply: &mut Vec<u8>,
+) -> Result<(), AllocError>
+    requires named { IsNamed running.now.desk.desk.now.stations name.now pass.old.station }
+    requires line { line_meaning (line_bytes line) ≡ commands name.now what }
+    requires empty { reply.old.items ≡ [] }
+    ensures { OnOk result ((at : StationPlace) → slice_get running.now.desk.desk.now.stations pass.old.station ≡ Some at → IsCommandLine at pass.old what pass.new reply.new.items) }
+{
+    reply.reserve(MOST_ANSWER)?;
+    let (answer, _told) = running.serves.command(rt, pass, name, what, line);
+    put_answer(reply, answer)
+}
+
+// Appends why there was no pass.
+fn put_pass_fault(reply: &mut Vec<u8>, fault: PassFault) -> Result<(), AllocError>
+    requires { reply.old.items ≡ [] }
+    ensures { OnOk result ((fault ≡ PassFault.UnknownStation) × (reply.new.items ≡ fault_line LineFault.UnknownStation)) }
+{
+    match fault {
+        PassFault::UnknownStation => put_fault(reply, LineFault::UnknownStation),
+        PassFault::TooManyPasses | PassFault::OutOfMemory => Err(AllocError),
+    }
+}
+
+/// Which totals of a station a line asks for.
+#[derive(Clone, Copy)]
+pub enum Asked {
+    Figures,
+    Import,
+    Export,
+}
+
+// Appends totals of the station of this name.
+fn put_totals<J: Naming, C: HasCell, S: Serves<J, C>, R: Wait>(
+    rt: &R,
+    running: &Running<'_, J, C, S>,
+    name: &Name,
+    asked: Asked,
+    reply: &mut Vec<u8>,
+) -> Result<(), AllocError>
+    requires { reply.old.items ≡ [] }
+    ensures { OnOk result (IsTotals running.now.desk.desk.now.stations name.now asked reply.new.items) }
+{
+    match running.desk.desk.station_totals(rt, name) {
+        Ok(totals) => put_total(reply, asked, totals),
+        Err(BoardFault::UnknownStation) => put_fault(reply, LineFault::UnknownStation),
+        Err(BoardFault::Torn) => put_line(reply, TORN),
+        Err(BoardFault::OutOfMemory) => Err(AllocError),
+    }
+}
+
+// Appends the line of the totals that are asked for: of the figures, of what was imported, and of what was exported.
+fn put_total(
+    reply: &mut Vec<u8>,
+    asked: Asked,
+    totals: (Figures, Flow, Flow),
+) -> Result<(), AllocError>
+    requires { reply.old.items ≡ [] }
+    ensures { OnOk result (reply.new.items ≡ totals_line asked totals.0 totals.1 totals.2) }
+{
+    match asked {
+        Asked::Figures => put_line(reply, total_text(&totals.0).as_str()),
+        Asked::Import => put_line(reply, energy_text(totals.1).as_str()),
+        Asked::Export => put_line(reply, export_text(totals.2).as_str()),
+    }
+}
+
+// Appends the board of the site of this name.
+fn put_board<J: Naming, C: HasCell, S: Serves<J, C>, R: Wait>(
+    rt: &R,
+    alloc: Global,
+    running: &Running<'_, J, C, S>,
+    name: &Name,
+    reply: &mut Vec<u8>,
+) -> Result<(), AllocError>
+    requires { reply.old.items ≡ [] }
+    ensures { OnOk result (IsBoard running.now.plan.now.sites.items running.now.desk.desk.now.stations (position (λ s. bytes_eq name.now s.name) running.now.plan.now.sites.items) reply.new.items) }
+{
+    let Some(site) = site_of(running.plan, name) else {
+        return put_fault(reply, LineFault::UnknownSite);
+    };
+    match running.board(rt, alloc, site) {
+        Ok(text) => {
+            *reply = text;
+            Ok(())
+        }
+        Err(BoardFault::OutOfMemory) => Err(AllocError),
+        Err(BoardFault::Torn | BoardFault::UnknownStation) => put_line(reply, TORN),
+    }
+}

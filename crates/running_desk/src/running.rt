@@ -1,0 +1,101 @@
+//! The desk of a plan while it is served.
+ghost use Rattle.std.specs.Prelude.{◌≡◌, ◌≤◌, ◌<◌, IfOk, IfSome, length, sum_by};
+ghost use Rattle.std.specs.List.{position};
+ghost use Rattle.std.specs.Str.{bytes_eq};
+ghost use Rattle.desk_report.specs.Running.{IsRunningBoard};
+ghost use Rattle.ledger_model.specs.Ranges.{most_plan_readings};
+ghost use Rattle.site_desk.specs.Roster.{AreNewPlaces, IsNamed};
+ghost use Rattle.station_link.specs.Session.{MayLackPass};
+
+use crate::pooled_desk::{PassFault, PooledDesk};
+use crate::serves::Serves;
+use desk_report::running_board;
+use ledger_model::Name;
+use site_book::Naming;
+use site_desk::{BoardFault, HasCell, Pass, Plan};
+use station_link::Why;
+use std::alloc::Global;
+use std::sync::Wait;
+use std::thread::Threads;
+
+/// The desk of a plan while it is served, with the pool of its passes.
+#[derive(Drop)]
+pub struct Running<'a, J: Naming, C: HasCell, S: Serves<J, C>> {
+    /// The plan.
+    pub plan: &'a Plan,
+    /// What is served.
+    pub serves: &'a S,
+    /// Its desk, with the pool of its passes.
+    pub desk: PooledDesk<'a, J, C>,
+    ghost same: { desk.desk.now ≡ S.roster serves.now },
+    ghost stations: { desk.desk.now.stations ≡ S.stations serves.now },
+    ghost opened: { AreNewPlaces plan.now.sites.items plan.now.stations.items desk.desk.now.stations },
+    ghost readings: { sum_by (λ s. s.limits.readings) plan.now.stations.items ≤ most_plan_readings },
+}
+
+impl<'a, J: Naming, C: HasCell, S: Serves<J, C>> Running<'a, J, C, S> {
+    /// The desk of this plan, with the passes in the pool that were given out before.
+    ///
+    /// Conditions: the desk was opened for this plan, whose limits allow no more than 1,048,576 readings in all.
+    pub fn open(plan: &'a Plan, serves: &'a S, passes: Vec<Pass>) -> Self
+        requires opened { AreNewPlaces plan.now.sites.items plan.now.stations.items (S.roster serves.now).stations }
+        requires readings { sum_by (λ s. s.limits.readings) plan.now.stations.items ≤ most_plan_readings }
+        ensures plan { result.plan.now ≡ plan.now }
+        ensures desk { result.desk.desk.now ≡ S.roster serves.now }
+    {
+        let desk = PooledDesk::open(serves.desk(), passes);
+        Running { plan, serves, desk }
+    }
+
+    /// A pass of the station that a request asks for, with its name.
+    pub fn let_in<R: Threads + Wait>(
+        &self,
+        rt: &R,
+        asked: Result<Name, Why>,
+    ) -> Result<(Name, Pass), Why>
+        ensures { IfOk result (λ r. IsNamed self.now.desk.desk.now.stations r.0 r.1.station) }
+    {
+        let name = asked?;
+        match self.desk.pass_of(rt, &name) {
+            Ok(pass) => Ok((name, pass)),
+            Err(fault) => Err(why_of(fault)),
+        }
+    }
+
+    /// The text of the board of the site of this number, from 0. It waits for the locks of the site.
+    ///
+    /// Condition: the plan has the site ([`site_of`] tells).
+    pub fn board<R: Wait>(
+        &self,
+        rt: &R,
+        alloc: Global,
+        site: u16,
+    ) -> Result<Vec<u8>, BoardFault>
+        requires { site < length self.now.plan.now.sites.items }
+        ensures { IfOk result (λ text. IsRunningBoard self.now.plan.now.sites.items self.now.desk.desk.now.stations site text.items) }
+    {
+        running_board(rt, alloc, self.plan, self.desk.desk, site)
+    }
+}
+
+// Why a station that got no pass is refused.
+fn why_of(fault: PassFault) -> Why
+    ensures { MayLackPass result }
+{
+    match fault {
+        PassFault::UnknownStation => Why::UnknownStation,
+        PassFault::TooManyPasses => Why::TooManyPasses,
+        PassFault::OutOfMemory => Why::OutOfMemory,
+    }
+}
+
+/// The number of the site of this name.
+pub fn site_of(plan: &Plan, name: &Name) -> Option<u16>
+    ensures is { result ≡ position (λ s. bytes_eq name.now s.name) plan.now.sites.items }
+    ensures there { IfSome result (λ site. site < length plan.now.sites.items) }
+{
+    match plan.site(name) {
+        Some(site) => Some(site as u16),
+        None => None,
+    }
+}
