@@ -11,6 +11,7 @@ or by a replay of the journal, and the exit status.
 Exit status: 0; 1 when a scene is not as it should be; 2 when the program can't be started.
 """
 
+import calendar
 import fcntl
 import os
 import re
@@ -53,8 +54,8 @@ LISTEN = b"#\nlisten\n"
 LINES = (b"msg A " + FIRST + b"\n", b"msg A " + SECOND + b"\n")
 # How many bytes the pipe of a stalled journal takes, and how long an answer that is held back is waited for.
 PIPE, HELD = 4_096, 1.0
-# How many events a ledger takes, which no scene comes near.
-MOST_EVENTS = 16_000
+# How many events of a station a scene comes to at most: no limit is nearly used then.
+MOST_EVENTS = 14_000
 
 
 class Journalled(Live):
@@ -199,44 +200,49 @@ def reply_before_line(program: str) -> None:
         station.leaves()
 
 
-def restored_after_each_byte(program: str) -> None:
-    """Each front of a journal, as a kill may leave it, gives the board of its complete lines."""
-    small = b"limits 4 8 8 9\nstation north A\n"
+# Limits and a station, in front of a journal of which each front is restored.
+SMALL = b"limits 4 8 8 9\nstation north A\n"
+
+
+def small_journal(program: str, journal: Path, *words: str) -> bytes:
+    """A journal of an event and of commands until it is erased. Gives its text."""
     # An event without readings, so that there are few fronts.
     short = re.sub(rb',"meterValue":.*', b"}]", FIRST)
-    with folder() as journal:
-        journal.write_bytes(small)
-        with restored(program, journal, "restored 0\n") as server:
-            station = Station(server, "A")
-            sends(station, short, b'[3,"1",{}]')
-            for change, line in enumerate(
-                ("void A T1 0", "restore A T1 0", "void A T1 0", "erase A T1 0"), 2
-            ):
-                server.answers(line, f"accepted {change}\n")
-            station.leaves()
-            server.ends(board("north", {"A": 0}))
-        written = (
-            small
-            + RUN
-            + b"msg A "
-            + short
-            + b"\nvoid A T1 0\nrestore A T1 0\nvoid A T1 0\nerase A T1 0\n"
-        )
-        holds(journal, written)
+    journal.write_bytes(SMALL)
+    with restored(program, journal, "restored 0\n", *words) as server:
+        station = Station(server, "A")
+        sends(station, short, b'[3,"1",{}]')
+        for change, line in enumerate(
+            ("void A T1 0", "restore A T1 0", "void A T1 0", "erase A T1 0"), 2
+        ):
+            server.answers(line, f"accepted {change}\n")
+        station.leaves()
+        server.ends(board("north", {"A": 0}))
+    commands = b"\nvoid A T1 0\nrestore A T1 0\nvoid A T1 0\nerase A T1 0\n"
+    if not words:
+        holds(journal, SMALL + RUN + b"msg A " + short + commands)
+    return journal.read_bytes()
+
+
+def each_front_is_restored(program: str, written: bytes) -> None:
+    """Each front of a small journal, as a kill may leave it, gives the board of its complete lines."""
     none, one = (board("north", {"A": told}) for told in range(2))
     voided = none.replace("voided=0", "voided=1")
-    # What is told once so many lines are complete, and how many changes they are.
-    behind = ["", "", none, none, one, voided, one, voided, none]
-    changes = [0, 0, 0, 0, 1, 2, 3, 4, 5]
+    # What is told once so many lines are complete that are no comments, and how many changes they are.
+    behind = ["", "", none, one, voided, one, voided, none]
+    changes = [0, 0, 0, 1, 2, 3, 4, 5]
 
     def is_restored(cut: int) -> None:
-        whole, tail = written.count(b"\n", 0, cut), written[:cut].rpartition(b"\n")[2]
+        *lines, tail = written[:cut].split(b"\n")
+        whole = sum(not line.startswith(b"#") for line in lines)
         fault = (
             '[4,"-1","RpcFrameworkError","NotJson",{}]'
             if tail.startswith(b"msg A ")
             else "fault BadLine"
         )
-        left_out = f"left out {whole + 1} {fault}\n" if tail and not tail.startswith(b"#") else ""
+        left_out = ""
+        if tail and not tail.startswith(b"#"):
+            left_out = f"left out {len(lines) + 1} {fault}\n"
         ended = subprocess.run(
             [program, "serve", "--live", "--restore"],
             input=written[:cut] + LISTEN,
@@ -253,6 +259,67 @@ def restored_after_each_byte(program: str) -> None:
     with ThreadPoolExecutor(4) as threads:
         for _ in threads.map(is_restored, range(len(written) + 1)):
             pass
+
+
+def restored_after_each_byte(program: str) -> None:
+    """Each front of a journal gives the board of its complete lines."""
+    with folder() as journal:
+        each_front_is_restored(program, small_journal(program, journal))
+
+
+def receipt_times(program: str) -> None:
+    """The time of its receipt stands in front of each line, and what reads the journal skips it."""
+    with folder() as journal:
+        bare = small_journal(program, journal)
+        began = time.time_ns()
+        written = small_journal(program, journal, "--receipt-times")
+        ended = time.time_ns()
+        lines = written.splitlines(keepends=True)
+        noted = [
+            at
+            for at, line in enumerate(lines)
+            if line.startswith((b"msg ", b"void ", b"restore ", b"erase "))
+        ]
+        times = []
+        for at in noted:
+            match = re.fullmatch(rb"# ([0-9-]{10}T[0-9:]{8})\.([0-9]{9})Z\n", lines[at - 1])
+            if not match:
+                raise Differs(f"in front of {lines[at]!r} stands {lines[at - 1]!r}")
+            second = calendar.timegm(time.strptime(match[1].decode(), "%Y-%m-%dT%H:%M:%S"))
+            times.append(second * 1_000_000_000 + int(match[2]))
+        if not began <= times[0] or times != sorted(times) or not times[-1] <= ended:
+            raise Differs(f"the times are {times}, and the run was from {began} to {ended}")
+        if (
+            len(noted) != 5
+            or b"".join(line for at, line in enumerate(lines) if at + 1 not in noted) != bare
+        ):
+            raise Differs(f"the journal is {written!r}")
+        each_front_is_restored(program, written)
+    with folder() as journal:
+        with begun(program, journal, "--receipt-times") as server:
+            for name in "AB":
+                station = Station(server, name)
+                station.tells(0, 1)
+                station.leaves()
+            server.answers("void B T1 1", "accepted 3\n")
+            server.answers("restore B T1 1", "accepted 4\n")
+            server.ends(boards(2, 2, 0))
+        is_the_boards(program, journal, boards(2, 2, 0))
+        with restored(program, journal, "restored 6\n", "--receipt-times") as server:
+            station = Station(server, "C")
+            station.tells(0)
+            station.leaves()
+            server.ends(boards(2, 2, 1))
+        is_the_boards(program, journal, boards(2, 2, 1))
+        # A run without the option goes on in the same file, and writes none.
+        with restored(program, journal, "restored 7\n") as server:
+            before = journal.read_bytes()
+            station = Station(server, "C")
+            station.tells(0, 1)
+            station.leaves()
+            server.ends(boards(2, 2, 2))
+        holds(journal, before + b"msg C " + SECOND + b"\n")
+        is_the_boards(program, journal, boards(2, 2, 2))
 
 
 def restored_twice(program: str) -> None:
@@ -743,6 +810,7 @@ def kill_and_restore(program: str) -> None:
 SCENES: tuple[Callable[[str], None], ...] = (
     reply_before_line,
     restored_after_each_byte,
+    receipt_times,
     restored_twice,
     two_threads_and_a_void,
     stalled_journal,

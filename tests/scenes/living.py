@@ -5,9 +5,9 @@
 PROGRAM serves the stations A and B of site north and C of site south by `serve --live`, anew in each scene:
 sessions that come again over one shelf of passes, a third session of a station, an operator's lines and each of
 their faults, input that ends in the middle of a line, the end while many clients are silent, connections that never
-finish their handshake, a client that reads nothing, the lines of `--log`, and a browser's requests. What has to
-come of it are the frames (RFC 6455) behind the answers to the handshakes, the answers to the lines, the boards at
-the end, and the exit status.
+finish their handshake, a client that reads nothing, the lines of `--log`, limits that are nearly used, and a
+browser's requests. What has to come of it are the frames (RFC 6455) behind the answers to the handshakes, the answers
+to the lines, the boards at the end, and the exit status.
 
 Exit status: 0; 1 when a scene is not as it should be; 2 when the program can't be started.
 """
@@ -308,6 +308,53 @@ def sessions_are_told(program: str) -> None:
         )
 
 
+def limits_nearly_used(program: str) -> None:
+    """A limit of which nine tenths are used is told once, by whatever session of its station."""
+    told = (
+        b"near A transactions 1 of 1\n",
+        b"near A readings 17 of 18\n",
+        b"near A events 18 of 20\n",
+        b"near A changes 27 of 30\n",
+    )
+    # What is told behind so many events of A.
+    behind = {1: 1, 16: 1, 17: 2, 18: 3}
+    with Live(program, "--limits", "1", "20", "18", "30") as server:
+
+        def has_told(lines: int) -> None:
+            deadline = time.monotonic() + LONGEST_WAIT
+            while server.has_told() != b"".join(told[:lines]) and time.monotonic() < deadline:
+                time.sleep(0.01)
+            if (found := server.has_told()) != b"".join(told[:lines]):
+                raise Differs(f"this is told: {found!r}")
+
+        def sends(station: Station, number: int, reply: bytes = b"") -> None:
+            text = event(number, "Updated", "2026-03-01T10:00:00Z", number)
+            station.sends(Frame(TEXT, text).bytes())
+            station.receives(
+                Frame(TEXT, reply or f'[3,"{number + 1}",{{}}]'.encode(), False).bytes()
+            )
+
+        for number in range(18):
+            station = Station(server, "A")
+            sends(station, number)
+            sends(station, number)
+            station.leaves()
+            if number + 1 in behind:
+                has_told(behind[number + 1])
+        for change in range(19, 28, 2):
+            server.answers("void A T1 0", f"accepted {change}\n")
+            if change < 27:
+                server.answers("restore A T1 0", f"accepted {change + 1}\n")
+        has_told(3)
+        station = Station(server, "A")
+        sends(station, 18, b'[4,"19","InternalError","ReadingsFull",{}]')
+        sends(station, 17)
+        has_told(4)
+        station.leaves()
+        shown = "".join(server.board("north") + server.board("south"))
+        server.ends(shown, b"".join(told).decode())
+
+
 def unfinished_handshake_ends(program: str) -> None:
     """A connection without a finished handshake ends after ten seconds, though it sends a byte each half a second."""
     with Live(program) as server:
@@ -405,6 +452,7 @@ SCENES: tuple[Callable[[str], None], ...] = (
     input_ends_within_a_line,
     boards_are_of_one_moment,
     sessions_are_told,
+    limits_nearly_used,
     unfinished_handshake_ends,
     boards_in_a_browser,
     no_memory_for_a_board,

@@ -213,7 +213,7 @@ def test_with_a_cell_down_nobody_is_told_that_a_password_is_wrong() -> None:
 def test_who_is_slowed_down_waits_and_the_right_password_is_still_right(
     monkeypatch: pytest.MonkeyPatch,
 ) -> None:
-    monkeypatch.setattr(passwords, "PAUSE", 0.2)
+    monkeypatch.setattr(passwords, "PAUSE", 2.0)
     door = Passwords()
     assert judged(door, known(RIGHT), *(FREE * [WRONG])) == FREE * [Verdict.WRONG]
     began = time.monotonic()

@@ -342,6 +342,13 @@ impl Chains {
         (sides.before, sides.behind)
     }
 
+    /// How many transactions have an event, live or voided.
+    pub fn stored_transactions(&self) -> u32
+        ensures { result ≡ length (transactions_of (stored self.now)) }
+    {
+        self.table.len()
+    }
+
     /// How many events are stored, voided ones among them.
     pub fn stored_events(&self) -> u32
         ensures { result ≡ length (stored self.now) }

@@ -15,7 +15,7 @@ use Rattle.site_desk.specs.declared.plan.StationPlan.{StationPlan}
 use Rattle.station_cell.specs.Cell.{Cell}
 use Rattle.journal_script.specs.Journals.{JournalsAreScripts, station_name}
 use Rattle.journal_script.proofs.Contents.{all_left}
-use Rattle.journal_script.proofs.Steps.{Has, asked_in, cut_entries, has_here, has_more, takes_lines}
+use Rattle.journal_script.proofs.Steps.{Has, asked_in, has_here, has_more, takes_lines, takes_text}
 use Rattle.journal_script.proofs.Whole.{after_both, lines_apart}
 
 -- each station of a plan is found by its name
@@ -32,10 +32,10 @@ has_all sites (s ∷ stations) (c ∷ cells) same (suc k) less =
 pub journals_are_scripts : JournalsAreScripts
 journals_are_scripts read sites stations firsts cells log whole once shows all left =
     let s = script_after start (lines_of longest_line read) in
-    let lines : lines_of longest_line (read ++ text_of log) ≡ lines_of longest_line read ++ map (λ (e : Entry Command). Some e.line) log =
-    lines_apart longest_line read (text_of log) whole ∙ ap (λ l. lines_of longest_line read ++ l) (cut_entries stations log all) in
-    let after : script_after start (lines_of longest_line (read ++ text_of log)) ≡ script_after s (map (λ (e : Entry Command). Some e.line) log) =
-    ap (script_after start) lines ∙ after_both start (lines_of longest_line read) (map (λ (e : Entry Command). Some e.line) log) in
+    let after : script_after start (lines_of longest_line (read ++ text_of log)) ≡ script_after s (map (λ (e : Entry). Some e.line) log) =
+    ap (script_after start) (lines_apart longest_line read (text_of log) whole)
+    ∙ after_both start (lines_of longest_line read) (lines_of longest_line (text_of log))
+    ∙ takes_text stations s log all in
     let has = λ (k : ℕ) (less : k < length stations). subst (λ w. Has w (station_name stations k)) (sym shows.world_is) (has_all sites stations firsts left.count_first k less) in
     let took = takes_lines stations s log all has in
     record {

@@ -1,5 +1,6 @@
 pub mod Steps
 pub mod Whole
+mod Notes
 mod LastByte
 pub mod LinesRead
 pub mod UpToListen

@@ -1,22 +1,24 @@
 -- What a journal's lines do to a script, one by one.
-use Rattle.std.proofs.Common.{◌≡◌, ℕ, ◌<◌, Bool, true, false, cond, List, [], ◌∷◌, Option, None, Some, All, map, bytes_eq, length, leb, refl, sym, ap, subst, ◌∙◌, arith}
+use Rattle.std.proofs.Common.{◌≡◌, ℕ, ◌<◌, Bool, true, false, cond, List, [], ◌∷◌, ◌++◌, Option, None, Some, All, map, bytes_eq, length, leb, refl, sym, ap, subst, ◌∙◌, arith, append_assoc}
 use Rattle.std.specs.Io.BufRead.{strip_last}
 use Rattle.std.proofs.lemmas.Bool.Decides.{nat_tests}
 use Rattle.std.proofs.lemmas.List.Elements.{All-head, All-tail}
 use Rattle.std.proofs.lemmas.Slice.Eq.{bytes_eq-Decides}
 use Rattle.kept_desk.specs.declared.entry.Entry.{Entry}
-use Rattle.kept_desk.specs.Entries.{text_of}
+use Rattle.kept_desk.specs.Entries.{line_text, text_of}
 use Rattle.ledger_model.specs.declared.command.Command.{Command}
 use Rattle.ledger_model.specs.World.{Station, World, Happens, run, station_after, world_after}
 use Rattle.transaction_event.specs.Message.{Meaning, Event, message}
 use Rattle.script_lines.specs.LineMeaning.{LineMeaning, nothing, fails, sets_limits, declares, sets_period, sets_order, tells, sends, commands, asks_energy, asks_export, asks_total, asks_board, line_meaning}
-use Rattle.script_lines.specs.Lines.{ended, lines_of, unended}
+use Rattle.script_lines.specs.Lines.{Line, ended, lines_of, unended}
 use Rattle.script_lines.specs.Ranges.{longest_line}
 use Rattle.script_lines.proofs.Cuts.{cut-ended}
 use Rattle.script_ledgers.specs.Script.{KeepsSites, Script, by_meaning, commanded_to, line_step, sent_to, station_named, step_by, script_after}
 use Rattle.site_desk.specs.declared.plan.StationPlan.{StationPlan}
-use Rattle.journal_script.specs.Speaking.{AsksFor, Says, Speaks}
+use Rattle.kept_desk.specs.Speaking.{AsksFor, Says, Speaks}
 use Rattle.journal_script.specs.Journals.{IsSpoken, station_name}
+use Rattle.journal_script.proofs.Notes.{note_after, note_whole}
+use Rattle.journal_script.proofs.Whole.{after_both, lines_apart}
 
 -- ---- stations of a world
 
@@ -104,18 +106,38 @@ cut_entry name line command speaks =
     ap (λ b. cond b (Some (strip_last 13 line)) None) short ∙ ap Some speaks.bare
 
 -- what entries ask
-abbrev pub asked_in : List StationPlan → List (Entry Command) → List Happens
+abbrev pub asked_in : List StationPlan → List Entry → List Happens
 asked_in stations log = map (λ e. (station_name stations e.station, e.command)) log
 
 module _ (stations : List StationPlan) where
-  pub cut_entries : (log : List (Entry Command)) → All (IsSpoken stations) log → lines_of longest_line (text_of log) ≡ map (λ e. Some e.line) log
+  -- the lines of entries, with those in front of them
+  abbrev log_lines : List Entry → List Line
+  log_lines [] = []
+  log_lines (e ∷ log) = lines_of longest_line e.note ++ (Some e.line ∷ log_lines log)
+
+  cut_entries : (log : List Entry) → All (IsSpoken stations) log → lines_of longest_line (text_of log) ≡ log_lines log
   cut_entries [] all = refl
   cut_entries (e ∷ log) all =
       let spoken = All-head (IsSpoken stations) e log all in
-      cut-ended (unended longest_line) longest_line e.line (text_of log) spoken.speaks.feedless
-      ∙ (λ i. cut_entry (station_name stations e.station) e.line e.command spoken.speaks i ∷ cut_entries log (All-tail (IsSpoken stations) e log all) i)
+      ap (lines_of longest_line) (append_assoc e.note (line_text e.line) (text_of log))
+      ∙ lines_apart longest_line e.note (line_text e.line ++ text_of log) (note_whole e.note spoken.noted)
+      ∙ ap (λ l. lines_of longest_line e.note ++ l) (cut-ended (unended longest_line) longest_line e.line (text_of log) spoken.speaks.feedless)
+      ∙ (λ i. lines_of longest_line e.note ++ (cut_entry (station_name stations e.station) e.line e.command spoken.speaks i ∷ cut_entries log (All-tail (IsSpoken stations) e log all) i))
 
-  pub takes_lines : (s : Script) (log : List (Entry Command)) → All (IsSpoken stations) log → ((k : ℕ) → k < length stations → Has s.world (station_name stations k))
+  said_alone : (s : Script) (log : List Entry) → All (IsSpoken stations) log → script_after s (log_lines log) ≡ script_after s (map (λ (e : Entry). Some e.line) log)
+  said_alone s [] all = refl
+  said_alone s (e ∷ log) all =
+      let spoken = All-head (IsSpoken stations) e log all in
+      let later = Some e.line ∷ log_lines log in
+      after_both s (lines_of longest_line e.note) later
+      ∙ ap (λ t. script_after t later) (note_after s e.note spoken.noted)
+      ∙ said_alone (line_step s (Some e.line)).0 log (All-tail (IsSpoken stations) e log all)
+
+  -- the text of entries takes a script where their lines take it
+  pub takes_text : (s : Script) (log : List Entry) → All (IsSpoken stations) log → script_after s (lines_of longest_line (text_of log)) ≡ script_after s (map (λ (e : Entry). Some e.line) log)
+  takes_text s log all = ap (script_after s) (cut_entries log all) ∙ said_alone s log all
+
+  pub takes_lines : (s : Script) (log : List Entry) → All (IsSpoken stations) log → ((k : ℕ) → k < length stations → Has s.world (station_name stations k))
       → let t = script_after s (map (λ e. Some e.line) log) in (t.world ≡ run s.world (asked_in stations log)) × KeepsSites s t
   takes_lines s [] all has = (refl, record { sites = refl; periods = refl; orders = refl })
   takes_lines s (e ∷ log) all has =

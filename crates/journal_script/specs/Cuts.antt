@@ -1,7 +1,7 @@
 -- What a journal's text leaves that was cut at any byte, as a script behind another one.
 use Rattle.std.specs.Prelude.{◌≡◌, ℕ, ◌<◌, ◌≤◌, List, [], ◌∷◌, ◌++◌, ◌⊎◌, All, codes, drop, length, take}
 use Rattle.kept_desk.specs.declared.entry.Entry.{Entry}
-use Rattle.kept_desk.specs.Entries.{line_text, text_of}
+use Rattle.kept_desk.specs.Entries.{entry_text, text_of}
 use Rattle.ledger_model.specs.declared.command.Command.{Command}
 use Rattle.script_lines.specs.Lines.{lines_of}
 use Rattle.script_lines.specs.Ranges.{longest_line}
@@ -25,12 +25,12 @@ abbrev pub IsMark : List ℕ → Type 0
 IsMark mark = (mark ≡ restore_mark) ⊎ (mark ≡ run_begins)
 
 -- The bytes begin the text of the first of these entries, and are not all of it; where there are no entries, there are no bytes.
-abbrev pub BeginsNext : List ℕ → List (Entry Command) → Type 0
+abbrev pub BeginsNext : List ℕ → List Entry → Type 0
 BeginsNext part [] = part ≡ []
-BeginsNext part (e ∷ es) = (more : List ℕ) × (line_text e.line ≡ part ++ more) × (0 < length more)
+BeginsNext part (e ∷ es) = (more : List ℕ) × (entry_text e ≡ part ++ more) × (0 < length more)
 
--- The front of a journal's text has the lines of its first k entries whole, and of the next line only a part, which may be none of it. A line without its line feed is not whole.
-pub record HasWhole (log : List (Entry Command)) (front : List ℕ) (k : ℕ) : Type 0 where
+-- The front of a journal's text has the lines of its first k entries whole, with what stands in front of them, and of the next entry's text only a part, which may be none of it. A line without its line feed is not whole.
+pub record HasWhole (log : List Entry) (front : List ℕ) (k : ℕ) : Type 0 where
   pub within : k ≤ length log
   pub part : List ℕ
   pub is : front ≡ text_of (take k log) ++ part
@@ -38,7 +38,7 @@ pub record HasWhole (log : List (Entry Command)) (front : List ℕ) (k : ℕ) : 
 
 -- Where a script ends with a plan's stations in these contents, and behind it stand the front of a journal's text, wherever it is cut, and a mark, the longer script ends with the contents that the entries leave whose lines are whole in that front. So a journal that was cut at any byte loses no whole line and gains none.
 abbrev pub CutsAreScripts : Type 0
-CutsAreScripts = (read : List ℕ) (sites : List SitePlan) (stations : List StationPlan) (firsts : List Cell) (log : List (Entry Command)) (front rest mark : List ℕ)
+CutsAreScripts = (read : List ℕ) (sites : List SitePlan) (stations : List StationPlan) (firsts : List Cell) (log : List Entry) (front rest mark : List ℕ)
     → EndsWhole read → HasOnce sites stations → Shows (script_after start (lines_of longest_line read)) sites stations firsts
     → All (IsSpoken stations) log → front ++ rest ≡ text_of log → IsMark mark
     → (k : ℕ) × HasWhole log front k × EndsWhole (read ++ (front ++ mark))

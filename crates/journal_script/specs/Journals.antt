@@ -3,7 +3,7 @@ use Rattle.std.specs.Prelude.{◌≡◌, ℕ, ◌<◌, false, List, [], ◌∷�
 use Rattle.board_report.specs.Texts.{board_text}
 use Rattle.desk_report.specs.Closed.{closed_site}
 use Rattle.kept_desk.specs.declared.entry.Entry.{Entry}
-use Rattle.kept_desk.specs.Entries.{of_station, text_of}
+use Rattle.kept_desk.specs.Entries.{IsNote, of_station, text_of}
 use Rattle.ledger_model.specs.declared.command.Command.{Command}
 use Rattle.ledger_model.specs.Laws.{left_by}
 use Rattle.script_lines.specs.LineMeaning.{asks_board, line_meaning}
@@ -16,19 +16,20 @@ use Rattle.site_desk.specs.declared.plan.SitePlan.{SitePlan}
 use Rattle.site_desk.specs.declared.plan.StationPlan.{StationPlan}
 use Rattle.station_cell.specs.Cell.{Cell}
 use Rattle.site_desk.specs.Plan.{has_twice}
-use Rattle.journal_script.specs.Speaking.{Speaks}
+use Rattle.kept_desk.specs.Speaking.{Speaks}
 
 -- The name of the station of this number.
 abbrev pub station_name : List StationPlan → ℕ → List ℕ
 station_name stations k = get_or (map (λ s. s.name) stations) k []
 
--- The entry is of one of these stations, and its line asks for its command on that station.
-pub record IsSpoken (stations : List StationPlan) (e : Entry Command) : Type 0 where
+-- The entry is of one of these stations, its line asks for its command on that station, and what stands in front of the line is nothing or a comment.
+pub record IsSpoken (stations : List StationPlan) (e : Entry) : Type 0 where
   pub there : e.station < length stations
   pub speaks : Speaks (station_name stations e.station) e.line e.command
+  pub noted : IsNote e.note
 
 -- The commands of entries, in their order.
-abbrev pub commands_of : List (Entry Command) → List Command
+abbrev pub commands_of : List Entry → List Command
 commands_of es = map (λ e. e.command) es
 
 -- The bytes are none, or a line feed ends them.
@@ -49,14 +50,14 @@ pub record Shows (s : Script) (sites : List SitePlan) (stations : List StationPl
   pub world_is : s.world ≡ filled (planned_world sites stations) cells
 
 -- Each station's content is what the commands of its own entries, one after the other, leave of what it was first.
-pub record AreLeft (stations : List StationPlan) (firsts cells : List Cell) (log : List (Entry Command)) : Type 0 where
+pub record AreLeft (stations : List StationPlan) (firsts cells : List Cell) (log : List Entry) : Type 0 where
   pub count_first : length firsts ≡ length stations
   pub count : length cells ≡ length stations
   pub left : (k : ℕ) (s : StationPlan) (f c : Cell) → slice_get stations k ≡ Some s → slice_get firsts k ≡ Some f → slice_get cells k ≡ Some c → left_by s.limits f.content (commands_of (of_station k log)) ≡ c.content
 
 -- Where a script ends with a plan's stations in these contents, and a journal's text is written behind it, the longer script ends with the contents that the journal's entries leave, each station's own. So one script tells all that the stations hold.
 abbrev pub JournalsAreScripts : Type 0
-JournalsAreScripts = (read : List ℕ) (sites : List SitePlan) (stations : List StationPlan) (firsts cells : List Cell) (log : List (Entry Command))
+JournalsAreScripts = (read : List ℕ) (sites : List SitePlan) (stations : List StationPlan) (firsts cells : List Cell) (log : List Entry)
     → EndsWhole read → HasOnce sites stations → Shows (script_after start (lines_of longest_line read)) sites stations firsts
     → All (IsSpoken stations) log → AreLeft stations firsts cells log
     → Shows (script_after start (lines_of longest_line (read ++ text_of log))) sites stations cells

@@ -5,9 +5,9 @@ ghost use Rattle.ledger_model.specs.declared.command.Command.TheVariants.{Delive
 ghost use Rattle.script_lines.specs.LineMeaning.{line_meaning, sends};
 ghost use Rattle.script_lines.specs.Lines.{HasNoFeed, line_bytes};
 ghost use Rattle.script_lines.specs.Ranges.{longest_line};
-ghost use Rattle.journal_script.specs.Speaking.{AsksFor, Says, Speaks, StandsAsItIs, message_text};
+ghost use Rattle.kept_desk.specs.Speaking.{AsksFor, Says, Speaks};
+ghost use Rattle.journal_script.specs.Speaking.{StandsAsItIs, message_text};
 
-use kept_desk::is_line;
 use ledger_model::{Event, Key, Moment, Name};
 use script_lines::{MAX_LINE_BYTES, ScriptLine, read_line, without_return};
 use std::alloc::{AllocError, Global};
@@ -67,6 +67,13 @@ pub fn is_script_line(line: &[u8]) -> bool
     ensures all { HasNoFeed line.now → strip_last 13 line.now ≡ line.now → length line.now ≤ longest_line → IsTrue result }
 {
     line.len() <= MAX_LINE_BYTES && is_bare(line) && is_line(line)
+}
+
+// Tells whether no byte is a line feed.
+fn is_line(bytes: &[u8]) -> bool
+    ensures { IsTrue result ↔ HasNoFeed bytes.now }
+{
+    bytes.iter().all(|byte| *byte != b'\n')
 }
 
 // Tells whether no carriage return ends the bytes.

@@ -8,10 +8,11 @@ use Rattle.kept_desk.specs.declared.entry.Entry.{Entry}
 use Rattle.kept_desk.specs.Entries.{of_station, text_of}
 use Rattle.kept_desk.specs.Journal.{IsWritten}
 use Rattle.journal_script.specs.Journals.{AreLeft, HasOnce, IsSpoken, station_name}
-use Rattle.journal_script.specs.Speaking.{Speaks}
+use Rattle.kept_desk.specs.Entries.{IsNote}
+use Rattle.kept_desk.specs.Speaking.{AreSpoken, Speaks, SpeaksOf}
 use Rattle.journal_script.proofs.Boards.{boards_are_those_of_cells}
 use Rattle.journal_script.proofs.Journals.{journals_are_scripts}
-use Rattle.kept_desk.specs.Kept.{AreSpoken, IsLeftFrom, commands_of}
+use Rattle.kept_desk.specs.Kept.{IsLeftFrom, commands_of}
 use Rattle.kept_desk.specs.Opened.{AreFirst, content_or_empty, contents_of, names_of}
 use Rattle.std.proofs.lemmas.Option.{slice_get_within}
 use Rattle.ledger_model.specs.declared.command.Command.{Command}
@@ -23,7 +24,7 @@ use Rattle.station_cell.specs.Cell.{Cell}
 use Rattle.site_desk.specs.Plan.{plan_fault}
 use Rattle.site_desk.specs.Roster.{AreCellsOf}
 use Rattle.site_desk.proofs.NewParts.{planned_names, planned_sites}
-use Rattle.journal_server.specs.Served.{AreLeftFrom, IsEnded, IsItsScript, Leaves, SpeaksOf, after, joined}
+use Rattle.journal_server.specs.Served.{AreLeftFrom, IsEnded, IsItsScript, Leaves, after, joined}
 
 all_placed : (n : ℕ) (stations : List StationPlan) → ((k : ℕ) (s : StationPlan) → slice_get stations k ≡ Some s → s.site < n) → All (λ s. s.site < n) stations
 all_placed n [] each = All-nil (λ s. s.site < n)
@@ -47,16 +48,21 @@ name_is (s ∷ stations) zero = refl
 name_is (s ∷ stations) (suc k) = name_is stations k
 
 -- the line of an entry speaks for its command on the station of its name
-abbrev Own : List StationPlan → Entry Command → Type 0
+abbrev Own : List StationPlan → Entry → Type 0
 Own stations e = SpeaksOf (names_of stations e.station) e.line e.command
 
--- lines that speak for stations of a plan
-all_spoken : (stations : List StationPlan) (log : List (Entry Command)) → AreSpoken SpeaksOf (names_of stations) log → All (IsSpoken stations) log
-all_spoken stations [] all = All-nil (IsSpoken stations)
-all_spoken stations (e ∷ log) all =
+-- lines that speak for stations of a plan, with what stands in front of them
+all_spoken : (stations : List StationPlan) (log : List Entry) → All (λ (e : Entry). IsNote e.note) log → AreSpoken (names_of stations) log → All (IsSpoken stations) log
+all_spoken stations [] noted all = All-nil (IsSpoken stations)
+all_spoken stations (e ∷ log) noted all =
     let own = All-head (Own stations) e log all in
-    All-cons (IsSpoken stations) e log (record { there = named_there stations e.station own.some; speaks = subst (λ n. Speaks n e.line e.command) (name_is stations e.station) own.speaks })
-    (all_spoken stations log (All-tail (Own stations) e log all))
+    All-cons (IsSpoken stations) e log
+    (record {
+      there = named_there stations e.station own.some;
+      speaks = subst (λ n. Speaks n e.line e.command) (name_is stations e.station) own.speaks;
+      noted = All-head (λ (x : Entry). IsNote x.note) e log noted;
+    })
+    (all_spoken stations log (All-tail (λ (x : Entry). IsNote x.note) e log noted) (All-tail (Own stations) e log all))
 
 boards_joined : (sites : List SitePlan) (stations : List StationPlan) (cells : List Cell) (n : ℕ) → boards_text sites stations cells n ≡ joined (λ k. board_text (closed_site sites stations cells k)) n
 boards_joined sites stations cells zero = refl
@@ -69,7 +75,7 @@ pub its_script : (front : List ℕ) (sites : List SitePlan) (stations : List Sta
 its_script front sites stations firsts before now buffer broken boards none of_plan restored e =
     let once = has_once sites stations none in
     let log = e.written.log in
-    let spoken = all_spoken stations log e.written.spoken in
+    let spoken = all_spoken stations log e.written.written.notes e.written.spoken in
     let kept : AreLeftFrom stations firsts e.cells log = record {
       count_first = of_plan.count;
       count = e.count;
@@ -132,8 +138,8 @@ script_of_plan front sites planned stations plan firsts before now buffer broken
     (subst (λ x. IsEnded (names_of x) (contents_of firsts) before now buffer broken planned x boards) t e))
 
 -- what was written behind a head was written behind what stood before it
-written_behind : {C : Type 0} (broken : Bool) (before begun now : Option (List ℕ)) (buffer head : List ℕ) (log : List (Entry C)) → Appends before begun head → IsWritten broken begun now buffer log → IsWritten broken (append_known before head) now buffer log
-written_behind broken None begun now buffer head log begins w = record { front = w.front; begins = w.begins; lines = w.lines; whole = w.whole; handed_on = w.handed_on; appended = tt }
+written_behind : (broken : Bool) (before begun now : Option (List ℕ)) (buffer head : List ℕ) (log : List Entry) → Appends before begun head → IsWritten broken begun now buffer log → IsWritten broken (append_known before head) now buffer log
+written_behind broken None begun now buffer head log begins w = record { front = w.front; begins = w.begins; notes = w.notes; lines = w.lines; whole = w.whole; handed_on = w.handed_on; appended = tt }
 written_behind broken (Some bytes) None now buffer head log begins w = absurd begins
 written_behind broken (Some bytes) (Some more) now buffer head log begins w = subst (λ b. IsWritten broken (Some b) now buffer log) begins w
 

@@ -8,7 +8,6 @@ use Rattle.kept_desk.specs.Journal.{IsWritten}
 use Rattle.journal_script.specs.Cuts.{run_begins}
 use Rattle.journal_script.specs.Journals.{EndsWhole, IsSpoken, Shows}
 use Rattle.journal_script.specs.Restoring.{HasNoListen, IsListen, loses, marked_by}
-use Rattle.journal_script.specs.Speaking.{Speaks}
 use Rattle.kept_desk.specs.Kept.{IsLeftFrom, IsWrittenDown, commands_of}
 use Rattle.ledger_model.specs.declared.command.Command.{Command}
 use Rattle.ledger_model.specs.Content.{Content, empty_content}
@@ -20,11 +19,6 @@ use Rattle.script_ledgers.specs.Script.{Script, line_step, start, script_after}
 use Rattle.site_desk.specs.declared.plan.SitePlan.{SitePlan}
 use Rattle.site_desk.specs.declared.plan.StationPlan.{StationPlan}
 use Rattle.station_cell.specs.Cell.{Cell}
-
--- The line stands in a script, and asks for the command on the station of this name, which is not empty.
-pub record SpeaksOf (name line : List ℕ) (command : Command) : Type 0 where
-  pub some : 0 < length name
-  pub speaks : Speaks name line command
 
 -- The state in which these bytes leave a replay.
 abbrev pub after : List ℕ → Script
@@ -54,14 +48,14 @@ pub record Declares (sites read : List SitePlan) (cells : List Cell) : Type 0 wh
   pub unchanged : All (λ c. c.content ≡ empty_content) cells
 
 -- Each station's content is what the commands of its own lines, each accepted under the station's limits and counted, leave of what it was first.
-pub record AreLeftFrom (stations : List StationPlan) (firsts cells : List Cell) (log : List (Entry Command)) : Type 0 where
+pub record AreLeftFrom (stations : List StationPlan) (firsts cells : List Cell) (log : List Entry) : Type 0 where
   pub count_first : length firsts ≡ length stations
   pub count : length cells ≡ length stations
   pub left : (k : ℕ) (s : StationPlan) (f c : Cell) → slice_get stations k ≡ Some s → slice_get firsts k ≡ Some f → slice_get cells k ≡ Some c → IsLeftFrom s.limits f.content c.content (commands_of (of_station k log))
 
 -- What a server wrote behind the front of its script, which leaves these sites and stations in the contents of the cells `firsts`, and the boards that it gave last. There is one list of lines: the writer, which held `before`, took their text, and where a write failed a front of one line more; each line speaks for its command on its station; behind the front, each station's content is what just its own lines leave; and the boards are what `replay` answers after the front and the lines.
 pub record IsItsScript (front : List ℕ) (sites : List SitePlan) (stations : List StationPlan) (firsts : List Cell) (before now : Option (List ℕ)) (buffer : List ℕ) (broken : Bool) (boards : List ℕ) : Type 0 where
-  pub log : List (Entry Command)
+  pub log : List Entry
   pub written : IsWritten broken before now buffer log
   pub cells : List Cell
   pub opened : Shows (after front) sites stations firsts
@@ -104,7 +98,7 @@ IsRefused input why = (read last : List ℕ) × Begins input (read ++ last) × I
 -- What a desk with a journal was when it was closed, and its boards.
 pub record IsEnded (name : ℕ → List ℕ) (first : ℕ → Content) (before now : Option (List ℕ)) (buffer : List ℕ) (broken : Bool) (sites : List SitePlan) (stations : List StationPlan) (boards : List ℕ) : Type 0 where
   pub cells : List Cell
-  pub written : IsWrittenDown SpeaksOf name first before broken now buffer cells []
+  pub written : IsWrittenDown name first before broken now buffer cells []
   pub count : length cells ≡ length stations
   pub limits : (k : ℕ) (s : StationPlan) (c : Cell) → slice_get stations k ≡ Some s → slice_get cells k ≡ Some c → c.limits ≡ s.limits
   pub is : boards ≡ boards_text sites stations cells (length sites)

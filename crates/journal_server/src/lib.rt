@@ -2,7 +2,8 @@
 //!
 //! [`serve_journalled`] serves a plan's stations as [`serve_live`](live_server::serve_live) does, over a desk with a
 //! journal ([`KeptDesk`](kept_desk::KeptDesk)): before an answer goes out, the line of its change was written. The journal
-//! is a script: a comment, the plan's declarations, and one line for each accepted change. [`serve_restored`] begins with
+//! is a script: a comment, the plan's declarations, and one line for each accepted change, before which the time of its
+//! receipt may stand as a comment. [`serve_restored`] begins with
 //! such a script, up to the line `listen`, and goes on behind it. An operator's lines are read on a thread of their own, so
 //! that a journal that can't be written ends the server at once.
 //!
@@ -12,7 +13,7 @@
 //! their replies, and what a kill leaves, is shown by tests.
 //!
 //! ```text
-//! serve_journalled(rt, &plan, live, stdin, stdout, &mut stderr, lines)?    // standard output is the journal
+//! serve_journalled(rt, &plan, journalling, stdin, stdout, &mut stderr, lines)?    // standard output is the journal
 //! serve_restored(rt, restoring, stdin, stdout, &mut stderr, lines)?             // standard input begins with a journal
 //! ```
 #![tactic(auto)]
@@ -20,13 +21,12 @@
 mod declared;
 mod fault;
 mod line_queue;
+mod receipt_time;
 mod run;
 mod same;
 mod serve;
 mod serving;
-mod speech;
 
 pub use fault::JournalFault;
 pub use run::Served;
-pub use serve::{Restoring, serve_journalled, serve_restored};
-pub use speech::ScriptSpeech;
+pub use serve::{Journalling, Restoring, serve_journalled, serve_restored};

@@ -8,13 +8,12 @@ ghost use Rattle.site_desk.specs.Roster.{AreCellsOf, AreNewPlaces};
 ghost use Rattle.journal_server.specs.Served.{IsEnded, IsItsScript, Leaves};
 
 use crate::line_queue::{LineQueue, QueuedOrders, read_all};
+use crate::serve::Journalling;
 use crate::serving::Serving;
-use crate::speech::ScriptSpeech;
 use desk_report::write_boards;
 use journal_script::Restored;
-use kept_desk::{Blank, KeptDesk, Opening, Ties};
-use ledger_model::Command;
-use live_server::{Live, Ran, serve_plan_at};
+use kept_desk::{JournalTable, KeptDesk, Opening};
+use live_server::{Ran, serve_plan_at};
 use running_desk::Orders;
 use site_book::{Naming, Tables, Viewer};
 use site_desk::{Parts, Pass, Plan, StationCell};
@@ -50,7 +49,7 @@ pub(crate) fn run_restored<
 >(
     rt: &R,
     restored: Restored,
-    live: Live,
+    journalling: Journalling,
     input: I,
     journal: BufWriter<W>,
     told: &mut T,
@@ -71,7 +70,7 @@ pub(crate) fn run_restored<
         has_lost: _,
     } = restored;
     let tables = Tables::make(alloc, draft.plan().sites.len() as u16)?;
-    let blank = Blank::new(alloc)?;
+    let table = JournalTable::new(alloc)?;
     let queue = new_queue(alloc)?;
     start_reader(rt, alloc, input, Arc::try_clone(&queue)?)?;
     let mut orders = QueuedOrders::open(alloc, &*queue);
@@ -79,11 +78,11 @@ pub(crate) fn run_restored<
         rt,
         alloc,
         tables,
-        blank,
+        table,
         draft.plan(),
         cells,
         passes,
-        live,
+        journalling,
         &mut orders,
         journal,
         told,
@@ -114,7 +113,7 @@ fn start_reader<
 // Serves what was restored, under the naming of the desk's tables and of its journal.
 fn run_over<
     J: Naming + Send + Sync,
-    K: Ties + Opening + Send + Sync,
+    K: Opening + Send + Sync,
     R: Host,
     O: Orders,
     W: Write + Send + Drop,
@@ -124,11 +123,11 @@ fn run_over<
     rt: &R,
     alloc: Global,
     tables: Tables,
-    blank: Blank<Command>,
+    table: JournalTable,
     plan: &Plan,
     cells: Vec<StationCell>,
     passes: Vec<Pass>,
-    live: Live,
+    journalling: Journalling,
     orders: &mut O,
     journal: BufWriter<W>,
     told: &mut T,
@@ -136,7 +135,7 @@ fn run_over<
 ) -> Result<Served<W>, ServiceFault>
     requires named { NamedBy J.table tables }
     requires there { (site : ℕ) → site < length plan.now.sites.items → HasTable tables site }
-    requires table { blank ≡ K.table }
+    requires table { table ≡ K.table }
     requires before { W.contents (writer_inner journal) ≡ K.before }
     requires empty { writer_buffer journal ≡ [] }
     requires first { K.first ≡ contents_of cells.items }
@@ -146,15 +145,23 @@ fn run_over<
     ensures { IfOk result (λ s. IsEnded (names_of plan.now.stations.items) (contents_of cells.items) (W.contents (writer_inner journal))
         (W.contents (writer_inner s.journal)) (writer_buffer s.journal) s.is_broken plan.now.sites.items plan.now.stations.items s.boards.items) }
 {
-    let (serving, viewers) = open_over::<J, K, W>(
+    let Journalling {
+        live,
+        has_receipt_times,
+    } = journalling;
+    let (kept, viewers) = open_over::<J, K, W>(
         alloc,
         tables,
-        blank,
+        table,
         plan,
         cells,
         live.glances,
         journal,
     )?;
+    let serving = Serving {
+        kept,
+        has_receipt_times,
+    };
     let ran = serve_plan_at(
         rt, alloc, plan, &serving, passes, viewers, live, orders, &mut *told, lines,
     )?;
@@ -168,42 +175,42 @@ fn run_over<
 }
 
 // The desk of a plan over cells that took commands before, with a journal that has no lines yet, and its viewers.
-fn open_over<J: Naming, K: Ties + Opening, W: Write + Drop>(
+fn open_over<J: Naming, K: Opening, W: Write + Drop>(
     alloc: Global,
     tables: Tables,
-    blank: Blank<Command>,
+    table: JournalTable,
     plan: &Plan,
     cells: Vec<StationCell>,
     glances: u16,
     journal: BufWriter<W>,
-) -> Result<(Serving<J, K, W>, Vec<Viewer<J>>), AllocError>
+) -> Result<(KeptDesk<J, K, W>, Vec<Viewer<J>>), AllocError>
     requires named { NamedBy J.table tables }
     requires there { (site : ℕ) → site < length plan.now.sites.items → HasTable tables site }
-    requires table { blank ≡ K.table }
+    requires table { table ≡ K.table }
     requires before { W.contents (writer_inner journal) ≡ K.before }
     requires empty { writer_buffer journal ≡ [] }
     requires first { K.first ≡ contents_of cells.items }
     requires names { K.name ≡ names_of plan.now.stations.items }
     requires faultless { plan_fault plan.now.sites.items plan.now.stations.items ≡ None }
     requires cells { AreCellsOf plan.now.sites.items plan.now.stations.items cells.items }
-    ensures opened { IfOk result (λ r. AreNewPlaces plan.now.sites.items plan.now.stations.items r.0.kept.stations) }
-    ensures sites { IfOk result (λ r. r.0.kept.sites ≡ length plan.now.sites.items) }
+    ensures opened { IfOk result (λ r. AreNewPlaces plan.now.sites.items plan.now.stations.items r.0.stations) }
+    ensures sites { IfOk result (λ r. r.0.sites ≡ length plan.now.sites.items) }
 {
     let each = if glances > 0 { 1 } else { 0 };
     let parts = Parts::over(alloc, tables, plan, cells, each)?;
-    let (kept, numbered) = KeptDesk::open(alloc, plan, parts, blank, journal)?;
+    let (kept, numbered) = KeptDesk::open(alloc, plan, parts, table, journal)?;
     let mut viewers = Vec::with_capacity(alloc, numbered.len())?;
     for (_site, viewer) in numbered {
         viewers.push(viewer)?;
     }
-    Ok((Serving { kept }, viewers))
+    Ok((kept, viewers))
 }
 
 // Closes a desk with a journal whose sessions have ended, and makes the board of each site, in the plan's order.
-fn end_run<J: Naming, K: Ties + Opening, W: Write + Drop>(
+fn end_run<J: Naming, K: Opening, W: Write + Drop>(
     alloc: Global,
     plan: &Plan,
-    kept: KeptDesk<J, K, ScriptSpeech, W>,
+    kept: KeptDesk<J, K, W>,
     passes: Vec<Pass>,
     viewers: Vec<Viewer<J>>,
     ended: Result<(), ServiceFault>,

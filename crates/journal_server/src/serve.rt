@@ -26,18 +26,27 @@ use std::thread::Threads;
 // What ends a script that is restored.
 const LISTEN: &[u8] = b"listen\n";
 
+/// What a server with a journal is asked to do.
+#[derive(Clone, Copy, Debug)]
+pub struct Journalling {
+    /// As a server that lives.
+    pub live: Live,
+    /// Whether the moment at which it took a message or an operator's line stands in front of the line, as a comment.
+    pub has_receipt_times: bool,
+}
+
 /// What a server that is restored is asked to do.
 #[derive(Clone, Copy, Debug)]
 pub struct Restoring {
-    /// As a server that lives.
-    pub live: Live,
+    /// As a server with a journal.
+    pub journalling: Journalling,
     /// Whether it serves although a line of what it begins with is lost.
     pub allows_left_out: bool,
 }
 
 /// Serves a plan's stations as [`serve_live`](live_server::serve_live) does, and writes a journal: a comment, the plan's
 /// declarations, and the line of each accepted change, which the writer behind the buffer took before the change is
-/// answered. Where it listens and what an operator is answered goes to `told`; the boards come back as a value. Where the
+/// answered, with the time of its receipt in front of it where that is asked for. Where it listens and what an operator is answered goes to `told`; the boards come back as a value. Where the
 /// journal can't be written nothing more is accepted, and the server ends itself with `WriteFault`; its boards are there.
 ///
 /// A plan with a fault is told before anything is written.
@@ -50,7 +59,7 @@ pub fn serve_journalled<
 >(
     rt: &R,
     plan: &Plan,
-    live: Live,
+    journalling: Journalling,
     input: I,
     journal: BufWriter<W>,
     told: &mut T,
@@ -68,7 +77,7 @@ pub fn serve_journalled<
         return Err(JournalFault::Service(ServiceFault::Torn));
     }
     let journal = begin(journal, head.as_slice())?;
-    let served = run_restored(rt, restored, live, input, journal, told, lines)?;
+    let served = run_restored(rt, restored, journalling, input, journal, told, lines)?;
     Ok(served)
 }
 
@@ -106,7 +115,15 @@ pub fn serve_restored<
     tell_restored(told, restored.cells.as_slice());
     let head = run_head(rt.alloc())?;
     let journal = begin(journal, head.as_slice())?;
-    let served = run_restored(rt, restored, restoring.live, input, journal, told, lines)?;
+    let served = run_restored(
+        rt,
+        restored,
+        restoring.journalling,
+        input,
+        journal,
+        told,
+        lines,
+    )?;
     Ok(served)
 }
 

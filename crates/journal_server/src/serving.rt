@@ -10,9 +10,9 @@ ghost use Rattle.site_desk.specs.Roster.{IsNamed};
 ghost use Rattle.site_desk.specs.Submit.{Submitted};
 ghost use Rattle.station_link.specs.Answer.{Asks, IsSubmitted};
 
-use crate::speech::ScriptSpeech;
+use crate::receipt_time::receipt_note;
 use journal_script::{is_script_line, laws, message_line};
-use kept_desk::{KeptCell, KeptDesk, Opening, Ties};
+use kept_desk::{KeptCell, KeptDesk, Opening};
 use ledger_model::{Answer, Command, Event, Key, Name, Refusal};
 use running_desk::Serves;
 use site_book::{Naming, Told};
@@ -28,8 +28,10 @@ const LINE_START: usize = 53;
 
 // A desk with a journal, as a live server serves it.
 #[derive(Drop)]
-pub(crate) struct Serving<J: Naming, K: Ties + Opening, W: Write + Drop> {
-    pub(crate) kept: KeptDesk<J, K, ScriptSpeech, W>,
+pub(crate) struct Serving<J: Naming, K: Opening, W: Write + Drop> {
+    pub(crate) kept: KeptDesk<J, K, W>,
+    // Whether the time of its receipt stands in front of each line.
+    pub(crate) has_receipt_times: bool,
 }
 
 // The answer that nothing more is accepted.
@@ -40,7 +42,7 @@ fn exhausted<J: Naming>() -> (Answer, Option<Told<J>>)
     (Answer::Refused(Refusal::ChangesExhausted), None)
 }
 
-impl<J: Naming, K: Ties + Opening, W: Write + Drop> Delivers<J> for Serving<J, K, W> {
+impl<J: Naming, K: Opening, W: Write + Drop> Delivers<J> for Serving<J, K, W> {
     ghost stations = { λ s. s.kept.stations };
 
     fn deliver<G: Gate, R: Wait + Clock>(
@@ -59,18 +61,26 @@ impl<J: Naming, K: Ties + Opening, W: Write + Drop> Delivers<J> for Serving<J, K
         if name.text().is_empty() {
             return Ok(exhausted());
         }
+        let note = receipt_note(rt, self.has_receipt_times);
         laws::events();
         let mut line = Vec::with_capacity(alloc, text.len().saturating_add(LINE_START))?;
         if !message_line(alloc, &mut line, name, text, &key, &event)? {
             return Ok(exhausted());
         }
         let command = Command::Deliver(key, event);
-        let (answer, told, _receipt) = self.kept.submit(rt, pass, command, line.as_slice(), gate);
+        let (answer, told, _receipt) = self.kept.submit(
+            rt,
+            pass,
+            command,
+            note.as_str().as_bytes(),
+            line.as_slice(),
+            gate,
+        );
         Ok((answer, told))
     }
 }
 
-impl<J: Naming, K: Ties + Opening, W: Write + Drop> Serves<J, KeptCell<K>> for Serving<J, K, W> {
+impl<J: Naming, K: Opening, W: Write + Drop> Serves<J, KeptCell<K>> for Serving<J, K, W> {
     ghost roster = { λ s. s.kept };
 
     fn desk(&self) -> &Desk<J, KeptCell<K>> {
@@ -91,7 +101,10 @@ impl<J: Naming, K: Ties + Opening, W: Write + Drop> Serves<J, KeptCell<K>> for S
         if name.text().is_empty() || !is_script_line(bytes) {
             return exhausted();
         }
-        let (answer, told, _receipt) = self.kept.submit(rt, pass, what, bytes, &NoGate);
+        let note = receipt_note(rt, self.has_receipt_times);
+        let (answer, told, _receipt) = self
+            .kept
+            .submit(rt, pass, what, note.as_str().as_bytes(), bytes, &NoGate);
         (answer, told)
     }
 

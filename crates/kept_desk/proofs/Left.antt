@@ -4,7 +4,7 @@ use Rattle.std.proofs.lemmas.List.{map-append}
 use Rattle.std.proofs.lemmas.List.Elements.{All-nil, All-push}
 use Rattle.kept_desk.specs.declared.entry.Entry.{Entry}
 use Rattle.kept_desk.specs.Entries.{entry}
-use Rattle.kept_desk.specs.Journal.{Share}
+use Rattle.kept_desk.specs.Journal.{OwnEntries}
 use Rattle.ledger_model.specs.declared.command.Command.{Command}
 use Rattle.ledger_model.specs.Admissible.{IsAdmissible}
 use Rattle.ledger_model.specs.Content.{Content}
@@ -49,16 +49,16 @@ left_more limits first c commands command may accepted l =
       counted = omega (arith, more, l.counted, length-append commands last);
     }
 
--- the cell and its hand after a command whose line was written
-pub kept_more : (first : ℕ → Content) (c c' : Cell) (p : Held) (hand hand' : Share Command) (line : List ℕ) (command : Command) → IsAdmissible command → IsAccepted (answer c.limits c.content command)
-    → c' ≡ cell_after c p command → hand' ≡ record hand { entries = hand.entries ++ entry hand.station line command ∷ [] } → IsKeptCell first c hand → IsKeptCell first c' hand'
-kept_more first c c' p hand hand' line command may accepted cells hands k =
+-- the cell and its share after a command whose line was written
+pub kept_more : (first : ℕ → Content) (c c' : Cell) (p : Held) (share share' : OwnEntries) (note line : List ℕ) (command : Command) → IsAdmissible command → IsAccepted (answer c.limits c.content command)
+    → c' ≡ cell_after c p command → share' ≡ record share { entries = share.entries ++ entry share.station note line command ∷ [] } → IsKeptCell first c share → IsKeptCell first c' share'
+kept_more first c c' p share share' note line command may accepted cells shares k =
     let now = cell_after c p command in
-    let es = hand.entries ++ entry hand.station line command ∷ [] in
-    let with : Share Command = record hand { entries = es } in
-    let same : commands_of hand.entries ++ command ∷ [] ≡ commands_of es = sym (map-append (λ (e : Entry Command). e.command) hand.entries (entry hand.station line command ∷ [])) in
+    let es = share.entries ++ entry share.station note line command ∷ [] in
+    let with : OwnEntries = record share { entries = es } in
+    let same : commands_of share.entries ++ command ∷ [] ≡ commands_of es = sym (map-append (λ (e : Entry). e.command) share.entries (entry share.station note line command ∷ [])) in
     let base : IsKeptCell first now with = record {
       station = k.station;
-      left = subst (IsLeftFrom c.limits (first c.station) now.content) same (left_more c.limits (first c.station) c.content (commands_of hand.entries) command may accepted k.left);
+      left = subst (IsLeftFrom c.limits (first c.station) now.content) same (left_more c.limits (first c.station) c.content (commands_of share.entries) command may accepted k.left);
     } in
-    subst (λ d. IsKeptCell first d hand') (sym cells) (subst (IsKeptCell first now) (sym hands) base)
+    subst (λ d. IsKeptCell first d share') (sym cells) (subst (IsKeptCell first now) (sym shares) base)

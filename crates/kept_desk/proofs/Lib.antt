@@ -3,3 +3,4 @@ mod Written
 mod Lines
 pub mod Left
 pub mod Names
+mod Notes

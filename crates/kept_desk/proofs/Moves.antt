@@ -14,7 +14,7 @@ use Rattle.site_book.specs.Prefix.{IsPrefix}
 off : false ≡ true → ⊥
 off e = true≢false (sym e)
 
--- the seat of each station's hand, where one station's is another now
+-- the seat of each station's share, where one station's is another now
 abbrev placed : ℕ → ℕ → (ℕ → ℕ) → ℕ → ℕ
 placed station seat claimant j = cond (eqb j station) seat (claimant j)
 
@@ -24,96 +24,96 @@ placed_here station seat claimant = ap (λ b. cond b seat (claimant station)) (e
 placed_else : (station seat : ℕ) (claimant : ℕ → ℕ) (j : ℕ) → j ≢ station → placed station seat claimant j ≡ claimant j
 placed_else station seat claimant j apart = ap (λ b. cond b seat (claimant j)) (ne_eqb j station apart)
 
-module _ {C : Type 0} where
+module _ where
   -- a view of a list with one more
-  at_new : (l : List (View C)) (a b : View C) (j : ℕ) → get_elem? (l ++ a ∷ []) j ≡ some b → (get_elem? l j ≡ some b) ⊎ ((j ≡ length l) × (a ≡ b))
+  at_new : (l : List View) (a b : View) (j : ℕ) → get_elem? (l ++ a ∷ []) j ≡ some b → (get_elem? l j ≡ some b) ⊎ ((j ≡ length l) × (a ≡ b))
   at_new [] a b zero e = inr (refl, some-injective a b e)
   at_new [] a b (suc j) e = absurd (some-ne-none b (sym e))
   at_new (x ∷ xs) a b zero e = inl e
   at_new (x ∷ xs) a b (suc j) e = ⊎_elim (λ t. inl t) (λ t. inr (ap suc t.0, t.1)) (at_new xs a b j e)
 
   -- a station's entries, with one more of its own
-  own_last : (station : ℕ) (log : List (Entry C)) (e : Entry C) → e.station ≡ station → of_station station (log ++ e ∷ []) ≡ of_station station log ++ e ∷ []
+  own_last : (station : ℕ) (log : List Entry) (e : Entry) → e.station ≡ station → of_station station (log ++ e ∷ []) ≡ of_station station log ++ e ∷ []
   own_last station log e same =
-      filter-append (λ (x : Entry C). eqb x.station station) log (e ∷ [])
+      filter-append (λ (x : Entry). eqb x.station station) log (e ∷ [])
       ∙ ap (λ b. of_station station log ++ cond b (e ∷ []) []) (eq-eqb e.station station same)
 
   -- and with one more of another station
-  other_last : (station : ℕ) (log : List (Entry C)) (e : Entry C) → e.station ≢ station → of_station station (log ++ e ∷ []) ≡ of_station station log
+  other_last : (station : ℕ) (log : List Entry) (e : Entry) → e.station ≢ station → of_station station (log ++ e ∷ []) ≡ of_station station log
   other_last station log e apart =
-      filter-append (λ (x : Entry C). eqb x.station station) log (e ∷ [])
+      filter-append (λ (x : Entry). eqb x.station station) log (e ∷ [])
       ∙ ap (λ b. of_station station log ++ cond b (e ∷ []) []) (ne_eqb e.station station apart)
       ∙ append-nil (of_station station log)
 
-  module _ (F G : ℕ → View C → Type 0) where
+  module _ (F G : ℕ → View → Type 0) where
     -- where one seat's view changes, all views fit
-    set_fits : (views : List (View C)) (id : ℕ) (w : View C) → G id w
-        → ((by : ℕ) (v : View C) → by ≢ id → F by v → G by v)
-        → ((by : ℕ) (v : View C) → get_elem? views by ≡ some v → F by v)
-        → (by : ℕ) (v : View C) → get_elem? (set views id w) by ≡ some v → G by v
+    set_fits : (views : List View) (id : ℕ) (w : View) → G id w
+        → ((by : ℕ) (v : View) → by ≢ id → F by v → G by v)
+        → ((by : ℕ) (v : View) → get_elem? views by ≡ some v → F by v)
+        → (by : ℕ) (v : View) → get_elem? (set views id w) by ≡ some v → G by v
     set_fits views id w mine others seats by v at = ⊎_elim
-        (λ (t : (by ≡ id) × (w ≡ v)). subst (λ (x : ℕ × View C). G x.0 x.1) (λ i. (sym t.0 i, t.1 i)) mine)
+        (λ (t : (by ≡ id) × (w ≡ v)). subst (λ (x : ℕ × View). G x.0 x.1) (λ i. (sym t.0 i, t.1 i)) mine)
         (λ (t : (by ≢ id) × (get_elem? views by ≡ some v)). others by v t.0 (seats by v t.1))
         (at_set views id by w v at)
 
     -- where one seat's view is cut in two, all views fit
-    new_fits : (views : List (View C)) (id : ℕ) (left right : View C) → G id left → G (length views) right
-        → ((by : ℕ) (v : View C) → by ≢ id → F by v → G by v)
-        → ((by : ℕ) (v : View C) → get_elem? views by ≡ some v → F by v)
-        → (by : ℕ) (v : View C) → get_elem? (set views id left ++ right ∷ []) by ≡ some v → G by v
+    new_fits : (views : List View) (id : ℕ) (left right : View) → G id left → G (length views) right
+        → ((by : ℕ) (v : View) → by ≢ id → F by v → G by v)
+        → ((by : ℕ) (v : View) → get_elem? views by ≡ some v → F by v)
+        → (by : ℕ) (v : View) → get_elem? (set views id left ++ right ∷ []) by ≡ some v → G by v
     new_fits views id left right mine theirs others seats by v at = ⊎_elim
         (λ (t : get_elem? (set views id left) by ≡ some v). set_fits views id left mine others seats by v t)
-        (λ (t : (by ≡ length (set views id left)) × (right ≡ v)). subst (λ (x : ℕ × View C). G x.0 x.1) (λ i. (sym (t.0 ∙ length-set views id left) i, t.1 i)) theirs)
+        (λ (t : (by ≡ length (set views id left)) × (right ≡ v)). subst (λ (x : ℕ × View). G x.0 x.1) (λ i. (sym (t.0 ∙ length-set views id left) i, t.1 i)) theirs)
         (at_new (set views id left) right v by at)
 
-  fits_nobody : (log : List (Entry C)) (made : ℕ) (claimant : ℕ → ℕ) (id : ℕ) → Fits log made claimant id nobody
-  fits_nobody log made claimant id = record { journal = λ e. absurd (off e); hand = λ e. absurd (off e); receipt = λ e. absurd (off e) }
+  fits_nobody : (log : List Entry) (made : ℕ) (claimant : ℕ → ℕ) (id : ℕ) → Fits log made claimant id nobody
+  fits_nobody log made claimant id = record { journal = λ e. absurd (off e); share = λ e. absurd (off e); receipt = λ e. absurd (off e) }
 
-  fits_keeping : (log : List (Entry C)) (made : ℕ) (claimant : ℕ → ℕ) (id : ℕ) (l : List (Entry C)) (m : ℕ) → (id ≡ 0) × (l ≡ log) × (m ≡ made) → Fits log made claimant id (keeping l m)
-  fits_keeping log made claimant id l m is = record { journal = λ e. is; hand = λ e. absurd (off e); receipt = λ e. absurd (off e) }
+  fits_keeping : (log : List Entry) (made : ℕ) (claimant : ℕ → ℕ) (id : ℕ) (l : List Entry) (m : ℕ) → (id ≡ 0) × (l ≡ log) × (m ≡ made) → Fits log made claimant id (keeping l m)
+  fits_keeping log made claimant id l m is = record { journal = λ e. is; share = λ e. absurd (off e); receipt = λ e. absurd (off e) }
 
-  fits_holding : (log : List (Entry C)) (made : ℕ) (claimant : ℕ → ℕ) (id station : ℕ) (mine : List (Entry C))
+  fits_holding : (log : List Entry) (made : ℕ) (claimant : ℕ → ℕ) (id station : ℕ) (mine : List Entry)
       → (station < made) × (id ≡ claimant station) × (mine ≡ of_station station log) → Fits log made claimant id (holding station mine)
-  fits_holding log made claimant id station mine is = record { journal = λ e. absurd (off e); hand = λ e. is; receipt = λ e. absurd (off e) }
+  fits_holding log made claimant id station mine is = record { journal = λ e. absurd (off e); share = λ e. is; receipt = λ e. absurd (off e) }
 
-  fits_joined : (log : List (Entry C)) (made : ℕ) (claimant : ℕ → ℕ) (id : ℕ) (l : List (Entry C)) (m station : ℕ) (mine : List (Entry C))
+  fits_joined : (log : List Entry) (made : ℕ) (claimant : ℕ → ℕ) (id : ℕ) (l : List Entry) (m station : ℕ) (mine : List Entry)
       → (id ≡ 0) × (l ≡ log) × (m ≡ made) → (station < made) × (id ≡ claimant station) × (mine ≡ of_station station log) → Fits log made claimant id (joined l m station mine)
-  fits_joined log made claimant id l m station mine is has = record { journal = λ e. is; hand = λ e. has; receipt = λ e. absurd (off e) }
+  fits_joined log made claimant id l m station mine is has = record { journal = λ e. is; share = λ e. has; receipt = λ e. absurd (off e) }
 
-  -- a seat that is not the hand of the station fits where that hand goes to another seat
-  beside : (log : List (Entry C)) (made : ℕ) (claimant : ℕ → ℕ) (station holder seat : ℕ) → holder ≡ claimant station
-      → (by : ℕ) (v : View C) → by ≢ holder → Fits log made claimant by v → Fits log made (placed station seat claimant) by v
+  -- a seat that is not the share of the station fits where that share goes to another seat
+  beside : (log : List Entry) (made : ℕ) (claimant : ℕ → ℕ) (station holder seat : ℕ) → holder ≡ claimant station
+      → (by : ℕ) (v : View) → by ≢ holder → Fits log made claimant by v → Fits log made (placed station seat claimant) by v
   beside log made claimant station holder seat is by v apart f = record {
     journal = f.journal;
-    hand = λ e.
-        let h = f.hand e in
+    share = λ e.
+        let h = f.share e in
         (h.0, h.1 ∙ sym (placed_else station seat claimant v.station (λ same. apart (h.1 ∙ ap claimant same ∙ sym is))), h.2);
     receipt = f.receipt;
   }
 
-  fits_knowing : (log : List (Entry C)) (made : ℕ) (claimant : ℕ → ℕ) (id : ℕ) (seen : List (Entry C)) → IsPrefix seen log → Fits log made claimant id (knowing seen)
-  fits_knowing log made claimant id seen first = record { journal = λ e. absurd (off e); hand = λ e. absurd (off e); receipt = λ e. first }
+  fits_knowing : (log : List Entry) (made : ℕ) (claimant : ℕ → ℕ) (id : ℕ) (seen : List Entry) → IsPrefix seen log → Fits log made claimant id (knowing seen)
+  fits_knowing log made claimant id seen first = record { journal = λ e. absurd (off e); share = λ e. absurd (off e); receipt = λ e. first }
 
-  fits_reading : (log : List (Entry C)) (made : ℕ) (claimant : ℕ → ℕ) (id : ℕ) (l : List (Entry C)) (m : ℕ) (seen : List (Entry C))
+  fits_reading : (log : List Entry) (made : ℕ) (claimant : ℕ → ℕ) (id : ℕ) (l : List Entry) (m : ℕ) (seen : List Entry)
       → (id ≡ 0) × (l ≡ log) × (m ≡ made) → IsPrefix seen log → Fits log made claimant id (reading l m seen)
-  fits_reading log made claimant id l m seen is first = record { journal = λ e. is; hand = λ e. absurd (off e); receipt = λ e. first }
+  fits_reading log made claimant id l m seen is first = record { journal = λ e. is; share = λ e. absurd (off e); receipt = λ e. first }
 
   -- entries that begin a list begin one with more
-  begins_more : (seen log : List (Entry C)) (e : Entry C) → IsPrefix seen log → IsPrefix seen (log ++ e ∷ [])
+  begins_more : (seen log : List Entry) (e : Entry) → IsPrefix seen log → IsPrefix seen (log ++ e ∷ [])
   begins_more seen log e first = record { rest = first.rest ++ e ∷ []; is = sym (append_assoc seen first.rest (e ∷ [])) ∙ ap (λ l. l ++ e ∷ []) first.is }
 
   -- the table as it is made
-  pub begins : Kept {C = C} (keeping [] 0 ∷ [])
+  pub begins : Kept (keeping [] 0 ∷ [])
   begins = record { log = []; made = 0; claimant = λ _. 0; seats = only }
     where
-      only : (by : ℕ) (v : View C) → get_elem? (keeping [] 0 ∷ []) by ≡ some v → Fits [] 0 (λ _. 0) by v
+      only : (by : ℕ) (v : View) → get_elem? (keeping [] 0 ∷ []) by ≡ some v → Fits [] 0 (λ _. 0) by v
       only zero v e = subst (Fits [] 0 (λ _. 0) 0) (some-injective _ _ e) (fits_keeping [] 0 (λ _. 0) 0 [] 0 (refl, refl, refl))
       only (suc by) v e = absurd (some-ne-none v (sym e))
 
-  -- a hand leaves what it knows to a new seat
-  pub leaves : (id : ℕ) (v : View C) → v.is_hand ≡ true → Splits {S = Unit {0}} Tied id v nobody (holding v.station v.mine)
+  -- a share leaves what it knows to a new seat
+  pub leaves : (id : ℕ) (v : View) → v.is_share ≡ true → Splits {S = Unit {0}} Tied id v nobody (holding v.station v.mine)
   leaves id v is s k at =
-      let h = (k.seats id v at).hand is in
+      let h = (k.seats id v at).share is in
       let n = length s.views in
       let to = placed v.station n k.claimant in
       record {
@@ -127,11 +127,11 @@ module _ {C : Type 0} where
             k.seats;
       }
 
-  -- the journal gives a hand back
-  pub gives : (id : ℕ) (v : View C) → v.is_journal ≡ true → v.is_hand ≡ true → Splits {S = Unit {0}} Tied id v (keeping v.log v.made) (holding v.station v.mine)
+  -- the journal gives a share back
+  pub gives : (id : ℕ) (v : View) → v.is_journal ≡ true → v.is_share ≡ true → Splits {S = Unit {0}} Tied id v (keeping v.log v.made) (holding v.station v.mine)
   gives id v keeps_all is s k at =
       let f = k.seats id v at in
-      let h = f.hand is in
+      let h = f.share is in
       let n = length s.views in
       let to = placed v.station n k.claimant in
       record {
@@ -145,8 +145,8 @@ module _ {C : Type 0} where
             k.seats;
       }
 
-  -- the journal makes the hand of a station that has none
-  pub enlists : (id : ℕ) (v : View C) (station : ℕ) → v.is_journal ≡ true → v.made ≤ station
+  -- the journal makes the share of a station that has none
+  pub enlists : (id : ℕ) (v : View) (station : ℕ) → v.is_journal ≡ true → v.made ≤ station
       → Splits {S = Unit {0}} Tied id v (keeping v.log (station + 1)) (holding station (of_station station v.log))
   enlists id v station is fresh s k at =
       let j = (k.seats id v at).journal is in
@@ -161,8 +161,8 @@ module _ {C : Type 0} where
             (fits_holding k.log (station + 1) to n station (of_station station v.log) (omega arith, sym (placed_here station n k.claimant), ap (of_station station) j.1))
             (λ by u apart f. record {
               journal = λ e. absurd (apart ((f.journal e).0 ∙ sym j.0));
-              hand = λ e.
-                  let h = f.hand e in
+              share = λ e.
+                  let h = f.share e in
                   let below : u.station < k.made = h.0 in
                   let same : v.made ≡ k.made = j.2 in
                   (omega (arith, below, same, fresh), h.1 ∙ sym (placed_else station n k.claimant u.station (λ one. absurd (omega (arith, below, same, fresh, one)))), h.2);
@@ -171,20 +171,20 @@ module _ {C : Type 0} where
             k.seats;
       }
 
-  -- the journal takes in what a hand left
-  pub takes_in : (id other : ℕ) (v w : View C) → v.is_journal ≡ true → w.is_hand ≡ true → Joins {S = Unit {0}} Tied id v other w (joined v.log v.made w.station w.mine) nobody
+  -- the journal takes in what a share left
+  pub takes_in : (id other : ℕ) (v w : View) → v.is_journal ≡ true → w.is_share ≡ true → Joins {S = Unit {0}} Tied id v other w (joined v.log v.made w.station w.mine) nobody
   takes_in id other v w is held s k at apart there =
       let both = joined v.log v.made w.station w.mine in
       let theirs : Fits k.log k.made k.claimant other w = ⊎_elim
       (λ (t : (other ≡ id) × (both ≡ w)). absurd (apart t.0))
       (λ (t : (other ≢ id) × (get_elem? s.views other ≡ some w)). k.seats other w t.1)
       (at_set s.views id other both w there) in
-      let h = theirs.hand held in
+      let h = theirs.share held in
       let j = (k.seats id v at).journal is in
       let to = placed w.station id k.claimant in
-      let F : ℕ → View C → Type 0 = Fits k.log k.made k.claimant in
-      let G : ℕ → View C → Type 0 = Fits k.log k.made to in
-      let H : ℕ → View C → Type 0 = λ by u. by ≢ other → Fits k.log k.made to by u in
+      let F : ℕ → View → Type 0 = Fits k.log k.made k.claimant in
+      let G : ℕ → View → Type 0 = Fits k.log k.made to in
+      let H : ℕ → View → Type 0 = λ by u. by ≢ other → Fits k.log k.made to by u in
       record {
         log = k.log;
         made = k.made;
@@ -197,13 +197,13 @@ module _ {C : Type 0} where
       }
 
   -- both learn one entry more
-  pub adds : (slots id : ℕ) (me : Me (Unit {0}) (View C)) (es : List (Entry C)) (e : Entry C) → es ≡ e ∷ [] → me.0.is_journal ≡ true → me.0.is_hand ≡ true → e.station ≡ me.0.station
+  pub adds : (slots id : ℕ) (me : Me (Unit {0}) View) (es : List Entry) (e : Entry) → es ≡ e ∷ [] → me.0.is_journal ≡ true → me.0.is_share ≡ true → e.station ≡ me.0.station
       → Allows Tied slots id me 0 (λ n. n) (λ _ w. w ≡ (joined (me.0.log ++ es) me.0.made me.0.station (me.0.mine ++ es), me.1))
   adds slots id me es e one is held own s k deep at small =
       let v = me.0 in
       let f = k.seats id v at in
       let j = f.journal is in
-      let h = f.hand held in
+      let h = f.share held in
       let now = k.log ++ e ∷ [] in
       let w = joined (v.log ++ es) v.made v.station (v.mine ++ es) in (
         w,
@@ -219,8 +219,8 @@ module _ {C : Type 0} where
               (h.0, h.1, (λ i. h.2 i ++ one i) ∙ sym (own_last v.station k.log e own)))
               (λ by u apart g. record {
                 journal = λ a. absurd (apart ((g.journal a).0 ∙ sym j.0));
-                hand = λ a.
-                    let t = g.hand a in
+                share = λ a.
+                    let t = g.share a in
                     (t.0, t.1, t.2 ∙ sym (other_last u.station k.log e (λ same. apart (t.1 ∙ ap k.claimant (sym same ∙ own) ∙ sym h.1))));
                 receipt = λ a. begins_more u.seen k.log e (g.receipt a);
               })
@@ -229,13 +229,13 @@ module _ {C : Type 0} where
         refl,
       )
 
-  -- a hand's entries are its station's
-  pub compares : (slots id : ℕ) (me : Me (Unit {0}) (View C)) → me.0.is_journal ≡ true → me.0.is_hand ≡ true
+  -- a share's entries are its station's
+  pub compares : (slots id : ℕ) (me : Me (Unit {0}) View) → me.0.is_journal ≡ true → me.0.is_share ≡ true
       → Allows Tied slots id me 0 (λ n. n) (λ _ w. (w ≡ me) × (me.0.mine ≡ of_station me.0.station me.0.log))
   compares slots id me is held s k deep at small =
       let f = k.seats id me.0 at in
       let j = f.journal is in
-      let h = f.hand held in (
+      let h = f.share held in (
         me.0,
         keeps,
         tt,
@@ -249,11 +249,11 @@ module _ {C : Type 0} where
       )
 
   -- the journal gives a receipt of all its entries
-  pub receives : (id : ℕ) (v : View C) → v.is_journal ≡ true → Splits {S = Unit {0}} Tied id v (keeping v.log v.made) (knowing v.log)
+  pub receives : (id : ℕ) (v : View) → v.is_journal ≡ true → Splits {S = Unit {0}} Tied id v (keeping v.log v.made) (knowing v.log)
   receives id v is s k at =
       let j = (k.seats id v at).journal is in
       let n = length s.views in
-      let F : ℕ → View C → Type 0 = Fits k.log k.made k.claimant in
+      let F : ℕ → View → Type 0 = Fits k.log k.made k.claimant in
       record {
         log = k.log;
         made = k.made;
@@ -266,7 +266,7 @@ module _ {C : Type 0} where
       }
 
   -- the journal takes in a receipt
-  pub reads_receipt : (id other : ℕ) (v w : View C) → v.is_journal ≡ true → w.is_receipt ≡ true → Joins {S = Unit {0}} Tied id v other w (reading v.log v.made w.seen) nobody
+  pub reads_receipt : (id other : ℕ) (v w : View) → v.is_journal ≡ true → w.is_receipt ≡ true → Joins {S = Unit {0}} Tied id v other w (reading v.log v.made w.seen) nobody
   reads_receipt id other v w is knows s k at apart there =
       let both = reading v.log v.made w.seen in
       let theirs : Fits k.log k.made k.claimant other w = ⊎_elim
@@ -274,7 +274,7 @@ module _ {C : Type 0} where
       (λ (t : (other ≢ id) × (get_elem? s.views other ≡ some w)). k.seats other w t.1)
       (at_set s.views id other both w there) in
       let j = (k.seats id v at).journal is in
-      let F : ℕ → View C → Type 0 = Fits k.log k.made k.claimant in
+      let F : ℕ → View → Type 0 = Fits k.log k.made k.claimant in
       record {
         log = k.log;
         made = k.made;
@@ -287,7 +287,7 @@ module _ {C : Type 0} where
       }
 
   -- a receipt's entries begin the journal's
-  pub confirms : (slots id : ℕ) (me : Me (Unit {0}) (View C)) → me.0.is_journal ≡ true → me.0.is_receipt ≡ true
+  pub confirms : (slots id : ℕ) (me : Me (Unit {0}) View) → me.0.is_journal ≡ true → me.0.is_receipt ≡ true
       → Allows Tied slots id me 0 (λ n. n) (λ _ w. (w ≡ me) × IsPrefix me.0.seen me.0.log)
   confirms slots id me is knows s k deep at small =
       let f = k.seats id me.0 at in
@@ -305,10 +305,10 @@ module _ {C : Type 0} where
       )
 
   -- the journal parts with a receipt
-  pub parts_with_receipt : (id : ℕ) (v : View C) → v.is_journal ≡ true → Splits {S = Unit {0}} Tied id v (keeping v.log v.made) nobody
+  pub parts_with_receipt : (id : ℕ) (v : View) → v.is_journal ≡ true → Splits {S = Unit {0}} Tied id v (keeping v.log v.made) nobody
   parts_with_receipt id v is s k at =
       let j = (k.seats id v at).journal is in
-      let F : ℕ → View C → Type 0 = Fits k.log k.made k.claimant in
+      let F : ℕ → View → Type 0 = Fits k.log k.made k.claimant in
       record {
         log = k.log;
         made = k.made;

@@ -1,23 +1,37 @@
-use Rattle.std.specs.Prelude.{ℕ, ◌≢◌, List, [], ◌∷◌, ◌++◌, ◌==◌, filter, All}
+use Rattle.std.specs.Prelude.{◌≡◌, ℕ, ◌≤◌, List, [], ◌∷◌, ◌++◌, ◌==◌, ◌⊎◌, filter, length}
 use Rattle.kept_desk.specs.declared.entry.Entry.{Entry}
+use Rattle.ledger_model.specs.declared.command.Command.{Command}
+use Rattle.script_lines.specs.Lines.{HasNoFeed}
+use Rattle.script_lines.specs.Ranges.{longest_line}
 
--- A station's line, and the command that it is, as an entry.
-abbrev pub entry : {C : Type 0} → ℕ → List ℕ → C → Entry C
-entry station line command = record { station = station; line = line; command = command }
+-- A station's line with the note in front of it, and the command that the line is, as an entry.
+abbrev pub entry : ℕ → List ℕ → List ℕ → Command → Entry
+entry station note line command = record { station = station; note = note; line = line; command = command }
 
 -- The entries of one station, in their order.
-abbrev pub of_station : {C : Type 0} → ℕ → List (Entry C) → List (Entry C)
+abbrev pub of_station : ℕ → List Entry → List Entry
 of_station station entries = filter (λ e. e.station == station) entries
-
--- No byte of the line is a line feed.
-abbrev pub HasNoFeed : List ℕ → Type 0
-HasNoFeed line = All (λ b. b ≢ 10) line
 
 -- The text of a line: its bytes and a line feed.
 abbrev pub line_text : List ℕ → List ℕ
 line_text line = line ++ 10 ∷ []
 
--- The text of entries: the texts of their lines, one after the other.
-abbrev pub text_of : {C : Type 0} → List (Entry C) → List ℕ
+-- These bytes are one comment line, no longer than a line may be: `#`, what stands behind it, and the line feed that ends it.
+pub record IsComment (bytes : List ℕ) : Type 0 where
+  pub said : List ℕ
+  pub feedless : HasNoFeed said
+  pub short : length (35 ∷ said) ≤ longest_line
+  pub is : bytes ≡ line_text (35 ∷ said)
+
+-- What may stand in front of a line: nothing, or a comment line.
+abbrev pub IsNote : List ℕ → Type 0
+IsNote note = (note ≡ []) ⊎ IsComment note
+
+-- The text of an entry: its note, and the text of its line.
+abbrev pub entry_text : Entry → List ℕ
+entry_text e = e.note ++ line_text e.line
+
+-- The text of entries, one after the other.
+abbrev pub text_of : List Entry → List ℕ
 text_of [] = []
-text_of (e ∷ entries) = line_text e.line ++ text_of entries
+text_of (e ∷ entries) = entry_text e ++ text_of entries

@@ -1,30 +1,34 @@
 use Rattle.std.specs.Prelude.{◌≡◌, ℕ, Bool, false, List, [], ◌++◌, Option, All}
 use Rattle.std.specs.Io.KnownBytes.{Appends, append_known}
 use Rattle.kept_desk.specs.declared.entry.Entry.{Entry}
-use Rattle.kept_desk.specs.Entries.{HasNoFeed, line_text, text_of}
+use Rattle.kept_desk.specs.Entries.{IsNote, line_text, text_of}
+use Rattle.script_lines.specs.Lines.{HasNoFeed}
 
--- A journal: its entries, first to last; the number below which all stations with a hand are; and whether a write failed.
-pub record Ledger (C : Type 0) : Type 0 where
-  pub entries : List (Entry C)
-  pub hands : ℕ
+-- A journal: its entries, first to last; the number below which all stations with a share are; and whether a write failed.
+pub record Ledger : Type 0 where
+  pub entries : List Entry
+  pub shares : ℕ
   pub broken : Bool
 
--- A hand: its station's number, and that station's entries.
-pub record Share (C : Type 0) : Type 0 where
+-- A station's share: its station's number, and that station's entries.
+pub record OwnEntries : Type 0 where
   pub station : ℕ
-  pub entries : List (Entry C)
+  pub entries : List Entry
 
--- These bytes begin the text of some line, or are all of it.
+-- These bytes begin the text of some line with a note in front of it, or are all of it.
 pub record BeginsLine (front : List ℕ) : Type 0 where
+  pub note : List ℕ
   pub line : List ℕ
   pub rest : List ℕ
+  pub is_note : IsNote note
   pub no_feed : HasNoFeed line
-  pub is : line_text line ≡ front ++ rest
+  pub is : note ++ line_text line ≡ front ++ rest
 
--- What was written behind `before`: the text of the entries, whose lines have no line feeds, and behind it, where a write or a flush failed, the front of one line more, which may be all of it. Of this `now` is what the writer behind the buffer took, and the buffer holds the rest; where none failed, it holds nothing.
-pub record IsWritten {C : Type 0} (broken : Bool) (before now : Option (List ℕ)) (buffer : List ℕ) (entries : List (Entry C)) : Type 0 where
+-- What was written behind `before`: the text of the entries, whose lines have no line feeds and before which stand notes, and behind it, where a write or a flush failed, the front of one line more, which may be all of it. Of this `now` is what the writer behind the buffer took, and the buffer holds the rest; where none failed, it holds nothing.
+pub record IsWritten (broken : Bool) (before now : Option (List ℕ)) (buffer : List ℕ) (entries : List Entry) : Type 0 where
   pub front : List ℕ
   pub begins : BeginsLine front
+  pub notes : All (λ e. IsNote e.note) entries
   pub lines : All (λ e. HasNoFeed e.line) entries
   pub whole : broken ≡ false → front ≡ []
   pub handed_on : broken ≡ false → buffer ≡ []

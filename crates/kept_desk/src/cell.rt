@@ -1,38 +1,38 @@
 ghost use Rattle.std.specs.Prelude.{◌≡◌, List, [], ◌∷◌, ◌++◌, length, IfOk};
-ghost use Rattle.kept_desk.specs.Entries.{HasNoFeed, entry, of_station};
+ghost use Rattle.kept_desk.specs.Entries.{IsNote, entry, of_station};
 ghost use Rattle.ledger_model.specs.Laws.{IsAccepted};
 ghost use Rattle.ledger_model.specs.Step.{answer};
 ghost use Rattle.station_cell.specs.Cell.{IsInService};
 ghost use Rattle.station_cell.specs.Settle.{cell_after};
 ghost use Rattle.site_desk.specs.Submit.{CanJudge, Submitted};
 ghost use Rattle.kept_desk.specs.Kept.{IsReceived, KeepsCell, given_with};
+ghost use Rattle.kept_desk.specs.Speaking.{SpeaksOf};
 
 use crate::broken::Broken;
-use crate::hand::Hand;
-use crate::opening::{Opening, Speaks};
+use crate::opening::Opening;
 use crate::receipt::Receipt;
-use crate::ties::Ties;
+use crate::share::Share;
 use crate::way::Journalled;
 use ledger_model::{Answer, Command, Refusal};
 use site_book::{Naming, SiteBook, Told};
 use site_desk::{
-    HasCell, Pass, StationCell, StationPlace, TooManyPasses, can_settle, enlist_cell, settle_at,
+    HasCell, Pass, StationCell, StationPlace, TooManyPasses, can_post, enlist_cell, settle_at,
 };
 use std::io::Write;
 use std::marker::Model;
 use std::sync::{Mutex, Wait};
 use std::thread::Threads;
 
-/// A station's cell and its hand of the journal. Contracts see the cell: its content, while it is in
-/// service, is always what the commands of the hand's entries, each accepted, leave of what the station
+/// A station's cell and its share of the journal. Contracts see the cell: its content, while it is in
+/// service, is always what the commands of its entries, each accepted, leave of what the station
 /// held when the desk was opened.
 #[derive(Drop)]
-pub struct KeptCell<K: Ties + Opening> {
+pub struct KeptCell<K: Opening> {
     cell: StationCell,
-    hand: Hand<K, Command>,
+    share: Share<K>,
 }
 
-impl<K: Ties + Opening> Model for KeptCell<K> {
+impl<K: Opening> Model for KeptCell<K> {
     ghost use Rattle.station_cell.specs.Cell.{Cell, cell_code};
     ghost use Rattle.kept_desk.specs.Kept.{KeepsCell};
 
@@ -42,10 +42,10 @@ impl<K: Ties + Opening> Model for KeptCell<K> {
 
     ghost view = { λ k. k.cell };
 
-    ghost invariant = { λ k. KeepsCell K.first k.cell k.hand };
+    ghost invariant = { λ k. KeepsCell K.first k.cell k.share };
 }
 
-impl<K: Ties + Opening> HasCell for KeptCell<K> {
+impl<K: Opening> HasCell for KeptCell<K> {
     ghost cell = { λ c. c };
 
     fn cell(&self) -> &StationCell {
@@ -57,29 +57,29 @@ impl<K: Ties + Opening> HasCell for KeptCell<K> {
     }
 }
 
-impl<K: Ties + Opening> KeptCell<K> {
-    // The cell of a station as it was when the desk was opened, with a hand of no entries.
-    pub(crate) fn new(cell: StationCell, hand: Hand<K, Command>) -> Self
-        requires station { hand.station ≡ cell.station }
-        requires none { hand.entries ≡ [] }
+impl<K: Opening> KeptCell<K> {
+    // The cell of a station as it was when the desk was opened, with a share of no entries.
+    pub(crate) fn new(cell: StationCell, share: Share<K>) -> Self
+        requires station { share.station ≡ cell.station }
+        requires none { share.entries ≡ [] }
         requires first { cell.content ≡ K.first cell.station }
         ensures { result ≡ cell }
     {
-        KeptCell { cell, hand }
+        KeptCell { cell, share }
     }
 
     // Both, where the journal's lock is given up.
-    pub(crate) fn into_parts(self) -> (StationCell, Hand<K, Command>)
+    pub(crate) fn into_parts(self) -> (StationCell, Share<K>)
         ensures cell { result.0 ≡ self }
         ensures left { KeepsCell K.first self result.1 }
     {
-        let KeptCell { cell, hand } = self;
-        (cell, hand)
+        let KeptCell { cell, share } = self;
+        (cell, share)
     }
 
     // Takes a command of a pass: where the ledger would accept it, its line is written first. A line that
     // can't be written changes nothing.
-    pub(crate) fn take<J: Naming, L: Speaks, W: Write + Drop, R: Wait>(
+    pub(crate) fn take<J: Naming, W: Write + Drop, R: Wait>(
         &mut self,
         rt: &R,
         book: &Mutex<SiteBook<J>>,
@@ -87,13 +87,13 @@ impl<K: Ties + Opening> KeptCell<K> {
         place: &StationPlace,
         pass: &mut Pass,
         command: Command,
-        way: &Journalled<'_, K, L, W>,
-    ) -> (Answer, Option<Told<J>>, Option<Receipt<K, Command>>)
+        way: &Journalled<'_, K, W>,
+    ) -> (Answer, Option<Told<J>>, Option<Receipt<K>>)
         requires can { CanJudge number place.now self.old pass.old }
-        requires line { HasNoFeed way.now.line.now }
-        requires speaks { L.speaks (K.name number) way.now.line.now command }
+        requires note { IsNote way.now.note.now }
+        requires speaks { SpeaksOf (K.name number) way.now.line.now command }
         ensures submitted { Submitted place.now pass.old command result.0 pass.new result.1 }
-        ensures received { IsReceived result.0 (entry number way.now.line.now command) result.2 }
+        ensures received { IsReceived result.0 (entry number way.now.note.now way.now.line.now command) result.2 }
     {
         match self.cell.ledger().judge(&command) {
             Answer::Accepted(_) => {
@@ -105,7 +105,7 @@ impl<K: Ties + Opening> KeptCell<K> {
     }
 
     // Writes the line of a command that the ledger will accept, and then settles it.
-    fn take_written<J: Naming, L: Speaks, W: Write + Drop, R: Wait>(
+    fn take_written<J: Naming, W: Write + Drop, R: Wait>(
         &mut self,
         rt: &R,
         book: &Mutex<SiteBook<J>>,
@@ -113,17 +113,17 @@ impl<K: Ties + Opening> KeptCell<K> {
         place: &StationPlace,
         pass: &mut Pass,
         command: Command,
-        way: &Journalled<'_, K, L, W>,
-    ) -> (Answer, Option<Told<J>>, Option<Receipt<K, Command>>)
+        way: &Journalled<'_, K, W>,
+    ) -> (Answer, Option<Told<J>>, Option<Receipt<K>>)
         requires can { CanJudge number place.now self.old pass.old }
         requires accepted { IsAccepted (answer self.old.limits self.old.content command) }
-        requires line { HasNoFeed way.now.line.now }
-        requires speaks { L.speaks (K.name number) way.now.line.now command }
+        requires note { IsNote way.now.note.now }
+        requires speaks { SpeaksOf (K.name number) way.now.line.now command }
         ensures submitted { Submitted place.now pass.old command result.0 pass.new result.1 }
-        ensures received { IsReceived result.0 (entry number way.now.line.now command) result.2 }
+        ensures received { IsReceived result.0 (entry number way.now.note.now way.now.line.now command) result.2 }
     {
         command.keeps_ranges();
-        match way.write(rt, &mut self.hand, &command) {
+        match way.write(rt, &mut self.share, &command) {
             Ok(receipt) => with_receipt(
                 settle_written(rt, &mut self.cell, book, number, place, pass, command),
                 receipt,
@@ -134,10 +134,10 @@ impl<K: Ties + Opening> KeptCell<K> {
 }
 
 // The answer with what the book told, and with the receipt where the command was accepted.
-fn with_receipt<J: Naming, K: Ties>(
+fn with_receipt<J: Naming, K: Opening>(
     settled: (Answer, Option<Told<J>>),
-    receipt: Receipt<K, Command>,
-) -> (Answer, Option<Told<J>>, Option<Receipt<K, Command>>)
+    receipt: Receipt<K>,
+) -> (Answer, Option<Told<J>>, Option<Receipt<K>>)
     ensures answer { result.0 ≡ settled.0 }
     ensures told { result.1 ≡ settled.1 }
     ensures receipt { result.2 ≡ given_with settled.0 receipt }
@@ -162,11 +162,12 @@ fn settle_written<J: Naming, R: Wait>(
     pass: &mut Pass,
     command: Command,
 ) -> (Answer, Option<Told<J>>)
+    requires can { CanJudge number place.now cell.old pass.old }
     ensures settled { IsInService cell.new → cell.new ≡ cell_after cell.old pass.old command }
     ensures submitted { Submitted place.now pass.old command result.0 pass.new result.1 }
 {
     let mut book = book.lock(rt);
-    if can_settle(cell, &book, number, place, pass) {
+    if can_post(cell, &book, number, place, pass) {
         settle_at(cell, &mut book, number, place, pass, command)
     } else {
         cell.retire();

@@ -1,4 +1,4 @@
-//! Cells with their hands, and without them.
+//! Cells with their shares, and without them.
 ghost use Rattle.std.specs.Prelude.{◌≡◌, ℕ, ◌+◌, ◌≤◌, [], ◌++◌, length, IfOk, OnOk, Some, All, slice_get, vec_len, vec_capacity};
 ghost use Rattle.kept_desk.specs.Entries.{of_station};
 ghost use Rattle.station_cell.specs.Cell.{Cell, IsInService};
@@ -7,37 +7,36 @@ ghost use Rattle.kept_desk.specs.Opened.{AreFirst};
 ghost use Rattle.site_book.specs.Prefix.{IsPrefix};
 
 use crate::cell::KeptCell;
-use crate::log::Log;
-use crate::opening::{Opening, Speaks};
+use crate::journal::Journal;
+use crate::opening::Opening;
 use crate::receipt::Receipt;
-use crate::ties::Ties;
 use ledger_model::Command;
 use site_desk::StationCell;
 use std::alloc::{AllocError, Global};
 use std::io::Write;
 
-// Gives each cell its hand of a journal of no entries.
-pub(crate) fn keep_cells<K: Ties + Opening, L: Speaks, W: Write + Drop>(
+// Gives each cell its share of a journal of no entries.
+pub(crate) fn keep_cells<K: Opening, W: Write + Drop>(
     alloc: Global,
     cells: Vec<StationCell>,
-    log: &mut Log<K, L, W>,
+    log: &mut Journal<K, W>,
 ) -> Result<Vec<KeptCell<K>>, AllocError>
     requires first { AreFirst K.first cells.items }
-    requires log { (log.old.entries ≡ []) × (log.old.hands ≡ 0) }
+    requires log { (log.old.entries ≡ []) × (log.old.shares ≡ 0) }
     ensures { IfOk result (λ kept. kept.items ≡ cells.items) }
 {
     let mut kept = Vec::with_capacity(alloc, cells.len())?;
     for cell in cells {
-        let hand = log.hand(cell.station());
-        kept.push(KeptCell::new(cell, hand))?;
+        let share = log.enlist(cell.station());
+        kept.push(KeptCell::new(cell, share))?;
     }
     Ok(kept)
 }
 
-// Gives each cell back without its hand, which is compared with the journal.
-pub(crate) fn free_cells<K: Ties + Opening, L: Speaks, W: Write + Drop>(
+// Gives each cell back without its share, which is compared with the journal.
+pub(crate) fn free_cells<K: Opening, W: Write + Drop>(
     kept: Vec<KeptCell<K>>,
-    log: &mut Log<K, L, W>,
+    log: &mut Journal<K, W>,
     cells: &mut Vec<StationCell>,
 )
     requires none { vec_len cells.old ≡ 0 }
@@ -53,9 +52,9 @@ pub(crate) fn free_cells<K: Ties + Opening, L: Speaks, W: Write + Drop>(
 }
 
 // Compares each receipt with the journal.
-pub(crate) fn confirm_all<K: Ties + Opening, L: Speaks, W: Write + Drop>(
-    receipts: Vec<Receipt<K, Command>>,
-    log: &mut Log<K, L, W>,
+pub(crate) fn confirm_all<K: Opening, W: Write + Drop>(
+    receipts: Vec<Receipt<K>>,
+    log: &mut Journal<K, W>,
 )
     ensures log { log.new ≡ log.old }
     ensures first { All (λ r. IsPrefix r log.old.entries) receipts.items }
@@ -65,16 +64,13 @@ pub(crate) fn confirm_all<K: Ties + Opening, L: Speaks, W: Write + Drop>(
     }
 }
 
-// Gives the cell back without its hand.
-fn free_cell<K: Ties + Opening, L: Speaks, W: Write + Drop>(
-    kept: KeptCell<K>,
-    log: &mut Log<K, L, W>,
-) -> StationCell
+// Gives the cell back without its share.
+fn free_cell<K: Opening, W: Write + Drop>(kept: KeptCell<K>, log: &mut Journal<K, W>) -> StationCell
     ensures cell { result ≡ kept }
     ensures log { log.new ≡ log.old }
     ensures left { IsInService kept → IsLeftFrom kept.limits (K.first kept.station) kept.content (commands_of (of_station kept.station log.old.entries)) }
 {
-    let (cell, mut hand) = kept.into_parts();
-    log.compare(&mut hand);
+    let (cell, mut share) = kept.into_parts();
+    log.compare(&mut share);
     cell
 }

@@ -1,8 +1,7 @@
 use crate::desk::KeptDesk;
-use crate::opening::{Opening, Speaks};
+use crate::opening::Opening;
 use crate::receipt::Receipt;
-use crate::ties::Ties;
-use ledger_model::{Command, Listed};
+use ledger_model::Listed;
 use site_book::{Naming, Viewer};
 use site_desk::{CloseFault, Closed, Pass};
 use std::io::{BufWriter, Write};
@@ -20,15 +19,15 @@ pub struct KeptClosed<J: Naming, W: Write + Drop> {
 
 /// A desk that was not closed, with the passes, viewers and receipts that were handed in, all as they were.
 #[derive(Drop)]
-pub struct KeptRefused<J: Naming, K: Ties + Opening, L: Speaks, W: Write + Drop> {
+pub struct KeptRefused<J: Naming, K: Opening, W: Write + Drop> {
     /// The desk.
-    pub desk: KeptDesk<J, K, L, W>,
+    pub desk: KeptDesk<J, K, W>,
     /// The passes.
     pub passes: Listed<Pass>,
     /// The viewers.
     pub viewers: Listed<Viewer<J>>,
     /// The receipts.
-    pub receipts: Vec<Receipt<K, Command>>,
+    pub receipts: Vec<Receipt<K>>,
     /// Why it was not closed.
     pub fault: CloseFault,
 }

@@ -1,6 +1,6 @@
 ghost use Rattle.std.specs.Prelude.{◌≡◌, ◌≢◌, ℕ, [], All, length, IfOk, IfErr, None, Some, slice_get};
 ghost use Rattle.std.specs.Io.Buffered.{writer_buffer, writer_inner};
-ghost use Rattle.kept_desk.specs.Entries.{HasNoFeed, entry};
+ghost use Rattle.kept_desk.specs.Entries.{IsNote, entry};
 ghost use Rattle.ledger_model.specs.declared.answer.Answer.{Answer};
 ghost use Rattle.ledger_model.specs.declared.answer.Refusal.{Refusal};
 ghost use Rattle.site_desk.specs.declared.fault.CloseFault.{CloseFault};
@@ -11,15 +11,15 @@ ghost use Rattle.site_desk.specs.Roster.{AreNewPlaces};
 ghost use Rattle.site_desk.specs.Submit.{IsUnchanged, Submitted};
 ghost use Rattle.kept_desk.specs.Kept.{IsReceived, IsWrittenDown};
 ghost use Rattle.kept_desk.specs.Opened.{AreFirst, AreNames};
+ghost use Rattle.kept_desk.specs.Speaking.{SpeaksOf};
 
-use crate::blank::Blank;
 use crate::cell::KeptCell;
 use crate::cells::{confirm_all, free_cells, keep_cells};
 use crate::closed::{KeptClosed, KeptRefused};
-use crate::log::Log;
-use crate::opening::{Opening, Speaks};
+use crate::journal::Journal;
+use crate::journal_table::JournalTable;
+use crate::opening::Opening;
 use crate::receipt::Receipt;
-use crate::ties::Ties;
 use crate::way::Journalled;
 use ledger_model::{Answer, Command};
 use site_book::{Naming, Told, Viewer};
@@ -34,13 +34,13 @@ use std::time::Clock;
 /// which is held while no other lock is asked for. Contracts see what they see of a
 /// [`Desk`].
 #[derive(Drop)]
-pub struct KeptDesk<J: Naming, K: Ties + Opening, L: Speaks, W: Write + Drop> {
+pub struct KeptDesk<J: Naming, K: Opening, W: Write + Drop> {
     desk: Desk<J, KeptCell<K>>,
-    log: Mutex<Log<K, L, W>>,
+    log: Mutex<Journal<K, W>>,
     spare: Vec<StationCell>,
 }
 
-impl<J: Naming, K: Ties + Opening, L: Speaks, W: Write + Drop> Model for KeptDesk<J, K, L, W> {
+impl<J: Naming, K: Opening, W: Write + Drop> Model for KeptDesk<J, K, W> {
     ghost use Rattle.site_desk.specs.Roster.{Roster};
 
     ghost Value = { Roster };
@@ -53,7 +53,7 @@ impl<J: Naming, K: Ties + Opening, L: Speaks, W: Write + Drop> Model for KeptDes
     ghost invariant = { λ d. IsKeptDesk K.name d.desk.stations (vec_len d.spare) (vec_capacity d.spare) };
 }
 
-impl<J: Naming, K: Ties + Opening, L: Speaks, W: Write + Drop> KeptDesk<J, K, L, W> {
+impl<J: Naming, K: Opening, W: Write + Drop> KeptDesk<J, K, W> {
     /// The desk of a plan over these parts, with a journal of no entries that writes behind what the writer
     /// holds, and the viewers, each with its site's number.
     ///
@@ -65,10 +65,10 @@ impl<J: Naming, K: Ties + Opening, L: Speaks, W: Write + Drop> KeptDesk<J, K, L,
         alloc: Global,
         plan: &Plan,
         parts: Parts<J>,
-        blank: Blank<Command>,
+        table: JournalTable,
         writer: BufWriter<W>,
     ) -> Result<(Self, Vec<(u16, Viewer<J>)>), AllocError>
-        requires table { blank ≡ K.table }
+        requires table { table ≡ K.table }
         requires before { W.contents (writer_inner writer) ≡ K.before }
         requires empty { writer_buffer writer ≡ [] }
         requires first { AreFirst K.first parts.cells }
@@ -88,7 +88,7 @@ impl<J: Naming, K: Ties + Opening, L: Speaks, W: Write + Drop> KeptDesk<J, K, L,
         } = parts;
         let viewers = viewers.into_vec();
         let spare = Vec::with_capacity(alloc, plan.stations.len())?;
-        let mut log = Log::open(blank, writer);
+        let mut log = Journal::open(table, writer);
         let cells = keep_cells(alloc, cells.into_vec(), &mut log)?;
         let desk = Desk::over(alloc, plan, cells, books.into_vec(), viewers.len())?;
         let kept = KeptDesk {
@@ -122,24 +122,26 @@ impl<J: Naming, K: Ties + Opening, L: Speaks, W: Write + Drop> KeptDesk<J, K, L,
     /// which no run of fewer than 2^62 accepted changes a site meets: the station's cell then leaves service,
     /// and the desk doesn't close over it. With an accepted answer comes the receipt of the line's entry.
     ///
-    /// Conditions: the line has no line feed ([`is_line`](crate::is_line) tells), and it speaks for
-    /// the command on the pass's station.
+    /// Conditions: in front of the line stands nothing or a comment line ([`is_note`](crate::is_note) tells), which is
+    /// written with it, and the line speaks for the command on the pass's station.
     pub fn submit<G: Gate, R: Wait + Clock>(
         &self,
         rt: &R,
         pass: &mut Pass,
         command: Command,
+        note: &[u8],
         line: &[u8],
         gate: &G,
-    ) -> (Answer, Option<Told<J>>, Option<Receipt<K, Command>>)
-        requires line { HasNoFeed line.now }
-        requires speaks { (at : StationPlace) → slice_get self.now.stations pass.old.station ≡ Some at → L.speaks at.name line.now command }
+    ) -> (Answer, Option<Told<J>>, Option<Receipt<K>>)
+        requires note { IsNote note.now }
+        requires speaks { (at : StationPlace) → slice_get self.now.stations pass.old.station ≡ Some at → SpeaksOf at.name line.now command }
         ensures settled { (at : StationPlace) → slice_get self.now.stations pass.old.station ≡ Some at → Submitted at pass.old command result.0 pass.new result.1 }
-        ensures received { (at : StationPlace) → slice_get self.now.stations pass.old.station ≡ Some at → IsReceived result.0 (entry pass.old.station line.now command) result.2 }
+        ensures received { (at : StationPlace) → slice_get self.now.stations pass.old.station ≡ Some at → IsReceived result.0 (entry pass.old.station note.now line.now command) result.2 }
         ensures stranger { slice_get self.now.stations pass.old.station ≡ None → (result.0 ≡ Answer.Refused Refusal.ChangesExhausted) × IsUnchanged pass.old pass.new result.1 }
     {
         let way = Journalled {
             log: &self.log,
+            note,
             line,
         };
         self.desk.submit_by(rt, pass, command, gate, &way)
@@ -151,9 +153,9 @@ impl<J: Naming, K: Ties + Opening, L: Speaks, W: Write + Drop> KeptDesk<J, K, L,
         self,
         passes: Vec<Pass>,
         viewers: Vec<Viewer<J>>,
-        receipts: Vec<Receipt<K, Command>>,
-    ) -> Result<KeptClosed<J, W>, KeptRefused<J, K, L, W>>
-        ensures kept { IfOk result (λ s. IsWrittenDown L.speaks K.name K.first K.before s.is_broken (W.contents (writer_inner s.writer)) (writer_buffer s.writer) s.closed.cells receipts.items) }
+        receipts: Vec<Receipt<K>>,
+    ) -> Result<KeptClosed<J, W>, KeptRefused<J, K, W>>
+        ensures kept { IfOk result (λ s. IsWrittenDown K.name K.first K.before s.is_broken (W.contents (writer_inner s.writer)) (writer_buffer s.writer) s.closed.cells receipts.items) }
         ensures stations { IfOk result (λ s. length s.closed.cells ≡ length self.stations) }
         ensures sites { IfOk result (λ s. length s.closed.books ≡ self.sites) }
         ensures whole { IfOk result (λ s. IsClosable self.stations self.viewers s.closed.cells s.closed.books passes.items viewers.items) }
@@ -170,10 +172,10 @@ impl<J: Naming, K: Ties + Opening, L: Speaks, W: Write + Drop> KeptDesk<J, K, L,
                 let (mut log, mut cells) = (log.into_inner(), spare);
                 free_cells(kept, &mut log, &mut cells);
                 confirm_all(receipts, &mut log);
-                let (writer, is_broken) = log.into_writer();
+                let is_broken = log.is_broken();
                 Ok(KeptClosed {
                     closed: Closed::of(cells, books, passes),
-                    writer,
+                    writer: log.into_writer(),
                     is_broken,
                 })
             }

@@ -1,9 +1,11 @@
+use ledger_model::Command;
 use std::collections::LinkedList;
 
-/// One entry of a journal, as contracts see it: a station's number, the bytes of its line, without the
-/// line feed, and the command that the line is. No value of it is made.
-pub struct Entry<C> {
+/// One entry of a journal, as contracts see it: a station's number, the bytes that stand in front of its line, the bytes
+/// of the line, without the line feed, and the command that the line is. No value of it is made.
+pub struct Entry {
     pub(crate) station: u16,
+    pub(crate) note: LinkedList<u8>,
     pub(crate) line: LinkedList<u8>,
-    pub(crate) command: C,
+    pub(crate) command: Command,
 }

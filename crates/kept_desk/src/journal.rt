@@ -1,70 +1,72 @@
 ghost use Rattle.std.specs.Prelude.{◌≡◌, ◌+◌, ◌≤◌, Bool, true, false, [], ◌∷◌, ◌++◌, IfOk, OnOk, OnErr};
 ghost use Rattle.std.specs.Io.Buffered.{writer_buffer, writer_inner};
 ghost use Rattle.site_book.specs.Prefix.{IsPrefix};
-ghost use Rattle.kept_desk.specs.Entries.{HasNoFeed, entry, of_station};
+ghost use Rattle.kept_desk.specs.Entries.{IsNote, entry, of_station};
 ghost use Rattle.kept_desk.specs.Journal.{IsWritten};
+ghost use Rattle.kept_desk.specs.Speaking.{AreSpoken, SpeaksOf};
 
-use crate::blank::Blank;
 use crate::broken::Broken;
-use crate::hand::Hand;
+use crate::journal_table::JournalTable;
+use crate::opening::Opening;
 use crate::receipt::Receipt;
-use crate::steps::{agree, confirm, enlist, note, receive};
-use crate::table::{JournalTable, TableSeat};
-use crate::ties::Ties;
-use crate::write::write_line;
+use crate::share::Share;
+use crate::steps::{agree, confirm, enlist, note_entry, receive};
+use crate::table::{EntryTable, TableSeat};
+use crate::write::write_entry;
+use ledger_model::Command;
 use std::io::{BufWriter, Write};
 use std::marker::{Brand, Model, PhantomData};
 
-/// A list of entries, each of which was written and flushed as a line before it was noted. W is the writer
-/// behind the buffer, in which nothing is left while no write and no flush has failed.
+/// A list of entries, each of which was written and flushed before it was noted, and whose line speaks for its
+/// command. W is the writer behind the buffer, in which nothing is left while no write and no flush has failed.
 #[derive(Drop)]
-pub struct Journal<W: Write + Drop, B: Ties, C> {
-    table: JournalTable<C>,
-    seat: TableSeat<C>,
+pub struct Journal<K: Opening, W: Write + Drop> {
+    table: EntryTable,
+    seat: TableSeat,
     writer: BufWriter<W>,
-    hands: u32,
+    shares: u32,
     broken: bool,
-    ties: PhantomData<B>,
+    named: PhantomData<K>,
 }
 
-impl<W: Write + Drop, B: Ties, C> Model for Journal<W, B, C> {
+impl<K: Opening, W: Write + Drop> Model for Journal<K, W> {
     ghost use Rattle.std.specs.Io.Buffered.{writer_buffer, writer_inner};
     ghost use Rattle.kept_desk.specs.Journal.{Ledger};
     ghost use Rattle.kept_desk.specs.Held.{IsJournal};
 
-    ghost Value = { Ledger C };
+    ghost Value = { Ledger };
 
-    ghost view = { λ j. record { entries = j.seat.me.0.log; hands = j.hands; broken = j.broken } };
+    ghost view = { λ j. record { entries = j.seat.me.0.log; shares = j.shares; broken = j.broken } };
 
-    ghost invariant = { λ j. IsJournal B.table B.before j.hands j.broken (W.contents (writer_inner j.writer)) (writer_buffer j.writer) j.table.shared.table_id j.seat.table_id j.seat.me };
+    ghost invariant = { λ j. IsJournal K.table K.name K.before j.shares j.broken (W.contents (writer_inner j.writer)) (writer_buffer j.writer) j.table.shared.table_id j.seat.table_id j.seat.me };
 }
 
-impl<W: Write + Drop, B: Ties, C> Journal<W, B, C> {
-    /// A journal of no entries, with no hands, that writes behind what the writer holds.
+impl<K: Opening, W: Write + Drop> Journal<K, W> {
+    /// A journal of no entries, with no shares, that writes behind what the writer holds.
     ///
-    /// Conditions: B names this table, and what the writer behind the buffer holds; nothing is left in the buffer.
-    pub fn open(blank: Blank<C>, writer: BufWriter<W>) -> Self
-        requires table { blank ≡ B.table }
-        requires before { W.contents (writer_inner writer) ≡ B.before }
+    /// Conditions: K names this table, and what the writer behind the buffer holds; nothing is left in the buffer.
+    pub fn open(table: JournalTable, writer: BufWriter<W>) -> Self
+        requires table { table ≡ K.table }
+        requires before { W.contents (writer_inner writer) ≡ K.before }
         requires empty { writer_buffer writer ≡ [] }
-        ensures { result ≡ record { entries = []; hands = 0; broken = false } }
+        ensures { result ≡ record { entries = []; shares = 0; broken = false } }
     {
-        let (table, seat) = blank.into_parts();
+        let (table, seat) = table.into_parts();
         Journal {
             table,
             seat,
             writer,
-            hands: 0,
+            shares: 0,
             broken: false,
-            ties: PhantomData,
+            named: PhantomData,
         }
     }
 
-    /// Each station that was given a hand has a number below this one.
-    pub fn hands(&self) -> u32
-        ensures { result ≡ self.now.hands }
+    /// Each station that was given a share has a number below this one.
+    pub fn shares(&self) -> u32
+        ensures { result ≡ self.now.shares }
     {
-        self.hands
+        self.shares
     }
 
     /// Tells whether a write or a flush failed: then no more is taken.
@@ -74,55 +76,59 @@ impl<W: Write + Drop, B: Ties, C> Journal<W, B, C> {
         self.broken
     }
 
-    /// The hand of a station, with that station's entries.
+    /// The share of a station, with that station's entries.
     ///
-    /// Conditions: neither this station nor one of a greater number was given a hand
-    /// ([`Journal::hands`] tells), so no station has two.
-    pub fn hand(&mut self, station: u16) -> Hand<B, C>
-        requires { self.old.hands ≤ station }
-        ensures hand { result ≡ record { station = station; entries = of_station station self.old.entries } }
-        ensures journal { self.new ≡ record self.old { hands = station + 1 } }
+    /// Conditions: neither this station nor one of a greater number was given a share
+    /// ([`Journal::shares`] tells), so no station has two.
+    pub fn enlist(&mut self, station: u16) -> Share<K>
+        requires { self.old.shares ≤ station }
+        ensures share { result ≡ record { station = station; entries = of_station station self.old.entries } }
+        ensures journal { self.new ≡ record self.old { shares = station + 1 } }
     {
         let table = &self.table;
-        let seat = enlist::<C, Brand>(&table.shared, &mut self.seat, station);
-        self.hands = u32::from(station) + 1;
-        Hand {
+        let seat = enlist::<Brand>(&table.shared, &mut self.seat, station);
+        self.shares = u32::from(station) + 1;
+        Share {
             station,
             seat,
-            ties: PhantomData,
+            named: PhantomData,
         }
     }
 
-    /// Writes and flushes the line and a line feed, then notes the entry, here and in the hand, and gives
-    /// the receipt. After an error nothing is noted, and the journal takes nothing more. The command is noted
-    /// for contracts alone: what it has to do with the line is the caller's to say.
+    /// Writes what stands in front of the line, the line and a line feed and flushes them, then notes the entry, here
+    /// and in the share, and gives the receipt. After an error nothing is noted, and the journal takes nothing more. The
+    /// command is noted for contracts alone.
     ///
-    /// Condition: the line has no line feed ([`is_line`](crate::is_line) tells).
+    /// Conditions: in front of the line stands nothing or a comment line ([`is_note`](crate::is_note) tells), and the
+    /// line speaks for the command on the share's station.
     pub fn add(
         &mut self,
-        hand: &mut Hand<B, C>,
+        share: &mut Share<K>,
+        note: &[u8],
         line: &[u8],
-        command: &C,
-    ) -> Result<Receipt<B, C>, Broken>
-        requires line { HasNoFeed line.now }
-        ensures added { OnOk result (self.new ≡ record self.old { entries = self.old.entries ++ entry hand.old.station line.now command.now ∷ [] }) }
-        ensures known { OnOk result (hand.new ≡ record hand.old { entries = hand.old.entries ++ entry hand.old.station line.now command.now ∷ [] }) }
+        command: &Command,
+    ) -> Result<Receipt<K>, Broken>
+        requires note { IsNote note.now }
+        requires speaks { SpeaksOf (K.name share.old.station) line.now command.now }
+        ensures added { OnOk result (self.new ≡ record self.old { entries = self.old.entries ++ entry share.old.station note.now line.now command.now ∷ [] }) }
+        ensures known { OnOk result (share.new ≡ record share.old { entries = share.old.entries ++ entry share.old.station note.now line.now command.now ∷ [] }) }
         ensures receipt { IfOk result (λ r. r ≡ self.new.entries) }
         ensures whole { OnOk result (self.old.broken ≡ false) }
         ensures broken { OnErr result (self.new ≡ record self.old { broken = true }) }
-        ensures same { OnErr result (hand.new ≡ hand.old) }
+        ensures same { OnErr result (share.new ≡ share.old) }
     {
         if self.broken {
             return Err(Broken);
         }
         self.broken = true;
-        write_line(&mut self.writer, line)?;
+        write_entry(&mut self.writer, note, line)?;
         let table = &self.table;
-        note::<C, Brand>(
+        note_entry::<Brand>(
             &table.shared,
             &mut self.seat,
-            &mut hand.seat,
-            hand.station,
+            &mut share.seat,
+            share.station,
+            note,
             line,
             command,
         );
@@ -130,21 +136,21 @@ impl<W: Write + Drop, B: Ties, C> Journal<W, B, C> {
         self.broken = false;
         Ok(Receipt {
             seat,
-            ties: PhantomData,
+            named: PhantomData,
         })
     }
 
-    /// Compares a hand with the journal: its entries are just those of its station, in their order.
-    pub fn compare(&mut self, hand: &mut Hand<B, C>)
-        ensures own { hand.old.entries ≡ of_station hand.old.station self.old.entries }
-        ensures same { (self.new ≡ self.old) × (hand.new ≡ hand.old) }
+    /// Compares a share with the journal: its entries are just those of its station, in their order.
+    pub fn compare(&mut self, share: &mut Share<K>)
+        ensures own { share.old.entries ≡ of_station share.old.station self.old.entries }
+        ensures same { (self.new ≡ self.old) × (share.new ≡ share.old) }
     {
         let table = &self.table;
-        agree(&table.shared, &mut self.seat, &mut hand.seat);
+        agree(&table.shared, &mut self.seat, &mut share.seat);
     }
 
     /// Compares a receipt with the journal: its entries begin the journal's.
-    pub fn confirm(&mut self, receipt: Receipt<B, C>)
+    pub fn confirm(&mut self, receipt: Receipt<K>)
         ensures first { IsPrefix receipt self.old.entries }
         ensures same { self.new ≡ self.old }
     {
@@ -155,15 +161,16 @@ impl<W: Write + Drop, B: Ties, C> Journal<W, B, C> {
     /// The writer. What was written since the journal was opened is the text of the entries, all of which the
     /// writer behind the buffer took, and behind it, where the journal is broken, a front of one line more.
     pub fn into_writer(self) -> BufWriter<W>
-        ensures { IsWritten self.broken B.before (W.contents (writer_inner result)) (writer_buffer result) self.entries }
+        ensures written { IsWritten self.broken K.before (W.contents (writer_inner result)) (writer_buffer result) self.entries }
+        ensures spoken { AreSpoken K.name self.entries }
     {
         let Journal {
             table: _,
             seat: _,
             writer,
-            hands: _,
+            shares: _,
             broken: _,
-            ties: _,
+            named: _,
         } = self;
         writer
     }

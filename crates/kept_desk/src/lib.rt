@@ -1,75 +1,71 @@
 //! A desk with a journal: each change of a station is a line that was written before.
 //!
 //! A [`KeptDesk`] is a [`Desk`](site_desk::Desk) that keeps beside each station's cell the station's
-//! [`Hand`](crate::Hand) of one [`Journal`](crate::Journal), both under the station's lock
+//! [`Share`](crate::Share) of one [`Journal`](crate::Journal), both under the station's lock
 //! ([`KeptCell`]), and the journal under a lock of its own. [`KeptDesk::submit`] takes the station's lock,
 //! and where the ledger would accept the command, the journal's: it writes and flushes the line that the
-//! caller hands in, gives the journal's lock back, and only then takes the site's and settles. So a write
-//! holds up its own station and other writes, and nobody else at the site. A journal that can't be written
-//! accepts nothing more. All that is read of a running desk is read of [`KeptDesk::desk`].
+//! caller gives, and a comment line in front of it where the caller gives one, gives the journal's lock back, and
+//! only then takes the site's and settles. So a write holds up its own station and other writes, and nobody else at
+//! the site. A journal that can't be written accepts nothing more. All that is read of a running desk is read of
+//! [`KeptDesk::desk`].
 //!
 //! The crate's one contract: what a station holds, whenever its lock is free, is what the commands of its
 //! own lines in the journal, each accepted, leave of what it held when the desk was opened; where a written
 //! line's change can't be settled, which no run meets, the station's cell leaves service, and nothing more
 //! is taken, shown or closed there. [`KeptDesk::close`] tells it of
 //! all stations at once: there is one list of entries, of which the writer took the text, and each
-//! station's ledger holds what just its own entries leave; each entry's line speaks for its command on the
-//! station of its name, in the words of the caller ([`Speaks`]). The contract of `submit` is that of
+//! station's ledger holds what just its own entries leave; each entry's line asks for its command on the
+//! station of its name, as a line of a script does (`specs/Speaking.antt`). The contract of `submit` is that of
 //! [`Desk::submit`](site_desk::Desk::submit), word for word, and that an accepted answer comes with a
 //! [`Receipt`]: the entries that the journal had then, the last of them just this line's. The entries of each
 //! receipt begin those that `close` speaks of.
 //!
 //! Below the desk stands the journal itself, which knows nothing of ledgers. A [`Journal`] writes lines for
 //! stations: [`Journal::add`] writes and flushes one line, and then notes it as an [`Entry`], with the command
-//! that it is, in the journal and in the [`Hand`] of the line's station. Notes take no memory and have no
-//! bytes: a hand is its station's number. While nothing has failed, nothing is left in the buffer of the
-//! journal's writer, so the writer behind it took each entry's line before the entry was noted. What was written is the text of one list of entries, and each
-//! station's hand has just the entries of its own station in that list, in their order. So what a station
-//! holds beside its hand, and was proved to come of the hand's entries, comes of its own entries in what was
-//! written ([`Journal::compare`], [`Journal::into_writer`]). A write or a flush that fails breaks the journal
-//! for good: nothing is noted, and behind the text lies a front of one line at most. Each station has one
-//! hand at most, since hands are made in rising order of stations.
+//! that it is, in the journal and in the [`Share`] of the line's station. Notes take no memory and have no
+//! bytes: a share is its station's number. While nothing has failed, nothing is left in the buffer of the
+//! journal's writer, so the writer behind it took each entry's line before the entry was noted. What was written is the
+//! text of one list of entries, and each station's share has just the entries of its own station in that list, in
+//! their order. So what a station holds beside its share, and was proved to come of the share's entries, comes of its
+//! own entries in what was written ([`Journal::compare`], [`Journal::into_writer`]). A write or a flush that fails
+//! breaks the journal for good: nothing is noted, and behind the text lies a front of one entry at most. Each station
+//! has one share at most, since shares are made in rising order of stations.
 //!
-//! The type parameters: J names the tables of the sites, K the journal ([`Ties`], B of a journal by itself), so
-//! that a hand reaches no other, and what the stations held and were called when the desk was opened
-//! ([`Opening`]); L says which lines speak for which commands, C is what a line means, of which no value is
-//! kept, and W is the writer behind the journal's buffer.
+//! The type parameters: J names the tables of the sites, K the journal, so that a share reaches no other, and what the
+//! stations held and were called when the desk was opened ([`Opening`]); W is the writer behind the journal's buffer.
 //!
 //! ```text
-//! let (desk, viewers) = KeptDesk::open(alloc, &plan, parts, blank, writer)?;
+//! let (desk, viewers) = KeptDesk::open(alloc, &plan, parts, table, writer)?;
 //! let mut pass = desk.desk().enlist(rt, &name)?;
-//! desk.submit(rt, &mut pass, Command::Void(key), b"void A T1 3", &NoGate);   // (Accepted(1), Some(told), Some(receipt))
+//! desk.submit(rt, &mut pass, Command::Void(key), b"", b"void A T1 3", &NoGate);   // (Accepted(1), Some(told), Some(receipt))
 //! let closed = desk.close(passes, viewers, receipts)?;                       // closed.writer took the line
 //! ```
 #![tactic(auto)]
 
-mod blank;
 mod broken;
 mod cell;
 mod cells;
 mod closed;
 mod desk;
 mod entry;
-mod hand;
 mod journal;
-mod log;
+mod journal_table;
 mod opening;
 mod receipt;
+mod share;
 mod steps;
 mod table;
-mod ties;
 mod way;
 mod write;
 
-pub use blank::Blank;
 pub use broken::Broken;
 pub use cell::KeptCell;
 pub use closed::{KeptClosed, KeptRefused};
 pub use desk::KeptDesk;
 pub use entry::Entry;
-pub use hand::Hand;
 pub use journal::Journal;
-pub use opening::{Opening, Speaks};
+pub use journal_table::JournalTable;
+pub use opening::Opening;
 pub use receipt::Receipt;
-pub use ties::Ties;
-pub use write::is_line;
+pub use share::Share;
+pub use write::is_note;

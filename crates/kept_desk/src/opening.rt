@@ -1,14 +1,19 @@
 use std::marker::Brand;
 
-/// Names what each station of a desk held and was called when the desk was opened, by the station's number
-/// in the plan.
+/// Names one journal and what its desk was when it was opened: the journal's table, what its writer held, and by their
+/// numbers in the plan what the stations held and were called.
 ///
-/// A desk is opened, used and closed in one function that is generic in it and is called with [`Brand`];
-/// the call picks the members, such as `contents_of` of the cells and `names_of` of the plan's stations
-/// (`specs/Opened.antt`).
+/// A desk with a journal is opened, used and closed in one function that is generic in it and is called with [`Brand`],
+/// after the table was made; the call picks the members, such as `contents_of` of the cells and `names_of` of the plan's
+/// stations (`specs/Opened.antt`). So a station's share reaches no journal but its own.
 pub trait Opening {
-    ghost use Rattle.std.specs.Prelude.{ℕ, List};
+    ghost use Rattle.std.specs.Prelude.{ℕ, List, Option};
+    ghost use Rattle.atomic_table.specs.Seated.{TableId};
     ghost use Rattle.ledger_model.specs.Content.{Content};
+
+    ghost table: { TableId };
+
+    ghost before: { Option (List ℕ) };
 
     ghost first: { ℕ → Content };
 
@@ -16,18 +21,15 @@ pub trait Opening {
 }
 
 impl Opening for Brand {
-    ghost use Rattle.std.specs.Prelude.{[]};
+    ghost use Rattle.std.specs.Prelude.{[], None};
+    ghost use Rattle.kept_desk.specs.Held.{no_table};
     ghost use Rattle.ledger_model.specs.Content.{empty_content};
+
+    ghost table = { no_table };
+
+    ghost before = { None };
 
     ghost first = { λ _. empty_content };
 
     ghost name = { λ _. [] };
-}
-
-/// Says which lines speak for a command on the station of a name.
-pub trait Speaks {
-    ghost use Rattle.std.specs.Prelude.{ℕ, List};
-    ghost use Rattle.ledger_model.specs.declared.command.Command.{Command};
-
-    ghost speaks: { List ℕ → List ℕ → Command → Type 0 };
 }

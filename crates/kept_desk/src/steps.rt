@@ -9,19 +9,20 @@ use crate::table::{
     Adds, Compares, Confirms, Enlists, Gives, Leaves, PartsWithReceipt, ReadsReceipt, Receives,
     TableSeat, TakesIn, TheEntries, TheStation, Words,
 };
+use ledger_model::Command;
 
-// A hand leaves all that it knows to a new seat: it can't be joined and kept.
-pub(crate) fn leave<C>(words: &Words<C>, hand: &mut TableSeat<C>) -> TableSeat<C>
-    requires sits { Sits words.now.table_id hand.old.table_id }
-    requires holds { hand.old.me ≡ (holding hand.old.me.0.station hand.old.me.0.mine, []) }
+// A share leaves all that it knows to a new seat: it can't be joined and kept.
+pub(crate) fn leave(words: &Words, share: &mut TableSeat) -> TableSeat
+    requires sits { Sits words.now.table_id share.old.table_id }
+    requires holds { share.old.me ≡ (holding share.old.me.0.station share.old.me.0.mine, []) }
     ensures sits { Sits words.now.table_id result.table_id }
-    ensures left { result.me ≡ hand.old.me }
+    ensures left { result.me ≡ share.old.me }
 {
-    words.split_seat::<Leaves>(hand)
+    words.split_seat::<Leaves>(share)
 }
 
-// The journal takes in what a hand left.
-pub(crate) fn take_in<C>(words: &Words<C>, seat: &mut TableSeat<C>, other: TableSeat<C>)
+// The journal takes in what a share left.
+pub(crate) fn take_in(words: &Words, seat: &mut TableSeat, other: TableSeat)
     requires sits { Sits words.now.table_id seat.old.table_id × Sits words.now.table_id other.table_id }
     requires keeps { seat.old.me ≡ (keeping seat.old.me.0.log seat.old.me.0.made, []) }
     requires holds { other.me ≡ (holding other.me.0.station other.me.0.mine, []) }
@@ -32,24 +33,25 @@ pub(crate) fn take_in<C>(words: &Words<C>, seat: &mut TableSeat<C>, other: Table
 }
 
 // Both learn the entry of this line.
-pub(crate) fn append<C, E: TheEntries<C>>(
-    words: &Words<C>,
-    seat: &mut TableSeat<C>,
+pub(crate) fn append<E: TheEntries>(
+    words: &Words,
+    seat: &mut TableSeat,
     station: u16,
+    note: &[u8],
     line: &[u8],
-    command: &C,
+    command: &Command,
 )
-    requires entries { E.entries ≡ entry station line.now command.now ∷ [] }
+    requires entries { E.entries ≡ entry station note.now line.now command.now ∷ [] }
     requires sits { Sits words.now.table_id seat.old.table_id }
     requires joined { seat.old.me ≡ (joined seat.old.me.0.log seat.old.me.0.made station seat.old.me.0.mine, []) }
     ensures sits { Sits words.now.table_id seat.new.table_id }
-    ensures added { seat.new.me ≡ (joined (seat.old.me.0.log ++ entry station line.now command.now ∷ []) seat.old.me.0.made station (seat.old.me.0.mine ++ entry station line.now command.now ∷ []), []) }
+    ensures added { seat.new.me ≡ (joined (seat.old.me.0.log ++ entry station note.now line.now command.now ∷ []) seat.old.me.0.made station (seat.old.me.0.mine ++ entry station note.now line.now command.now ∷ []), []) }
 {
     words.load::<Adds<E>>(seat, 0);
 }
 
-// The hand's entries are those of its station.
-pub(crate) fn compare<C>(words: &Words<C>, seat: &mut TableSeat<C>)
+// The share's entries are those of its station.
+pub(crate) fn compare(words: &Words, seat: &mut TableSeat)
     requires sits { Sits words.now.table_id seat.old.table_id }
     requires joined { seat.old.me ≡ (joined seat.old.me.0.log seat.old.me.0.made seat.old.me.0.station seat.old.me.0.mine, []) }
     ensures sits { Sits words.now.table_id seat.new.table_id }
@@ -59,8 +61,8 @@ pub(crate) fn compare<C>(words: &Words<C>, seat: &mut TableSeat<C>)
     words.load::<Compares>(seat, 0);
 }
 
-// The journal gives the hand back.
-pub(crate) fn give<C>(words: &Words<C>, seat: &mut TableSeat<C>) -> TableSeat<C>
+// The journal gives the share back.
+pub(crate) fn give(words: &Words, seat: &mut TableSeat) -> TableSeat
     requires sits { Sits words.now.table_id seat.old.table_id }
     requires joined { seat.old.me ≡ (joined seat.old.me.0.log seat.old.me.0.made seat.old.me.0.station seat.old.me.0.mine, []) }
     ensures sits { Sits words.now.table_id seat.new.table_id × Sits words.now.table_id result.table_id }
@@ -70,12 +72,8 @@ pub(crate) fn give<C>(words: &Words<C>, seat: &mut TableSeat<C>) -> TableSeat<C>
     words.split_seat::<Gives>(seat)
 }
 
-// The journal makes the hand of the station that K names.
-pub(crate) fn enlist<C, K: TheStation>(
-    words: &Words<C>,
-    seat: &mut TableSeat<C>,
-    station: u16,
-) -> TableSeat<C>
+// The journal makes the share of the station that K names.
+pub(crate) fn enlist<K: TheStation>(words: &Words, seat: &mut TableSeat, station: u16) -> TableSeat
     requires station { K.station ≡ station }
     requires sits { Sits words.now.table_id seat.old.table_id }
     requires keeps { seat.old.me ≡ (keeping seat.old.me.0.log seat.old.me.0.made, []) }
@@ -87,46 +85,47 @@ pub(crate) fn enlist<C, K: TheStation>(
     words.split_seat::<Enlists<K>>(seat)
 }
 
-// The journal and a hand note this line of the hand's station.
-pub(crate) fn note<C, E: TheEntries<C>>(
-    words: &Words<C>,
-    seat: &mut TableSeat<C>,
-    hand: &mut TableSeat<C>,
+// The journal and a share note this line of the share's station.
+pub(crate) fn note_entry<E: TheEntries>(
+    words: &Words,
+    seat: &mut TableSeat,
+    share: &mut TableSeat,
     station: u16,
+    note: &[u8],
     line: &[u8],
-    command: &C,
+    command: &Command,
 )
-    requires entries { E.entries ≡ entry station line.now command.now ∷ [] }
-    requires sits { Sits words.now.table_id seat.old.table_id × Sits words.now.table_id hand.old.table_id }
+    requires entries { E.entries ≡ entry station note.now line.now command.now ∷ [] }
+    requires sits { Sits words.now.table_id seat.old.table_id × Sits words.now.table_id share.old.table_id }
     requires keeps { seat.old.me ≡ (keeping seat.old.me.0.log seat.old.me.0.made, []) }
-    requires holds { hand.old.me ≡ (holding station hand.old.me.0.mine, []) }
-    ensures sits { Sits words.now.table_id seat.new.table_id × Sits words.now.table_id hand.new.table_id }
-    ensures keeps { seat.new.me ≡ (keeping (seat.old.me.0.log ++ entry station line.now command.now ∷ []) seat.old.me.0.made, []) }
-    ensures holds { hand.new.me ≡ (holding station (hand.old.me.0.mine ++ entry station line.now command.now ∷ []), []) }
+    requires holds { share.old.me ≡ (holding station share.old.me.0.mine, []) }
+    ensures sits { Sits words.now.table_id seat.new.table_id × Sits words.now.table_id share.new.table_id }
+    ensures keeps { seat.new.me ≡ (keeping (seat.old.me.0.log ++ entry station note.now line.now command.now ∷ []) seat.old.me.0.made, []) }
+    ensures holds { share.new.me ≡ (holding station (share.old.me.0.mine ++ entry station note.now line.now command.now ∷ []), []) }
 {
-    let left = leave(words, hand);
+    let left = leave(words, share);
     take_in(words, seat, left);
-    append::<C, E>(words, seat, station, line, command);
-    *hand = give(words, seat);
+    append::<E>(words, seat, station, note, line, command);
+    *share = give(words, seat);
 }
 
-// The journal and a hand are compared.
-pub(crate) fn agree<C>(words: &Words<C>, seat: &mut TableSeat<C>, hand: &mut TableSeat<C>)
-    requires sits { Sits words.now.table_id seat.old.table_id × Sits words.now.table_id hand.old.table_id }
+// The journal and a share are compared.
+pub(crate) fn agree(words: &Words, seat: &mut TableSeat, share: &mut TableSeat)
+    requires sits { Sits words.now.table_id seat.old.table_id × Sits words.now.table_id share.old.table_id }
     requires keeps { seat.old.me ≡ (keeping seat.old.me.0.log seat.old.me.0.made, []) }
-    requires holds { hand.old.me ≡ (holding hand.old.me.0.station hand.old.me.0.mine, []) }
-    ensures sits { Sits words.now.table_id seat.new.table_id × Sits words.now.table_id hand.new.table_id }
-    ensures same { (seat.new.me ≡ seat.old.me) × (hand.new.me ≡ hand.old.me) }
-    ensures own { hand.old.me.0.mine ≡ of_station hand.old.me.0.station seat.old.me.0.log }
+    requires holds { share.old.me ≡ (holding share.old.me.0.station share.old.me.0.mine, []) }
+    ensures sits { Sits words.now.table_id seat.new.table_id × Sits words.now.table_id share.new.table_id }
+    ensures same { (seat.new.me ≡ seat.old.me) × (share.new.me ≡ share.old.me) }
+    ensures own { share.old.me.0.mine ≡ of_station share.old.me.0.station seat.old.me.0.log }
 {
-    let left = leave(words, hand);
+    let left = leave(words, share);
     take_in(words, seat, left);
     compare(words, seat);
-    *hand = give(words, seat);
+    *share = give(words, seat);
 }
 
 // The journal gives a receipt of all its entries.
-pub(crate) fn receive<C>(words: &Words<C>, seat: &mut TableSeat<C>) -> TableSeat<C>
+pub(crate) fn receive(words: &Words, seat: &mut TableSeat) -> TableSeat
     requires sits { Sits words.now.table_id seat.old.table_id }
     requires keeps { seat.old.me ≡ (keeping seat.old.me.0.log seat.old.me.0.made, []) }
     ensures sits { Sits words.now.table_id seat.new.table_id × Sits words.now.table_id result.table_id }
@@ -137,7 +136,7 @@ pub(crate) fn receive<C>(words: &Words<C>, seat: &mut TableSeat<C>) -> TableSeat
 }
 
 // The journal takes in a receipt.
-pub(crate) fn read_receipt<C>(words: &Words<C>, seat: &mut TableSeat<C>, receipt: TableSeat<C>)
+pub(crate) fn read_receipt(words: &Words, seat: &mut TableSeat, receipt: TableSeat)
     requires sits { Sits words.now.table_id seat.old.table_id × Sits words.now.table_id receipt.table_id }
     requires keeps { seat.old.me ≡ (keeping seat.old.me.0.log seat.old.me.0.made, []) }
     requires knows { receipt.me ≡ (knowing receipt.me.0.seen, []) }
@@ -148,7 +147,7 @@ pub(crate) fn read_receipt<C>(words: &Words<C>, seat: &mut TableSeat<C>, receipt
 }
 
 // The receipt's entries begin the journal's.
-pub(crate) fn compare_receipt<C>(words: &Words<C>, seat: &mut TableSeat<C>)
+pub(crate) fn compare_receipt(words: &Words, seat: &mut TableSeat)
     requires sits { Sits words.now.table_id seat.old.table_id }
     requires reads { seat.old.me ≡ (reading seat.old.me.0.log seat.old.me.0.made seat.old.me.0.seen, []) }
     ensures sits { Sits words.now.table_id seat.new.table_id }
@@ -159,7 +158,7 @@ pub(crate) fn compare_receipt<C>(words: &Words<C>, seat: &mut TableSeat<C>)
 }
 
 // The journal parts with the receipt that it read.
-pub(crate) fn part<C>(words: &Words<C>, seat: &mut TableSeat<C>)
+pub(crate) fn part(words: &Words, seat: &mut TableSeat)
     requires sits { Sits words.now.table_id seat.old.table_id }
     requires reads { seat.old.me ≡ (reading seat.old.me.0.log seat.old.me.0.made seat.old.me.0.seen, []) }
     ensures sits { Sits words.now.table_id seat.new.table_id }
@@ -169,7 +168,7 @@ pub(crate) fn part<C>(words: &Words<C>, seat: &mut TableSeat<C>)
 }
 
 // The journal and a receipt are compared.
-pub(crate) fn confirm<C>(words: &Words<C>, seat: &mut TableSeat<C>, receipt: TableSeat<C>)
+pub(crate) fn confirm(words: &Words, seat: &mut TableSeat, receipt: TableSeat)
     requires sits { Sits words.now.table_id seat.old.table_id × Sits words.now.table_id receipt.table_id }
     requires keeps { seat.old.me ≡ (keeping seat.old.me.0.log seat.old.me.0.made, []) }
     requires knows { receipt.me ≡ (knowing receipt.me.0.seen, []) }

@@ -1,4 +1,4 @@
-//! The table that a journal and its hands have seats at. Its one word is never written: what counts is
+//! The table that a journal and its shares have seats at. Its one word is never written: what counts is
 //! what the seats know.
 use crate::entry::Entry;
 use atomic_table::{Join, Play, Seat, Shared, Split, Table, TableRule};
@@ -7,28 +7,28 @@ use std::collections::LinkedList;
 use std::marker::{Brand, PhantomData};
 
 // What a seat knows. No value of it is made.
-pub(crate) struct View<C> {
+pub(crate) struct View {
     // It is the journal's seat.
     pub(crate) is_journal: bool,
     // All entries.
-    pub(crate) log: LinkedList<Entry<C>>,
-    // Each station that was given a hand has a number below this one.
+    pub(crate) log: LinkedList<Entry>,
+    // Each station that was given a share has a number below this one.
     pub(crate) made: u32,
-    // It is a station's hand.
-    pub(crate) is_hand: bool,
+    // It is a station's share.
+    pub(crate) is_share: bool,
     pub(crate) station: u16,
     // The entries of that station.
-    pub(crate) mine: LinkedList<Entry<C>>,
+    pub(crate) mine: LinkedList<Entry>,
     // It is a receipt.
     pub(crate) is_receipt: bool,
     // The entries up to the one that it was given for.
-    pub(crate) seen: LinkedList<Entry<C>>,
+    pub(crate) seen: LinkedList<Entry>,
 }
 
 // The rule of a journal's table.
 pub(crate) struct OneList;
 
-impl<C> TableRule<(), View<C>, ()> for OneList {
+impl TableRule<(), View, ()> for OneList {
     ghost use Rattle.std.specs.Prelude.{[]};
     ghost use Rattle.kept_desk.specs.Rule.{Tied, keeping};
 
@@ -37,27 +37,27 @@ impl<C> TableRule<(), View<C>, ()> for OneList {
     ghost first = { λ _. keeping [] 0 };
 }
 
-pub(crate) type JournalTable<C> = Table<(), View<C>, (), OneList, Global>;
+pub(crate) type EntryTable = Table<(), View, (), OneList, Global>;
 
-pub(crate) type Words<C> = Shared<(), View<C>, (), OneList>;
+pub(crate) type Words = Shared<(), View, (), OneList>;
 
-pub(crate) type TableSeat<C> = Seat<(), View<C>>;
+pub(crate) type TableSeat = Seat<(), View>;
 
 // Names the entries that are added, for the proof alone: a load carries none.
-pub(crate) trait TheEntries<C> {
+pub(crate) trait TheEntries {
     ghost use Rattle.std.specs.Prelude.{List};
     ghost use Rattle.kept_desk.specs.declared.entry.Entry.{Entry};
 
-    ghost entries: { List (Entry C) };
+    ghost entries: { List Entry };
 }
 
-impl<C> TheEntries<C> for Brand {
+impl TheEntries for Brand {
     ghost use Rattle.std.specs.Prelude.{[]};
 
     ghost entries = { [] };
 }
 
-// Names the station that is given a hand, for the proof alone.
+// Names the station that is given a share, for the proof alone.
 pub(crate) trait TheStation {
     ghost use Rattle.std.specs.Prelude.{ℕ};
 
@@ -68,30 +68,30 @@ impl TheStation for Brand {
     ghost station = { 0 };
 }
 
-// The journal and the hand that it took in learn the entries that E names.
+// The journal and the share that it took in learn the entries that E names.
 pub(crate) struct Adds<E> {
     entries: PhantomData<E>,
 }
 
-impl<C, E: TheEntries<C>> Play<(), View<C>> for Adds<E> {
+impl<E: TheEntries> Play<(), View> for Adds<E> {
     ghost use Rattle.kept_desk.specs.Rule.{Added};
 
     ghost then = { Added E.entries };
 }
 
-// The hand's entries are compared with the journal's.
+// The share's entries are compared with the journal's.
 pub(crate) struct Compares;
 
-impl<C> Play<(), View<C>> for Compares {
+impl Play<(), View> for Compares {
     ghost use Rattle.kept_desk.specs.Rule.{Compared};
 
     ghost then = { Compared };
 }
 
-// A hand leaves all that it knows to a new seat.
+// A share leaves all that it knows to a new seat.
 pub(crate) struct Leaves;
 
-impl<C> Split<View<C>> for Leaves {
+impl Split<View> for Leaves {
     ghost use Rattle.kept_desk.specs.Rule.{holding, nobody};
 
     ghost left = { λ _. nobody };
@@ -99,10 +99,10 @@ impl<C> Split<View<C>> for Leaves {
     ghost right = { λ v. holding v.station v.mine };
 }
 
-// The journal takes in what a hand left.
+// The journal takes in what a share left.
 pub(crate) struct TakesIn;
 
-impl<C> Join<View<C>> for TakesIn {
+impl Join<View> for TakesIn {
     ghost use Rattle.kept_desk.specs.Rule.{joined, nobody};
 
     ghost both = { λ v w. joined v.log v.made w.station w.mine };
@@ -110,10 +110,10 @@ impl<C> Join<View<C>> for TakesIn {
     ghost spent = { nobody };
 }
 
-// The journal gives the hand back.
+// The journal gives the share back.
 pub(crate) struct Gives;
 
-impl<C> Split<View<C>> for Gives {
+impl Split<View> for Gives {
     ghost use Rattle.kept_desk.specs.Rule.{keeping, holding};
 
     ghost left = { λ v. keeping v.log v.made };
@@ -121,12 +121,12 @@ impl<C> Split<View<C>> for Gives {
     ghost right = { λ v. holding v.station v.mine };
 }
 
-// The journal makes the hand of the station that K names.
+// The journal makes the share of the station that K names.
 pub(crate) struct Enlists<K> {
     station: PhantomData<K>,
 }
 
-impl<C, K: TheStation> Split<View<C>> for Enlists<K> {
+impl<K: TheStation> Split<View> for Enlists<K> {
     ghost use Rattle.std.specs.Prelude.{◌+◌};
     ghost use Rattle.kept_desk.specs.Entries.{of_station};
     ghost use Rattle.kept_desk.specs.Rule.{keeping, holding};
@@ -139,7 +139,7 @@ impl<C, K: TheStation> Split<View<C>> for Enlists<K> {
 // The journal gives a receipt of all its entries.
 pub(crate) struct Receives;
 
-impl<C> Split<View<C>> for Receives {
+impl Split<View> for Receives {
     ghost use Rattle.kept_desk.specs.Rule.{keeping, knowing};
 
     ghost left = { λ v. keeping v.log v.made };
@@ -150,7 +150,7 @@ impl<C> Split<View<C>> for Receives {
 // The journal takes in a receipt.
 pub(crate) struct ReadsReceipt;
 
-impl<C> Join<View<C>> for ReadsReceipt {
+impl Join<View> for ReadsReceipt {
     ghost use Rattle.kept_desk.specs.Rule.{nobody, reading};
 
     ghost both = { λ v w. reading v.log v.made w.seen };
@@ -161,7 +161,7 @@ impl<C> Join<View<C>> for ReadsReceipt {
 // The receipt's entries are compared with the journal's.
 pub(crate) struct Confirms;
 
-impl<C> Play<(), View<C>> for Confirms {
+impl Play<(), View> for Confirms {
     ghost use Rattle.kept_desk.specs.Rule.{Confirmed};
 
     ghost then = { Confirmed };
@@ -170,7 +170,7 @@ impl<C> Play<(), View<C>> for Confirms {
 // The journal parts with the receipt.
 pub(crate) struct PartsWithReceipt;
 
-impl<C> Split<View<C>> for PartsWithReceipt {
+impl Split<View> for PartsWithReceipt {
     ghost use Rattle.kept_desk.specs.Rule.{keeping, nobody};
 
     ghost left = { λ v. keeping v.log v.made };

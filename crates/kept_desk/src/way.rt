@@ -1,16 +1,16 @@
 //! How a desk with a journal takes a command.
 ghost use Rattle.std.specs.Prelude.{◌≡◌, List, ◌++◌, ◌∷◌, [], IfOk, OnOk, OnErr};
 ghost use Rattle.kept_desk.specs.declared.entry.Entry.{Entry};
-ghost use Rattle.kept_desk.specs.Entries.{HasNoFeed, entry};
+ghost use Rattle.kept_desk.specs.Entries.{IsNote, entry};
+ghost use Rattle.kept_desk.specs.Speaking.{SpeaksOf};
 ghost use Rattle.ledger_model.specs.declared.command.Command.{Command};
 
 use crate::broken::Broken;
 use crate::cell::KeptCell;
-use crate::hand::Hand;
-use crate::log::Log;
-use crate::opening::{Opening, Speaks};
+use crate::journal::Journal;
+use crate::opening::Opening;
 use crate::receipt::Receipt;
-use crate::ties::Ties;
+use crate::share::Share;
 use ledger_model::{Answer, Command, Refusal};
 use site_book::{Naming, SiteBook, Told};
 use site_desk::{HasCell, Pass, Settles, StationPlace, can_judge};
@@ -18,43 +18,42 @@ use std::io::Write;
 use std::sync::{Mutex, MutexGuard, Wait};
 use std::thread::yield_now;
 
-// The journal, and the line that speaks for the command.
+// The journal, the line that speaks for the command, and what stands in front of it.
 #[derive(Drop)]
-pub(crate) struct Journalled<'a, K: Ties + Opening, L: Speaks, W: Write + Drop> {
-    pub(crate) log: &'a Mutex<Log<K, L, W>>,
+pub(crate) struct Journalled<'a, K: Opening, W: Write + Drop> {
+    pub(crate) log: &'a Mutex<Journal<K, W>>,
+    pub(crate) note: &'a [u8],
     pub(crate) line: &'a [u8],
 }
 
-impl<'a, K: Ties + Opening, L: Speaks, W: Write + Drop> Journalled<'a, K, L, W> {
+impl<'a, K: Opening, W: Write + Drop> Journalled<'a, K, W> {
     // Writes the line under the journal's lock, notes it with its command, and gives the receipt.
     pub(crate) fn write<R: Wait>(
         &self,
         rt: &R,
-        hand: &mut Hand<K, Command>,
+        share: &mut Share<K>,
         command: &Command,
-    ) -> Result<Receipt<K, Command>, Broken>
-        requires line { HasNoFeed self.now.line.now }
-        requires speaks { L.speaks (K.name hand.old.station) self.now.line.now command.now }
-        ensures known { OnOk result (hand.new ≡ record hand.old { entries = hand.old.entries ++ entry hand.old.station self.now.line.now command.now ∷ [] }) }
-        ensures receipt { IfOk result (λ r. (log : List (Entry Command)) × (r ≡ log ++ entry hand.old.station self.now.line.now command.now ∷ [])) }
-        ensures same { OnErr result (hand.new ≡ hand.old) }
+    ) -> Result<Receipt<K>, Broken>
+        requires note { IsNote self.now.note.now }
+        requires speaks { SpeaksOf (K.name share.old.station) self.now.line.now command.now }
+        ensures known { OnOk result (share.new ≡ record share.old { entries = share.old.entries ++ entry share.old.station self.now.note.now self.now.line.now command.now ∷ [] }) }
+        ensures receipt { IfOk result (λ r. (log : List Entry) × (r ≡ log ++ entry share.old.station self.now.note.now self.now.line.now command.now ∷ [])) }
+        ensures same { OnErr result (share.new ≡ share.old) }
     {
         let mut log = hold(rt, self.log);
-        log.add(hand, self.line, command)
+        log.add(share, self.note, self.line, command)
     }
 }
 
-impl<'a, J: Naming, K: Ties + Opening, L: Speaks, W: Write + Drop> Settles<
-    J,
-    KeptCell<K>,
-    Receipt<K, Command>,
-> for Journalled<'a, K, L, W> {
-    ghost use Rattle.kept_desk.specs.Entries.{HasNoFeed, entry};
+impl<'a, J: Naming, K: Opening, W: Write + Drop> Settles<J, KeptCell<K>, Receipt<K>>
+    for Journalled<'a, K, W> {
+    ghost use Rattle.kept_desk.specs.Entries.{IsNote, entry};
     ghost use Rattle.kept_desk.specs.Kept.{IsReceived};
+    ghost use Rattle.kept_desk.specs.Speaking.{SpeaksOf};
 
-    ghost asks = { λ w number command. HasNoFeed w.line.now × L.speaks (K.name number) w.line.now command };
+    ghost asks = { λ w number command. IsNote w.note.now × SpeaksOf (K.name number) w.line.now command };
 
-    ghost gives = { λ w number command answer receipt. IsReceived answer (entry number w.line.now command) receipt };
+    ghost gives = { λ w number command answer receipt. IsReceived answer (entry number w.note.now w.line.now command) receipt };
 
     fn settle<R: Wait>(
         &self,
@@ -65,7 +64,7 @@ impl<'a, J: Naming, K: Ties + Opening, L: Speaks, W: Write + Drop> Settles<
         place: &StationPlace,
         pass: &mut Pass,
         command: Command,
-    ) -> (Answer, Option<Told<J>>, Option<Receipt<K, Command>>) {
+    ) -> (Answer, Option<Told<J>>, Option<Receipt<K>>) {
         if can_judge(held.cell(), number, place, pass) {
             held.take(rt, book, number, place, pass, command, self)
         } else {

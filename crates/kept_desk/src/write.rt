@@ -1,25 +1,66 @@
-//! What a line is, and writing one.
-ghost use Rattle.std.specs.Prelude.{◌≡◌, ℕ, ◌↔◌, List, [], ◌∷◌, IsTrue, OnOk};
+//! What may stand in front of a line, and writing one.
+ghost use Rattle.std.specs.Prelude.{◌≡◌, ℕ, ◌↔◌, ◌++◌, List, [], ◌∷◌, IsTrue, OnOk};
 ghost use Rattle.std.specs.Io.Buffered.{writer_buffer, writer_contents};
 ghost use Rattle.std.specs.Io.KnownBytes.{Appends};
-ghost use Rattle.kept_desk.specs.Entries.{HasNoFeed, line_text};
+ghost use Rattle.kept_desk.specs.Entries.{IsComment, IsNote, line_text};
 ghost use Rattle.kept_desk.specs.Writing.{WritesFront};
+ghost use Rattle.script_lines.specs.Lines.{HasNoFeed};
 
 use crate::broken::Broken;
+use script_lines::MAX_LINE_BYTES;
 use std::io::{BufWriter, Write};
 
-/// Tells whether these bytes are a line: they have no line feed.
-pub fn is_line(bytes: &[u8]) -> bool
+/// Tells whether these bytes may stand in front of a line: they are none, or a comment line of at most
+/// [`MAX_LINE_BYTES`] with its line feed.
+pub fn is_note(bytes: &[u8]) -> bool
+    ensures { IsTrue result → IsNote bytes.now }
+{
+    bytes.is_empty() || is_comment(bytes)
+}
+
+// Tells whether these bytes are a comment line of at most `MAX_LINE_BYTES` with its line feed.
+fn is_comment(bytes: &[u8]) -> bool
+    ensures { IsTrue result → IsComment bytes.now }
+{
+    let count = bytes.len();
+    if count < 2 {
+        return false;
+    }
+    if count > MAX_LINE_BYTES + 1 {
+        return false;
+    }
+    if bytes[0] != b'#' {
+        return false;
+    }
+    if bytes[count - 1] != b'\n' {
+        return false;
+    }
+    has_no_feed(&bytes[1..count - 1])
+}
+
+// Tells whether no byte is a line feed.
+fn has_no_feed(bytes: &[u8]) -> bool
     ensures { IsTrue result ↔ HasNoFeed bytes.now }
 {
     bytes.iter().all(|byte| *byte != b'\n')
 }
 
-// Writes a line and a line feed, and flushes them: nothing is left in the buffer then.
-pub(crate) fn write_line<W: Write + Drop>(
+// Writes what stands in front of a line, the line and a line feed, and flushes them: nothing is left in the buffer then.
+pub(crate) fn write_entry<W: Write + Drop>(
     writer: &mut BufWriter<W>,
+    note: &[u8],
     line: &[u8],
 ) -> Result<(), Broken>
+    ensures written { (written : List ℕ) × Appends (writer_contents W.contents writer.old) (writer_contents W.contents writer.new) written
+        × WritesFront result (note.now ++ line_text line.now) written }
+    ensures handed_on { OnOk result (writer_buffer writer.new ≡ []) }
+{
+    write_bytes(writer, note)?;
+    write_line(writer, line)
+}
+
+// Writes a line and a line feed, and flushes them: nothing is left in the buffer then.
+fn write_line<W: Write + Drop>(writer: &mut BufWriter<W>, line: &[u8]) -> Result<(), Broken>
     ensures written { (written : List ℕ) × Appends (writer_contents W.contents writer.old) (writer_contents W.contents writer.new) written
         × WritesFront result (line_text line.now) written }
     ensures handed_on { OnOk result (writer_buffer writer.new ≡ []) }

@@ -2,9 +2,10 @@
 //!
 //! [`serve_live`] opens the desk of a plan, tells where it listens, and starts workers, which accept connections and
 //! serve them for as long as the server lives, at a [`Running`](running_desk::Running) desk: `Workers` has who has to go,
-//! `Log` where sessions are told, and a `Connection` what one connection knows of its time. Meanwhile the calling thread
-//! answers an operator's lines ([`operate`](running_desk::operate)), a thread glances at the totals, and another one answers
-//! browsers with boards ([`response`]). At the end it joins them all, closes the desk with all its checks, and writes the
+//! `Log` where sessions are told, `NearLimits` which limits of stations are nearly used, and a `Connection` what one
+//! connection knows of its time. Meanwhile the calling thread answers an operator's lines
+//! ([`operate`](running_desk::operate)), a thread glances at the totals, and another one answers browsers with boards
+//! ([`response`]). At the end it joins them all, closes the desk with all its checks, and writes the
 //! board of each site. `Seats` tell which worker serves a session of which station, and whom to send away: the oldest of
 //! three sessions of a station, or the oldest handshake.
 //! [`serve_plan_at`] serves so at anything that [`Serves`](running_desk::Serves), a desk or one that keeps more, with lines
@@ -26,6 +27,7 @@ mod boards;
 mod connection;
 mod listeners;
 mod log;
+mod near_limits;
 mod reply;
 mod request;
 mod seats;

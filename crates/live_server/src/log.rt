@@ -1,11 +1,11 @@
-//! Where a live server tells of sessions and totals.
+//! Where a live server tells of sessions, totals and limits.
 use arrayvec::ArrayString;
 use ledger_model::{MAX_NAME, Name};
 use station_link::Why;
 use std::io::Write;
 use std::sync::{Mutex, Wait};
 
-// Where sessions and totals are told.
+// Where sessions, totals and limits are told.
 #[derive(Drop)]
 pub(crate) struct Log<L: Write + Drop> {
     pub(crate) lines: Mutex<L>,
@@ -19,6 +19,19 @@ impl<L: Write + Drop> Log<L> {
             lines: Mutex::new(lines),
             has_sessions,
         }
+    }
+
+    // Tells that so much of a station's limit of this name is used.
+    pub(crate) fn tell_near<R: Wait>(
+        &self,
+        rt: &R,
+        name: &Name,
+        what: &str,
+        used: u64,
+        limit: u64,
+    ) {
+        let name = name.text();
+        let _ = writeln!(self.lines.lock(rt), "near {name} {what} {used} of {limit}");
     }
 
     // Tells that a session began.

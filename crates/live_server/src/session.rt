@@ -1,15 +1,17 @@
 //! A worker's connections, from accept to end.
 use crate::acceptor::Acceptor;
 use crate::connection::{Connection, ConnectionStream, Patience};
+use crate::near_limits::LimitGate;
 use crate::shared::Shared;
 use arrayvec::ArrayString;
 use ledger_model::Name;
 use running_desk::Serves;
 use site_book::Naming;
-use site_desk::{HasCell, NoGate, Pass};
+use site_desk::{HasCell, Pass};
 use site_server::SystemMoments;
 use station_link::{Attendant, Greeted, SessionEnd, greet, refuse, serve_session};
 use std::alloc::Global;
+use std::cell::Cell;
 use std::io::Write;
 use std::net::TcpStream;
 use std::sync::Wait;
@@ -112,9 +114,16 @@ fn attend<J: Naming, C: HasCell, S: Serves<J, C>, R: Threads + Wait + Clock, L: 
     connection.serves();
     let before = pass.changes();
     let desk = shared.running.serves;
+    let gate = LimitGate {
+        desk: shared.running.desk.desk,
+        near: &shared.near,
+        log: &shared.log,
+        station: pass.station(),
+        has_event: Cell::new(false),
+    };
     let mut clock = SystemMoments { rt };
     let end = serve_session(
-        rt, alloc, socket, desk, name, pass, &NoGate, &mut clock, connection,
+        rt, alloc, socket, desk, name, pass, &gate, &mut clock, connection,
     );
     finish(rt, shared, name, before, end);
 }
@@ -128,7 +137,10 @@ fn finish<J: Naming, C: HasCell, S: Serves<J, C>, R: Wait, L: Write + Drop>(
     end: SessionEnd,
 ) {
     let SessionEnd {
-        why, pass, texts, ..
+        why,
+        pass,
+        texts,
+        ..
     } = end;
     if let Some(pass) = pass {
         let changes = pass.changes().saturating_sub(before);

@@ -4,6 +4,7 @@ ghost use Rattle.ledger_model.specs.Ranges.{most_plan_readings};
 ghost use Rattle.site_desk.specs.Roster.{AreNewPlaces};
 
 use crate::log::Log;
+use crate::near_limits::NearLimits;
 use crate::workers::Workers;
 use running_desk::{Running, Serves};
 use site_book::Naming;
@@ -17,6 +18,7 @@ pub(crate) struct Shared<'a, J: Naming, C: HasCell, S: Serves<J, C>, L: Write + 
     pub(crate) running: Running<'a, J, C, S>,
     pub(crate) workers: Workers,
     pub(crate) log: Log<L>,
+    pub(crate) near: NearLimits,
 }
 
 impl<'a, J: Naming, C: HasCell, S: Serves<J, C>, L: Write + Drop> Shared<'a, J, C, S, L> {
@@ -40,6 +42,7 @@ impl<'a, J: Naming, C: HasCell, S: Serves<J, C>, L: Write + Drop> Shared<'a, J, 
             running: Running::open(plan, serves, passes),
             workers,
             log: Log::open(lines, is_logged),
+            near: NearLimits::open(alloc, plan)?,
         })
     }
 

@@ -9,6 +9,7 @@ use Rattle.std.specs.declared.result.Result.TheVariants.{Err}
 use Rattle.site_desk.specs.declared.plan.Plan.{Plan}
 use Rattle.ocpp_board.specs.declared.asked.Asked.{Asked}
 use Rattle.ocpp_board.specs.declared.asked.Asked.TheVariants.{Replay, Serve, ServeLive, ServeJournalled, ServeRestored, Simulate}
+use Rattle.journal_server.specs.declared.serve.Journalling.{Journalling}
 use Rattle.live_server.specs.declared.service.Live.{Live}
 use Rattle.ledger_model.specs.declared.order.Order.{Order}
 use Rattle.ledger_model.specs.declared.order.Order.TheVariants.{Sequence}
@@ -27,7 +28,7 @@ abbrev pub IsAskable : Asked → Type 0
 IsAskable Replay = ⊤
 IsAskable (Serve plan service) = (1 ≤ service.connections) × (service.connections ≤ 64)
 IsAskable (ServeLive plan live) = ⊤
-IsAskable (ServeJournalled plan live) = ⊤
+IsAskable (ServeJournalled plan journalling) = ⊤
 IsAskable (ServeRestored restoring journalled) = ⊤
 IsAskable (Simulate stations events) = IsSimulated stations events
 
@@ -62,12 +63,17 @@ pub record AsksLive (found : Found) (live : Live) : Type 0 where
   pub log : IsFlag found (codes "log") live.is_logged
   pub boards : GivesSome found (codes "board-port") 16 live.board_port
 
+-- What the options of `serve --live --journal` ask for.
+pub record AsksJournalling (found : Found) (journalling : Journalling) : Type 0 where
+  pub live : AsksLive found journalling.live
+  pub receipt_times : IsFlag found (codes "receipt-times") journalling.has_receipt_times
+
 -- A server that lives is asked for.
 abbrev pub is_live : Asked → Bool
 is_live Replay = false
 is_live (Serve plan service) = false
 is_live (ServeLive plan live) = true
-is_live (ServeJournalled plan live) = true
+is_live (ServeJournalled plan journalling) = true
 is_live (ServeRestored restoring journalled) = true
 is_live (Simulate stations events) = false
 
@@ -119,8 +125,8 @@ abbrev pub AsksServe : Found → Asked → Type 0
 AsksServe found Replay = ⊥
 AsksServe found (Serve plan service) = AsksService found service × AsksPlan found service.glances plan
 AsksServe found (ServeLive plan live) = AsksLive found live × AsksPlan found live.glances plan × AsksKept found false false
-AsksServe found (ServeJournalled plan live) = AsksLive found live × AsksPlan found live.glances plan × AsksKept found true false
-AsksServe found (ServeRestored restoring journalled) = AsksLive found restoring.live × AsksKept found journalled true × IsFlag found (codes "allow-left-out") restoring.allows_left_out
+AsksServe found (ServeJournalled plan journalling) = AsksJournalling found journalling × AsksPlan found journalling.live.glances plan × AsksKept found true false
+AsksServe found (ServeRestored restoring journalled) = AsksJournalling found restoring.journalling × AsksKept found journalled true × IsFlag found (codes "allow-left-out") restoring.allows_left_out
 AsksServe found (Simulate stations events) = ⊥
 
 -- A simulation is asked for.

@@ -6,7 +6,7 @@ ghost use Rattle.ocpp_board.specs.Arguments.{AsksLive, AsksOrder, AsksPeriod, As
 use crate::limit_words::limits_of;
 use crate::station_words::{WordFault, plan_of};
 use clap::ArgMatches;
-use journal_server::Restoring;
+use journal_server::{Journalling, Restoring};
 use ledger_model::{MAX_STATIONS, Order, Period};
 use live_server::Live;
 use script_lines::order_of;
@@ -25,7 +25,7 @@ pub enum Asked<'a> {
     /// To serve the stations of a plan for as long as an operator's lines come; or what is wrong with their words.
     ServeLive(Result<Plan, WordFault<'a>>, Live),
     /// To serve a plan until the operator's lines end, with a journal on standard output.
-    ServeJournalled(Result<Plan, WordFault<'a>>, Live),
+    ServeJournalled(Result<Plan, WordFault<'a>>, Journalling),
     /// To serve the stations of a script that standard input begins with, and whether with a journal.
     ServeRestored(Restoring, bool),
     /// To play so many simulated stations, 1 to 64, each with so many events, 2 to 64.
@@ -53,16 +53,20 @@ fn live_asked<'a>(matches: &ArgMatches<'a>) -> Asked<'a>
     ensures lives { is_live result ≡ true }
 {
     let live = live_of(matches);
+    let journalling = Journalling {
+        live,
+        has_receipt_times: matches.get_flag("receipt-times"),
+    };
     let is_journalled = matches.get_flag("journal");
     if matches.get_flag("restore") {
         let allows_left_out = matches.get_flag("allow-left-out");
         let restoring = Restoring {
-            live,
+            journalling,
             allows_left_out,
         };
         Asked::ServeRestored(restoring, is_journalled)
     } else if is_journalled {
-        Asked::ServeJournalled(plan_asked(matches, live.glances), live)
+        Asked::ServeJournalled(plan_asked(matches, live.glances), journalling)
     } else {
         Asked::ServeLive(plan_asked(matches, live.glances), live)
     }

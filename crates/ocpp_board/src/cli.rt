@@ -8,7 +8,9 @@ use crate::station_words::WordFault;
 use clap::Error;
 use clap::error::ErrorKind;
 use desk_report::write_out;
-use journal_server::{JournalFault, Restoring, Served, serve_journalled, serve_restored};
+use journal_server::{
+    JournalFault, Journalling, Restoring, Served, serve_journalled, serve_restored,
+};
 use ledger_model::{
     MAX_CHANGES, MAX_EVENTS, MAX_PLAN_READINGS, MAX_SITES, MAX_STATIONS, MAX_TRANSACTIONS,
 };
@@ -63,8 +65,8 @@ fn run_asked<
         Asked::ServeLive(plan, live) => {
             live_on(rt, plan, live, &mut reader, writer, errors, lines)
         }
-        Asked::ServeJournalled(plan, live) => {
-            journalled_on(rt, plan, live, reader, writer, errors, lines)
+        Asked::ServeJournalled(plan, journalling) => {
+            journalled_on(rt, plan, journalling, reader, writer, errors, lines)
         }
         Asked::ServeRestored(restoring, is_journalled) => {
             restored_on(rt, restoring, is_journalled, reader, writer, errors, lines)
@@ -125,7 +127,7 @@ fn journalled_on<
 >(
     rt: &X,
     plan: Result<Plan, WordFault<'_>>,
-    live: Live,
+    journalling: Journalling,
     reader: R,
     journal: BufWriter<W>,
     errors: &mut E,
@@ -133,9 +135,9 @@ fn journalled_on<
 ) -> u8 {
     match plan {
         Ok(plan) => {
-            let served = serve_journalled(rt, &plan, live, reader, journal, errors, lines);
+            let served = serve_journalled(rt, &plan, journalling, reader, journal, errors, lines);
             let ended = end_journalled(served, errors);
-            tell_journalled(errors, &plan, live.port, ended)
+            tell_journalled(errors, &plan, journalling.live.port, ended)
         }
         Err(fault) => tell_word(errors, fault),
     }
@@ -161,14 +163,14 @@ fn restored_on<
     if is_journalled {
         let served = serve_restored(rt, restoring, reader, writer, errors, lines);
         let ended = end_journalled(served, errors);
-        return tell_journalled(errors, &plan, restoring.live.port, ended);
+        return tell_journalled(errors, &plan, restoring.journalling.live.port, ended);
     }
     let Ok(nowhere) = BufWriter::with_capacity(rt.alloc(), 0, io::sink()) else {
         return tell_fault(errors, ServiceFault::OutOfMemory, STOPPED);
     };
     let served = serve_restored(rt, restoring, reader, nowhere, &mut writer, lines);
     let ended = end_journalled(served, &mut writer);
-    tell_journalled(errors, &plan, restoring.live.port, ended)
+    tell_journalled(errors, &plan, restoring.journalling.live.port, ended)
 }
 
 // Writes the boards that a server with a journal leaves, and tells how its operator's lines ended. What the writer of

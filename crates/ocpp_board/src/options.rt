@@ -72,11 +72,13 @@ declarations and `now`; it ends when its input ends or says `close`, and writes 
   ocpp_board serve --live --port 9000 --log --board-port 9080 north/CS-01 north/CS-02
 
 With --journal standard output is a script of the declarations and of each accepted change, which
-is out before its answer; all else goes to standard error. With --restore standard input begins
-with such a script, up to a line `listen`; the line before that has to end with `#`, which spoils
-what a kill may have left of a line. `left out <line> <answer>` tells a line that changed nothing,
-and `restored <n>` how many changes the stations hold. Where such a line is not one that a kill cut,
-the server ends with `fault LeftOut`, but with --allow-left-out.
+is out before its answer; all else goes to standard error. With --receipt-times a comment stands
+before each line: the time at which the server took it, as # 2026-03-01T10:00:00.123456789Z.
+With --restore standard input begins with such a script, up to a line `listen`; the line before
+that has to end with `#`, which spoils what a kill may have left of a line. `left out <line>
+<answer>` tells a line that changed nothing, and `restored <n>` how many changes the stations hold.
+Where such a line is not one that a kill cut, the server ends with `fault LeftOut`, but with
+--allow-left-out.
   ocpp_board serve --live --journal --port 9000 north/CS-01 north/CS-02 >> journal < orders
   { cat journal; printf '#\nlisten\n'; tail -n 0 -f orders; } |
     ocpp_board serve --live --journal --restore --port 9000 >> journal
@@ -176,6 +178,7 @@ fn with_life<'a>(alloc: Global, command: Command<'a>) -> Result<Command<'a>, All
 {
     let command = with_option(command, live_option(alloc)?)?;
     let command = with_option(command, journal_option(alloc)?)?;
+    let command = with_option(command, receipt_times_option(alloc)?)?;
     let command = with_option(command, restore_option(alloc)?)?;
     let command = with_option(command, allow_left_out_option(alloc)?)?;
     let command = with_option(command, log_option(alloc)?)?;
@@ -273,6 +276,18 @@ fn journal_option<'a>(alloc: Global) -> Result<Arg<'a>, AllocError>
             "With --live, write a journal to standard output: a line for each change before its answer",
         )
         .requires_arg("live")
+}
+
+fn receipt_times_option<'a>(alloc: Global) -> Result<Arg<'a>, AllocError>
+    ensures { IfOk result IsOption }
+{
+    Arg::new(alloc, "receipt-times")
+        .long("receipt-times")
+        .action(ArgAction::SetTrue)
+        .help(
+            "With --journal, write the time at which each line was taken in front of it, as a comment",
+        )
+        .requires_arg("journal")
 }
 
 fn restore_option<'a>(alloc: Global) -> Result<Arg<'a>, AllocError>

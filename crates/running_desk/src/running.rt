@@ -65,12 +65,7 @@ impl<'a, J: Naming, C: HasCell, S: Serves<J, C>> Running<'a, J, C, S> {
     /// The text of the board of the site of this number, from 0. It waits for the locks of the site.
     ///
     /// Condition: the plan has the site ([`site_of`] tells).
-    pub fn board<R: Wait>(
-        &self,
-        rt: &R,
-        alloc: Global,
-        site: u16,
-    ) -> Result<Vec<u8>, BoardFault>
+    pub fn board<R: Wait>(&self, rt: &R, alloc: Global, site: u16) -> Result<Vec<u8>, BoardFault>
         requires { site < length self.now.plan.now.sites.items }
         ensures { IfOk result (λ text. IsRunningBoard self.now.plan.now.sites.items self.now.desk.desk.now.stations site text.items) }
     {

@@ -1,5 +1,5 @@
 -- What an operator reads of a running desk.
-use Rattle.std.specs.Prelude.{◌≡◌, ℕ, ◌==◌, ⊤, List, [], ◌∷◌, filter}
+use Rattle.std.specs.Prelude.{◌≡◌, ℕ, ◌==◌, ⊤, List, [], ◌∷◌, filter, Some, slice_get}
 use Rattle.energy_flow.specs.Flow.{Energy}
 use Rattle.ledger_model.specs.declared.figures.Figures.{Figures}
 use Rattle.ledger_model.specs.declared.order.Order.{Order}
@@ -13,6 +13,8 @@ use Rattle.ledger_model.specs.Step.{Reached}
 use Rattle.site_desk.specs.declared.roster.StationPlace.{StationPlace}
 use Rattle.site_desk.specs.Roster.{IsNamed}
 use Rattle.site_desk.specs.Submit.{IsBoardWithin}
+use Rattle.station_ledger.specs.declared.used.UsedLimits.{UsedLimits}
+use Rattle.station_ledger.specs.Used.{used_limits}
 
 -- The figures and the energies, imported and exported, are those, in this order of readings, of some content that accepted commands leave within these limits.
 pub record AreTotalsWithin (limits : Bounds) (order : Order) (f : Figures) (e x : Energy) : Type 0 where
@@ -27,6 +29,18 @@ pub record AreTotalsOfName (places : List StationPlace) (name : List ℕ) (f : F
   pub number : ℕ
   pub named : IsNamed places name number
   pub totals : AreTotalsWithin named.place.limits named.place.order f e x
+
+-- It is what of each limit some content uses that accepted commands leave within these limits.
+pub record IsUsedWithin (limits : Bounds) (used : UsedLimits) : Type 0 where
+  pub content : Content
+  pub reached : Reached limits content.changes content
+  pub is : used ≡ used_limits content
+
+-- It is of the station of this number, within the limits of the station's place.
+pub record IsUsedAt (places : List StationPlace) (station : ℕ) (used : UsedLimits) : Type 0 where
+  pub place : StationPlace
+  pub there : slice_get places station ≡ Some place
+  pub used_within : IsUsedWithin place.limits used
 
 -- The board of the station of this place, under its name: some content makes it that accepted commands leave within the place's limits, by the place's period and order.
 pub record IsBoardAt (p : StationPlace) (b : List ℕ × Board) : Type 0 where

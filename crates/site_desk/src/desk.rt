@@ -14,7 +14,7 @@ ghost use Rattle.site_desk.specs.Parts.{AreTied, new_viewers};
 ghost use Rattle.site_desk.specs.Plan.{plan_fault};
 ghost use Rattle.site_desk.specs.Roster.{AreNewPlaces, IsNamed};
 ghost use Rattle.ledger_model.specs.Board.{sum_of_figures};
-ghost use Rattle.site_desk.specs.Operator.{AreBoardsAt, AreTotalsOfName};
+ghost use Rattle.site_desk.specs.Operator.{AreBoardsAt, AreTotalsOfName, IsUsedAt};
 ghost use Rattle.site_desk.specs.Submit.{IsBoardOfName, IsUnchanged, Submitted};
 
 use crate::checks::fault_of;
@@ -23,7 +23,7 @@ use crate::fault::{BoardFault, DeskFault, EnlistFault};
 use crate::gate::Gate;
 use crate::has_cell::HasCell;
 use crate::locks::{Locked, Spare, lock_up, take_viewers, unlock};
-use crate::operator::{hold_stations, site_boards_of, sum_of, totals_of};
+use crate::operator::{hold_stations, site_boards_of, sum_of, totals_of, used_of};
 use crate::parts::Parts;
 use crate::plan::Plan;
 use crate::roster::{StationPlace, number_of, open_places};
@@ -33,7 +33,7 @@ use energy_flow::Flow;
 use ledger_model::{Answer, Command, Figures, Listed, Name, Refusal};
 use site_book::{Naming, SiteBook, Tables, Told, Viewer};
 use station_cell::{Pass, StationCell};
-use station_ledger::StationBoard;
+use station_ledger::{StationBoard, UsedLimits};
 use std::alloc::{AllocError, Global};
 use std::marker::Model;
 use std::sync::{Mutex, Wait};
@@ -298,6 +298,25 @@ impl<J: Naming, C: HasCell> Desk<J, C> {
             return Err(BoardFault::Torn);
         }
         Ok(totals_of(own))
+    }
+
+    /// How much of its limits the station of this number uses. It waits for the station's lock. A cell there that is not
+    /// the station's own, which no run of these calls meets, answers `Torn`.
+    pub fn used_limits<R: Wait>(&self, rt: &R, station: u16) -> Result<UsedLimits, BoardFault>
+        ensures unknown { (result ≡ Err BoardFault.UnknownStation) ↔ (nat_lt station (length self.now.stations) ≡ false) }
+        ensures used { IfOk result (IsUsedAt self.now.stations station) }
+    {
+        let number = station as usize;
+        let Some(place) = self.places.get(number) else {
+            return Err(BoardFault::UnknownStation);
+        };
+        let lock: &Mutex<C> = &self.cells[number];
+        let held = lock.lock(rt);
+        let own = held.cell();
+        if !stands_at(own, number, place) {
+            return Err(BoardFault::Torn);
+        }
+        Ok(used_of(own))
     }
 
     /// The boards of the stations of the site of this number, in the plan's order and each with the

@@ -2,7 +2,7 @@
 ghost use Rattle.std.specs.Prelude.{◌≡◌, ◌≢◌, ◌++◌, ◌∷◌, [], List, ℕ, Err, IfOk, IfSome, OnOk, map};
 ghost use Rattle.site_desk.specs.declared.fault.BoardFault.{BoardFault};
 ghost use Rattle.ledger_model.specs.Board.{Board, sum_of_figures};
-ghost use Rattle.site_desk.specs.Operator.{AreBoardsAt, AreTotalsWithin, IsBoardAt};
+ghost use Rattle.site_desk.specs.Operator.{AreBoardsAt, AreTotalsWithin, IsBoardAt, IsUsedWithin};
 
 use crate::checks::plus;
 use crate::fault::BoardFault;
@@ -13,7 +13,7 @@ use crate::submit::{board_of, stands_at};
 use energy_flow::Flow;
 use ledger_model::{Figures, Name};
 use station_cell::StationCell;
-use station_ledger::StationBoard;
+use station_ledger::{StationBoard, UsedLimits};
 use std::alloc::{AllocError, Global};
 use std::sync::{Mutex, MutexGuard, Wait};
 
@@ -23,6 +23,13 @@ pub(crate) fn totals_of(cell: &StationCell) -> (Figures, Flow, Flow)
 {
     let ledger = cell.ledger();
     (ledger.figures(), ledger.energy(), ledger.export())
+}
+
+// How much of its limits a cell's station uses.
+pub(crate) fn used_of(cell: &StationCell) -> UsedLimits
+    ensures { IsUsedWithin cell.now.limits result }
+{
+    cell.ledger().used_limits()
 }
 
 // The cells of a site's stations, each with its lock held, in the plan's order.

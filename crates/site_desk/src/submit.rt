@@ -44,9 +44,29 @@ pub fn can_judge(cell: &StationCell, number: usize, place: &StationPlace, pass: 
     cell.is_in_service() && stands_at(cell, number, place) && cell.knows(pass)
 }
 
-/// Tells whether all is so that settling a command of the pass asks, at the cell of the station of this
-/// number and place.
-pub fn can_settle<J: Naming>(
+/// Tells whether all is so that settling a command of the pass asks where what judging asks is so: at the book of the
+/// cell's site.
+///
+/// Condition: what judging asks ([`can_judge`] tells).
+pub fn can_post<J: Naming>(
+    cell: &StationCell,
+    book: &SiteBook<J>,
+    number: usize,
+    place: &StationPlace,
+    pass: &Pass,
+) -> bool
+    requires { CanJudge number place.now cell.now pass.now }
+    ensures { IsTrue result → CanSettle number place.now cell.now book.now pass.now }
+{
+    book.site() == place.site
+        && book.holds(cell.row(), cell.ledger().limits())
+        && book.can_post()
+        && tied(cell, book)
+}
+
+// Tells whether all is so that settling a command of the pass asks, at the cell of the station of this
+// number and place.
+fn can_settle<J: Naming>(
     cell: &StationCell,
     book: &SiteBook<J>,
     number: usize,
@@ -65,7 +85,7 @@ pub fn can_settle<J: Naming>(
 /// Settles the command ([`settle`]), and tells also what that means to one who does not know what lay
 /// behind the locks.
 ///
-/// Condition: what settling asks ([`can_settle`] tells).
+/// Condition: what settling asks ([`can_judge`] and then [`can_post`] tell).
 pub fn settle_at<J: Naming>(
     cell: &mut StationCell,
     book: &mut SiteBook<J>,

@@ -8,6 +8,7 @@ pub mod Moved
 pub mod Spent
 pub mod Exchange
 pub mod Sums
+pub mod Used
 pub mod Standing
 pub mod Coming
 pub mod New

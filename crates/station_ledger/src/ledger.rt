@@ -11,11 +11,13 @@ ghost use Rattle.ledger_model.specs.Board.{board_by, figures_by};
 ghost use Rattle.ledger_model.specs.Step.{Reached, answer, answer_to_deliver, answer_to_void, answer_to_voided, accepted_within_limit, step};
 ghost use Rattle.station_ledger.specs.New.{answer_to_new};
 ghost use Rattle.station_ledger.specs.Spent.{IsSpent, most_spent};
+ghost use Rattle.station_ledger.specs.Used.{used_limits};
 
 use crate::board::StationBoard;
 use crate::lines::board_of;
 use crate::moves::carry_out;
 use crate::sums::Sums;
+use crate::used::UsedLimits;
 use energy_flow::{Flow, Work};
 use event_chain::{Chains, Found, Room};
 use key_index::KeyPlace;
@@ -227,6 +229,18 @@ impl StationLedger {
         ensures within { IfOk result (λ b. AreWithin self.now.limits b.figures) }
     {
         board_of(alloc, &self.chains, &self.sums, self.figures())
+    }
+
+    /// How much of its limits it uses.
+    pub fn used_limits(&self) -> UsedLimits
+        ensures { result ≡ used_limits self.now.content }
+    {
+        UsedLimits {
+            transactions: self.chains.stored_transactions(),
+            events: self.chains.stored_events(),
+            readings: self.chains.stored_readings(),
+            changes: self.changes,
+        }
     }
 
     /// How many commands were accepted so far, at most 2^63.

@@ -47,6 +47,7 @@ mod pairs;
 mod standing;
 mod sums;
 mod totals;
+mod used;
 
 pub use board::{EvseLine, QuarterLine, StationBoard, TxLine};
 pub use ledger::StationLedger;
@@ -54,3 +55,4 @@ pub use ledger::StationLedger;
 pub use standing::Standing;
 #[doc(hidden)]
 pub use totals::EvseSum;
+pub use used::UsedLimits;

@@ -14,9 +14,7 @@ use site_desk::{Gate, Pass};
 use std::alloc::{AllocError, Global};
 use std::sync::Wait;
 use std::time::Clock;
-use transaction_event::{
-    Asked, Delivery, deliveries_are_answered, put_event_reply, read_message,
-};
+use transaction_event::{Asked, Delivery, deliveries_are_answered, put_event_reply, read_message};
 
 /// What a text of a station came to.
 #[derive(Drop)]

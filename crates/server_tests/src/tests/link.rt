@@ -142,8 +142,14 @@ fn serve<J: Naming, R: Threads + Wait + Clock>(
 ) -> Served {
     let written = RefCell::new(Vec::new(alloc));
     let stream = Memory::new(peer, &written);
-    let SessionEnd { why, pass, .. } =
-        serve_connection(rt, alloc, stream, desk, &NoGate, &mut TenOClock);
+    let SessionEnd { why, pass, .. } = serve_connection(
+        rt,
+        alloc,
+        stream,
+        desk,
+        &NoGate,
+        &mut TenOClock,
+    );
     Served {
         why,
         pass,

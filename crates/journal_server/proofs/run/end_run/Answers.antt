@@ -5,7 +5,6 @@ use Rattle.kept_desk.specs.declared.entry.Entry.{Entry}
 use Rattle.kept_desk.specs.Kept.{IsWrittenDown}
 use Rattle.ledger_model.specs.declared.command.Command.{Command}
 use Rattle.site_desk.proofs.NewParts.{planned_readings}
-use Rattle.journal_server.specs.Served.{SpeaksOf}
 use Rattle.journal_server.proofs.run.end_run.Goals as goal
 
 pub write_boards-requires-clause-closed : goal.write_boards-requires-clause-closed
@@ -20,7 +19,7 @@ returns g c =
     let closed = closed_of sites stations c.args.kept ended.closed c.args.passes.items c.args.viewers.items c.requires.sites c.requires.opened c.in-Ok.ensures.stations c.in-Ok.ensures.sites c.in-Ok.ensures.whole in
     record {
       cells = ended.closed.cells;
-      written = subst (λ (rs : List (List (Entry Command))). IsWrittenDown SpeaksOf g.K.Opening.name g.K.Opening.first g.K.Ties.before ended.is_broken (g.W.Write.contents ended.writer.inner) ended.writer.buf.items ended.closed.cells rs)
+      written = subst (λ (rs : List (List Entry)). IsWrittenDown g.K.Opening.name g.K.Opening.first g.K.Opening.before ended.is_broken (g.W.Write.contents ended.writer.inner) ended.writer.buf.items ended.closed.cells rs)
           c.new.ensures.items c.in-Ok.ensures.kept;
       count = c.in-Ok.ensures.stations ∙ c.requires.opened.count;
       limits = closed.cells.limits;

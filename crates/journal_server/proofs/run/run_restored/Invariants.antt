@@ -6,10 +6,6 @@ use Rattle.journal_server.proofs.run.run_restored.Given as goal
 abbrev pub ghosts-run_over-J-Naming : goal.ghosts-run_over-J-Naming
 ghosts-run_over-J-Naming g a = record { table = tables.names_of a.tables }
 
--- the table that was just made, and what the writer holds
-abbrev pub ghosts-run_over-K-Ties : goal.ghosts-run_over-K-Ties
-ghosts-run_over-K-Ties g a = record { table = a.blank; before = g.W.Write.contents a.journal.inner }
-
--- what the cells hold, and the names of the plan's stations
+-- the table that was just made, what the writer holds, what the cells hold, and the names of the plan's stations
 abbrev pub ghosts-run_over-K-Opening : goal.ghosts-run_over-K-Opening
-ghosts-run_over-K-Opening g a = record { first = contents_of a.cells.items; name = names_of a.plan.now.stations.items }
+ghosts-run_over-K-Opening g a = record { table = a.table; before = g.W.Write.contents a.journal.inner; first = contents_of a.cells.items; name = names_of a.plan.now.stations.items }

@@ -21,7 +21,7 @@ loop-each-preserved g c =
       same = c.free_cell-cell.ensures.log ∙ before.same;
       room = c.push_reserved.ensures.capacity ∙ before.room;
       left = All-push (λ (e : Cell). IsInService e → IsLeftFrom e.limits (first e.station) e.content (commands_of (of_station e.station c.args.log.now.entries))) c.loop-each.yielded d before.left
-          (subst (λ (j : Ledger Command). IsInService d → IsLeftFrom d.limits (first d.station) d.content (commands_of (of_station d.station j.entries))) before.same c.free_cell-cell.ensures.left);
+          (subst (λ (j : Ledger). IsInService d → IsLeftFrom d.limits (first d.station) d.content (commands_of (of_station d.station j.entries))) before.same c.free_cell-cell.ensures.left);
     }
 
 pub returns-clause-left : goal.returns-clause-left

@@ -5,14 +5,14 @@ use Rattle.std.proofs.lemmas.List.{length_push}
 use Rattle.std.proofs.lemmas.Option.{slice_get_read}
 use Rattle.kept_desk.proofs.cells.keep_cells.Goals as goal
 
-pub hand-hand-requires : goal.hand-hand-requires
-hand-hand-requires g c =
+pub enlist-share-requires : goal.enlist-share-requires
+enlist-share-requires g c =
     let items = c.args.cells.items in
     let gives = c.into_iter-cell-iterator.ensures.into_iter_gives in
     let turn = YieldsList-turn (YieldsList-from_vec items gives.0 (gives.1 ∙ c.args.cells.ok.0)) c.loop-cell.yielded _ c.loop-cell.yielded_by c.next.result c.next.new.self c.in-Some.cell c.in-Some.is c.next.ensures.steps in
     let own = c.requires.first (length c.loop-cell.yielded) c.in-Some.cell (slice_get_read items (length items) (length c.loop-cell.yielded) c.in-Some.cell refl turn.0 turn.1) in
-    let hands = c.loop-cell.invariant.hands in
-    omega (arith, hands, own.0, c.station.ensures)
+    let shares = c.loop-cell.invariant.shares in
+    omega (arith, shares, own.0, c.station.ensures)
 
 pub new-requires-clause-first : goal.new-requires-clause-first
 new-requires-clause-first g c =
@@ -28,9 +28,9 @@ loop-cell-preserved g c =
     let gives = c.into_iter-cell-iterator.ensures.into_iter_gives in
     let turn = YieldsList-turn (YieldsList-from_vec items gives.0 (gives.1 ∙ c.args.cells.ok.0)) c.loop-cell.yielded _ c.loop-cell.yielded_by c.next.result c.next.new.self c.in-Some.cell c.in-Some.is c.next.ensures.steps in
     let own = c.requires.first (length c.loop-cell.yielded) c.in-Some.cell (slice_get_read items (length items) (length c.loop-cell.yielded) c.in-Some.cell refl turn.0 turn.1) in
-    let more : c.hand-hand.new.self.hands ≡ c.station.result + 1 = ap (λ j. j.hands) c.hand-hand.ensures.log in
+    let more : c.enlist-share.new.self.shares ≡ c.station.result + 1 = ap (λ j. j.shares) c.enlist-share.ensures.journal in
     record {
       kept = c.in_ok-push.ensures.items ∙ (λ i. c.loop-cell.invariant.kept i ++ c.new.ensures i ∷ []);
-      entries = ap (λ j. j.entries) c.hand-hand.ensures.log ∙ c.loop-cell.invariant.entries;
-      hands = omega (arith, more, own.0, c.station.ensures, length_push c.loop-cell.yielded c.in-Some.cell);
+      entries = ap (λ j. j.entries) c.enlist-share.ensures.journal ∙ c.loop-cell.invariant.entries;
+      shares = omega (arith, more, own.0, c.station.ensures, length_push c.loop-cell.yielded c.in-Some.cell);
     }

@@ -3,4 +3,4 @@ use Rattle.kept_desk.proofs.Moves.{takes_in}
 use Rattle.kept_desk.proofs.steps.take_in.Goals as goal
 
 pub join_seat-requires : goal.join_seat-requires
-join_seat-requires g c = (search rules, search rules, search rules, search rules, takes_in _ _ _ _ (ap (λ m. m.0.is_journal) c.requires.keeps) (ap (λ m. m.0.is_hand) c.requires.holds))
+join_seat-requires c = (search rules, search rules, search rules, search rules, takes_in _ _ _ _ (ap (λ m. m.0.is_journal) c.requires.keeps) (ap (λ m. m.0.is_share) c.requires.holds))

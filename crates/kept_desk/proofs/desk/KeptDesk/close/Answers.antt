@@ -26,19 +26,19 @@ pub returns-in-Ok-clause-kept : goal.returns-in-Ok-clause-kept
 returns-in-Ok-clause-kept g c =
     let first = g.K.Opening.first in
     let kept = c.in-Ok.kept.items in
-    let written = c.into_writer-writer.ensures in
+    let written = c.into_writer.ensures in
     let log = c.confirm_all.new.log.entries in
     record {
       log = log;
-      written = subst (λ b. IsWritten b g.K.Ties.before (g.W.Write.contents c.into_writer-writer.result.0.inner) c.into_writer-writer.result.0.buf.items log) (sym written.broken) written.written;
+      written = subst (λ b. IsWritten b g.K.Opening.before (g.W.Write.contents c.into_writer.result.inner) c.into_writer.result.buf.items log) (sym c.is_broken-is_broken.ensures) written.written;
       spoken = written.spoken;
-      received = subst (λ (j : Ledger Command). All (λ r. IsPrefix r j.entries) c.args.receipts.items) (sym c.confirm_all.ensures.log) c.confirm_all.ensures.first;
+      received = subst (λ (j : Ledger). All (λ r. IsPrefix r j.entries) c.args.receipts.items) (sym c.confirm_all.ensures.log) c.confirm_all.ensures.first;
       left = λ k d at.
           let there : slice_get kept k ≡ Some d = ap (λ cs. slice_get cs k) (sym c.free_cells.ensures.cells ∙ sym (ap (λ e. e.cells) c.of.ensures)) ∙ at in
           let station = (c.in-Ok.ensures.whole.whole k d (ap (λ cs. slice_get cs k) (map-id kept) ∙ there)).placed.stands.station in
           let serves : IsInService d = λ out. let here = slice_get_within kept k d there in omega (arith, out, station, here, c.in-Ok.ensures.stations, c.self.invariant.few) in
           let own = all_at (λ (e : Cell). IsInService e → IsLeftFrom e.limits (first e.station) e.content (commands_of (of_station e.station c.into_inner-log.result.entries))) kept k d c.free_cells.ensures.left there serves in
-          let moved = subst (λ (j : Ledger Command). IsLeftFrom d.limits (first d.station) d.content (commands_of (of_station d.station j.entries))) (sym (c.confirm_all.ensures.log ∙ c.free_cells.ensures.log)) own in
+          let moved = subst (λ (j : Ledger). IsLeftFrom d.limits (first d.station) d.content (commands_of (of_station d.station j.entries))) (sym (c.confirm_all.ensures.log ∙ c.free_cells.ensures.log)) own in
           subst (λ n. IsLeftFrom d.limits (first n) d.content (commands_of (of_station n log))) station moved;
     }
 

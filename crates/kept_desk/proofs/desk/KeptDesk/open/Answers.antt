@@ -15,7 +15,7 @@ pub keep_cells-requires-clause-first : goal.keep_cells-requires-clause-first
 keep_cells-requires-clause-first g c = subst (AreFirst g.K.Opening.first) (sym c.into_vec.ensures) c.requires.first
 
 pub keep_cells-requires-clause-log : goal.keep_cells-requires-clause-log
-keep_cells-requires-clause-log g c = (ap (λ (l : Ledger Command). l.entries) c.open-log.ensures, ap (λ (l : Ledger Command). l.hands) c.open-log.ensures)
+keep_cells-requires-clause-log g c = (ap (λ (l : Ledger). l.entries) c.open-log.ensures, ap (λ (l : Ledger). l.shares) c.open-log.ensures)
 
 pub over-requires-clause-faultless : goal.over-requires-clause-faultless
 over-requires-clause-faultless g c = c.requires.faultless

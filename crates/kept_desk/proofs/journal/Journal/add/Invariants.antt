@@ -2,5 +2,5 @@ use Rattle.std.proofs.Common.{[], ◌∷◌}
 use Rattle.kept_desk.specs.Entries.{entry}
 use Rattle.kept_desk.proofs.journal.Journal.add.Given as goal
 
-abbrev pub ghosts-note : goal.ghosts-note
-ghosts-note g a = record { entries = entry a.station a.line.now a.command.now ∷ [] }
+abbrev pub ghosts-note_entry : goal.ghosts-note_entry
+ghosts-note_entry g a = record { entries = entry a.station a.note.now a.line.now a.command.now ∷ [] }

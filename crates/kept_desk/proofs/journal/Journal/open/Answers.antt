@@ -1,6 +1,9 @@
 use Rattle.std.proofs.Common.{[], ap, sym, ◌∙◌, subst}
+use Rattle.std.proofs.lemmas.List.Elements.{All-nil}
+use Rattle.kept_desk.specs.declared.entry.Entry.{Entry}
 use Rattle.kept_desk.specs.Held.{Sits}
 use Rattle.kept_desk.specs.Rule.{keeping}
+use Rattle.kept_desk.specs.Speaking.{AreSpoken, SpeaksOf}
 use Rattle.kept_desk.proofs.Lines.{none}
 use Rattle.kept_desk.proofs.journal.Journal.open.Goals as goal
 
@@ -14,4 +17,5 @@ invariant_of-result g c =
       sits = subst (λ t. Sits t c.into_parts-table.result.1.table_id) (sym table) unused.sits;
       me_is = unused.me_is ∙ ap (λ log. (keeping log 0, [])) (sym empty);
       written = none _ _ _ _ c.requires.before c.requires.empty empty;
+      spoken = subst (AreSpoken g.K.Opening.name) (sym empty) (All-nil (λ (e : Entry). SpeaksOf (g.K.Opening.name e.station) e.line e.command));
     }

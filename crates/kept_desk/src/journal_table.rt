@@ -1,19 +1,19 @@
 ghost use Rattle.std.specs.Prelude.{◌≡◌};
 ghost use Rattle.kept_desk.specs.Held.{IsUnused};
 
-use crate::table::{JournalTable, TableSeat};
+use crate::table::{EntryTable, TableSeat};
 use std::alloc::{AllocError, Global};
 use std::marker::Model;
 
 /// The table of a journal that is not open yet. To a contract it is what names the table. It takes a few
 /// words of memory; nothing else here takes any.
 #[derive(Drop)]
-pub struct Blank<C> {
-    table: JournalTable<C>,
-    seat: TableSeat<C>,
+pub struct JournalTable {
+    table: EntryTable,
+    seat: TableSeat,
 }
 
-impl<C> Model for Blank<C> {
+impl Model for JournalTable {
     ghost use Rattle.atomic_table.specs.Seated.{TableId, table_id_coded};
     ghost use Rattle.kept_desk.specs.Held.{IsUnused};
 
@@ -21,23 +21,23 @@ impl<C> Model for Blank<C> {
 
     ghost coded = { table_id_coded };
 
-    ghost view = { λ b. b.table.shared.table_id };
+    ghost view = { λ t. t.table.shared.table_id };
 
-    ghost invariant = { λ b. IsUnused b.table.shared.table_id b.seat.table_id b.seat.me };
+    ghost invariant = { λ t. IsUnused t.table.shared.table_id t.seat.table_id t.seat.me };
 }
 
-impl<C> Blank<C> {
+impl JournalTable {
     /// The table of one journal.
     pub fn new(alloc: Global) -> Result<Self, AllocError> {
-        let (table, seat) = JournalTable::<C>::of_words(alloc, &[0; 1], &())?;
-        Ok(Blank { table, seat })
+        let (table, seat) = EntryTable::of_words(alloc, &[0; 1], &())?;
+        Ok(JournalTable { table, seat })
     }
 
-    pub(crate) fn into_parts(self) -> (JournalTable<C>, TableSeat<C>)
+    pub(crate) fn into_parts(self) -> (EntryTable, TableSeat)
         ensures table { result.0.shared.table_id ≡ self }
         ensures seat { IsUnused self result.1.table_id result.1.me }
     {
-        let Blank { table, seat } = self;
+        let JournalTable { table, seat } = self;
         (table, seat)
     }
 }
