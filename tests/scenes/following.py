@@ -312,6 +312,8 @@ def a_signal_ends_the_feeder_too(program: str) -> None:
             start_new_session=True,
         )
         try:
+            # It makes its folder once it listens to signals.
+            run.wait("the tool", (run.folder / "out").is_dir)
             run.wait("the feeder", lambda: len(of_session(process.pid)) >= 3)
             time.sleep(1)
             process.send_signal(signal.SIGTERM)
