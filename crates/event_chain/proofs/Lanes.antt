@@ -3,7 +3,6 @@ use Rattle.std.proofs.Common.{◌≡◌, ℕ, ◌≤◌, nat_lt, ◌==◌, Bool,
 use Rattle.std.proofs.lemmas.Bool.Decides.{Decides-ltb, Decides-eqb}
 use Rattle.std.proofs.lemmas.List.{length-map, map-append}
 use Rattle.std.proofs.lemmas.List.Elements.{filter-append}
-use Rattle.std.proofs.lemmas.List.Sums.{length-filter, count_by-le-length}
 use Rattle.std.specs.Ordering.{is_eq, nat_cmp}
 use Rattle.ledger_model.specs.ByDirection.{in_direction}
 use Rattle.ledger_model.specs.declared.by_direction.ByDirection.{ByDirection}
@@ -39,11 +38,6 @@ lane_on (Some m) e es = elim (has_mark m e.1.marks) as (λ b. map place_in (cond
 lane_both : (o : Option Mark) (xs ys : List (Entry ℕ)) → lane o (xs ++ ys) ≡ lane o xs ++ lane o ys
 lane_both None xs ys = map-append place_in xs ys
 lane_both (Some m) xs ys = ap (map place_in) (filter-append (λ e. has_mark m e.1.marks) xs ys) ∙ map-append place_in (marked m xs) (marked m ys)
-
--- A lane has no more places than there are entries.
-pub lane_few : (o : Option Mark) (es : List (Entry ℕ)) → length (lane o es) ≤ length es
-lane_few None es = omega (arith, length-map es place_in)
-lane_few (Some m) es = omega (arith, length-map (marked m es) place_in, length-filter (λ e. has_mark m e.1.marks) es, count_by-le-length (λ (e : Entry ℕ). has_mark m e.1.marks) es)
 
 -- Entries above a number have places above it.
 lane_above : (o : Option Mark) (n : ℕ) (es : List (Entry ℕ)) → entries.AreAbove n es → AreAbove n (lane o es)

@@ -1,6 +1,9 @@
 -- The live events in linked lists over their slots, one for each transaction.
 use Rattle.std.specs.Prelude.{◌≡◌, ℕ, List, Option, Some, length, map, slice_get, option_map}
-use Rattle.event_chain.specs.Placed.{Index}
+use Rattle.key_index.specs.declared.filed.Mark.TheVariants.{Live}
+use Rattle.key_index.specs.Entries.{AreRising}
+use Rattle.key_index.specs.Index as keyed
+use Rattle.event_chain.specs.Placed.{Index, lane_of}
 use Rattle.event_chain.specs.Links.{Links}
 use Rattle.event_chain.specs.LinkChain.{IsLinked}
 use Rattle.event_chain.specs.Flat.{EventPlace, place_of, segment}
@@ -38,3 +41,8 @@ pub record AreListed (live : Index) (l : Links) : Type 0 where
   pub nexts : length l.nexts ≡ live.capacity
   pub own : AreOwn live.entries
   pub lists : (t : ℕ) → IsLinked l (slots_of t live.entries)
+
+-- The keys of an index rise, and the slots of its live places are linked in lists.
+pub record ArePlaced (i : keyed.Index ℕ) (l : Links) : Type 0 where
+  pub rising : AreRising i.entries
+  pub listed : AreListed (lane_of (Some Live) i) l

@@ -63,8 +63,6 @@ pub(crate) fn sides_of(
     requires row { row ≡ row_of key.now.tx table.now.rows }
     ensures { AreSides direction true key.now (flat table.now.rows places.now.stored.entries store.now.slots) sides.new }
 {
-    // The table is there for the clauses alone.
-    let _ = table;
     match row {
         Some(row) => {
             let at = IndexKey::new(row.slot, key.seq());

@@ -1,5 +1,6 @@
 //! The places of a station's events, read by their marks.
-ghost use Rattle.std.specs.Prelude.{◌≡◌, ◌≤◌, length, option_map};
+ghost use Rattle.std.specs.Prelude.{◌≡◌, option_map};
+ghost use Rattle.key_index.specs.Entries as entries;
 ghost use Rattle.event_chain.specs.Ranked.{below, from, slot_at, first_of, last_of, AreRising};
 ghost use Rattle.event_chain.specs.Placed.{place_in, lane_of};
 
@@ -16,11 +17,14 @@ pub(crate) struct Lane<'a> {
 }
 
 impl<'a> Model for Lane<'a> {
+    ghost use Rattle.key_index.specs.Entries as entries;
     ghost use Rattle.event_chain.specs.Placed.{Index, lane_of};
 
     ghost Value = { Index };
 
     ghost view = { λ l. lane_of l.mark l.index.now };
+
+    ghost invariant = { λ l. entries.AreRising l.index.now.entries };
 }
 
 // The key of an entry and its slot.
@@ -40,18 +44,10 @@ impl<'a> Lane<'a> {
         mark: Option<Mark>,
         place: KeyPlace,
     ) -> Self
+        requires { entries.AreRising index.now.entries }
         ensures { result ≡ lane_of mark index.now }
     {
         Lane { index, mark, place }
-    }
-
-    // The keys rise, and the places are no more than there may be. It does nothing: a caller names the
-    // fact by it.
-    pub(crate) fn keys_rise(&self)
-        ensures rising { AreRising self.now.entries }
-        ensures within { length self.now.entries ≤ self.now.capacity }
-    {
-        self.index.keys_rise();
     }
 
     // The slot of a key; none where the key is absent.
@@ -67,9 +63,9 @@ impl<'a> Lane<'a> {
     // The first place whose key is the one given or greater.
     #[inline(always)]
     pub(crate) fn at_or_after(&self, key: IndexKey) -> Option<(IndexKey, u32)>
-        ensures { result ≡ first_of (from key self.now.entries) }
+        ensures first { result ≡ first_of (from key self.now.entries) }
+        ensures rising { AreRising self.now.entries }
     {
-        self.index.keys_rise();
         match self.mark {
             Some(mark) => slot_under(self.index.at_or_after_marked(self.place, key, mark)),
             None => slot_under(self.index.at_or_after(self.place, key)),
@@ -79,9 +75,9 @@ impl<'a> Lane<'a> {
     // The last place whose key is smaller than the one given.
     #[inline(always)]
     pub(crate) fn before(&self, key: IndexKey) -> Option<(IndexKey, u32)>
-        ensures { result ≡ last_of (below key self.now.entries) }
+        ensures last { result ≡ last_of (below key self.now.entries) }
+        ensures rising { AreRising self.now.entries }
     {
-        self.index.keys_rise();
         match self.mark {
             Some(mark) => slot_under(self.index.before_marked(self.place, key, mark)),
             None => slot_under(self.index.before(self.place, key)),
@@ -94,8 +90,8 @@ impl<'a> Lane<'a> {
     pub(crate) fn around(&self, key: IndexKey) -> (Option<(IndexKey, u32)>, Option<(IndexKey, u32)>)
         ensures before { result.0 ≡ last_of (below key self.now.entries) }
         ensures from { result.1 ≡ first_of (from key self.now.entries) }
+        ensures rising { AreRising self.now.entries }
     {
-        self.index.keys_rise();
         match self.mark {
             Some(mark) => {
                 let found = self.index.around_marked(self.place, key, mark);

@@ -2,6 +2,7 @@
 ghost use Rattle.std.specs.Prelude.{◌≡◌, ℕ, ◌<◌, [], length, None, Some, IfOk, IsSome, slice_get, option_map};
 ghost use Rattle.std.specs.Ordering.{nat_cmp};
 ghost use Rattle.std.specs.FinMap.{put};
+ghost use Rattle.key_index.specs.Entries as entries;
 ghost use Rattle.event_chain.specs.Ranked.{first_of, from, last_of, slot_at, AreRising};
 ghost use Rattle.event_chain.specs.Links.{linked_in};
 ghost use Rattle.key_index.specs.declared.filed.Mark.TheVariants.{Live};
@@ -36,16 +37,14 @@ pub(crate) struct PlaceIndex {
 }
 
 impl Model for PlaceIndex {
-    ghost use Rattle.std.specs.Prelude.{Some};
-    ghost use Rattle.key_index.specs.declared.filed.Mark.TheVariants.{Live};
-    ghost use Rattle.event_chain.specs.Placed.{Placed, placed, lane_of};
-    ghost use Rattle.event_chain.specs.Lists.{AreListed};
+    ghost use Rattle.event_chain.specs.Placed.{Placed, placed};
+    ghost use Rattle.event_chain.specs.Lists.{ArePlaced};
 
     ghost Value = { Placed };
 
     ghost view = { λ p. placed p.index };
 
-    ghost invariant = { λ p. AreListed (lane_of (Some Live) p.index) p.links };
+    ghost invariant = { λ p. ArePlaced p.index p.links };
 }
 
 // The mark of the live events that have a reading of this direction.
@@ -76,12 +75,12 @@ fn slot_behind(
     key: IndexKey,
     before: Option<u32>,
 ) -> Option<u32>
+    requires rising { AreRising live.now.entries }
     requires listed { AreListed live.now links.now }
     requires absent { place_of key live.now.entries ≡ None }
     requires before { before ≡ option_map slot_in (last_of (places_before key live.now.entries)) }
     ensures { result ≡ option_map slot_in (slice_get (places_behind key live.now.entries) 0) }
 {
-    live.keys_rise();
     match before {
         Some(slot) => links.next(slot),
         None => slot_of_place(place_behind(live, key)),
@@ -96,6 +95,7 @@ fn link_live(
     key: IndexKey,
     slot: u32,
 )
+    requires rising { entries.AreRising index.now.entries }
     requires listed { AreListed (lane_of (Some Live) index.now) links.old }
     requires absent { place_of key (lane_of (Some Live) index.now).entries ≡ None }
     requires slot { slot < (lane_of (Some Live) index.now).capacity }
@@ -103,7 +103,6 @@ fn link_live(
     ensures { links.new ≡ linked_in links.old (slot_before key (lane_of (Some Live) index.now).entries) slot slot (slot_after key (lane_of (Some Live) index.now).entries) }
 {
     let live = Lane::over(index, Some(Mark::Live), place);
-    live.keys_rise();
     let before = slot_of_place(place_before(&live, key));
     let after = slot_behind(&live, links, key, before);
     links.link_in(before, slot, slot, after);
@@ -159,16 +158,17 @@ impl PlaceIndex {
 
     // The first place from a key on, and where the key stands or belongs.
     fn first_from(&self, key: IndexKey) -> (Option<(IndexKey, u32)>, KeyPlace)
-        ensures { result.0 ≡ first_of (from key self.now.stored.entries) }
+        ensures first { result.0 ≡ first_of (from key self.now.stored.entries) }
+        ensures rising { AreRising self.now.stored.entries }
     {
-        self.index.keys_rise();
         let found = self.index.find(self.behind(key), key);
         (slot_under(found.0), found.1)
     }
 
     // The slot of the first place from a key on, where that is the key's.
     fn first_slot(&self, key: IndexKey) -> (Option<u32>, KeyPlace)
-        ensures { result.0 ≡ slot_at key (from key self.now.stored.entries) }
+        ensures slot { result.0 ≡ slot_at key (from key self.now.stored.entries) }
+        ensures rising { AreRising self.now.stored.entries }
     {
         let found = self.first_from(key);
         match found.0 {
@@ -181,7 +181,6 @@ impl PlaceIndex {
     pub(crate) fn find(&self, key: IndexKey) -> (Option<u32>, KeyPlace)
         ensures { result.0 ≡ place_of key self.now.stored.entries }
     {
-        self.stored(KeyPlace::UNKNOWN).keys_rise();
         self.first_slot(key)
     }
 
@@ -210,7 +209,8 @@ impl PlaceIndex {
 
     // All events.
     pub(crate) fn stored(&self, place: KeyPlace) -> Lane<'_>
-        ensures { result ≡ self.now.stored }
+        ensures same { result ≡ self.now.stored }
+        ensures rising { AreRising self.now.stored.entries }
     {
         Lane::over(&self.index, None, place)
     }
@@ -221,9 +221,7 @@ impl PlaceIndex {
         ensures rising { AreRising self.now.live.entries }
         ensures own { AreOwn self.now.live.entries }
     {
-        let live = Lane::over(&self.index, Some(Mark::Live), place);
-        live.keys_rise();
-        live
+        Lane::over(&self.index, Some(Mark::Live), place)
     }
 
     // The live events that have a reading of a direction.
@@ -253,7 +251,6 @@ impl PlaceIndex {
         ensures stored { self.new.stored ≡ index (put nat_cmp key slot self.old.stored.entries) self.old.stored.capacity }
         ensures lives { IsLiveMore key slot carries names self.old self.new }
     {
-        self.index.keys_rise();
         let ends = self.ends_at(key, place);
         // A new transaction's first key belongs where it begins.
         let place = place.known_or(ends.0);
@@ -278,7 +275,6 @@ impl PlaceIndex {
         ensures stored { self.new.stored ≡ self.old.stored }
         ensures lives { IsLiveLess key self.old self.new }
     {
-        self.index.keys_rise();
         let before = self.links.prev(slot);
         let after = self.links.next(slot);
         self.links.link_out(before, after);
@@ -291,7 +287,6 @@ impl PlaceIndex {
         ensures stored { self.new.stored ≡ self.old.stored }
         ensures lives { IsLiveMore key slot carries names self.old self.new }
     {
-        self.index.keys_rise();
         let place = self.near;
         link_live(&self.index, &mut self.links, place, key, slot);
         let marks = Marks {
@@ -310,7 +305,6 @@ impl PlaceIndex {
         ensures stored { self.new.stored ≡ index (out key self.old.stored.entries) self.old.stored.capacity }
         ensures lives { IsLiveSame self.old self.new }
     {
-        self.index.keys_rise();
         self.index.remove(key);
     }
 
@@ -319,7 +313,6 @@ impl PlaceIndex {
         requires { HasRank self.now.live.entries slot }
         ensures { (rank : ℕ) → place_of rank self.now.live.entries ≡ Some slot → result ≡ option_map slot_in (slice_get (places_behind rank self.now.live.entries) 0) }
     {
-        self.index.keys_rise();
         self.links.next(slot)
     }
 }

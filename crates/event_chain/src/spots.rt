@@ -2,6 +2,7 @@
 ghost use Rattle.std.specs.Prelude.{◌≡◌, ℕ, ◌<◌, true, false, length, None, Some, IsSome, IfSome, slice_get, option_map};
 ghost use Rattle.std.specs.Option.{ForSome};
 ghost use Rattle.event_chain.specs.Placed.{carriers_of};
+ghost use Rattle.event_chain.specs.Ranked as ranked;
 ghost use Rattle.event_chain.specs.Ranked.{from, first_of, last_of};
 ghost use Rattle.key_index.specs.Key.{rank};
 ghost use Rattle.ledger_model.specs.Ranges.{sequence_end};
@@ -34,9 +35,7 @@ pub(crate) struct Spot {
 fn slot_at(places: &PlaceIndex, near: KeyPlace, key: IndexKey) -> Option<u32>
     ensures { result ≡ place_of key places.now.stored.entries }
 {
-    let stored = places.stored(near);
-    stored.keys_rise();
-    stored.get(key)
+    places.stored(near).get(key)
 }
 
 // Finds a key, also one that was not sought before: its slot, none where it is absent, and where it
@@ -70,7 +69,6 @@ pub(crate) fn locate(table: &TransactionTable, places: &PlaceIndex, key: &Key) -
     ensures { IsSpot table.now.rows places.now.stored.entries key.now result }
 {
     let stored = places.stored(places.near());
-    stored.keys_rise();
     let row = match table.get(key.tx()) {
         Some(row) => row,
         None => unreachable!(),
@@ -132,7 +130,6 @@ fn has_place(places: &PlaceIndex, slot: u32) -> bool
     ensures bare { result ≡ false → IsBare places.now.stored.entries slot }
 {
     let stored = places.stored(places.start());
-    stored.keys_rise();
     first_place(&stored, slot).is_some()
 }
 
@@ -140,7 +137,6 @@ fn has_place(places: &PlaceIndex, slot: u32) -> bool
 pub(crate) fn first_place(index: &Lane<'_>, slot: u32) -> Option<(IndexKey, u32)>
     ensures { result ≡ slice_get (segment slot index.now.entries) 0 }
 {
-    index.keys_rise();
     own(index.at_or_after(IndexKey::new(slot, 0)), slot)
 }
 
@@ -159,7 +155,6 @@ fn last_place(index: &Lane<'_>, slot: u32) -> Option<(IndexKey, u32)>
     requires { slot < 4294967295 }
     ensures { result ≡ last_of (segment slot index.now.entries) }
 {
-    index.keys_rise();
     own(index.before(IndexKey::new(slot + 1, 0)), slot)
 }
 
@@ -178,7 +173,6 @@ fn last_in(index: &Lane<'_>, row: Option<TableRow>) -> Option<(IndexKey, u32)>
 pub(crate) fn place_before(index: &Lane<'_>, key: IndexKey) -> Option<(IndexKey, u32)>
     ensures { result ≡ last_of (places_before key index.now.entries) }
 {
-    index.keys_rise();
     own(index.before(key), key.transaction())
 }
 
@@ -186,7 +180,6 @@ pub(crate) fn place_before(index: &Lane<'_>, key: IndexKey) -> Option<(IndexKey,
 pub(crate) fn place_behind(index: &Lane<'_>, key: IndexKey) -> Option<(IndexKey, u32)>
     ensures { result ≡ slice_get (places_behind key index.now.entries) 0 }
 {
-    index.keys_rise();
     let (slot, number) = (key.transaction(), key.number());
     if number == GREATEST_NUMBER {
         return None;
@@ -236,10 +229,10 @@ fn behind_found(
     key: IndexKey,
     found: Option<(IndexKey, u32)>,
 ) -> Option<(IndexKey, u32)>
-    requires { found ≡ first_of (from key index.now.entries) }
+    requires found { found ≡ first_of (from key index.now.entries) }
+    requires rising { ranked.AreRising index.now.entries }
     ensures { result ≡ slice_get (places_behind key index.now.entries) 0 }
 {
-    index.keys_rise();
     if is_at(&found, key) {
         return place_behind(index, key);
     }
@@ -255,7 +248,6 @@ fn places_around(
     ensures before { result.0 ≡ last_of (places_before key index.now.entries) }
     ensures behind { result.1 ≡ slice_get (places_behind key index.now.entries) 0 }
 {
-    index.keys_rise();
     let found = index.around(key);
     let before = own(found.0, key.transaction());
     let behind = behind_found(index, key, found.1);

@@ -83,8 +83,6 @@ impl EventStore {
         ensures readings { self.new.readings + readings_at self.old.slots slot ≡ self.old.readings }
         ensures capacity { self.new.capacity ≡ self.old.capacity }
     {
-        // A slot's number is below this, at most 65,536.
-        let _capacity = self.events.capacity();
         let event = self.events.give(SlotId::new(slot));
         take_all(&mut self.links, slot as u16, event.first, event.count);
     }
@@ -143,8 +141,6 @@ fn put_slot(events: &mut SlotArena<EventSlot>, key: IndexKey, event: &Event) -> 
         last: 0,
         count: 0,
     };
-    // A slot's number is below this, at most 65,536.
-    let _capacity = events.capacity();
     match events.take(slot) {
         Ok(id) => id.number() as u16,
         Err(_) => unreachable!(),

@@ -65,15 +65,6 @@ impl<K: Ranked, V: Copy> KeyIndex<K, V> {
         self.len
     }
 
-    /// The keys rise, and the entries are no more than it may hold. It does nothing: a caller names the
-    /// fact by it.
-    pub fn keys_rise(&self)
-        ensures rising { AreRising self.now.entries }
-        ensures within { length self.now.entries ≤ self.now.capacity }
-    {
-        let _ = self.len();
-    }
-
     /// How many entries it may hold.
     pub fn capacity(&self) -> u32
         ensures { result ≡ self.now.capacity }
@@ -184,6 +175,7 @@ impl<K: Ranked, V: Copy> KeyIndex<K, V> {
     pub fn set_marks(&mut self, key: K, marks: Marks)
         requires { IsSome (filed_at (K.rank key) (from (K.rank key) self.old.entries)) }
         ensures entries { self.new.entries ≡ below (K.rank key) self.old.entries ++ mark_at marks 0 (from (K.rank key) self.old.entries) }
+        ensures rising { AreRising self.new.entries }
         ensures capacity { self.new.capacity ≡ self.old.capacity }
     {
         let at = leaf_of(&self.leaves, key);
@@ -195,6 +187,7 @@ impl<K: Ranked, V: Copy> KeyIndex<K, V> {
         requires absent { filed_at (K.rank key) (from (K.rank key) self.old.entries) ≡ None }
         requires room { length self.old.entries < self.old.capacity }
         ensures entries { self.new.entries ≡ below (K.rank key) self.old.entries ++ (K.rank key, filed) ∷ from (K.rank key) self.old.entries }
+        ensures rising { AreRising self.new.entries }
         ensures capacity { self.new.capacity ≡ self.old.capacity }
     {
         if !self.leaves.is_empty() {
@@ -213,6 +206,7 @@ impl<K: Ranked, V: Copy> KeyIndex<K, V> {
         requires absent { filed_at (K.rank key) (from (K.rank key) self.old.entries) ≡ None }
         requires room { length self.old.entries < self.old.capacity }
         ensures entries { self.new.entries ≡ below (K.rank key) self.old.entries ++ (K.rank key, filed) ∷ from (K.rank key) self.old.entries }
+        ensures rising { AreRising self.new.entries }
         ensures capacity { self.new.capacity ≡ self.old.capacity }
     {
         reclaim(&mut self.leaves, &mut self.spare);
@@ -225,6 +219,7 @@ impl<K: Ranked, V: Copy> KeyIndex<K, V> {
     pub fn remove(&mut self, key: K)
         requires { IsSome (filed_at (K.rank key) (from (K.rank key) self.old.entries)) }
         ensures entries { self.new.entries ≡ below (K.rank key) self.old.entries ++ drop 1 (from (K.rank key) self.old.entries) }
+        ensures rising { AreRising self.new.entries }
         ensures capacity { self.new.capacity ≡ self.old.capacity }
     {
         let at = leaf_of(&self.leaves, key);

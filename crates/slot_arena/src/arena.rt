@@ -65,6 +65,7 @@ impl<T> SlotArena<T> {
     /// value, hands this one back.
     pub fn take(&mut self, value: T) -> Result<SlotId, T>
         ensures was_free { IfOk result (λ id. (id < length self.old) × (value_at self.old id ≡ None)) }
+        ensures numbered { IfOk result (λ id. id < MAX_SLOTS) }
         ensures taken { IfOk result (λ id. self.new ≡ slice_set self.old id (Some value)) }
         ensures full { IsErr result ↔ IsFull self.old }
         ensures given_back { IfErr result (λ v. v ≡ value) }
@@ -82,6 +83,7 @@ impl<T> SlotArena<T> {
     /// Takes out the value that a held id stands for; the id is free from then on.
     pub fn give(&mut self, id: SlotId) -> T
         requires { IsHeld self.old id }
+        ensures numbered { id < MAX_SLOTS }
         ensures value { value_at self.old id ≡ Some result }
         ensures given { self.new ≡ slice_set self.old id None }
     {

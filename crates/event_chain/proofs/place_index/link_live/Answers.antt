@@ -5,8 +5,12 @@ use Rattle.event_chain.specs.Flat.{place_of}
 use Rattle.event_chain.specs.Lists.{slot_in, slot_before, slot_after, AreListed}
 use Rattle.event_chain.specs.Placed.{Index, lane_of}
 use Rattle.event_chain.specs.Ranked.{AreRising}
+use Rattle.event_chain.proofs.Lanes.{lane_rising}
 use Rattle.event_chain.proofs.Lists.{sides_absent}
 use Rattle.event_chain.proofs.place_index.link_live.Goals as goal
+
+pub slot_behind-after-requires-clause-rising : goal.slot_behind-after-requires-clause-rising
+slot_behind-after-requires-clause-rising c = subst (λ (x : Index). AreRising x.entries) (sym c.over-live.ensures) (lane_rising (Some Live) c.args.index.now.entries c.requires.rising)
 
 pub slot_behind-after-requires-clause-listed : goal.slot_behind-after-requires-clause-listed
 slot_behind-after-requires-clause-listed c = subst (λ (x : Index). AreListed x c.args.links.now) (sym c.over-live.ensures) c.requires.listed
@@ -17,8 +21,7 @@ slot_behind-after-requires-clause-absent c = ap (λ (x : Index). place_of c.args
 pub link_in-requires-clause-sides : goal.link_in-requires-clause-sides
 link_in-requires-clause-sides c =
     let L = lane_of (Some Live) c.args.index.now in let key = c.args.key in
-    let rising = subst (λ (x : Index). AreRising x.entries) c.over-live.ensures c.keys_rise.ensures.rising in
-    let sides = sides_absent L c.args.links.now c.requires.listed rising key c.requires.absent in
+    let sides = sides_absent L c.args.links.now c.requires.listed (lane_rising (Some Live) c.args.index.now.entries c.requires.rising) key c.requires.absent in
     let before : c.slot_of_place-before.result ≡ slot_before key L.entries = c.slot_of_place-before.ensures ∙ ap (option_map slot_in) c.place_before.ensures ∙ ap (λ (x : Index). slot_before key x.entries) c.over-live.ensures in
     let after : c.slot_behind-after.result ≡ slot_after key L.entries = c.slot_behind-after.ensures ∙ ap (λ (x : Index). slot_after key x.entries) c.over-live.ensures in
     ((λ x is. sides.0 x (sym before ∙ is)), (λ x is. sides.1 x (sym after ∙ is)))

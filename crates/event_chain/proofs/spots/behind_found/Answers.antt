@@ -7,5 +7,5 @@ use Rattle.event_chain.proofs.spots.behind_found.Goals as goal
 pub returns : goal.returns
 returns c =
     let r = c.args.key in let es = c.args.index.now.entries in let t = c.transaction.result in
-    c.own.ensures ∙ ap (at_home t) (c.requires ∙ ap first_of (from_past r (r + 1) es refl (λ e is same. c.is_at.ensures c.if-is_at.false e (c.requires ∙ is) same)))
-    ∙ behind_seg t r (r + 1) es c.keys_rise.ensures.rising c.transaction.ensures refl
+    c.own.ensures ∙ ap (at_home t) (c.requires.found ∙ ap first_of (from_past r (r + 1) es refl (λ e is same. c.is_at.ensures c.if-is_at.false e (c.requires.found ∙ is) same)))
+    ∙ behind_seg t r (r + 1) es c.requires.rising c.transaction.ensures refl

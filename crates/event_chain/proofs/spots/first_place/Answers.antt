@@ -7,4 +7,4 @@ use Rattle.event_chain.proofs.spots.first_place.Goals as goal
 pub returns : goal.returns
 returns c =
     let t = c.args.slot in let es = c.args.index.now.entries in
-    c.own.ensures ∙ ap (at_home t) (c.at_or_after.ensures ∙ ap (λ r. first_of (from r es)) c.new.ensures) ∙ first_seg t es c.keys_rise.ensures.rising
+    c.own.ensures ∙ ap (at_home t) (c.at_or_after.ensures.first ∙ ap (λ r. first_of (from r es)) c.new.ensures) ∙ first_seg t es c.at_or_after.ensures.rising

@@ -7,4 +7,4 @@ use Rattle.event_chain.proofs.spots.last_place.Goals as goal
 pub returns : goal.returns
 returns c =
     let t = c.args.slot in let es = c.args.index.now.entries in
-    c.own.ensures ∙ ap (at_home t) (c.before-2.ensures ∙ ap (λ r. last_of (below r es)) c.new.ensures) ∙ last_seg t es c.keys_rise.ensures.rising
+    c.own.ensures ∙ ap (at_home t) (c.before-2.ensures.last ∙ ap (λ r. last_of (below r es)) c.new.ensures) ∙ last_seg t es c.before-2.ensures.rising

@@ -6,4 +6,4 @@ use Rattle.event_chain.proofs.spots.place_before.Goals as goal
 pub returns : goal.returns
 returns c =
     let r = c.args.key in let es = c.args.index.now.entries in
-    c.own.ensures ∙ ap (at_home c.transaction.result) c.before-2.ensures ∙ before_seg c.transaction.result r es c.keys_rise.ensures.rising c.transaction.ensures
+    c.own.ensures ∙ ap (at_home c.transaction.result) c.before-2.ensures.last ∙ before_seg c.transaction.result r es c.before-2.ensures.rising c.transaction.ensures

@@ -11,4 +11,4 @@ pub returns : goal.returns
 returns c =
     let r = c.args.key in let es = c.args.index.now.entries in let t = c.transaction-slot.result in let n = c.new.result in
     let up : n ≡ r + 1 = omega (arith, c.new.ensures, c.number-number.ensures, c.transaction-slot.ensures) in
-    c.own.ensures ∙ ap (at_home t) c.at_or_after.ensures ∙ behind_seg t r n es c.keys_rise.ensures.rising c.transaction-slot.ensures up
+    c.own.ensures ∙ ap (at_home t) c.at_or_after.ensures.first ∙ behind_seg t r n es c.at_or_after.ensures.rising c.transaction-slot.ensures up

@@ -34,3 +34,6 @@ invariant_of-self g c =
       count = omega (arith, was.count, ap length all, length_put key filed es);
       few = omega (arith, was.count, entries, limit, c.requires.room);
     }
+
+pub returns-then-len-lt-LEAF_SIZE-clause-rising : goal.returns-then-len-lt-LEAF_SIZE-clause-rising
+returns-then-len-lt-LEAF_SIZE-clause-rising g c = (invariant_of-self g c).kept.rising

@@ -59,3 +59,6 @@ invariant_of-self g c =
       count = omega (arith, was.count, ap length all, length_put key filed es);
       few = omega (arith, was.count, entries, limit, c.requires.room);
     }
+
+pub returns-clause-rising : goal.returns-clause-rising
+returns-clause-rising g c = (invariant_of-self g c).kept.rising

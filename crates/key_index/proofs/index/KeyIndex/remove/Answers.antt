@@ -60,3 +60,6 @@ invariant_of-self g c =
       count = omega (arith, was.count, ap length all, length_out key es found);
       few = omega (arith, was.few);
     }
+
+pub returns-clause-rising : goal.returns-clause-rising
+returns-clause-rising g c = (invariant_of-self g c).kept.rising

@@ -47,3 +47,6 @@ invariant_of-self g c =
       count = omega (arith, was.count, long);
       few = omega (arith, was.few);
     }
+
+pub returns-clause-rising : goal.returns-clause-rising
+returns-clause-rising g c = (invariant_of-self g c).kept.rising

@@ -1,6 +1,7 @@
-use Rattle.std.proofs.Common.{◌+◌, Some, None, length, set, sym, ap, ◌∙◌, subst, length-set}
-use Rattle.slot_arena.specs.declared.slot.Slot.TheVariants.{Free}
+use Rattle.std.proofs.Common.{◌+◌, Some, None, length, set, sym, ap, ◌∙◌, subst, arith, length-set}
+use Rattle.slot_arena.specs.declared.slot.Slot.TheVariants.{Free, Held}
 use Rattle.slot_arena.specs.Free.{values_in, IsThreaded}
+use Rattle.slot_arena.proofs.Rooms.{holding_within}
 use Rattle.slot_arena.proofs.Threads.{held_in, threaded-give, shown_set}
 use Rattle.slot_arena.proofs.arena.SlotArena.give.Goals as goal
 
@@ -21,6 +22,11 @@ invariant_of-self g c =
       count = ap length out.ensures.row.1 ∙ length-set a.places.row id place ∙ was.count;
       threaded = subst (λ row. IsThreaded row id (a.spare + 1)) (sym out.ensures.row.1) (threaded-give a.places.row a.first a.spare id was.threaded holds);
     }
+
+pub returns-clause-numbered : goal.returns-clause-numbered
+returns-clause-numbered g c =
+    let a = c.self.inside in let holds = held_in a.places.row c.args.self.now c.number-index.result c.args.id c.self.view_is c.number-index.ensures c.requires in
+    omega (arith, holding_within a.places.row c.number-index.result (Held holds.0) holds.1, c.self.invariant.threaded.few, c.number-index.ensures)
 
 pub returns-clause-given : goal.returns-clause-given
 returns-clause-given g c =

@@ -50,6 +50,11 @@ returns-clause-was_free g c =
     let a = c.self.inside in let held = c.hold-self-inside in
     free_shows_none a.places.row c.args.self.now a.first c.new.result held.result c.self.view_is c.new.ensures held.ensures.next
 
+pub returns-clause-numbered : goal.returns-clause-numbered
+returns-clause-numbered g c =
+    let a = c.self.inside in
+    omega (arith, holding_within a.places.row a.first (Free c.hold-self-inside.result) c.hold-self-inside.ensures.next, c.self.invariant.threaded.few, c.new.ensures)
+
 pub returns-clause-full : goal.returns-clause-full
 returns-clause-full g c =
     let a = c.self.inside in
