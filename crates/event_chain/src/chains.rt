@@ -7,7 +7,7 @@ ghost use Rattle.ledger_model.specs.Evse.{evse_of};
 ghost use Rattle.ledger_model.specs.Complete.{kinds_of};
 ghost use Rattle.ledger_model.specs.Deltas.{own_readings, before_key, behind_key, first_reading, last_reading};
 ghost use Rattle.ledger_model.specs.Gaps.{numbers_of};
-ghost use Rattle.ledger_model.specs.Ranges.{most_events};
+ghost use Rattle.ledger_model.specs.Ranges.{most_events, most_readings, most_transactions};
 ghost use Rattle.event_chain.specs.declared.answers.Room.TheVariants.{Fits};
 ghost use Rattle.event_chain.specs.declared.answers.Found.TheVariants.{Live, Voided};
 ghost use Rattle.event_chain.specs.Table.{row_of};
@@ -128,6 +128,9 @@ impl Chains {
     /// No events, within these limits. It alone takes memory.
     pub fn open(alloc: Global, limits: &Limits) -> Result<Self, AllocError>
         ensures limits { IfOk result (λ c. c.limits ≡ limits.now) }
+        ensures transactions { IfOk result (λ c. limits.now.transactions ≤ most_transactions) }
+        ensures events { IfOk result (λ c. limits.now.events ≤ most_events) }
+        ensures readings { IfOk result (λ c. limits.now.readings ≤ most_readings) }
         ensures empty { IfOk result (λ c. c.events ≡ finite.empty) }
     {
         let (transactions, events) = (limits.transactions(), limits.events());

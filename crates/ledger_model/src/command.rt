@@ -1,6 +1,4 @@
 ghost use Rattle.std.specs.Prelude.{◌≡◌};
-ghost use Rattle.ledger_model.specs.Key.{IsKeyName};
-ghost use Rattle.ledger_model.specs.Event.{IsEventContent};
 
 use crate::{Event, Key};
 
@@ -15,23 +13,6 @@ pub enum Command {
     Restore(Key),
     /// Forget a voided event.
     Erase(Key),
-}
-
-// Reads the parts of a key, which their types keep in range.
-fn read_key(key: &Key)
-    ensures { IsKeyName key.now }
-{
-    let _ = key.tx().text();
-    let _ = key.seq();
-}
-
-// Reads the parts of an event, which their types keep in range.
-fn read_event(event: &Event)
-    ensures { IsEventContent event.now }
-{
-    let _ = event.moment();
-    let _ = event.evse();
-    let _ = event.readings();
 }
 
 impl Command {
@@ -51,12 +32,12 @@ impl Command {
     {
         match self {
             Command::Deliver(key, event) => {
-                read_key(key);
-                read_event(event);
+                key.keeps_ranges();
+                event.keeps_ranges();
                 key
             }
             Command::Void(key) | Command::Restore(key) | Command::Erase(key) => {
-                read_key(key);
+                key.keeps_ranges();
                 key
             }
         }

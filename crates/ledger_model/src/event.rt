@@ -1,5 +1,5 @@
 ghost use Rattle.std.specs.Prelude.{◌≡◌, ◌≤◌, ◌≢◌, ◌↔◌, length, All, Some, IsTrue, IfSome, IsOk, IfOk, IfErr};
-ghost use Rattle.ledger_model.specs.Event.{IsEvent, IsMeterReading};
+ghost use Rattle.ledger_model.specs.Event.{IsEvent, IsEventContent, IsMeterReading};
 ghost use Rattle.ledger_model.specs.Moment.{IsMoment};
 ghost use Rattle.ledger_model.specs.Ranges.{greatest_evse, most_event_readings};
 
@@ -20,14 +20,13 @@ pub struct Event {
 }
 
 impl Model for Event {
-    ghost use Rattle.std.specs.Prelude.{All};
-    ghost use Rattle.ledger_model.specs.Event.{EventContent, IsEvent, IsMeterReading};
+    ghost use Rattle.ledger_model.specs.Event.{EventContent, IsEventContent};
 
     ghost Value = { EventContent };
 
     ghost view = { λ e. record { kind = e.kind; moment = e.moment; evse = e.evse; readings = e.readings } };
 
-    ghost invariant = { λ e. IsEvent e.evse e.readings × All IsMeterReading e.readings };
+    ghost invariant = { λ e. IsEventContent (record { kind = e.kind; moment = e.moment; evse = e.evse; readings = e.readings }) };
 }
 
 // Tells whether both lists have the same readings in the same order.
@@ -37,13 +36,26 @@ fn are_same(readings: &[Reading], others: &[Reading]) -> bool
     readings == others
 }
 
-// Reads the parts of each reading, which their types keep in range.
-fn read_parts(readings: &[Reading])
-    ensures { All IsMeterReading readings.now }
+// Tells whether an EVSE is named by 0, as no event names one.
+fn names_none(evse: &Option<EvseId>) -> bool
+    ensures none { IsTrue result ↔ (evse.now ≡ Some 0) }
+    ensures range { IfSome evse.now (λ number. number ≤ greatest_evse) }
+{
+    match evse {
+        Some(evse) => evse.number() == 0,
+        None => false,
+    }
+}
+
+// Reads a moment and the parts of each reading, which their types keep in range.
+fn read_parts(moment: Moment, readings: &[Reading])
+    ensures moment { IsMoment moment }
+    ensures readings { All IsMeterReading readings.now }
 {
     for reading in readings {
         let _ = (reading.moment().nanos(), reading.level());
     }
+    let _ = moment.nanos();
 }
 
 impl Event {
@@ -62,17 +74,23 @@ impl Event {
         ensures readings { IfOk result (λ e. e.readings ≡ readings.items) }
         ensures given_back { IfErr result (λ back. back.items ≡ readings.items) }
     {
-        let names_none = matches!(&evse, Some(evse) if evse.number() == 0);
-        if names_none || readings.len() > MAX_EVENT_READINGS {
+        if names_none(&evse) || readings.len() > MAX_EVENT_READINGS {
             return Err(readings);
         }
-        read_parts(&readings);
+        read_parts(moment, &readings);
         Ok(Event {
             kind,
             moment,
             evse,
             readings: Listed::of(readings),
         })
+    }
+
+    // It is in range, as its type keeps it. It does nothing: a caller names the fact by it.
+    pub(crate) fn keeps_ranges(&self)
+        ensures { IsEventContent self.now }
+    {
+        let _ = &self.kind;
     }
 
     /// What the event tells of its transaction.
@@ -87,7 +105,6 @@ impl Event {
         ensures value { result ≡ self.now.moment }
         ensures range { IsMoment result }
     {
-        let _ = self.moment.nanos();
         self.moment
     }
 
@@ -97,9 +114,6 @@ impl Event {
         ensures named { result ≢ Some 0 }
         ensures range { IfSome result (λ number. number ≤ greatest_evse) }
     {
-        if let Some(evse) = self.evse {
-            let _ = evse.number();
-        }
         self.evse
     }
 

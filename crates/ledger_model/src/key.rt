@@ -1,4 +1,5 @@
 ghost use Rattle.std.specs.Prelude.{◌≡◌, ◌<◌, ◌↔◌, IsSome, IfSome};
+ghost use Rattle.ledger_model.specs.Key.{IsKeyName};
 ghost use Rattle.ledger_model.specs.Ranges.{sequence_end};
 
 use crate::TxId;
@@ -61,7 +62,14 @@ impl Key {
         self.seq
     }
 
-    /// The same key once more, without memory.
+    // Its parts are in range, as their types keep them. It does nothing: a caller names the fact by it.
+    pub(crate) fn keeps_ranges(&self)
+        ensures { IsKeyName self.now }
+    {
+        let _ = self.tx.text();
+    }
+
+    /// The key once more, without memory.
     pub fn copied(&self) -> Self
         ensures { result ≡ self.now }
     {

@@ -73,14 +73,20 @@ impl Limits {
         }
     }
 
-    /// Each limit is in its range. It does nothing: a caller names the fact by it.
-    pub fn keep_ranges(&self)
-        ensures transactions { self.now.transactions ≤ most_transactions }
-        ensures events { self.now.events ≤ most_events }
-        ensures readings { self.now.readings ≤ most_readings }
-        ensures changes { self.now.changes ≤ most_changes }
+    /// The limits once more, each in its range.
+    pub fn copied(&self) -> Self
+        ensures value { result ≡ self.now }
+        ensures transactions { result.transactions ≤ most_transactions }
+        ensures events { result.events ≤ most_events }
+        ensures readings { result.readings ≤ most_readings }
+        ensures changes { result.changes ≤ most_changes }
     {
-        let _ = &self.transactions;
+        Limits {
+            transactions: self.transactions,
+            events: self.events,
+            readings: self.readings,
+            changes: self.changes,
+        }
     }
 
     /// How many transactions may be stored at once, 1 to 4,096.

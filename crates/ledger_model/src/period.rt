@@ -34,11 +34,14 @@ impl Period {
         }
     }
 
-    /// It is one of the four. It does nothing: a caller names the fact by it.
-    pub fn keep_range(self)
-        ensures { IsPeriod self }
+    /// The period once more, which is one of the four.
+    pub fn copied(self) -> Self
+        ensures value { result ≡ self }
+        ensures range { IsPeriod result }
     {
-        let _ = self.seconds;
+        Period {
+            seconds: self.seconds,
+        }
     }
 
     /// How many seconds it has.

@@ -20,10 +20,9 @@ impl BookRow {
         ensures limits { result.limits ≡ limits.now }
         ensures figures { result.figures ≡ no_figures }
     {
-        // What limits can be bounds the sums over all rows.
-        limits.keep_ranges();
         BookRow {
-            limits: *limits,
+            // What limits can be bounds the sums over all rows.
+            limits: limits.copied(),
             figures: Figures::zero(),
         }
     }

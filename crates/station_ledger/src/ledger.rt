@@ -66,7 +66,6 @@ impl StationLedger {
         ensures empty { IfOk result (λ l. l.content ≡ empty_content) }
         ensures reached { IfOk result (λ l. Reached l.limits l.content.changes l.content) }
     {
-        limits.keep_ranges();
         Ok(StationLedger {
             limits,
             chains: Chains::open(alloc, &limits)?,

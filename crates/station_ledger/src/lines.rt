@@ -121,12 +121,12 @@ pub(crate) fn board_of(
     requires figures { figures ≡ figures_by (order_in sums.now) (stored chains.now) }
     ensures { IfOk result (λ b. b ≡ board_by (order_in sums.now) sums.now.period (stored chains.now)) }
 {
-    sums.period.keep_range();
     let transactions = transaction_lines(alloc, chains, sums)?;
     let evses = evse_lines(alloc, &sums.evses)?;
     let quarters = quarter_lines(alloc, &sums.quarters)?;
     Ok(StationBoard {
-        period: sums.period,
+        // Quarters of one of the four periods begin at moments.
+        period: sums.period.copied(),
         figures,
         evses: Listed::of(evses),
         quarters: Listed::of(quarters),

@@ -10,5 +10,5 @@ loop-reading-preserved c =
     let here : IsMeterReading r = record { moment = rw c.moment.ensures at (rw c.nanos.ensures.value at c.nanos.ensures.range); mwh = rw c.level.ensures.value at c.level.ensures.range } in
     All-more IsMeterReading c.args.readings.now c.loop-reading.reading-index r c.loop-reading-test.true c.loop-reading.invariant (subst IsMeterReading c.reading-item.is here)
 
-pub returns : goal.returns
-returns c = rw (take_all c.loop-reading.reading-index c.args.readings.now (omega arith)) at c.loop-reading.invariant
+pub returns-clause-readings : goal.returns-clause-readings
+returns-clause-readings c = rw (take_all c.loop-reading.reading-index c.args.readings.now (omega arith)) at c.loop-reading.invariant

@@ -16,7 +16,7 @@ invariant_of-result c =
       reached = λ i. record { events = c.in_ok-open.ensures.empty i; changes = 0 };
       summed = subst (λ (es : List Entry). AreSummed c.args.limits es sums) (sym empty) c.in_ok-open-2.ensures.summed;
       voided_are = c.in_ok-open-2.ensures.voided ∙ sym (ap (count_by (λ (e : Entry). e.1.voided)) empty);
-      few_transactions = c.keep_ranges.ensures.transactions;
-      few_events = c.keep_ranges.ensures.events;
-      few_readings = c.keep_ranges.ensures.readings;
+      few_transactions = c.in_ok-open.ensures.transactions;
+      few_events = c.in_ok-open.ensures.events;
+      few_readings = c.in_ok-open.ensures.readings;
     }
