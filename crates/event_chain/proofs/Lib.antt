@@ -30,4 +30,4 @@ mod Walks
 mod Used
 mod Counts
 mod Rows
-mod Lanes
+mod MarkedIndexes

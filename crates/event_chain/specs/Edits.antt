@@ -15,7 +15,7 @@ use Rattle.ledger_model.specs.Deltas.{first_reading, last_reading}
 use Rattle.key_index.specs.Key.{rank}
 use Rattle.ledger_model.specs.Ranges.{sequence_end}
 use Rattle.event_chain.specs.declared.row.TableRow.{TableRow}
-use Rattle.event_chain.specs.declared.spots.Spot.{Spot}
+use Rattle.event_chain.specs.declared.look_ups.EventLocation.{EventLocation}
 use Rattle.event_chain.specs.Table.{TxRow, row_of}
 use Rattle.event_chain.specs.Flat.{EventPlace, number_at, place_of, stored_at, segment}
 use Rattle.event_chain.specs.Placed.{Placed, carriers_of, index}
@@ -95,10 +95,10 @@ evse_at slots None = 0
 evse_at slots (Some e) = unwrap_or (stored_at slots e.1).event.evse 0
 
 -- Where the event of a key is: the row of its transaction, its rank, and its slot.
-pub record IsSpot (rows : List TxRow) (es : List EventPlace) (key : KeyName) (spot : Spot) : Type 0 where
-  pub row : row_of key.tx rows ≡ Some spot.row
-  pub key_is : spot.key ≡ rank spot.row.slot key.seq
-  pub slot : place_of spot.key es ≡ Some spot.slot
+pub record IsLocation (rows : List TxRow) (es : List EventPlace) (key : KeyName) (location : EventLocation) : Type 0 where
+  pub row : row_of key.tx rows ≡ Some location.row
+  pub key_is : location.key ≡ rank location.row.slot key.seq
+  pub slot : place_of location.key es ≡ Some location.slot
   pub number : key.seq < sequence_end
 
 -- No live event has the key.

@@ -3,7 +3,7 @@ use Rattle.std.specs.Prelude.{◌≡◌, ℕ, List, Option, Some, length, map, s
 use Rattle.key_index.specs.declared.filed.Mark.TheVariants.{Live}
 use Rattle.key_index.specs.Entries.{AreRising}
 use Rattle.key_index.specs.Index as keyed
-use Rattle.event_chain.specs.Placed.{Index, lane_of}
+use Rattle.event_chain.specs.Placed.{Index, marked_index}
 use Rattle.event_chain.specs.Links.{Links}
 use Rattle.event_chain.specs.LinkChain.{IsLinked}
 use Rattle.event_chain.specs.Flat.{EventPlace, place_of, segment}
@@ -45,4 +45,4 @@ pub record AreListed (live : Index) (l : Links) : Type 0 where
 -- The keys of an index rise, and the slots of its live places are linked in lists.
 pub record ArePlaced (i : keyed.Index ℕ) (l : Links) : Type 0 where
   pub rising : AreRising i.entries
-  pub listed : AreListed (lane_of (Some Live) i) l
+  pub listed : AreListed (marked_index (Some Live) i) l

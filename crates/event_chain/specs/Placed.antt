@@ -23,12 +23,12 @@ index entries capacity = record { entries = entries; capacity = capacity }
 abbrev pub place_in : Entry ℕ → EventPlace
 place_in e = (e.0, e.1.value)
 
--- The places of a lane: of all entries, or of those that have a mark.
-abbrev pub lane : Option Mark → List (Entry ℕ) → List EventPlace
-lane None es = map place_in es
-lane (Some m) es = map place_in (marked m es)
+-- The places of the entries that have a mark, or of all entries.
+abbrev pub marked_places : Option Mark → List (Entry ℕ) → List EventPlace
+marked_places None es = map place_in es
+marked_places (Some m) es = map place_in (marked m es)
 
--- The marks put an entry into the lane.
+-- An entry with these marks is one of them.
 abbrev pub passes : Option Mark → Marks → Bool
 passes None marks = true
 passes (Some m) marks = has_mark m marks
@@ -46,13 +46,13 @@ pub record Placed : Type 0 where
   pub exports : Index
   pub naming : Index
 
--- A lane as an index of its own.
-abbrev pub lane_of : Option Mark → keyed.Index ℕ → Index
-lane_of o i = index (lane o i.entries) i.capacity
+-- An index of the places that have a mark, or of all.
+abbrev pub marked_index : Option Mark → keyed.Index ℕ → Index
+marked_index o i = index (marked_places o i.entries) i.capacity
 
--- The lanes of one index.
+-- The places of one index, all and by each mark.
 abbrev pub placed : keyed.Index ℕ → Placed
-placed i = record { stored = lane_of None i; live = lane_of (Some Live) i; imports = lane_of (Some Imports) i; exports = lane_of (Some Exports) i; naming = lane_of (Some Names) i }
+placed i = record { stored = marked_index None i; live = marked_index (Some Live) i; imports = marked_index (Some Imports) i; exports = marked_index (Some Exports) i; naming = marked_index (Some Names) i }
 
 -- The places of the live events that have a reading of this direction.
 abbrev pub carriers_of : Placed → Direction → Index

@@ -11,7 +11,7 @@ ghost use Rattle.event_chain.specs.Sides.{AreSides};
 use crate::carries::Carries;
 use crate::place_index::PlaceIndex;
 use crate::row::TableRow;
-use crate::spots::{carriers_around, first_at, last_at};
+use crate::look_ups::{carriers_around, first_at, last_at};
 use crate::table::TransactionTable;
 use event_store::EventStore;
 use key_index::{IndexKey, KeyPlace};
@@ -45,8 +45,8 @@ impl Sides {
 }
 
 // Finds the readings of a direction on either side of the place of a key, whose transaction may have a
-// row. They are written where they are to stand, since each function that hands such values on by
-// value copies them.
+// row; the table is there for the clauses alone. They are written where they are to stand, since each
+// function that hands such values on by value copies them.
 #[inline(always)]
 pub(crate) fn sides_of(
     table: &TransactionTable,

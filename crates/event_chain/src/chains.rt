@@ -25,7 +25,7 @@ use crate::around::{Around, NONE_AROUND, Sides, around_of, sides_of};
 use crate::carries::{Carries, carried_by};
 use crate::place_index::PlaceIndex;
 use crate::row::TableRow;
-use crate::spots::{
+use crate::look_ups::{
     enter, evse_at, first_live, first_naming, kind_at, last_live, leave, locate, look_up,
     number_of, renew, slot_sought,
 };

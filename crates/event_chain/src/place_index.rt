@@ -7,15 +7,15 @@ ghost use Rattle.event_chain.specs.Ranked.{first_of, from, last_of, slot_at, Are
 ghost use Rattle.event_chain.specs.Links.{linked_in};
 ghost use Rattle.key_index.specs.declared.filed.Mark.TheVariants.{Live};
 ghost use Rattle.ledger_model.specs.declared.reading.Direction.{Direction};
-ghost use Rattle.event_chain.specs.Placed.{carriers_of, index, lane_of, mark_of as placed_mark};
+ghost use Rattle.event_chain.specs.Placed.{carriers_of, index, marked_index, mark_of as placed_mark};
 ghost use Rattle.event_chain.specs.Flat.{place_of};
 ghost use Rattle.event_chain.specs.Edits.{out, places_before, places_behind, CanPutIn, CanRestore, IsLiveLess, IsLiveMore, IsLiveSame, IsNotLive};
 ghost use Rattle.event_chain.specs.Lists.{slot_in, HasRank, AreOwn, AreListed, slot_before, slot_after};
 
 use crate::carries::Carries;
-use crate::lane::{Lane, slot_under};
+use crate::marked_places::{MarkedPlaces, slot_under};
 use crate::links::SlotLinks;
-use crate::spots::{place_before, place_behind};
+use crate::look_ups::{place_before, place_behind};
 use key_index::{Filed, IndexKey, KeyIndex, KeyPlace, Mark, Marks, Ranked};
 use ledger_model::Direction;
 use std::alloc::{AllocError, Global};
@@ -70,7 +70,7 @@ fn slot_of_place(place: Option<(IndexKey, u32)>) -> Option<u32>
 // The slot behind a new key, where the one in front of it is known: a link leads there, and a look-up
 // where the key comes first.
 fn slot_behind(
-    live: &Lane<'_>,
+    live: &MarkedPlaces<'_>,
     links: &SlotLinks,
     key: IndexKey,
     before: Option<u32>,
@@ -96,13 +96,13 @@ fn link_live(
     slot: u32,
 )
     requires rising { entries.AreRising index.now.entries }
-    requires listed { AreListed (lane_of (Some Live) index.now) links.old }
-    requires absent { place_of key (lane_of (Some Live) index.now).entries ≡ None }
-    requires slot { slot < (lane_of (Some Live) index.now).capacity }
-    requires unused { (rank : ℕ) → place_of rank (lane_of (Some Live) index.now).entries ≡ Some slot → ⊥ }
-    ensures { links.new ≡ linked_in links.old (slot_before key (lane_of (Some Live) index.now).entries) slot slot (slot_after key (lane_of (Some Live) index.now).entries) }
+    requires listed { AreListed (marked_index (Some Live) index.now) links.old }
+    requires absent { place_of key (marked_index (Some Live) index.now).entries ≡ None }
+    requires slot { slot < (marked_index (Some Live) index.now).capacity }
+    requires unused { (rank : ℕ) → place_of rank (marked_index (Some Live) index.now).entries ≡ Some slot → ⊥ }
+    ensures { links.new ≡ linked_in links.old (slot_before key (marked_index (Some Live) index.now).entries) slot slot (slot_after key (marked_index (Some Live) index.now).entries) }
 {
-    let live = Lane::over(index, Some(Mark::Live), place);
+    let live = MarkedPlaces::over(index, Some(Mark::Live), place);
     let before = slot_of_place(place_before(&live, key));
     let after = slot_behind(&live, links, key, before);
     links.link_in(before, slot, slot, after);
@@ -208,34 +208,34 @@ impl PlaceIndex {
     }
 
     // All events.
-    pub(crate) fn stored(&self, place: KeyPlace) -> Lane<'_>
+    pub(crate) fn stored(&self, place: KeyPlace) -> MarkedPlaces<'_>
         ensures same { result ≡ self.now.stored }
         ensures rising { AreRising self.now.stored.entries }
     {
-        Lane::over(&self.index, None, place)
+        MarkedPlaces::over(&self.index, None, place)
     }
 
     // The live events, each with a slot of its own.
-    pub(crate) fn live(&self, place: KeyPlace) -> Lane<'_>
+    pub(crate) fn live(&self, place: KeyPlace) -> MarkedPlaces<'_>
         ensures same { result ≡ self.now.live }
         ensures rising { AreRising self.now.live.entries }
         ensures own { AreOwn self.now.live.entries }
     {
-        Lane::over(&self.index, Some(Mark::Live), place)
+        MarkedPlaces::over(&self.index, Some(Mark::Live), place)
     }
 
     // The live events that have a reading of a direction.
-    pub(crate) fn carriers(&self, direction: Direction, place: KeyPlace) -> Lane<'_>
+    pub(crate) fn carriers(&self, direction: Direction, place: KeyPlace) -> MarkedPlaces<'_>
         ensures { result ≡ carriers_of self.now direction }
     {
-        Lane::over(&self.index, Some(mark_of(direction)), place)
+        MarkedPlaces::over(&self.index, Some(mark_of(direction)), place)
     }
 
     // The live events that name an EVSE.
-    pub(crate) fn naming(&self, place: KeyPlace) -> Lane<'_>
+    pub(crate) fn naming(&self, place: KeyPlace) -> MarkedPlaces<'_>
         ensures { result ≡ self.now.naming }
     {
-        Lane::over(&self.index, Some(Mark::Names), place)
+        MarkedPlaces::over(&self.index, Some(Mark::Names), place)
     }
 
     // Puts in a live event under a new key.

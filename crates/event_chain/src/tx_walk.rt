@@ -4,7 +4,7 @@ ghost use Rattle.event_chain.specs.Ranked.{AreRising, AreRising-prop};
 ghost use Rattle.event_chain.specs.Walk.{numbers_at, are_under};
 
 use crate::place_index::PlaceIndex;
-use crate::spots::first_place;
+use crate::look_ups::first_place;
 use event_store::EventStore;
 use gap_list::NumberWalk;
 use key_index::KeyPlace;

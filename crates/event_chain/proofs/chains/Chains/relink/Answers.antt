@@ -13,7 +13,7 @@ use Rattle.event_chain.specs.Placed.{Index, carriers_of}
 use Rattle.event_chain.specs.Kept.{IsChains, events_of, end_count, is_end, is_live, is_carrier, is_naming}
 use Rattle.event_chain.proofs.Facts.{found_voided}
 use Rattle.event_chain.proofs.Used.{unused_voided}
-use Rattle.event_chain.proofs.Marks.{is_placed, spot_event, spot_here, spot_within, spot_voided, spot_is, spot_absent, spot_few, in_indexes, marked_chains, marked_events}
+use Rattle.event_chain.proofs.Marks.{is_placed, location_event, location_here, location_within, location_voided, location_is, location_absent, location_few, in_indexes, marked_chains, marked_events}
 use Rattle.event_chain.proofs.chains.Chains.relink.Goals as goal
 
 pub locate-at-requires : goal.locate-at-requires
@@ -22,33 +22,33 @@ locate-at-requires c =
     let was = found_voided (finite.get (events_of m.table m.store m.places.stored) key) (ap (λ (x : Chained). found_of (finite.get x.events key)) c.self.view_is ∙ c.requires) in is_placed c.self.invariant key was.0 was.1.0
 
 pub get-event-requires : goal.get-event-requires
-get-event-requires c = ap is_some (spot_here c.self.invariant c.args.key.now c.locate-at.ensures)
+get-event-requires c = ap is_some (location_here c.self.invariant c.args.key.now c.locate-at.ensures)
 
 pub restore-requires : goal.restore-requires
 restore-requires c =
     let m = c.self.inside in let k = c.self.invariant in let key = c.args.key.now in let at = c.locate-at.ensures in
-    let was = found_voided (finite.get (events_of m.table m.store m.places.stored) key) (ap (λ (x : Chained). found_of (finite.get x.events key)) c.self.view_is ∙ c.requires) in let void = spot_voided k key at was.0 was.1.0 ∙ was.1.1 in
+    let was = found_voided (finite.get (events_of m.table m.store m.places.stored) key) (ap (λ (x : Chained). found_of (finite.get x.events key)) c.self.view_is ∙ c.requires) in let void = location_voided k key at was.0 was.1.0 ∙ was.1.1 in
     record {
       stored = at.slot;
       not_live = record {
-        live = spot_absent k key at is_live m.places.live.entries k.indexed.lives (ap not void);
-        carriers = λ d. spot_absent k key at (is_carrier d) (carriers_of m.places d).entries (k.indexed.carry d) (ap (λ v. not v && is_some (first_reading (toward d (spot_event k key at).event.readings))) void);
-        naming = spot_absent k key at is_naming m.places.naming.entries k.indexed.names (ap (λ v. not v && is_some (spot_event k key at).event.evse) void);
+        live = location_absent k key at is_live m.places.live.entries k.indexed.lives (ap not void);
+        carriers = λ d. location_absent k key at (is_carrier d) (carriers_of m.places d).entries (k.indexed.carry d) (ap (λ v. not v && is_some (first_reading (toward d (location_event k key at).event.readings))) void);
+        naming = location_absent k key at is_naming m.places.naming.entries k.indexed.names (ap (λ v. not v && is_some (location_event k key at).event.evse) void);
       };
       slot_for = record {
-        within = omega (arith, spot_within k key at, k.counted.slots_are, k.roomy.for_live);
-        unused = unused_voided m.places.stored.entries m.places.live.entries m.store.slots k.indexed.lives c.locate-at.result.slot c.locate-at.result.key (spot_event k key at) (spot_here k key at) void;
+        within = omega (arith, location_within k key at, k.counted.slots_are, k.roomy.for_live);
+        unused = unused_voided m.places.stored.entries m.places.live.entries m.store.slots k.indexed.lives c.locate-at.result.slot c.locate-at.result.key (location_event k key at) (location_here k key at) void;
       };
     }
 
 pub row_with-after-requires : goal.row_with-after-requires
-row_with-after-requires c = spot_few c.self.invariant c.args.key.now c.locate-at.ensures
+row_with-after-requires c = location_few c.self.invariant c.args.key.now c.locate-at.ensures
 
 pub invariant_of-self : goal.invariant_of-self
 invariant_of-self c =
     let m = c.self.inside in let k = c.self.invariant in let key = c.args.key.now in let at = c.locate-at.ensures in
-    let was = found_voided (finite.get (events_of m.table m.store m.places.stored) key) (ap (λ (x : Chained). found_of (finite.get x.events key)) c.self.view_is ∙ c.requires) in let void = spot_voided k key at was.0 was.1.0 ∙ was.1.1 in
-    let ev = spot_is k key at c.get-event.result c.get-event.ensures in
+    let was = found_voided (finite.get (events_of m.table m.store m.places.stored) key) (ap (λ (x : Chained). found_of (finite.get x.events key)) c.self.view_is ∙ c.requires) in let void = location_voided k key at was.0 was.1.0 ∙ was.1.1 in
+    let ev = location_is k key at c.get-event.result c.get-event.ensures in
     subst (λ (x : Index). IsChains m.limits c.set.new.self c.set_voided.new.self x c.restore.new.self.live (carriers_of c.restore.new.self) c.restore.new.self.naming) (sym c.restore.ensures.stored)
     (marked_chains k key at c.set.new.self c.set_voided.new.self c.restore.new.self.live (carriers_of c.restore.new.self) c.restore.new.self.naming c.row_with-after.result false (record {
       rows = c.set.ensures.rows ∙ ap (λ t. with_row t c.row_with-after.result m.table.rows) c.tx.ensures;
@@ -66,14 +66,14 @@ invariant_of-self c =
       naming_cap = (λ i. (c.restore.ensures.lives.naming i).capacity);
       same = ap (λ (r : TableRow). r.slot) c.row_with-after.ensures;
       lives = omega (arith, ap (λ (r : TableRow). r.live) c.row_with-after.ensures, ap (λ v. cond {A = ℕ} (not v) 1 0) void);
-      ends = omega (arith, ap (λ (r : TableRow). r.ends) c.row_with-after.ensures, ap end_count (c.kind-kind.ensures ∙ ap (λ (x : Stored). x.event.kind) ev), ap (λ v. cond {A = ℕ} (not v && is_end (spot_event k key at).event.kind) 1 0) void);
+      ends = omega (arith, ap (λ (r : TableRow). r.ends) c.row_with-after.ensures, ap end_count (c.kind-kind.ensures ∙ ap (λ (x : Stored). x.event.kind) ev), ap (λ v. cond {A = ℕ} (not v && is_end (location_event k key at).event.kind) 1 0) void);
     }))
 
 pub returns-clause-events : goal.returns-clause-events
 returns-clause-events c =
     let m = c.self.inside in let k = c.self.invariant in let key = c.args.key.now in let at = c.locate-at.ensures in
-    let was = found_voided (finite.get (events_of m.table m.store m.places.stored) key) (ap (λ (x : Chained). found_of (finite.get x.events key)) c.self.view_is ∙ c.requires) in let void = spot_voided k key at was.0 was.1.0 ∙ was.1.1 in
-    let ev = spot_is k key at c.get-event.result c.get-event.ensures in
+    let was = found_voided (finite.get (events_of m.table m.store m.places.stored) key) (ap (λ (x : Chained). found_of (finite.get x.events key)) c.self.view_is ∙ c.requires) in let void = location_voided k key at was.0 was.1.0 ∙ was.1.1 in
+    let ev = location_is k key at c.get-event.result c.get-event.ensures in
     ap (λ (x : Index). events_of c.set.new.self c.set_voided.new.self x) c.restore.ensures.stored
     ∙ marked_events k key at c.set.new.self c.set_voided.new.self c.restore.new.self.live (carriers_of c.restore.new.self) c.restore.new.self.naming c.row_with-after.result false (record {
       rows = c.set.ensures.rows ∙ ap (λ t. with_row t c.row_with-after.result m.table.rows) c.tx.ensures;
@@ -91,6 +91,6 @@ returns-clause-events c =
       naming_cap = (λ i. (c.restore.ensures.lives.naming i).capacity);
       same = ap (λ (r : TableRow). r.slot) c.row_with-after.ensures;
       lives = omega (arith, ap (λ (r : TableRow). r.live) c.row_with-after.ensures, ap (λ v. cond {A = ℕ} (not v) 1 0) void);
-      ends = omega (arith, ap (λ (r : TableRow). r.ends) c.row_with-after.ensures, ap end_count (c.kind-kind.ensures ∙ ap (λ (x : Stored). x.event.kind) ev), ap (λ v. cond {A = ℕ} (not v && is_end (spot_event k key at).event.kind) 1 0) void);
+      ends = omega (arith, ap (λ (r : TableRow). r.ends) c.row_with-after.ensures, ap end_count (c.kind-kind.ensures ∙ ap (λ (x : Stored). x.event.kind) ev), ap (λ v. cond {A = ℕ} (not v && is_end (location_event k key at).event.kind) 1 0) void);
     })
     ∙ ap (λ (x : Chained). marked x.events key false) c.self.view_is

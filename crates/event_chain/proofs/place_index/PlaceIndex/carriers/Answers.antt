@@ -3,15 +3,15 @@ use Rattle.key_index.specs.Index as keyed
 use Rattle.key_index.specs.declared.filed.Mark.{Mark}
 use Rattle.ledger_model.specs.declared.reading.Direction.{Direction}
 use Rattle.ledger_model.specs.declared.reading.Direction.TheVariants.{Import, Export}
-use Rattle.event_chain.specs.Placed.{Placed, carriers_of, lane_of, mark_of, placed}
+use Rattle.event_chain.specs.Placed.{Placed, carriers_of, marked_index, mark_of, placed}
 use Rattle.event_chain.proofs.place_index.PlaceIndex.carriers.Goals as goal
 
--- The lane of a direction's mark.
-lane_toward : (i : keyed.Index ℕ) (d : Direction) → lane_of (Some (mark_of d)) i ≡ carriers_of (placed i) d
-lane_toward i Import = refl
-lane_toward i Export = refl
+-- The index of a direction's mark.
+marked_toward : (i : keyed.Index ℕ) (d : Direction) → marked_index (Some (mark_of d)) i ≡ carriers_of (placed i) d
+marked_toward i Import = refl
+marked_toward i Export = refl
 
 pub returns : goal.returns
 returns c =
-    c.over.ensures ∙ ap (λ (m : Mark). lane_of (Some m) c.self.inside.index) c.mark_of.ensures ∙ lane_toward c.self.inside.index c.args.direction
+    c.over.ensures ∙ ap (λ (m : Mark). marked_index (Some m) c.self.inside.index) c.mark_of.ensures ∙ marked_toward c.self.inside.index c.args.direction
     ∙ ap (λ (x : Placed). carriers_of x c.args.direction) c.self.view_is

@@ -4,13 +4,13 @@ use Rattle.std.specs.Ordering.{nat_cmp}
 use Rattle.std.specs.FinMap.{put}
 use Rattle.key_index.specs.declared.filed.Mark.TheVariants.{Live}
 use Rattle.event_chain.specs.Edits.{CanPutIn, IsLiveMore}
-use Rattle.event_chain.specs.Placed.{index, lane_of, place_in, placed, Placed}
-use Rattle.event_chain.proofs.Lanes.{lane_rising, lane_absent, filed_absent, stored_more, lives_more}
+use Rattle.event_chain.specs.Placed.{index, marked_index, place_in, placed, Placed}
+use Rattle.event_chain.proofs.MarkedIndexes.{marked_rising, marked_absent, filed_absent, stored_more, lives_more}
 use Rattle.event_chain.proofs.Lists.{listed_put, listed_same}
 use Rattle.event_chain.proofs.place_index.PlaceIndex.insert.Goals as goal
 
 pub link_live-requires-clause-absent : goal.link_live-requires-clause-absent
-link_live-requires-clause-absent c = let can = subst (CanPutIn c.args.key c.args.slot) (sym c.self.view_is) c.requires in lane_absent (Some Live) c.args.key c.self.inside.index.entries can.absent
+link_live-requires-clause-absent c = let can = subst (CanPutIn c.args.key c.args.slot) (sym c.self.view_is) c.requires in marked_absent (Some Live) c.args.key c.self.inside.index.entries can.absent
 
 pub link_live-requires-clause-slot : goal.link_live-requires-clause-slot
 link_live-requires-clause-slot c = (subst (CanPutIn c.args.key c.args.slot) (sym c.self.view_is) c.requires).slot_for.within
@@ -26,13 +26,13 @@ insert-requires-clause-room c = let can = subst (CanPutIn c.args.key c.args.slot
 
 pub invariant_of-self : goal.invariant_of-self
 invariant_of-self c =
-    let m = c.self.inside in let key = c.args.key in let slot = c.args.slot in let up = c.self.invariant.rising in let L = lane_of (Some Live) m.index in
+    let m = c.self.inside in let key = c.args.key in let slot = c.args.slot in let up = c.self.invariant.rising in let L = marked_index (Some Live) m.index in
     let can = subst (CanPutIn key slot) (sym c.self.view_is) c.requires in
     let lives = (lives_more m.index c.insert.new.self key up c.insert.ensures.capacity slot c.args.carries c.args.names can.absent c.insert.ensures.entries).live in
     record {
       rising = c.insert.ensures.rising;
-      listed = listed_same (lane_of (Some Live) c.insert.new.self) (index (put nat_cmp key slot L.entries) L.capacity) c.link_live.new.links _ (λ i. (lives i).entries) c.insert.ensures.capacity
-      c.link_live.ensures (listed_put L m.links c.self.invariant.listed (lane_rising (Some Live) m.index.entries up) key (lane_absent (Some Live) key m.index.entries can.absent) slot can.slot_for.within can.slot_for.unused);
+      listed = listed_same (marked_index (Some Live) c.insert.new.self) (index (put nat_cmp key slot L.entries) L.capacity) c.link_live.new.links _ (λ i. (lives i).entries) c.insert.ensures.capacity
+      c.link_live.ensures (listed_put L m.links c.self.invariant.listed (marked_rising (Some Live) m.index.entries up) key (marked_absent (Some Live) key m.index.entries can.absent) slot can.slot_for.within can.slot_for.unused);
     }
 
 pub returns-clause-stored : goal.returns-clause-stored

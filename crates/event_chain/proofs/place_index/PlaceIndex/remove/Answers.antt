@@ -2,8 +2,8 @@ use Rattle.std.proofs.Common.{Some, is_some, refl, sym, ap, ◌∙◌, subst}
 use Rattle.key_index.specs.declared.filed.Mark.TheVariants.{Live}
 use Rattle.event_chain.specs.Flat.{place_of}
 use Rattle.event_chain.specs.Edits.{out, IsLiveSame, IsNotLive}
-use Rattle.event_chain.specs.Placed.{index, lane_of, placed, Placed}
-use Rattle.event_chain.proofs.Lanes.{filed_some, stored_less, lives_stay}
+use Rattle.event_chain.specs.Placed.{index, marked_index, placed, Placed}
+use Rattle.event_chain.proofs.MarkedIndexes.{filed_some, stored_less, lives_stay}
 use Rattle.event_chain.proofs.Lists.{listed_same}
 use Rattle.event_chain.proofs.place_index.PlaceIndex.remove.Goals as goal
 
@@ -17,7 +17,7 @@ invariant_of-self c =
     let lives = (lives_stay m.index c.remove.new.self key up c.remove.ensures.capacity filed.0 filed.1 c.remove.ensures.entries (subst (IsNotLive key) (sym c.self.view_is) c.requires.not_live)).live in
     record {
       rising = c.remove.ensures.rising;
-      listed = listed_same (lane_of (Some Live) c.remove.new.self) (lane_of (Some Live) m.index) m.links m.links (λ i. (lives i).entries) c.remove.ensures.capacity refl c.self.invariant.listed;
+      listed = listed_same (marked_index (Some Live) c.remove.new.self) (marked_index (Some Live) m.index) m.links m.links (λ i. (lives i).entries) c.remove.ensures.capacity refl c.self.invariant.listed;
     }
 
 pub returns-clause-stored : goal.returns-clause-stored

@@ -3,8 +3,8 @@ use Rattle.std.specs.Ordering.{nat_cmp}
 use Rattle.std.specs.FinMap.{put}
 use Rattle.key_index.specs.declared.filed.Mark.TheVariants.{Live}
 use Rattle.event_chain.specs.Edits.{CanRestore, IsLiveMore}
-use Rattle.event_chain.specs.Placed.{index, lane_of, placed, Placed}
-use Rattle.event_chain.proofs.Lanes.{lane_rising, filed_there, live_marks, stored_stays, lives_again}
+use Rattle.event_chain.specs.Placed.{index, marked_index, placed, Placed}
+use Rattle.event_chain.proofs.MarkedIndexes.{marked_rising, filed_there, live_marks, stored_stays, lives_again}
 use Rattle.event_chain.proofs.Lists.{listed_put, listed_same}
 use Rattle.event_chain.proofs.place_index.PlaceIndex.restore.Goals as goal
 
@@ -24,13 +24,13 @@ set_marks-requires c =
 
 pub invariant_of-self : goal.invariant_of-self
 invariant_of-self c =
-    let m = c.self.inside in let key = c.args.key in let slot = c.args.slot in let up = c.self.invariant.rising in let L = lane_of (Some Live) m.index in let marks = live_marks c.args.carries c.args.names in
+    let m = c.self.inside in let key = c.args.key in let slot = c.args.slot in let up = c.self.invariant.rising in let L = marked_index (Some Live) m.index in let marks = live_marks c.args.carries c.args.names in
     let can = subst (CanRestore key slot) (sym c.self.view_is) c.requires in
     let lives = (lives_again m.index c.set_marks.new.self key up c.set_marks.ensures.capacity slot can.stored marks c.set_marks.ensures.entries c.args.carries c.args.names refl can.not_live).live in
     record {
       rising = c.set_marks.ensures.rising;
-      listed = listed_same (lane_of (Some Live) c.set_marks.new.self) (index (put nat_cmp key slot L.entries) L.capacity) c.link_live.new.links _ (λ i. (lives i).entries) c.set_marks.ensures.capacity
-      c.link_live.ensures (listed_put L m.links c.self.invariant.listed (lane_rising (Some Live) m.index.entries up) key can.not_live.live slot can.slot_for.within can.slot_for.unused);
+      listed = listed_same (marked_index (Some Live) c.set_marks.new.self) (index (put nat_cmp key slot L.entries) L.capacity) c.link_live.new.links _ (λ i. (lives i).entries) c.set_marks.ensures.capacity
+      c.link_live.ensures (listed_put L m.links c.self.invariant.listed (marked_rising (Some Live) m.index.entries up) key can.not_live.live slot can.slot_for.within can.slot_for.unused);
     }
 
 pub returns-clause-stored : goal.returns-clause-stored

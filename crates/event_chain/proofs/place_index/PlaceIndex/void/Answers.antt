@@ -4,8 +4,8 @@ use Rattle.key_index.specs.declared.filed.Mark.TheVariants.{Live}
 use Rattle.key_index.specs.declared.filed.Marks.{Marks}
 use Rattle.event_chain.specs.Flat.{place_of}
 use Rattle.event_chain.specs.Edits.{out, IsLiveLess}
-use Rattle.event_chain.specs.Placed.{index, lane_of, placed, Placed}
-use Rattle.event_chain.proofs.Lanes.{lane_rising, filed_there, stored_stays, lives_less}
+use Rattle.event_chain.specs.Placed.{index, marked_index, placed, Placed}
+use Rattle.event_chain.proofs.MarkedIndexes.{marked_rising, filed_there, stored_stays, lives_less}
 use Rattle.event_chain.proofs.Lists.{sides_present, slot_present, prev_present, next_present, listed_out, listed_same}
 use Rattle.event_chain.proofs.place_index.PlaceIndex.void.Goals as goal
 
@@ -15,16 +15,16 @@ unmarked = record { live = false; imports = false; exports = false; names = fals
 pub prev-before-requires : goal.prev-before-requires
 prev-before-requires c =
     let m = c.self.inside in let some = ap (λ (x : Placed). place_of c.args.key x.live.entries) c.self.view_is ∙ c.requires.live in
-    slot_present (lane_of (Some Live) m.index) m.links c.self.invariant.listed (lane_rising (Some Live) m.index.entries c.self.invariant.rising) c.args.key c.args.slot some
+    slot_present (marked_index (Some Live) m.index) m.links c.self.invariant.listed (marked_rising (Some Live) m.index.entries c.self.invariant.rising) c.args.key c.args.slot some
 
 pub next-after-requires : goal.next-after-requires
 next-after-requires c =
     let m = c.self.inside in let some = ap (λ (x : Placed). place_of c.args.key x.live.entries) c.self.view_is ∙ c.requires.live in
-    slot_present (lane_of (Some Live) m.index) m.links c.self.invariant.listed (lane_rising (Some Live) m.index.entries c.self.invariant.rising) c.args.key c.args.slot some
+    slot_present (marked_index (Some Live) m.index) m.links c.self.invariant.listed (marked_rising (Some Live) m.index.entries c.self.invariant.rising) c.args.key c.args.slot some
 
 pub link_out-requires : goal.link_out-requires
 link_out-requires c =
-    let m = c.self.inside in let key = c.args.key in let slot = c.args.slot in let L = lane_of (Some Live) m.index in let rises = lane_rising (Some Live) m.index.entries c.self.invariant.rising in
+    let m = c.self.inside in let key = c.args.key in let slot = c.args.slot in let L = marked_index (Some Live) m.index in let rises = marked_rising (Some Live) m.index.entries c.self.invariant.rising in
     let some = ap (λ (x : Placed). place_of key x.live.entries) c.self.view_is ∙ c.requires.live in
     let sides = sides_present L m.links c.self.invariant.listed rises key slot some in
     let before = c.prev-before.ensures ∙ prev_present L m.links c.self.invariant.listed rises key slot some in
@@ -36,14 +36,14 @@ set_marks-requires c = ap is_some (filed_there c.args.key c.args.slot c.self.ins
 
 pub invariant_of-self : goal.invariant_of-self
 invariant_of-self c =
-    let m = c.self.inside in let key = c.args.key in let slot = c.args.slot in let up = c.self.invariant.rising in let L = lane_of (Some Live) m.index in let rises = lane_rising (Some Live) m.index.entries up in
+    let m = c.self.inside in let key = c.args.key in let slot = c.args.slot in let up = c.self.invariant.rising in let L = marked_index (Some Live) m.index in let rises = marked_rising (Some Live) m.index.entries up in
     let at = ap (λ (x : Placed). place_of key x.stored.entries) c.self.view_is ∙ c.requires.stored in let some = ap (λ (x : Placed). place_of key x.live.entries) c.self.view_is ∙ c.requires.live in
     let before = c.prev-before.ensures ∙ prev_present L m.links c.self.invariant.listed rises key slot some in
     let after = c.next-after.ensures ∙ next_present L m.links c.self.invariant.listed rises key slot some in
     let lives = (lives_less m.index c.set_marks.new.self key up c.set_marks.ensures.capacity slot at unmarked c.set_marks.ensures.entries refl).live in
     record {
       rising = c.set_marks.ensures.rising;
-      listed = listed_same (lane_of (Some Live) c.set_marks.new.self) (index (out key L.entries) L.capacity) c.link_out.new.self _ (λ i. (lives i).entries) c.set_marks.ensures.capacity
+      listed = listed_same (marked_index (Some Live) c.set_marks.new.self) (index (out key L.entries) L.capacity) c.link_out.new.self _ (λ i. (lives i).entries) c.set_marks.ensures.capacity
       (c.link_out.ensures ∙ (λ i. linked_out m.links (before i) (after i))) (listed_out L m.links c.self.invariant.listed rises key slot some);
     }
 

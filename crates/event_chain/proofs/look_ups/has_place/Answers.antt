@@ -1,0 +1,17 @@
+use Rattle.std.proofs.Common.{sym, subst, ◌∙◌}
+use Rattle.event_chain.specs.Kept.{HasPlace, IsBare}
+use Rattle.event_chain.specs.Placed.{Index}
+use Rattle.event_chain.specs.Ranked.{AreRising}
+use Rattle.event_chain.proofs.Places.{ranks_of}
+use Rattle.event_chain.proofs.Lives.{seg_some, seg_bare}
+use Rattle.event_chain.proofs.look_ups.has_place.Goals as goal
+
+pub returns-clause-some : goal.returns-clause-some
+returns-clause-some c has =
+    let es = c.stored-stored.result.entries in
+    subst (λ (x : Index). HasPlace x.entries c.args.slot) c.stored-stored.ensures.same (seg_some c.args.slot es c.first_place.result (ranks_of es (subst (λ (x : Index). AreRising x.entries) (sym c.stored-stored.ensures.same) c.stored-stored.ensures.rising)) c.first_place.ensures (sym c.is_some.ensures ∙ has))
+
+pub returns-clause-bare : goal.returns-clause-bare
+returns-clause-bare c has =
+    let es = c.stored-stored.result.entries in
+    subst (λ (x : Index). IsBare x.entries c.args.slot) c.stored-stored.ensures.same (seg_bare c.args.slot es c.first_place.result c.first_place.ensures (sym c.is_some.ensures ∙ has))

@@ -1,7 +1,0 @@
-use Rattle.std.proofs.Common.{ap, ◌∙◌}
-use Rattle.event_chain.specs.Edits.{first_under}
-use Rattle.event_chain.specs.Placed.{Index}
-use Rattle.event_chain.proofs.spots.first_live.Goals as goal
-
-pub returns : goal.returns
-returns c = c.first_in.ensures ∙ ap (λ (x : Index). first_under x.entries c.args.row) c.live-live.ensures.same

@@ -1,7 +1,0 @@
-use Rattle.std.proofs.Common.{ap, ◌∙◌}
-use Rattle.event_chain.specs.Edits.{last_under}
-use Rattle.event_chain.specs.Placed.{Index}
-use Rattle.event_chain.proofs.spots.last_live.Goals as goal
-
-pub returns : goal.returns
-returns c = c.last_in.ensures ∙ ap (λ (x : Index). last_under x.entries c.args.row) c.live-live.ensures.same
