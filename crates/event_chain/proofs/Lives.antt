@@ -4,7 +4,7 @@ use Rattle.std.specs.List.{filter, count_by, filter_map, cons_option}
 use Rattle.std.proofs.lemmas.List.{length-map}
 use Rattle.std.proofs.lemmas.Bool.Decides.{Decides-eqb}
 use Rattle.event_chain.specs.Ranked.{last_of}
-use Rattle.ledger_model.specs.Evse.{first_or_none, evse_of}
+use Rattle.ledger_model.specs.Evse.{first_or_zero, evse_of}
 use Rattle.std.specs.Str.{bytes_eq}
 use Rattle.std.specs.Ordering.{is_eq, eq_by_cmp, nat_cmp}
 use Rattle.std.specs.FinMap.{find}
@@ -231,22 +231,22 @@ evse_first None = 0
 evse_first (Some e) = unwrap_or e.1.event.evse 0
 
 -- One entry more.
-named : (e : Entry) (mine voided : Bool) (evse : Option ℕ) → e.1.event.evse ≡ evse → (lives names : List Entry) → first_or_none (filter_map (λ x. x.1.event.evse) lives) ≡ evse_first (slice_get names 0)
-    → first_or_none (filter_map (λ x. x.1.event.evse) (cond (mine && not voided) (e ∷ lives) lives)) ≡ evse_first (slice_get (cond (mine && (not voided && is_some evse)) (e ∷ names) names) 0)
+named : (e : Entry) (mine voided : Bool) (evse : Option ℕ) → e.1.event.evse ≡ evse → (lives names : List Entry) → first_or_zero (filter_map (λ x. x.1.event.evse) lives) ≡ evse_first (slice_get names 0)
+    → first_or_zero (filter_map (λ x. x.1.event.evse) (cond (mine && not voided) (e ∷ lives) lives)) ≡ evse_first (slice_get (cond (mine && (not voided && is_some evse)) (e ∷ names) names) 0)
 named e false voided evse is lives names rest = rest
 named e true true evse is lives names rest = rest
-named e true false None is lives names rest = ap (λ (o : Option ℕ). first_or_none (cons_option o (filter_map (λ (x : Entry). x.1.event.evse) lives))) is ∙ rest
-named e true false (Some n) is lives names rest = ap (λ (o : Option ℕ). first_or_none (cons_option o (filter_map (λ (x : Entry). x.1.event.evse) lives))) is ∙ sym (ap (λ (o : Option ℕ). unwrap_or o 0) is)
+named e true false None is lives names rest = ap (λ (o : Option ℕ). first_or_zero (cons_option o (filter_map (λ (x : Entry). x.1.event.evse) lives))) is ∙ rest
+named e true false (Some n) is lives names rest = ap (λ (o : Option ℕ). first_or_zero (cons_option o (filter_map (λ (x : Entry). x.1.event.evse) lives))) is ∙ sym (ap (λ (o : Option ℕ). unwrap_or o 0) is)
 
 -- The first EVSE that is named is that of the first event that names one.
-evse_naming : (tx : List ℕ) (es : List Entry) → first_or_none (filter_map (λ e. e.1.event.evse) (passing_of is_live tx es)) ≡ evse_first (slice_get (passing_of is_naming tx es) 0)
+evse_naming : (tx : List ℕ) (es : List Entry) → first_or_zero (filter_map (λ e. e.1.event.evse) (passing_of is_live tx es)) ≡ evse_first (slice_get (passing_of is_naming tx es) 0)
 evse_naming tx [] = refl
 evse_naming tx (e ∷ es) = let rest = evse_naming tx es in named e (bytes_eq tx e.0.tx) e.1.voided e.1.event.evse refl (passing_of is_live tx es) (passing_of is_naming tx es) rest
 
 -- The EVSE of a transaction is that of its first naming place.
 pub evse_number : (rows : List TxRow) (es names : List EventPlace) (slots : List (Option Held)) → AreRising rows → AreRanks es → IsSub is_naming es slots names → (tx : List ℕ) → evse_of tx (flat rows es slots) ≡ evse_at slots (first_under names (row_of tx rows))
 evse_number rows es names slots rising ranks sub tx =
-    ap (λ (xs : List Entry). first_or_none (filter_map (λ e. e.1.event.evse) xs)) (live_of_is tx (flat rows es slots)) ∙ evse_naming tx (flat rows es slots) ∙ told (row_of tx rows) refl where
+    ap (λ (xs : List Entry). first_or_zero (filter_map (λ e. e.1.event.evse) xs)) (live_of_is tx (flat rows es slots)) ∙ evse_naming tx (flat rows es slots) ∙ told (row_of tx rows) refl where
       placed : (ps : List EventPlace) → evse_first (slice_get (map (entry_of tx slots) ps) 0) ≡ evse_at slots (slice_get ps 0)
       placed [] = refl
       placed (p ∷ ps) = refl

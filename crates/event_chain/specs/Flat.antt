@@ -29,7 +29,7 @@ abbrev pub stored_in : Option Held → Stored
 stored_in None = no_stored
 stored_in (Some held) = held.1
 
--- The same, by the slot's number.
+-- The stored event of a slot, by the slot's number.
 abbrev pub stored_at : List (Option Held) → ℕ → Stored
 stored_at slots s = stored_in (value_at slots s)
 

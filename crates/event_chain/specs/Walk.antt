@@ -28,6 +28,6 @@ abbrev pub numbers_on : ℕ → List EventPlace → List ℕ
 numbers_on s [] = []
 numbers_on s (e ∷ es) = if e.1 == s then number_in e ∷ map number_in (segment (e.0 / 2 ^ 31) es) else numbers_on s es
 
--- The same, where the events of the places have their ranks.
+-- The numbers of a transaction from the place of a slot on, where the events of the places have their ranks.
 abbrev pub numbers_from : List EventPlace → List (Option Held) → ℕ → List ℕ
 numbers_from es slots s = if are_under slots es then numbers_on s es else []

@@ -9,9 +9,9 @@ ghost use Rattle.event_chain.specs.Placed.{carriers_of};
 ghost use Rattle.event_chain.specs.Sides.{AreSides};
 
 use crate::carries::Carries;
+use crate::look_ups::{carriers_around, first_at, last_at};
 use crate::place_index::PlaceIndex;
 use crate::row::TableRow;
-use crate::look_ups::{carriers_around, first_at, last_at};
 use crate::table::TransactionTable;
 use event_store::EventStore;
 use key_index::{IndexKey, KeyPlace};
@@ -27,7 +27,7 @@ pub struct Sides {
     pub behind: Option<Reading>,
 }
 
-/// The same in each direction.
+/// The live readings on either side of an event's place, in each direction.
 pub type Around = ByDirection<Sides>;
 
 // No readings in either direction.
@@ -77,7 +77,8 @@ pub(crate) fn sides_of(
     }
 }
 
-// The same, where the event of the key has a reading of the direction.
+// Finds the readings of a direction on either side of the place of a key, where the event of the key has
+// a reading of the direction.
 #[inline(always)]
 fn sides_where(
     has: bool,
@@ -113,7 +114,7 @@ fn row_in(known: Option<(usize, TableRow)>) -> Option<TableRow>
     }
 }
 
-// The same in each direction of which the event of the key has a reading.
+// Finds the readings on either side of the place of a key, in each direction of which its event has one.
 pub(crate) fn around_of(
     table: &TransactionTable,
     store: &EventStore,

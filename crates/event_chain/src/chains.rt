@@ -23,12 +23,12 @@ ghost use Rattle.event_chain.specs.Sides.{AreSides};
 use crate::answers::{Found, Room, TxStanding};
 use crate::around::{Around, NONE_AROUND, Sides, around_of, sides_of};
 use crate::carries::{Carries, carried_by};
-use crate::place_index::PlaceIndex;
-use crate::row::TableRow;
 use crate::look_ups::{
     enter, evse_at, first_live, first_naming, kind_at, last_live, leave, locate, look_up,
     number_of, renew, slot_sought,
 };
+use crate::place_index::PlaceIndex;
+use crate::row::TableRow;
 use crate::table::TransactionTable;
 use crate::tx_ids::TxIds;
 use crate::tx_walk::TxWalk;
@@ -192,7 +192,7 @@ impl Chains {
         self.look(key).0
     }
 
-    /// The same, and where the key stands or belongs, as a hint for [`Chains::admit`].
+    /// The event of a key, and where the key stands or belongs, as a hint for [`Chains::admit`].
     pub fn look(&self, key: &Key) -> (Option<EventRef<'_>>, KeyPlace)
         ensures { option_map (λ e. e.1) result.0 ≡ finite.get self.now.events key.now }
     {
@@ -203,7 +203,7 @@ impl Chains {
         }
     }
 
-    // The same of the key that was sought last.
+    // The event of the key that was sought last.
     fn event_sought(&self, key: &Key) -> Option<EventRef<'_>>
         ensures { option_map (λ e. e.1) result ≡ finite.get self.now.events key.now }
     {
@@ -224,7 +224,7 @@ impl Chains {
         let _ = self.admit(&key, event, place);
     }
 
-    /// The same at the place that [`Chains::look`] told, a hint that saves a search. It answers what
+    /// Puts in a live event at the place that [`Chains::look`] told, a hint that saves a search. It answers what
     /// [`Chains::neighbours`] would, in each direction of which the event has a reading.
     pub fn admit(&mut self, key: &Key, event: &Event, place: KeyPlace) -> Around
         requires absent { finite.get self.old.events key.now ≡ None }

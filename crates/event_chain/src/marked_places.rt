@@ -84,8 +84,7 @@ impl<'a> MarkedPlaces<'a> {
         }
     }
 
-    // Both at once: the last place whose key is smaller than the one given, and the first one whose key is
-    // that or greater.
+    // The last place whose key is smaller than the one given, and the first one whose key is that or greater.
     #[inline(always)]
     pub(crate) fn around(&self, key: IndexKey) -> (Option<(IndexKey, u32)>, Option<(IndexKey, u32)>)
         ensures before { result.0 ≡ last_of (below key self.now.entries) }

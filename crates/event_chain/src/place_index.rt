@@ -13,9 +13,9 @@ ghost use Rattle.event_chain.specs.Edits.{out, places_before, places_behind, Can
 ghost use Rattle.event_chain.specs.Lists.{slot_in, HasRank, AreOwn, AreListed, slot_before, slot_after};
 
 use crate::carries::Carries;
-use crate::marked_places::{MarkedPlaces, slot_under};
 use crate::links::SlotLinks;
 use crate::look_ups::{place_before, place_behind};
+use crate::marked_places::{MarkedPlaces, slot_under};
 use key_index::{Filed, IndexKey, KeyIndex, KeyPlace, Mark, Marks, Ranked};
 use ledger_model::Direction;
 use std::alloc::{AllocError, Global};

@@ -3,8 +3,8 @@ ghost use Rattle.event_chain.specs.Lists.{AreOwn};
 ghost use Rattle.event_chain.specs.Ranked.{AreRising, AreRising-prop};
 ghost use Rattle.event_chain.specs.Walk.{numbers_at, are_under};
 
-use crate::place_index::PlaceIndex;
 use crate::look_ups::first_place;
+use crate::place_index::PlaceIndex;
 use event_store::EventStore;
 use gap_list::NumberWalk;
 use key_index::KeyPlace;

@@ -42,6 +42,6 @@ abbrev pub readings_in : Option Held → ℕ
 readings_in None = 0
 readings_in (Some held) = length held.1.event.readings
 
--- The same, by the slot's number.
+-- How many readings the event of a slot has, by the slot's number.
 abbrev pub readings_at : List (Option Held) → ℕ → ℕ
 readings_at slots slot = readings_in (value_at slots slot)

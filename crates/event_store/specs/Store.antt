@@ -15,7 +15,7 @@ content_in links e = record { kind = e.kind; moment = e.moment; evse = e.evse; r
 abbrev pub held_in : List (Option ReadingLink) → EventSlot → Held
 held_in links e = (e.key, record { event = content_in links e; voided = e.voided })
 
--- The same, of a slot that may be free.
+-- What a slot holds that may be free.
 abbrev pub slot_in : List (Option ReadingLink) → Option EventSlot → Option Held
 slot_in links None = None
 slot_in links (Some e) = Some (held_in links e)

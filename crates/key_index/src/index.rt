@@ -80,7 +80,7 @@ impl<K: Ranked, V: Copy> KeyIndex<K, V> {
         seek(&self.leaves, key)
     }
 
-    /// The same, where it may be the place given.
+    /// The place where a key stands or belongs; that which is given is looked at first.
     pub fn place_near(&self, near: KeyPlace, key: K) -> KeyPlace
         ensures rising { AreRising self.now.entries }
     {
@@ -107,7 +107,8 @@ impl<K: Ranked, V: Copy> KeyIndex<K, V> {
         self.find(place, key).0
     }
 
-    /// The same, and the place where the key stands or belongs.
+    /// The first entry whose key is the one given or greater, and the place where the key stands or
+    /// belongs.
     pub fn find(&self, near: KeyPlace, key: K) -> (Option<Entry<K, V>>, KeyPlace)
         ensures { result.0 ≡ first_of (from (K.rank key) self.now.entries) }
     {
@@ -151,7 +152,7 @@ impl<K: Ranked, V: Copy> KeyIndex<K, V> {
         first_marked(&self.leaves, at, mark)
     }
 
-    /// Both at once: the last entry with a mark whose key is smaller than the one given, and the first one
+    /// The nearest entries with a mark: the last one whose key is smaller than the one given, and the first one
     /// whose key is that or greater. The place is tested once.
     pub fn around_marked(
         &self,

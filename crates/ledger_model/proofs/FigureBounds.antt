@@ -20,7 +20,7 @@ use Rattle.ledger_model.specs.Gaps.{numbers_of, missing}
 use Rattle.ledger_model.specs.Complete.{is_complete}
 use Rattle.ledger_model.specs.InTime.{in_order, in_time, put_in_time}
 use Rattle.ledger_model.specs.ReadingOrder.{taken_when}
-use Rattle.ledger_model.specs.Board.{figures, figures_by, last_or_none}
+use Rattle.ledger_model.specs.Board.{figures, figures_by, last_or_zero}
 use Rattle.ledger_model.specs.BoardLaws.{AreRising}
 use Rattle.ledger_model.specs.Entries.{IsRising}
 use Rattle.ledger_model.specs.Figures.{AreWithin}
@@ -223,7 +223,7 @@ below-entries : (es : List Entry) → AreEntries es → AreBelow (map (λ e. e.0
 below-entries [] h = tt
 below-entries (e ∷ es) h = (h.0.key.number, below-entries es h.1)
 
-last_below : (n : ℕ) (ns : List ℕ) → AreBelow (n ∷ ns) → last_or_none (n ∷ ns) < sequence_end
+last_below : (n : ℕ) (ns : List ℕ) → AreBelow (n ∷ ns) → last_or_zero (n ∷ ns) < sequence_end
 last_below n [] h = h.0
 last_below n (m ∷ ns) h = last_below m ns h.1
 

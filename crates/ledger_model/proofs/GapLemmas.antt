@@ -4,8 +4,8 @@ use Rattle.std.specs.Prelude.{sum_by}
 use Rattle.std.proofs.lemmas.Bool.{cases_order, cases_lt, lt-ltb, le-ltb}
 use Rattle.std.proofs.lemmas.List.Sums.{sum_by-cons}
 use Rattle.ledger_model.specs.Gaps.{Gap, gaps, gap_size, missing}
-use Rattle.ledger_model.specs.Evse.{first_or_none}
-use Rattle.ledger_model.specs.Board.{last_or_none}
+use Rattle.ledger_model.specs.Evse.{first_or_zero}
+use Rattle.ledger_model.specs.Board.{last_or_zero}
 use Rattle.ledger_model.specs.BoardLaws.{AreRising, IsIn, IsMissing, IsInSome, AreApart, AreGaps}
 
 -- numbers that follow one another leave no gap
@@ -182,10 +182,10 @@ pub gaps-only : (ns : List ℕ) (gs : List Gap) → AreRising ns → AreGaps ns 
 gaps-only ns gs up a = same_gaps gs (gaps ns) a.apart (apart-all ns up) (λ k h. covers-all ns up k (a.within k h)) (λ k h. a.covers k (within-all ns up k h))
 
 -- the numbers and what is missing between them make up the range from the first to the last
-fills : (n : ℕ) (ns : List ℕ) → AreRising (n ∷ ns) → first_or_none (n ∷ ns) + length (n ∷ ns) + missing (n ∷ ns) ≡ last_or_none (n ∷ ns) + 1
+fills : (n : ℕ) (ns : List ℕ) → AreRising (n ∷ ns) → first_or_zero (n ∷ ns) + length (n ∷ ns) + missing (n ∷ ns) ≡ last_or_zero (n ∷ ns) + 1
 fills n [] up = omega arith
 fills n (m ∷ ns) up =
-    let rest : m + length (m ∷ ns) + missing (m ∷ ns) ≡ last_or_none (m ∷ ns) + 1 = fills m ns up.1 in
+    let rest : m + length (m ∷ ns) + missing (m ∷ ns) ≡ last_or_zero (m ∷ ns) + 1 = fills m ns up.1 in
     let rise : n < m = up.0 in
     ⊎_elim
     (λ (far : n + 1 < m).
@@ -196,6 +196,6 @@ fills n (m ∷ ns) up =
     omega (arith, e, rest))
     (cases_lt (n + 1) m)
 
-pub missing-fills : (ns : List ℕ) → AreRising ns → 0 < length ns → first_or_none ns + length ns + missing ns ≡ last_or_none ns + 1
+pub missing-fills : (ns : List ℕ) → AreRising ns → 0 < length ns → first_or_zero ns + length ns + missing ns ≡ last_or_zero ns + 1
 missing-fills [] up some = absurd (omega arith)
 missing-fills (n ∷ ns) up some = fills n ns up

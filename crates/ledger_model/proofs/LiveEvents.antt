@@ -9,11 +9,11 @@ use Rattle.ledger_model.specs.declared.reading.Direction.TheVariants.{Import, Ex
 use Rattle.ledger_model.specs.declared.order.Order.{Order}
 use Rattle.ledger_model.specs.declared.order.Order.TheVariants.{Sequence, Moment}
 use Rattle.ledger_model.specs.Event.{MeterReading, toward}
-use Rattle.ledger_model.specs.Board.{Board, Shown, board_by, figures_by, last_or_none}
+use Rattle.ledger_model.specs.Board.{Board, Shown, board_by, figures_by, last_or_zero}
 use Rattle.ledger_model.specs.Complete.{starts_and_ends}
 use Rattle.ledger_model.specs.Content.{Entry, live, transactions_of}
 use Rattle.ledger_model.specs.Energy.{Pair, energy_over, followed, quarter_of, readings_by, readings_of, rising}
-use Rattle.ledger_model.specs.Evse.{first_or_none}
+use Rattle.ledger_model.specs.Evse.{first_or_zero}
 use Rattle.ledger_model.specs.Gaps.{gaps, missing}
 use Rattle.ledger_model.specs.InTime.{in_order, AreInTime}
 use Rattle.ledger_model.specs.ReadingOrder.{taken_when}
@@ -30,7 +30,7 @@ abbrev complete : List ℕ → List Entry → Bool
 complete tx l = starts_and_ends (map (λ e. e.1.event.kind) (of_one tx l)) && (missing (numbers tx l) == 0)
 
 abbrev evse : List ℕ → List Entry → ℕ
-evse tx l = first_or_none (filter_map (λ e. e.1.event.evse) (of_one tx l))
+evse tx l = first_or_zero (filter_map (λ e. e.1.event.evse) (of_one tx l))
 
 -- The readings of each transaction in a direction, in some order.
 abbrev Readings : Type 0
@@ -51,8 +51,8 @@ shown_of rs l tx = record {
   tx = tx;
   evse = evse tx l;
   events = length (of_one tx l);
-  first = first_or_none (numbers tx l);
-  last = last_or_none (numbers tx l);
+  first = first_or_zero (numbers tx l);
+  last = last_or_zero (numbers tx l);
   complete = complete tx l;
   missing = missing (numbers tx l);
   flow = energy_over (followed (rs Import tx));

@@ -9,7 +9,7 @@ use Rattle.ledger_model.specs.declared.reading.Direction.{Direction}
 use Rattle.ledger_model.specs.Event.{MeterReading, toward}
 use Rattle.ledger_model.specs.Content.{Entry, has_transaction, live, live_of, transactions_of}
 use Rattle.ledger_model.specs.Energy.{Pair, followed, pairs, pairs_of}
-use Rattle.ledger_model.specs.Evse.{evse_of, transactions_at, first_or_none}
+use Rattle.ledger_model.specs.Evse.{evse_of, transactions_at, first_or_zero}
 use Rattle.ledger_model.specs.Deltas.{across, came_by, gone_by, if_read, kept_by, most_for, own_events, own_readings, pairs_between, IsOneMore, pairs_less, pairs_more, pairs_kept, read_or, reading_before, reading_behind}
 use Rattle.ledger_model.proofs.SumLemmas.{sum_by-flat_map, sum_by-filter_cons}
 use Rattle.ledger_model.proofs.Splices.{few_across, few_between, followed_cut}
@@ -192,7 +192,7 @@ few_moved d front e back = few_read (toward d e.1.event.readings) (reading_befor
 
 -- The EVSE of another transaction.
 pub evse_else : (es more front : List Entry) (e : Entry) (back : List Entry) (u : List ℕ) → IsOneMore es more front e back → bytes_eq u e.0.tx ≡ false → evse_of u more ≡ evse_of u es
-evse_else es more front e back u one apart = ap (λ l. first_or_none (filter_map (λ x. x.1.event.evse) l)) (live_else es more front e back u one apart)
+evse_else es more front e back u one apart = ap (λ l. first_or_zero (filter_map (λ x. x.1.event.evse) l)) (live_else es more front e back u one apart)
 
 -- What is taken of a sum where a test holds.
 abbrev pub taken : Bool → ℕ → ℕ

@@ -12,7 +12,7 @@ use Rattle.ledger_model.specs.Content.{Entry, distinct, live, transactions_of}
 use Rattle.ledger_model.specs.Deltas.{across, first_reading, last_reading, pairs_between}
 use Rattle.ledger_model.specs.Energy.{Pair, energy_by, energy_in_by, energy_of_by, energy_over, followed, pairs_by, quarter_of, readings_by, readings_of}
 use Rattle.ledger_model.specs.Event.{MeterReading, same_direction, toward}
-use Rattle.ledger_model.specs.Evse.{energy_at_by, evse_of, first_or_none, transactions_at}
+use Rattle.ledger_model.specs.Evse.{energy_at_by, evse_of, first_or_zero, transactions_at}
 use Rattle.ledger_model.specs.InTime.{AreInTime, in_time}
 use Rattle.ledger_model.specs.Key.{KeyName}
 use Rattle.ledger_model.specs.Quarter.{quarter_at}
@@ -187,7 +187,7 @@ module _ (es more : List Entry) (key : KeyName) (r : MeterReading) (one : IsOneR
   ])
 
   pub evses_stay : (tx : List ℕ) → evse_of tx more ≡ evse_of tx es
-  evses_stay tx = ap (λ l. first_or_none (evses_in tx l)) one.more_live ∙ ap first_or_none (evse_stays tx one.front) ∙ ap (λ l. first_or_none (evses_in tx l)) (sym one.less_live)
+  evses_stay tx = ap (λ l. first_or_zero (evses_in tx l)) one.more_live ∙ ap first_or_zero (evse_stays tx one.front) ∙ ap (λ l. first_or_zero (evses_in tx l)) (sym one.less_live)
 
   -- A transaction's readings by sequence: they stay, or the reading stands among them.
   record HasOneMore (d : Direction) (tx : List ℕ) : Type 0 where

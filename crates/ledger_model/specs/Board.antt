@@ -8,7 +8,7 @@ use Rattle.ledger_model.specs.Content.{Entry, live, live_of, transactions_of}
 use Rattle.ledger_model.specs.declared.order.Order.{Order}
 use Rattle.ledger_model.specs.declared.order.Order.TheVariants.{Sequence}
 use Rattle.ledger_model.specs.Energy.{Flows, energy_by, energy_of_by, flows_in_by, no_flows, plus_flows, quarters_by, rising}
-use Rattle.ledger_model.specs.Evse.{evse_of, evses, flows_at_by, first_or_none}
+use Rattle.ledger_model.specs.Evse.{evse_of, evses, flows_at_by, first_or_zero}
 use Rattle.ledger_model.specs.Gaps.{Gap, numbers_of, gaps, missing}
 use Rattle.ledger_model.specs.Complete.{is_complete}
 
@@ -26,7 +26,7 @@ figures_by order es = record {
   export_down = (energy_by order Export es).down;
 }
 
--- The same by sequence.
+-- The figures of a station, by sequence.
 abbrev pub figures : List Entry → Figures
 figures es = figures_by Sequence es
 
@@ -67,10 +67,10 @@ pub record Shown : Type 0 where
   pub gaps : List Gap
 
 -- The last of a list, or 0 where there is none.
-abbrev pub last_or_none : List ℕ → ℕ
-last_or_none [] = 0
-last_or_none (n ∷ []) = n
-last_or_none (n ∷ m ∷ ns) = last_or_none (m ∷ ns)
+abbrev pub last_or_zero : List ℕ → ℕ
+last_or_zero [] = 0
+last_or_zero (n ∷ []) = n
+last_or_zero (n ∷ m ∷ ns) = last_or_zero (m ∷ ns)
 
 -- A transaction as a board shows it, its readings in an order.
 abbrev pub shown_by : Order → List Entry → List ℕ → Shown
@@ -78,8 +78,8 @@ shown_by order es tx = record {
   tx = tx;
   evse = evse_of tx es;
   events = length (live_of tx es);
-  first = first_or_none (numbers_of tx es);
-  last = last_or_none (numbers_of tx es);
+  first = first_or_zero (numbers_of tx es);
+  last = last_or_zero (numbers_of tx es);
   complete = is_complete tx es;
   missing = missing (numbers_of tx es);
   flow = energy_of_by order Import tx es;
@@ -87,7 +87,7 @@ shown_by order es tx = record {
   gaps = gaps (numbers_of tx es);
 }
 
--- The same by sequence.
+-- A transaction as a board shows it, by sequence.
 abbrev pub shown : List Entry → List ℕ → Shown
 shown es tx = shown_by Sequence es tx
 
@@ -109,7 +109,7 @@ board_by order period es = record {
   transactions = map (shown_by order es) (transactions_of (live es));
 }
 
--- The same by sequence.
+-- The board of a station, by sequence.
 abbrev pub board : ℕ → List Entry → Board
 board period es = board_by Sequence period es
 
@@ -125,7 +125,7 @@ pub record SiteBoard : Type 0 where
   pub quarters : List Flowed
   pub stations : List (List ℕ × Board)
 
--- The board of a site of this period over these stations' boards, which are of the same.
+-- The board of a site of this period over these stations' boards, which are of that period.
 abbrev pub site_board : ℕ → List (List ℕ × Board) → SiteBoard
 site_board period stations =
     let lines = flat_map (λ (s : List ℕ × Board). s.1.quarters) stations in

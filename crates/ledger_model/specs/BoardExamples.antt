@@ -17,7 +17,7 @@ minute n = (1_772_359_200 + 60 * n) * 1_000_000_000
 abbrev pub reading : ℕ → ℕ → MeterReading
 reading n wh = record { moment = minute n; mwh = 1_000 * wh; direction = Import }
 
--- The same of the export register.
+-- A reading of the export register, of so many watt-hours at a minute.
 abbrev pub fed_back : ℕ → ℕ → MeterReading
 fed_back n wh = record { moment = minute n; mwh = 1_000 * wh; direction = Export }
 
@@ -29,7 +29,7 @@ told kind seq n evse readings = (record { tx = codes "t1"; seq = seq }, record {
 abbrev pub metered : Kind → ℕ → ℕ → ℕ → Entry
 metered kind seq n wh = told kind seq n None (reading n wh ∷ [])
 
--- The same event, voided.
+-- An event, voided.
 abbrev pub voided : Entry → Entry
 voided e = (e.0, record { event = e.1.event; voided = true })
 

@@ -14,7 +14,7 @@ use Rattle.ledger_model.specs.Content.{Entry, live, live_of, transactions_of}
 abbrev pub readings_of : Direction → List ℕ → List Entry → List MeterReading
 readings_of d tx es = flat_map (λ e. toward d e.1.event.readings) (live_of tx es)
 
--- The same in the order of a site.
+-- The readings of a transaction in one direction, in the order of a site.
 abbrev pub readings_by : Order → Direction → List ℕ → List Entry → List MeterReading
 readings_by order d tx es = in_order order (λ r. r.moment) (readings_of d tx es)
 
@@ -38,7 +38,7 @@ energy_over ps = record { up = sum_by (λ p. (difference p).up) ps; down = sum_b
 abbrev pub pairs_by : Order → Direction → List ℕ → List Entry → List Pair
 pairs_by order d tx es = followed (readings_by order d tx es)
 
--- The same by sequence.
+-- The pairs of a transaction in one direction, by sequence.
 abbrev pub pairs_of : Direction → List ℕ → List Entry → List Pair
 pairs_of d tx es = pairs_by Sequence d tx es
 
@@ -46,7 +46,7 @@ pairs_of d tx es = pairs_by Sequence d tx es
 abbrev pub all_pairs_by : Order → Direction → List Entry → List Pair
 all_pairs_by order d es = flat_map (λ tx. pairs_by order d tx es) (transactions_of (live es))
 
--- The same by sequence.
+-- The pairs of a station in one direction, by sequence.
 abbrev pub pairs : Direction → List Entry → List Pair
 pairs d es = all_pairs_by Sequence d es
 
@@ -54,7 +54,7 @@ pairs d es = all_pairs_by Sequence d es
 abbrev pub energy_of_by : Order → Direction → List ℕ → List Entry → Energy
 energy_of_by order d tx es = energy_over (pairs_by order d tx es)
 
--- The same by sequence.
+-- The energy of a transaction in one direction, by sequence.
 abbrev pub energy_of : Direction → List ℕ → List Entry → Energy
 energy_of d tx es = energy_of_by Sequence d tx es
 
@@ -62,7 +62,7 @@ energy_of d tx es = energy_of_by Sequence d tx es
 abbrev pub energy_by : Order → Direction → List Entry → Energy
 energy_by order d es = energy_over (all_pairs_by order d es)
 
--- The same by sequence.
+-- The energy of a station in one direction, by sequence.
 abbrev pub energy : Direction → List Entry → Energy
 energy d es = energy_by Sequence d es
 
@@ -74,7 +74,7 @@ quarter_of period p = quarter_at period p.1.moment
 abbrev pub energy_in_by : Order → Direction → ℕ → ℕ → List Entry → Energy
 energy_in_by order d period quarter es = energy_over (filter (λ p. quarter_of period p == quarter) (all_pairs_by order d es))
 
--- The same by sequence.
+-- The energy of a quarter of a station in one direction, by sequence.
 abbrev pub energy_in : Direction → ℕ → ℕ → List Entry → Energy
 energy_in d period quarter es = energy_in_by Sequence d period quarter es
 
@@ -104,7 +104,7 @@ minus_flows a b = record { flow = minus a.flow b.flow; export = minus a.export b
 abbrev pub flows_in_by : Order → ℕ → ℕ → List Entry → Flows
 flows_in_by order period quarter es = record { flow = energy_in_by order Import period quarter es; export = energy_in_by order Export period quarter es }
 
--- The same by sequence.
+-- The energies of a quarter of a station, by sequence.
 abbrev pub flows_in : ℕ → ℕ → List Entry → Flows
 flows_in period quarter es = flows_in_by Sequence period quarter es
 
@@ -118,10 +118,10 @@ abbrev pub rising : List ℕ → List ℕ
 rising [] = []
 rising (n ∷ ns) = put_in n (rising ns)
 
--- The quarters of a station that are shown: each that has a pair of either direction, even one of difference zero.
+-- The quarters of a station that are shown, its readings in an order: each that has a pair of either direction, even one of difference zero.
 abbrev pub quarters_by : Order → ℕ → List Entry → List ℕ
 quarters_by order period es = rising (map (quarter_of period) (all_pairs_by order Import es ++ all_pairs_by order Export es))
 
--- The same by sequence.
+-- The quarters of a station that are shown, by sequence.
 abbrev pub quarters : ℕ → List Entry → List ℕ
 quarters period es = quarters_by Sequence period es

@@ -11,7 +11,7 @@ use Rattle.ledger_model.specs.Content.{Entry, Stored}
 abbrev pub IsRising : List Entry → Type 0
 IsRising es = T (is_sorted key_cmp es)
 
--- The same, where the event under the key was looked up already.
+-- The entries with the event under this key, which was looked up, voided, or not.
 abbrev pub entries_marked_at : List Entry → KeyName → Bool → Option Stored → List Entry
 entries_marked_at es key voided None = es
 entries_marked_at es key voided (Some stored) = put key_cmp key (record { event = stored.event; voided = voided }) es

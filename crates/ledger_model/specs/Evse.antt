@@ -9,13 +9,13 @@ use Rattle.ledger_model.specs.declared.order.Order.TheVariants.{Sequence}
 use Rattle.ledger_model.specs.Energy.{Flows, pairs_by, energy_over, rising}
 
 -- The first of a list, or 0 where there is none.
-abbrev pub first_or_none : List ℕ → ℕ
-first_or_none [] = 0
-first_or_none (n ∷ ns) = n
+abbrev pub first_or_zero : List ℕ → ℕ
+first_or_zero [] = 0
+first_or_zero (n ∷ ns) = n
 
 -- The EVSE of a transaction: the one that its live event of lowest number names which names one, else 0.
 abbrev pub evse_of : List ℕ → List Entry → ℕ
-evse_of tx es = first_or_none (filter_map (λ e. e.1.event.evse) (live_of tx es))
+evse_of tx es = first_or_zero (filter_map (λ e. e.1.event.evse) (live_of tx es))
 
 -- The transactions of an EVSE.
 abbrev pub transactions_at : ℕ → List Entry → List (List ℕ)
@@ -25,7 +25,7 @@ transactions_at evse es = filter (λ tx. evse_of tx es == evse) (transactions_of
 abbrev pub energy_at_by : Order → Direction → ℕ → List Entry → Energy
 energy_at_by order d evse es = energy_over (flat_map (λ tx. pairs_by order d tx es) (transactions_at evse es))
 
--- The same by sequence.
+-- The energy of an EVSE in one direction, by sequence.
 abbrev pub energy_at : Direction → ℕ → List Entry → Energy
 energy_at d evse es = energy_at_by Sequence d evse es
 
@@ -33,7 +33,7 @@ energy_at d evse es = energy_at_by Sequence d evse es
 abbrev pub flows_at_by : Order → ℕ → List Entry → Flows
 flows_at_by order evse es = record { flow = energy_at_by order Import evse es; export = energy_at_by order Export evse es }
 
--- The same by sequence.
+-- The energies of an EVSE, by sequence.
 abbrev pub flows_at : ℕ → List Entry → Flows
 flows_at evse es = flows_at_by Sequence evse es
 

@@ -41,7 +41,7 @@ of_direction d = Deliver (numbered 0) (record {
   readings = record { moment = after_ten 0; mwh = 1_000_000; direction = d } ∷ [];
 })
 
--- An event, and then the same with its value in the other direction.
+-- An event, and then one of its key with its value in the other direction.
 abbrev pub other_direction : List Command
 other_direction = of_direction Import ∷ of_direction Export ∷ []
 

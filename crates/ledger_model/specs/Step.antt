@@ -46,7 +46,7 @@ answer limits c (Void key) = answer_to_void limits c (finite.get c.events key)
 answer limits c (Restore key) = answer_to_voided limits c (finite.get c.events key)
 answer limits c (Erase key) = answer_to_voided limits c (finite.get c.events key)
 
--- The same, where that event was looked up already.
+-- The events with the one under this key, which was looked up, voided, or not.
 abbrev pub marked_at : FinMap key_cmp Stored → KeyName → Bool → Option Stored → FinMap key_cmp Stored
 marked_at events key voided None = events
 marked_at events key voided (Some stored) = finite.insert events key (record { event = stored.event; voided = voided })

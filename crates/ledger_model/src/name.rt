@@ -71,7 +71,7 @@ impl Name {
         self.text.as_str()
     }
 
-    /// The same name once more, without memory.
+    /// The name once more, without memory.
     pub fn copied(&self) -> Self
         ensures { result ≡ self.now }
     {

@@ -86,7 +86,7 @@ impl TxId {
         self.text.as_str()
     }
 
-    /// The same id once more, without memory.
+    /// The id once more, without memory.
     pub fn copied(&self) -> Self
         ensures { result ≡ self.now }
     {

@@ -37,7 +37,7 @@ flows_of period d pairs = map (λ p. (quarter_of period p, flows_toward d (diffe
 abbrev pub station_flows_by : Order → ℕ → List Entry → List Flowed
 station_flows_by order period es = flows_of period Import (all_pairs_by order Import es) ++ flows_of period Export (all_pairs_by order Export es)
 
--- The same by sequence.
+-- The pairs of a station, of both directions, by sequence.
 abbrev pub station_flows : ℕ → List Entry → List Flowed
 station_flows period es = station_flows_by Sequence period es
 

@@ -41,7 +41,7 @@ fn place_of(rows: &Vec<QuarterRow>, quarter: Quarter) -> Result<usize, usize>
     }
 }
 
-/// The same, where the row that stands at this place is looked at first.
+/// Where the row of a quarter stands, or else where it belongs; the row at this place is looked at first.
 pub(crate) fn place_near(
     rows: &Vec<QuarterRow>,
     near: usize,

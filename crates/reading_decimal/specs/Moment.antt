@@ -10,7 +10,7 @@ abbrev pub moment_at : ℤ → Result ℕ MomentFault
 moment_at (pos nanos) = if is_moment nanos then Ok nanos else Err MomentRange
 moment_at (negsuc n) = Err MomentRange
 
--- the same for what a reader gave
+-- what a reader gave, as nanoseconds from 1970, where it is a moment
 abbrev pub moment_within : Result ℤ Error → Result ℕ MomentFault
 moment_within (Err e) = Err NotATime
 moment_within (Ok nanos) = moment_at nanos

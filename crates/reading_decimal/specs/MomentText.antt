@@ -10,7 +10,7 @@ year_after (suc few) year day =
     if nat_lt day (days_in_year (pos year)) then (year, day)
     else year_after few (year + 1) (day - days_in_year (pos year))
 
--- The same for the months of one year.
+-- The month of a year that the given day from the start of a month on lies in, and the day's place in it from 0, where that month is one of the next few.
 unfoldable pub month_after : ℕ → ℕ → ℕ → ℕ → ℕ × ℕ
 month_after year zero month day = (month, day)
 month_after year (suc few) month day =
@@ -50,7 +50,7 @@ text_of nanos =
 abbrev pub whole_second : ℕ → ℕ
 whole_second nanos = nanos / 1_000_000_000 * 1_000_000_000
 
--- what a clock shows, in the same form
+-- what a clock shows, as `2026-03-01T10:00:00Z`
 abbrev pub clock_text : DateTime → List ℕ
 clock_text clock =
     date_text (unsigned_abs clock.date.year) clock.date.month clock.date.day

@@ -15,7 +15,7 @@ use Rattle.ledger_model.specs.Energy.{energy_over, followed}
 use Rattle.ledger_model.specs.Event.{EventContent, MeterReading, toward}
 use Rattle.ledger_model.specs.declared.reading.Direction.{Direction}
 use Rattle.ledger_model.specs.declared.reading.Direction.TheVariants.{Import, Export}
-use Rattle.ledger_model.specs.Evse.{first_or_none}
+use Rattle.ledger_model.specs.Evse.{first_or_zero}
 use Rattle.ledger_model.specs.Gaps.{missing}
 use Rattle.ledger_model.specs.InTime.{in_order, in_time}
 use Rattle.ledger_model.specs.Key.{KeyName, key_cmp}
@@ -173,7 +173,7 @@ own_pairs : Order → Direction → List ℕ → List Entry → List (MeterReadi
 own_pairs order d tx l = followed (in_order order (λ r. r.moment) (flat_map (λ e. toward d e.1.event.readings) (own_events tx l)))
 
 at_over : ℕ → List Entry → List (List ℕ)
-at_over n l = filter (λ tx. first_or_none (filter_map (λ e. e.1.event.evse) (own_events tx l)) == n) (transactions_of l)
+at_over n l = filter (λ tx. first_or_zero (filter_map (λ e. e.1.event.evse) (own_events tx l)) == n) (transactions_of l)
 
 -- So do the readings by moment.
 timed_same : (limits : Bounds) (es new : List Entry) (b : Option ByMoment) → live new ≡ live es → IfSome b (AreByMoment limits es) → IfSome b (AreByMoment limits new)

@@ -4,17 +4,17 @@ use Rattle.std.proofs.lemmas.Bool.{eq-eqb, ne_eqb}
 use Rattle.energy_flow.specs.Flow.{Energy}
 use Rattle.ledger_model.specs.Content.{Entry, live_of}
 use Rattle.station_ledger.specs.Standing.{standing_with, kept_with}
-use Rattle.ledger_model.specs.Board.{last_or_none}
+use Rattle.ledger_model.specs.Board.{last_or_zero}
 use Rattle.ledger_model.specs.BoardLaws.{AreRising}
-use Rattle.ledger_model.specs.Evse.{first_or_none}
+use Rattle.ledger_model.specs.Evse.{first_or_zero}
 use Rattle.ledger_model.specs.Gaps.{missing}
 use Rattle.ledger_model.proofs.GapLemmas.{missing-fills}
 
-pub first_is : (ns : List ℕ) (n : ℕ) → slice_get ns 0 ≡ Some n → (first_or_none ns ≡ n) × (0 < length ns)
+pub first_is : (ns : List ℕ) (n : ℕ) → slice_get ns 0 ≡ Some n → (first_or_zero ns ≡ n) × (0 < length ns)
 first_is [] n h = cc
 first_is (m ∷ ns) n h = (cc, omega arith)
 
-pub last_is : (ns : List ℕ) (n : ℕ) → slice_get ns (length ns - 1) ≡ Some n → last_or_none ns ≡ n
+pub last_is : (ns : List ℕ) (n : ℕ) → slice_get ns (length ns - 1) ≡ Some n → last_or_zero ns ≡ n
 last_is [] n h = cc
 last_is (m ∷ []) n h = cc
 last_is (m ∷ k ∷ ns) n h = let at : suc (length (k ∷ ns) - 1) ≡ length (m ∷ k ∷ ns) - 1 = omega arith in last_is (k ∷ ns) n (ap (slice_get (m ∷ k ∷ ns)) at ∙ h)

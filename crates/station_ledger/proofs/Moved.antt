@@ -13,7 +13,7 @@ use Rattle.ledger_model.specs.Complete.{is_complete, starts_and_ends}
 use Rattle.ledger_model.specs.Content.{Entry, live, live_of, transactions_of, has_transaction}
 use Rattle.ledger_model.specs.Deltas.{IsOneMore, flow_if, own_events}
 use Rattle.ledger_model.specs.Energy.{energy_of_by, energy_over, followed}
-use Rattle.ledger_model.specs.Evse.{evse_of, energy_at_by, first_or_none}
+use Rattle.ledger_model.specs.Evse.{evse_of, energy_at_by, first_or_zero}
 use Rattle.ledger_model.specs.Gaps.{numbers_of, missing}
 use Rattle.ledger_model.specs.InTime.{in_order}
 use Rattle.ledger_model.proofs.Callers.{events_more, transactions_more, complete_more, missing_more, energy_at_more, evse_counts, live_with, live_without, live_else, order-nil}
@@ -139,7 +139,7 @@ kept_over : Order → List ℕ → List Entry → Option Standing
 kept_over order tx own = cond (length own == 0) None (Some (record {
   first = unwrap_or (slice_get (map (λ e. e.0.seq) own) 0) 0;
   live = length own;
-  evse = first_or_none (filter_map (λ e. e.1.event.evse) own);
+  evse = first_or_zero (filter_map (λ e. e.1.event.evse) own);
   complete = starts_and_ends (map (λ e. e.1.event.kind) own) && (missing (map (λ e. e.0.seq) own) == 0);
   missing = missing (map (λ e. e.0.seq) own);
   flow = energy_over (followed (in_order order (λ r. r.moment) (flat_map (λ e. toward Import e.1.event.readings) own)));

@@ -3,9 +3,9 @@ use Rattle.std.proofs.Common.{ℕ, ◌<◌, ◌≤◌, Bool, true, false, not, c
 use Rattle.std.specs.List.{cons_option, filter, filter_map}
 use Rattle.std.specs.Str.{bytes_eq}
 use Rattle.std.specs.Prelude.{IfSome}
-use Rattle.ledger_model.specs.Board.{last_or_none}
+use Rattle.ledger_model.specs.Board.{last_or_zero}
 use Rattle.ledger_model.specs.Content.{Entry, live, live_of}
-use Rattle.ledger_model.specs.Evse.{evse_of, first_or_none}
+use Rattle.ledger_model.specs.Evse.{evse_of, first_or_zero}
 use Rattle.ledger_model.specs.Gaps.{numbers_of}
 use Rattle.ledger_model.specs.Ranges.{greatest_evse, sequence_end}
 use Rattle.ledger_model.proofs.Callers.{AreEntries}
@@ -25,28 +25,28 @@ AreNumbered-filter p (e ∷ es) h =
 live_numbered : (tx : List ℕ) (es : List Entry) → AreNumbered es → AreNumbered (live_of tx es)
 live_numbered tx es h = AreNumbered-filter (λ e. bytes_eq tx e.0.tx) (live es) (AreNumbered-filter (λ e. not e.1.voided) es h)
 
-lowest_few : (es : List Entry) → AreNumbered es → first_or_none (map (λ (e : Entry). e.0.seq) es) < sequence_end
+lowest_few : (es : List Entry) → AreNumbered es → first_or_zero (map (λ (e : Entry). e.0.seq) es) < sequence_end
 lowest_few [] h = omega arith
 lowest_few (e ∷ es) h = h.0.sequence
 
-highest_few : (es : List Entry) → AreNumbered es → last_or_none (map (λ (e : Entry). e.0.seq) es) < sequence_end
+highest_few : (es : List Entry) → AreNumbered es → last_or_zero (map (λ (e : Entry). e.0.seq) es) < sequence_end
 highest_few [] h = omega arith
 highest_few (e ∷ []) h = h.0.sequence
 highest_few (e ∷ f ∷ es) h = highest_few (f ∷ es) h.1
 
-named_first : (o : Option ℕ) (ns : List ℕ) → IfSome o (λ number. number ≤ greatest_evse) → first_or_none ns ≤ greatest_evse → first_or_none (cons_option o ns) ≤ greatest_evse
+named_first : (o : Option ℕ) (ns : List ℕ) → IfSome o (λ number. number ≤ greatest_evse) → first_or_zero ns ≤ greatest_evse → first_or_zero (cons_option o ns) ≤ greatest_evse
 named_first None ns le rest = rest
 named_first (Some n) ns le rest = le
 
-named_few : (es : List Entry) → AreNumbered es → first_or_none (filter_map (λ (e : Entry). e.1.event.evse) es) ≤ greatest_evse
+named_few : (es : List Entry) → AreNumbered es → first_or_zero (filter_map (λ (e : Entry). e.1.event.evse) es) ≤ greatest_evse
 named_few [] h = omega arith
 named_few (e ∷ es) h = named_first e.1.event.evse (filter_map (λ (f : Entry). f.1.event.evse) es) h.0.evse (named_few es h.1)
 
 -- the lowest and the highest live number
-pub first_few : (tx : List ℕ) (es : List Entry) → AreNumbered es → first_or_none (numbers_of tx es) < sequence_end
+pub first_few : (tx : List ℕ) (es : List Entry) → AreNumbered es → first_or_zero (numbers_of tx es) < sequence_end
 first_few tx es h = lowest_few (live_of tx es) (live_numbered tx es h)
 
-pub last_few : (tx : List ℕ) (es : List Entry) → AreNumbered es → last_or_none (numbers_of tx es) < sequence_end
+pub last_few : (tx : List ℕ) (es : List Entry) → AreNumbered es → last_or_zero (numbers_of tx es) < sequence_end
 last_few tx es h = highest_few (live_of tx es) (live_numbered tx es h)
 
 -- a transaction's EVSE

@@ -4,11 +4,11 @@ use Rattle.std.specs.List.{filter_map, cons_option}
 use Rattle.std.proofs.lemmas.List.{length-map, map-append}
 use Rattle.energy_flow.specs.Flow.{Energy}
 use Rattle.ledger_model.specs.declared.by_direction.ByDirection.{ByDirection}
-use Rattle.ledger_model.specs.Board.{last_or_none}
+use Rattle.ledger_model.specs.Board.{last_or_zero}
 use Rattle.ledger_model.specs.BoardLaws.{AreRising}
 use Rattle.ledger_model.specs.Content.{Entry, live_of}
 use Rattle.ledger_model.specs.Deltas.{own_events, before_key, behind_key}
-use Rattle.ledger_model.specs.Evse.{first_or_none}
+use Rattle.ledger_model.specs.Evse.{first_or_zero}
 use Rattle.ledger_model.specs.Gaps.{numbers_of, missing}
 use Rattle.ledger_model.specs.Key.{KeyName}
 use Rattle.ledger_model.proofs.Callers.{live_with, live_without}
@@ -22,18 +22,18 @@ use Rattle.station_ledger.specs.Sums.{IsToCome}
 use Rattle.station_ledger.proofs.EndNumbers.{first_is}
 
 -- The last of two lists.
-last_both : (ns : List ℕ) (m : ℕ) (ms : List ℕ) → last_or_none (ns ++ m ∷ ms) ≡ last_or_none (m ∷ ms)
+last_both : (ns : List ℕ) (m : ℕ) (ms : List ℕ) → last_or_zero (ns ++ m ∷ ms) ≡ last_or_zero (m ∷ ms)
 last_both [] m ms = refl
 last_both (n ∷ []) m ms = refl
 last_both (n ∷ k ∷ ns) m ms = last_both (k ∷ ns) m ms
 
 -- A number behind rising ones is above the last of them.
-last_below : (n : ℕ) (ns : List ℕ) (m : ℕ) → AreRising (n ∷ ns ++ m ∷ []) → last_or_none (n ∷ ns ++ []) < m
+last_below : (n : ℕ) (ns : List ℕ) (m : ℕ) → AreRising (n ∷ ns ++ m ∷ []) → last_or_zero (n ∷ ns ++ []) < m
 last_below n [] m up = up.0
 last_below n (k ∷ ns) m up = last_below k ns m up.1
 
 -- The last of rising numbers is above the first.
-last_above : (n m : ℕ) (ms : List ℕ) → AreRising (n ∷ m ∷ ms) → n < last_or_none (m ∷ ms)
+last_above : (n m : ℕ) (ms : List ℕ) → AreRising (n ∷ m ∷ ms) → n < last_or_zero (m ∷ ms)
 last_above n m [] up = up.0
 last_above n m (k ∷ ms) up = omega (arith, up.0, last_above m k ms up.1)
 
@@ -110,8 +110,8 @@ one_less es chains key place names come up flow export was kept =
       live = omega (arith, ap length with, length-append own (e ∷ rest), ap (λ (s : Standing). s.live) is, ap length without, length-append own rest);
       first = λ lt. ap (λ ns. slice_get ns 0) now ∙ keeps_first (map seq_of own) (map seq_of rest) key.seq was.first rises (ap (λ (s : Standing). s.first) is ∙ ap (λ ns. unwrap_or (slice_get ns 0) 0) before)
           (omega (arith, lives, ap (λ (s : Standing). s.live) is, some_kept (length (live_of tx es)) (standing_with flow export tx es) was kept)) lt;
-      evse = λ none. ap (λ xs. first_or_none (filter_map (λ (x : Entry). x.1.event.evse) xs)) with ∙ ap first_or_none (passed own e rest (come.evse none))
-          ∙ sym (ap (λ (s : Standing). s.evse) is ∙ ap (λ xs. first_or_none (filter_map (λ (x : Entry). x.1.event.evse) xs)) without);
+      evse = λ none. ap (λ xs. first_or_zero (filter_map (λ (x : Entry). x.1.event.evse) xs)) with ∙ ap first_or_zero (passed own e rest (come.evse none))
+          ∙ sym (ap (λ (s : Standing). s.evse) is ∙ ap (λ xs. first_or_zero (filter_map (λ (x : Entry). x.1.event.evse) xs)) without);
       within = λ first at lt le. let so = (filled (map seq_of own) (map seq_of rest) key.seq first rises (ap (λ ns. slice_get ns 0) (sym now) ∙ at) lt).0 (omega (arith, le, lives, gone)) in omega (arith, so, ap missing now, gone);
       beyond = λ first at lt le. let so = (filled (map seq_of own) (map seq_of rest) key.seq first rises (ap (λ ns. slice_get ns 0) (sym now) ∙ at) lt).1 (omega (arith, le, lives, gone)) in omega (arith, so, ap missing now, gone, lives);
     }

@@ -11,12 +11,12 @@ use Rattle.std.proofs.lemmas.List.{map_more}
 use Rattle.std.proofs.lemmas.Option.{get_or_from_slice_get, slice_get_within}
 use Rattle.std.proofs.lemmas.Slice.Eq.{bytes_eq-Decides}
 use Rattle.event_chain.specs.Chains.{Chained, stored}
-use Rattle.ledger_model.specs.Board.{last_or_none}
+use Rattle.ledger_model.specs.Board.{last_or_zero}
 use Rattle.ledger_model.specs.Content.{Entry, live, transactions_of, has_transaction}
 use Rattle.ledger_model.specs.declared.order.Order.{Order}
 use Rattle.ledger_model.specs.declared.reading.Direction.TheVariants.{Import, Export}
 use Rattle.ledger_model.specs.Energy.{energy_of_by}
-use Rattle.ledger_model.specs.Evse.{first_or_none}
+use Rattle.ledger_model.specs.Evse.{first_or_zero}
 use Rattle.ledger_model.specs.Limits.{Bounds}
 use Rattle.ledger_model.proofs.Rising.{both}
 use Rattle.ledger_model.proofs.TransactionLemmas.{transactions-any, transactions_rise}
@@ -104,11 +104,11 @@ pub line_more : {X : Type 0} (line : List ℕ → X) (ids : List (List ℕ)) (n 
 line_more line ids n tx at = map_more line ids n tx (slice_get_within ids n tx at) ∙ ap (λ t. map line (take n ids) ++ line t ∷ []) (get_or_from_slice_get ids n tx tx at)
 
 -- the first and the last, or nothing
-pub first_is_or : (ns : List ℕ) → unwrap_or (slice_get ns 0) 0 ≡ first_or_none ns
+pub first_is_or : (ns : List ℕ) → unwrap_or (slice_get ns 0) 0 ≡ first_or_zero ns
 first_is_or [] = refl
 first_is_or (n ∷ ns) = refl
 
-pub last_is_or : (ns : List ℕ) → unwrap_or (slice_get ns (length ns - 1)) 0 ≡ last_or_none ns
+pub last_is_or : (ns : List ℕ) → unwrap_or (slice_get ns (length ns - 1)) 0 ≡ last_or_zero ns
 last_is_or [] = refl
 last_is_or (n ∷ []) = refl
 last_is_or (n ∷ m ∷ ns) =

@@ -108,7 +108,7 @@ TheyGo period d readings index t u w v m = (o seq : ℕ) (rest : List Flowed) �
 abbrev pub side : ℕ → Direction → TimedReadings → List Timed
 side slot d index = owned (owner slot d) index.entries
 
--- The same with those of an event.
+-- The readings of a transaction's slot and a direction, with those of an event.
 abbrev pub with_listed : ℕ → Direction → Chained → KeyName → TimedReadings → List Timed
 with_listed slot d chains key index = put_each (listed_of slot d chains key) (side slot d index)
 

@@ -28,11 +28,11 @@ IsSpent (Refused why) before after = after ≡ before
 abbrev pub most_with : List MeterReading → ℕ
 most_with rs = most_for (length (toward Import rs)) + most_for (length (toward Export rs))
 
--- The same of the event under a key of the chains, by its readings of each direction.
+-- The most differences that come and go with the event under a key of the chains, by its readings of each direction.
 abbrev pub most_at : Chained → KeyName → ℕ
 most_at chains key = most_for (length (readings_at Import chains key)) + most_for (length (readings_at Export chains key))
 
--- The same of a stored event, 0 where there is none.
+-- The most differences that come and go with a stored event, 0 where there is none.
 abbrev pub most_under : Option Stored → ℕ
 most_under None = 0
 most_under (Some s) = most_with s.event.readings
@@ -41,7 +41,7 @@ most_under (Some s) = most_with s.event.readings
 abbrev pub most_by_moment : Direction → KeyName → List Entry → ℕ
 most_by_moment d key es = length (filter (is_own key.seq) (numbered_by Moment d key.tx es)) + 2 * runs_of Moment d key es
 
--- The same of both directions.
+-- The most differences of both directions that come and go with the live event of a key, its readings taken by moment.
 abbrev pub most_in_runs : KeyName → List Entry → ℕ
 most_in_runs key es = most_by_moment Import key es + most_by_moment Export key es
 

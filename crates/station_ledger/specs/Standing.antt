@@ -24,7 +24,7 @@ standing_with flow export tx es = record {
   export = export;
 }
 
--- The same, where the transaction has a live event.
+-- A transaction's standing with these energies, where it has a live event.
 abbrev pub kept_with : Energy → Energy → List ℕ → List Entry → Option Standing
 kept_with flow export tx es = if length (live_of tx es) == 0 then None else Some (standing_with flow export tx es)
 

@@ -81,7 +81,7 @@ impl StationLedger {
         self.judge_at(command).0
     }
 
-    // The same, and where the command's key stands or belongs, where that was searched.
+    // What the command would be answered, and where its key stands or belongs, where that was searched.
     fn judge_at(&self, command: &Command) -> (Answer, KeyPlace)
         ensures answer { result.0 ≡ answer self.now.limits self.now.content command.now }
         ensures admissible { IsAdmissible command.now }
@@ -214,7 +214,7 @@ impl StationLedger {
         self.sums.evses[usize::from(evse.number())].flow
     }
 
-    /// What the export register rose and fell by over the same transactions, in milliwatt-hours.
+    /// What the export register rose and fell by over the transactions of an EVSE, in milliwatt-hours.
     pub fn evse_export(&self, evse: EvseId) -> Flow
         ensures { result ≡ energy_at_by self.now.order Export evse (entries self.now.content) }
     {

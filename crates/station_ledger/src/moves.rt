@@ -31,7 +31,7 @@ fn sides(chains: &Chains, key: &Key, direction: Direction, has: Carries) -> Side
     Sides { before, behind }
 }
 
-// The same in each direction of which its event has any.
+// The readings on either side of the place of a key, in each direction of which its event has any.
 fn around(chains: &Chains, key: &Key, has: Carries) -> Around
     ensures { (d : Direction) → AreSides d (in_direction d has) key.now (stored chains.now) (in_direction d result) }
 {

@@ -120,7 +120,8 @@ fn add_stored(
     total.plus(flow)
 }
 
-// The same of readings that are at hand, of both directions.
+// Adds the pairs that an event's readings of a direction make with one another and with those on either
+// side; its readings of both directions are at hand.
 #[inline(always)]
 fn add_listed(
     quarters: &mut QuarterTable,
@@ -149,7 +150,8 @@ fn add_listed(
     total.plus(flow)
 }
 
-// The same of an event whose readings are these, where they are at hand.
+// Adds the pairs that the readings of the event of a key make with one another and with those on either
+// side; they are these, where they are at hand.
 #[inline(always)]
 fn add_pairs(
     quarters: &mut QuarterTable,

@@ -113,8 +113,8 @@ fn one_more(chains: &Chains, tx: &TxId, seq: u32, was: Standing, energies: Energ
     }
 }
 
-// The same from what was kept of it, without a look at its last event; where its first one came, or one
-// that names an EVSE, from its events.
+// What is to be kept of a transaction with one live event more, by what was kept of it, without a look at
+// its last event; where its first one came, or one that names an EVSE, by its events.
 pub(crate) fn standing_after(
     chains: &Chains,
     tx: &TxId,

@@ -42,7 +42,7 @@ fn place<V: Copy>(rows: &[NamedValue<V>], tx: &TxId) -> Result<usize, usize>
     rows.binary_search_by(|row| row.cmp_id(tx))
 }
 
-// The same, where there is a hint of it.
+// Where the row of an id stands, or else where it belongs; the place given is looked at first.
 fn place_near<V: Copy>(rows: &[NamedValue<V>], near: usize, tx: &TxId) -> Result<usize, usize>
     requires { AreRising rows.now }
     ensures at { IfOk result (λ i. IsAt tx.now rows.now i) }

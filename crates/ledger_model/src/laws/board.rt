@@ -6,11 +6,11 @@ ghost use Rattle.std.specs.Ordering.{nat_cmp};
 ghost use Rattle.std.specs.Cmp.Lexicographic.{slice_cmp};
 ghost use Rattle.ledger_model.specs.BoardExamples.{first_run, first_run_board, first_run_site, late_event, late_event_board, void_and_restore, void_and_restore_board, quarter_boundary, readings_again_at_end, readings_again_counts, readings_again_quarters, evse_moves, evse_voided, start_voided, widest_gap, widest_gap_counts, exported, in_turn, rise, took, ten};
 ghost use Rattle.ledger_model.specs.BoardLaws.{AreRising, AreGaps, AreComplete, AreSums, IsIn, flows_over, pairs_of_both, quarters_over, sum_of_energies};
-ghost use Rattle.ledger_model.specs.Board.{Board, board, board_by, figures, flows_under, last_or_none, plus_figures, site_board, sum_of_figures};
+ghost use Rattle.ledger_model.specs.Board.{Board, board, board_by, figures, flows_under, last_or_zero, plus_figures, site_board, sum_of_figures};
 ghost use Rattle.ledger_model.specs.Complete.{is_complete, kinds_of};
 ghost use Rattle.ledger_model.specs.Content.{Content, Entry, entries, has_transaction, live, transactions_of};
 ghost use Rattle.ledger_model.specs.Energy.{energy_by, energy_in_by, energy_of_by, flows_toward, quarter_of, quarters_by};
-ghost use Rattle.ledger_model.specs.Evse.{energy_at_by, evse_of, evses, first_or_none};
+ghost use Rattle.ledger_model.specs.Evse.{energy_at_by, evse_of, evses, first_or_zero};
 ghost use Rattle.ledger_model.specs.Gaps.{Gap, gaps, missing, numbers_of};
 ghost use Rattle.ledger_model.specs.Quarter.{default_period};
 ghost use Rattle.ledger_model.specs.Posts.{Post, row_after, totals_after};
@@ -25,7 +25,7 @@ ghost use Rattle.ledger_model.specs.declared.reading.Direction.TheVariants.{Expo
 pub fn gaps_are_missing_numbers()
     ensures gaps { (numbers : List ℕ) → AreRising numbers → AreGaps numbers (gaps numbers) }
     ensures only { (numbers : List ℕ) (gs : List Gap) → AreRising numbers → AreGaps numbers gs → gs ≡ gaps numbers }
-    ensures missing { (numbers : List ℕ) → AreRising numbers → 0 < length numbers → first_or_none numbers + length numbers + missing numbers ≡ last_or_none numbers + 1 }
+    ensures missing { (numbers : List ℕ) → AreRising numbers → 0 < length numbers → first_or_zero numbers + length numbers + missing numbers ≡ last_or_zero numbers + 1 }
     ensures rising { (tx : List ℕ) (c : Content) → AreRising (numbers_of tx (entries c)) }
 {}
 

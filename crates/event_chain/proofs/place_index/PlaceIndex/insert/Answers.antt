@@ -32,7 +32,7 @@ invariant_of-self c =
     record {
       rising = c.insert.ensures.rising;
       listed = listed_same (marked_index (Some Live) c.insert.new.self) (index (put nat_cmp key slot L.entries) L.capacity) c.link_live.new.links _ (λ i. (lives i).entries) c.insert.ensures.capacity
-      c.link_live.ensures (listed_put L m.links c.self.invariant.listed (marked_rising (Some Live) m.index.entries up) key (marked_absent (Some Live) key m.index.entries can.absent) slot can.slot_for.within can.slot_for.unused);
+          c.link_live.ensures (listed_put L m.links c.self.invariant.listed (marked_rising (Some Live) m.index.entries up) key (marked_absent (Some Live) key m.index.entries can.absent) slot can.slot_for.within can.slot_for.unused);
     }
 
 pub returns-clause-stored : goal.returns-clause-stored

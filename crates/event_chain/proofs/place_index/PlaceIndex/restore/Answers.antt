@@ -30,7 +30,7 @@ invariant_of-self c =
     record {
       rising = c.set_marks.ensures.rising;
       listed = listed_same (marked_index (Some Live) c.set_marks.new.self) (index (put nat_cmp key slot L.entries) L.capacity) c.link_live.new.links _ (λ i. (lives i).entries) c.set_marks.ensures.capacity
-      c.link_live.ensures (listed_put L m.links c.self.invariant.listed (marked_rising (Some Live) m.index.entries up) key can.not_live.live slot can.slot_for.within can.slot_for.unused);
+          c.link_live.ensures (listed_put L m.links c.self.invariant.listed (marked_rising (Some Live) m.index.entries up) key can.not_live.live slot can.slot_for.within can.slot_for.unused);
     }
 
 pub returns-clause-stored : goal.returns-clause-stored

@@ -44,7 +44,7 @@ invariant_of-self c =
     record {
       rising = c.set_marks.ensures.rising;
       listed = listed_same (marked_index (Some Live) c.set_marks.new.self) (index (out key L.entries) L.capacity) c.link_out.new.self _ (λ i. (lives i).entries) c.set_marks.ensures.capacity
-      (c.link_out.ensures ∙ (λ i. linked_out m.links (before i) (after i))) (listed_out L m.links c.self.invariant.listed rises key slot some);
+          (c.link_out.ensures ∙ (λ i. linked_out m.links (before i) (after i))) (listed_out L m.links c.self.invariant.listed rises key slot some);
     }
 
 pub returns-clause-stored : goal.returns-clause-stored
