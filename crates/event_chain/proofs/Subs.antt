@@ -9,7 +9,7 @@ use Rattle.event_store.specs.Slots.{Held}
 use Rattle.event_chain.specs.Flat.{EventPlace, place_of, stored_at}
 use Rattle.event_chain.specs.Kept.{AreRanks, IsSub, chosen}
 use Rattle.event_chain.specs.Edits.{put_if, out_if}
-use Rattle.event_chain.proofs.Moves.{put_here, put_other, out_here, out_other}
+use Rattle.event_chain.proofs.Moves.{put_here, put_other, out_other}
 
 -- Each place but one is as it was.
 abbrev pub OthersSame : ℕ → List EventPlace → List EventPlace → Type 0

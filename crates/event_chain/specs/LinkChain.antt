@@ -1,5 +1,5 @@
 -- Lists of slots that links hold together.
-use Rattle.std.specs.Prelude.{◌≡◌, ◌≢◌, ℕ, List, [], ◌∷◌, Option, None, Some}
+use Rattle.std.specs.Prelude.{◌≡◌, ℕ, List, [], ◌∷◌, Option, None, Some}
 use Rattle.slot_arena.specs.Free.{IsApart, AreApart}
 use Rattle.event_chain.specs.Links.{Links, prev_of, next_of, IsSlot}
 

@@ -4,7 +4,7 @@ use Rattle.std.specs.List.{AllByRecursion, All, filter, flat_map, sum_by}
 use Rattle.std.proofs.lemmas.Bool.{cases_lt, cases_eq, eq-eqb, ne_eqb, lt-ltb, le-ltb, or_from, true≢false}
 use Rattle.std.proofs.lemmas.Grind.{flat_map-append}
 use Rattle.std.proofs.lemmas.List.{map-append}
-use Rattle.std.proofs.lemmas.List.Elements.{filter-append, recursion_from_All}
+use Rattle.std.proofs.lemmas.List.Elements.{recursion_from_All}
 use Rattle.std.proofs.lemmas.List.Sums.{sum_by-append, sum_by-cons}
 use Rattle.ledger_model.specs.declared.order.Order.TheVariants.{Moment}
 use Rattle.ledger_model.specs.declared.reading.Direction.{Direction}
@@ -16,7 +16,7 @@ use Rattle.ledger_model.specs.Event.{IsMeterReading, MeterReading, same_directio
 use Rattle.ledger_model.specs.Gaps.{numbers_of}
 use Rattle.ledger_model.specs.InTime.{in_time, put_in_time}
 use Rattle.ledger_model.specs.ReadingOrder.{Numbered, numbered, numbered_by}
-use Rattle.ledger_model.proofs.Callers.{AreEntries, AreForeign, AreOwn, IsEntry, few_toward, foreign_passed, in_time-map, in_time-passed, live_else, live_with, live_without, numbered_readings, own_before_key, own_behind_key, own_passed, put-behind, put-front}
+use Rattle.ledger_model.proofs.Callers.{AreEntries, AreForeign, AreOwn, IsEntry, few_toward, in_time-map, live_else, live_with, live_without, numbered_readings, own_before_key, own_behind_key, put-behind, put-front}
 use Rattle.reading_index.specs.Ranks.{number_of, owner, owner_of, rank}
 use Rattle.reading_index.specs.Timed.{Timed, has_rank, without, AreBehind, IsRanked}
 use Rattle.station_ledger.specs.ByMoment.{bare, live_readings, put_each, ranked, ranked_from, take_each, timed_of}

@@ -1,5 +1,4 @@
-use Rattle.std.proofs.Common.{ap, sym, subst, ◌∙◌}
-use Rattle.event_chain.specs.Flat.{place_of}
+use Rattle.std.proofs.Common.{ap, ◌∙◌}
 use Rattle.event_chain.specs.Placed.{Index}
 use Rattle.event_chain.specs.Ranked.{from, slot_at}
 use Rattle.event_chain.proofs.Places.{found_at}

@@ -1,4 +1,4 @@
-use Rattle.std.proofs.Common.{length, arith, ◌-◌, slice_get, option_map, sym, ap, ◌∙◌}
+use Rattle.std.proofs.Common.{length, ◌-◌, slice_get, option_map, sym, ap, ◌∙◌}
 use Rattle.ledger_model.specs.Gaps.{numbers_of}
 use Rattle.event_chain.specs.Chains.{Chained, stored}
 use Rattle.event_chain.specs.Edits.{last_under}

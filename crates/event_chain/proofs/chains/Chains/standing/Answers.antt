@@ -1,4 +1,4 @@
-use Rattle.std.proofs.Common.{ℕ, option_map, sym, ap, ◌∙◌, subst, arith}
+use Rattle.std.proofs.Common.{ℕ, option_map, sym, ap, ◌∙◌, subst}
 use Rattle.event_chain.specs.Chains.{Chained, stored}
 use Rattle.event_chain.specs.Edits.{IsStored, first_under, last_under, kind_in, evse_at}
 use Rattle.event_chain.specs.Kept.{is_live, is_naming, IsTxStanding}
