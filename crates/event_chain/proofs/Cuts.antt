@@ -2,7 +2,7 @@
 use Rattle.std.proofs.Common.{◌≡◌, ℕ, ◌+◌, ◌<◌, ◌≤◌, ◌/◌, ◌%◌, ◌^◌, nat_lt, ◌==◌, Bool, true, false, cond, List, [], ◌∷◌, Some, None, map, slice_get, refl, sym, ap, ◌∙◌, arith}
 use Rattle.std.proofs.lemmas.Bool.Decides.{Decides-ltb, Decides-eqb}
 use Rattle.std.specs.List.{filter}
-use Rattle.event_chain.specs.Ranked.{below, from, first_of, last_of, AreAbove, AreRising}
+use Rattle.key_index.specs.Entries.{below, from, first_of, last_of, AreAbove, AreRising}
 use Rattle.key_index.specs.Key.{rank}
 use Rattle.event_chain.specs.Flat.{EventPlace, segment}
 use Rattle.event_chain.specs.Edits.{at_home, places_before, places_behind}

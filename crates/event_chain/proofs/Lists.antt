@@ -8,7 +8,7 @@ use Rattle.std.specs.Ordering.{nat_cmp}
 use Rattle.std.specs.Cmp.{nat_cmp_total}
 use Rattle.std.specs.FinMap.{put}
 use Rattle.std.specs.FinMap.Entries.{is_sorted-put}
-use Rattle.event_chain.specs.Ranked.{last_of, AreRising}
+use Rattle.key_index.specs.Entries.{last_of, AreRising}
 use Rattle.event_chain.specs.Placed.{Index, index}
 use Rattle.event_chain.specs.Links.{Links, links, linked_in, linked_out, prev_of, next_of, IsSlot}
 use Rattle.slot_arena.specs.Free.{IsApart}
@@ -21,7 +21,8 @@ use Rattle.event_chain.specs.Edits.{out, places_before, places_behind}
 use Rattle.event_chain.specs.Lists.{slot_in, slots_of, slot_before, slot_after, AreOwn, AreListed}
 use Rattle.event_chain.proofs.Members.{AllPlaces, all_found}
 use Rattle.event_chain.proofs.Moves.{put_here, put_other, out_here, out_other}
-use Rattle.event_chain.proofs.Places.{ranks_of, last_cons}
+use Rattle.key_index.proofs.Orders.{last_cons}
+use Rattle.event_chain.proofs.Places.{ranks_of}
 use Rattle.event_chain.proofs.Subs.{out_if_ranks}
 use Rattle.event_chain.proofs.Splits.{seg_absent, seg_put, seg_put_other, seg_present, seg_out, seg_out_other}
 

@@ -3,7 +3,7 @@ use Rattle.std.proofs.Common.{◌≡◌, ℕ, zero, suc, ◌/◌, ◌^◌, ◌==
 use Rattle.std.specs.List.{filter, count_by, filter_map, cons_option}
 use Rattle.std.proofs.lemmas.List.{length-map}
 use Rattle.std.proofs.lemmas.Bool.Decides.{Decides-eqb}
-use Rattle.event_chain.specs.Ranked.{last_of}
+use Rattle.key_index.specs.Entries.{last_of}
 use Rattle.ledger_model.specs.Evse.{first_or_zero, evse_of}
 use Rattle.std.specs.Str.{bytes_eq}
 use Rattle.std.specs.Ordering.{is_eq, eq_by_cmp, nat_cmp}

@@ -14,15 +14,14 @@ use Rattle.key_index.specs.declared.filed.Mark.{Mark}
 use Rattle.key_index.specs.declared.filed.Mark.TheVariants.{Live, Imports, Exports, Names}
 use Rattle.key_index.specs.declared.filed.Marks.{Marks}
 use Rattle.key_index.specs.declared.filed.Filed.{Filed}
-use Rattle.key_index.specs.Entries as entries
-use Rattle.key_index.specs.Entries.{Entry, filed_at}
+use Rattle.key_index.specs.Entries.{Entry, below, from, filed_at, first_of, last_of, AreAbove, AreRising}
+use Rattle.key_index.proofs.Orders.{cut_none, cut_whole, last_cons}
 use Rattle.key_index.specs.Marks.{has_mark, marked, mark_at}
 use Rattle.event_chain.specs.Flat.{EventPlace, place_of}
 use Rattle.event_chain.specs.Edits.{put_if, out, IsLiveLess, IsLiveMore, IsLiveSame, IsNotLive}
-use Rattle.event_chain.specs.Ranked.{below, from, slot_at, first_of, last_of, AreAbove, AreRising}
 use Rattle.event_chain.specs.Placed.{carriers_of, index, marked_places, marked_index, passes, place_in, placed}
 use Rattle.event_chain.proofs.Decided.{not_so}
-use Rattle.event_chain.proofs.Places.{found_at, put_is, out_is, not_less, last_cons}
+use Rattle.event_chain.proofs.Places.{found_at, put_is, out_is, not_less}
 
 -- No entries have no places.
 marked_nil : (o : Option Mark) → marked_places o [] ≡ []
@@ -40,44 +39,29 @@ marked_both None xs ys = map-append place_in xs ys
 marked_both (Some m) xs ys = ap (map place_in) (filter-append (λ e. has_mark m e.1.marks) xs ys) ∙ map-append place_in (marked m xs) (marked m ys)
 
 -- Entries above a number have places above it.
-marked_above : (o : Option Mark) (n : ℕ) (es : List (Entry ℕ)) → entries.AreAbove n es → AreAbove n (marked_places o es)
+marked_above : (o : Option Mark) (n : ℕ) (es : List (Entry ℕ)) → AreAbove n es → AreAbove n (marked_places o es)
 marked_above o n [] h = subst (AreAbove n) (sym (marked_nil o)) tt
 marked_above o n (e ∷ es) h = subst (AreAbove n) (sym (marked_on o e es)) (elim (passes o e.1.marks) as (λ b. AreAbove n (cond b (place_in e ∷ marked_places o es) (marked_places o es))) [ true ↦ (h.0, marked_above o n es h.1) | false ↦ marked_above o n es h.1 ])
 
 -- The places with a mark rise.
-pub marked_rising : (o : Option Mark) (es : List (Entry ℕ)) → entries.AreRising es → AreRising (marked_places o es)
+pub marked_rising : (o : Option Mark) (es : List (Entry ℕ)) → AreRising es → AreRising (marked_places o es)
 marked_rising o [] h = subst AreRising (sym (marked_nil o)) tt
 marked_rising o (e ∷ es) h = subst AreRising (sym (marked_on o e es)) (elim (passes o e.1.marks) as (λ b. AreRising (cond b (place_in e ∷ marked_places o es) (marked_places o es))) [ true ↦ (marked_above o e.0 es h.0, marked_rising o es h.1) | false ↦ marked_rising o es h.1 ])
 
--- Of greater ranks none is in front.
-below_none : (r n : ℕ) (xs : List EventPlace) → AreAbove n xs → r ≤ n → below r xs ≡ []
-below_none r n [] h le = refl
-below_none r n (x ∷ xs) h le = let up = h.0 in ap (λ b. cond b (x ∷ below r xs) []) (not_so _ (Decides-ltb x.0 r) (λ lt. absurd (omega arith)))
-
--- All are from it on.
-from_all : (r n : ℕ) (xs : List EventPlace) → AreAbove n xs → r ≤ n → from r xs ≡ xs
-from_all r n [] h le = refl
-from_all r n (x ∷ xs) h le = let up = h.0 in ap (λ b. cond b (from r xs) (x ∷ xs)) (not_so _ (Decides-ltb x.0 r) (λ lt. absurd (omega arith)))
-
 -- None has the rank.
-slot_none : (r n : ℕ) (xs : List EventPlace) → AreAbove n xs → r ≤ n → slot_at r xs ≡ None
+slot_none : (r n : ℕ) (xs : List EventPlace) → AreAbove n xs → r ≤ n → filed_at r xs ≡ None
 slot_none r n [] h le = refl
 slot_none r n (x ∷ xs) h le = let up = h.0 in ap (λ b. cond b (Some x.1) None) (not_so _ (Decides-eqb x.0 r) (λ is. absurd (omega arith)))
 
--- What is in front and what is left are the whole.
-cut_whole : (r : ℕ) (xs : List EventPlace) → below r xs ++ from r xs ≡ xs
-cut_whole r [] = refl
-cut_whole r (x ∷ xs) = elim (nat_lt x.0 r) as (λ b. cond b (x ∷ below r xs) [] ++ cond b (from r xs) (x ∷ xs) ≡ x ∷ xs) [ true ↦ ap (λ l. x ∷ l) (cut_whole r xs) | false ↦ refl ]
-
 -- Places cut at a rank: what is in front.
-pub marked_below : (o : Option Mark) (r : ℕ) (es : List (Entry ℕ)) → entries.AreRising es → marked_places o (entries.below r es) ≡ below r (marked_places o es)
+pub marked_below : (o : Option Mark) (r : ℕ) (es : List (Entry ℕ)) → AreRising es → marked_places o (below r es) ≡ below r (marked_places o es)
 marked_below o r [] h = marked_nil o ∙ sym (ap (below r) (marked_nil o))
 marked_below o r (e ∷ es) h =
     let P = place_in e in let L = marked_places o es in let rest = marked_below o r es h.1 in
-    elim (nat_lt e.0 r) as (λ b. nat_lt e.0 r ≡ b → marked_places o (cond b (e ∷ entries.below r es) []) ≡ below r (marked_places o (e ∷ es))) [
+    elim (nat_lt e.0 r) as (λ b. nat_lt e.0 r ≡ b → marked_places o (cond b (e ∷ below r es) []) ≡ below r (marked_places o (e ∷ es))) [
       | true ↦ λ y.
-          marked_on o e (entries.below r es)
-          ∙ elim (passes o e.1.marks) as (λ p. cond p (place_in e ∷ marked_places o (entries.below r es)) (marked_places o (entries.below r es)) ≡ below r (cond p (place_in e ∷ marked_places o es) (marked_places o es))) [
+          marked_on o e (below r es)
+          ∙ elim (passes o e.1.marks) as (λ p. cond p (place_in e ∷ marked_places o (below r es)) (marked_places o (below r es)) ≡ below r (cond p (place_in e ∷ marked_places o es) (marked_places o es))) [
             | true ↦ ap (λ (l : List EventPlace). place_in e ∷ l) rest ∙ sym (ap (λ b. cond b (place_in e ∷ below r (marked_places o es)) []) y)
             | false ↦ rest
           ]
@@ -86,15 +70,15 @@ marked_below o r (e ∷ es) h =
           marked_nil o
           ∙ sym (ap (below r) (marked_on o e es) ∙ elim (passes o e.1.marks) as (λ p. below r (cond p (place_in e ∷ marked_places o es) (marked_places o es)) ≡ []) [
             | true ↦ ap (λ b. cond b (place_in e ∷ below r (marked_places o es)) []) never
-            | false ↦ below_none r e.0 (marked_places o es) (marked_above o e.0 es h.0) (not_less e.0 r never)
+            | false ↦ (cut_none r e.0 (marked_places o es) (marked_above o e.0 es h.0) (not_less e.0 r never)).0
           ])
     ] refl
 
 -- And what is left.
-pub marked_from : (o : Option Mark) (r : ℕ) (es : List (Entry ℕ)) → entries.AreRising es → marked_places o (entries.from r es) ≡ from r (marked_places o es)
+pub marked_from : (o : Option Mark) (r : ℕ) (es : List (Entry ℕ)) → AreRising es → marked_places o (from r es) ≡ from r (marked_places o es)
 marked_from o r [] h = marked_nil o ∙ sym (ap (from r) (marked_nil o))
 marked_from o r (e ∷ es) h =
-    elim (nat_lt e.0 r) as (λ b. nat_lt e.0 r ≡ b → marked_places o (cond b (entries.from r es) (e ∷ es)) ≡ from r (marked_places o (e ∷ es))) [
+    elim (nat_lt e.0 r) as (λ b. nat_lt e.0 r ≡ b → marked_places o (cond b (from r es) (e ∷ es)) ≡ from r (marked_places o (e ∷ es))) [
       | true ↦ λ y.
           marked_from o r es h.1
           ∙ sym (ap (from r) (marked_on o e es) ∙ elim (passes o e.1.marks) as (λ p. from r (cond p (place_in e ∷ marked_places o es) (marked_places o es)) ≡ from r (marked_places o es)) [
@@ -105,27 +89,21 @@ marked_from o r (e ∷ es) h =
           marked_on o e es
           ∙ elim (passes o e.1.marks) as (λ p. cond p (place_in e ∷ marked_places o es) (marked_places o es) ≡ from r (cond p (place_in e ∷ marked_places o es) (marked_places o es))) [
             | true ↦ sym (ap (λ b. cond b (from r (marked_places o es)) (place_in e ∷ marked_places o es)) never)
-            | false ↦ sym (from_all r e.0 (marked_places o es) (marked_above o e.0 es h.0) (not_less e.0 r never))
+            | false ↦ sym ((cut_none r e.0 (marked_places o es) (marked_above o e.0 es h.0) (not_less e.0 r never)).1)
           ]
           ∙ sym (ap (from r) (marked_on o e es))
     ] refl
 
 -- The first place is that of the first entry.
-pub first_place_in : (xs : List (Entry ℕ)) → first_of (map place_in xs) ≡ option_map place_in (entries.first_of xs)
+pub first_place_in : (xs : List (Entry ℕ)) → first_of (map place_in xs) ≡ option_map place_in (first_of xs)
 first_place_in [] = refl
 first_place_in (x ∷ xs) = refl
 
--- The last entry of a list is that of its rest, where it has one.
-last_entry : (e f : Entry ℕ) (es : List (Entry ℕ)) → entries.last_of (e ∷ f ∷ es) ≡ entries.last_of (f ∷ es)
-last_entry e f es =
-    let a : suc (suc (length es)) - 1 ≡ suc (length es) = omega arith in let b : suc (length es) - 1 ≡ length es = omega arith in
-    ap (slice_get (e ∷ f ∷ es)) a ∙ sym (ap (slice_get (f ∷ es)) b)
-
 -- The last place is that of the last entry.
-pub last_place_in : (xs : List (Entry ℕ)) → last_of (map place_in xs) ≡ option_map place_in (entries.last_of xs)
+pub last_place_in : (xs : List (Entry ℕ)) → last_of (map place_in xs) ≡ option_map place_in (last_of xs)
 last_place_in [] = refl
 last_place_in (x ∷ []) = refl
-last_place_in (x ∷ y ∷ xs) = last_cons (place_in x) (place_in y) (map place_in xs) ∙ last_place_in (y ∷ xs) ∙ sym (ap (option_map place_in) (last_entry x y xs))
+last_place_in (x ∷ y ∷ xs) = last_cons (place_in x) (place_in y) (map place_in xs) ∙ last_place_in (y ∷ xs) ∙ sym (ap (option_map place_in) (last_cons x y xs))
 
 -- Where no entry has the rank, no place with a mark has.
 pub marked_absent : (o : Option Mark) (r : ℕ) (es : List (Entry ℕ)) → place_of r (marked_places None es) ≡ None → place_of r (marked_places o es) ≡ None
@@ -141,40 +119,40 @@ marked_absent o r (e ∷ es) none =
     ] refl none
 
 -- The slot under a rank.
-slot_filed : (r : ℕ) (l : List (Entry ℕ)) → slot_at r (map place_in l) ≡ option_map (λ (f : Filed ℕ). f.value) (filed_at r l)
+slot_filed : (r : ℕ) (l : List (Entry ℕ)) → filed_at r (map place_in l) ≡ option_map (λ (f : Filed ℕ). f.value) (filed_at r l)
 slot_filed r [] = refl
 slot_filed r (e ∷ l) = elim (e.0 == r) as (λ b. cond b (Some e.1.value) None ≡ option_map (λ (f : Filed ℕ). f.value) (cond b (Some e.1) None)) [ true ↦ refl | false ↦ refl ]
 
 -- What stands under a rank, by its place.
-filed_place : (r : ℕ) (es : List (Entry ℕ)) → entries.AreRising es → option_map (λ (f : Filed ℕ). f.value) (filed_at r (entries.from r es)) ≡ place_of r (marked_places None es)
-filed_place r es h = sym (slot_filed r (entries.from r es)) ∙ ap (slot_at r) (marked_from None r es h) ∙ found_at r (marked_places None es) (marked_rising None es h)
+filed_place : (r : ℕ) (es : List (Entry ℕ)) → AreRising es → option_map (λ (f : Filed ℕ). f.value) (filed_at r (from r es)) ≡ place_of r (marked_places None es)
+filed_place r es h = sym (slot_filed r (from r es)) ∙ ap (filed_at r) (marked_from None r es h) ∙ found_at r (marked_places None es) (marked_rising None es h)
 
 -- Nothing does where there is no place.
-pub filed_absent : (r : ℕ) (es : List (Entry ℕ)) → entries.AreRising es → place_of r (marked_places None es) ≡ None → filed_at r (entries.from r es) ≡ None
-filed_absent r es h none = no_filed (filed_at r (entries.from r es)) (filed_place r es h ∙ none) where
+pub filed_absent : (r : ℕ) (es : List (Entry ℕ)) → AreRising es → place_of r (marked_places None es) ≡ None → filed_at r (from r es) ≡ None
+filed_absent r es h none = no_filed (filed_at r (from r es)) (filed_place r es h ∙ none) where
   no_filed : (o : Option (Filed ℕ)) → option_map (λ (f : Filed ℕ). f.value) o ≡ None → o ≡ None
   no_filed None is = refl
   no_filed (Some f) is = cc
 
 -- What is filed under a rank that has a place.
-pub filed_there : (r s : ℕ) (es : List (Entry ℕ)) → entries.AreRising es → place_of r (marked_places None es) ≡ Some s → (f : Filed ℕ) × ((filed_at r (entries.from r es) ≡ Some f) × (f.value ≡ s))
-filed_there r s es h at = a_filed (filed_at r (entries.from r es)) (filed_place r es h ∙ at) where
+pub filed_there : (r s : ℕ) (es : List (Entry ℕ)) → AreRising es → place_of r (marked_places None es) ≡ Some s → (f : Filed ℕ) × ((filed_at r (from r es) ≡ Some f) × (f.value ≡ s))
+filed_there r s es h at = a_filed (filed_at r (from r es)) (filed_place r es h ∙ at) where
   a_filed : (o : Option (Filed ℕ)) → option_map (λ (f : Filed ℕ). f.value) o ≡ Some s → (f : Filed ℕ) × ((o ≡ Some f) × (f.value ≡ s))
   a_filed None is = cc
   a_filed (Some f) is = (f, (refl, cc))
 
 -- Something is filed under a rank that has a place.
-pub filed_some : (r : ℕ) (es : List (Entry ℕ)) → entries.AreRising es → is_some (place_of r (marked_places None es)) ≡ true → (f : Filed ℕ) × (filed_at r (entries.from r es) ≡ Some f)
-filed_some r es h some = a_filed (filed_at r (entries.from r es)) (ap is_some (filed_place r es h) ∙ some) where
+pub filed_some : (r : ℕ) (es : List (Entry ℕ)) → AreRising es → is_some (place_of r (marked_places None es)) ≡ true → (f : Filed ℕ) × (filed_at r (from r es) ≡ Some f)
+filed_some r es h some = a_filed (filed_at r (from r es)) (ap is_some (filed_place r es h) ∙ some) where
   a_filed : (o : Option (Filed ℕ)) → is_some (option_map (λ (f : Filed ℕ). f.value) o) ≡ true → (f : Filed ℕ) × (o ≡ Some f)
   a_filed None is = cc
   a_filed (Some f) is = (f, refl)
 
 -- Places with that of an entry put in.
-pub marked_put : (o : Option Mark) (r : ℕ) (f : Filed ℕ) (es : List (Entry ℕ)) → entries.AreRising es → place_of r (marked_places None es) ≡ None → marked_places o (entries.below r es ++ (r, f) ∷ entries.from r es) ≡ put_if (passes o f.marks) r f.value (marked_places o es)
+pub marked_put : (o : Option Mark) (r : ℕ) (f : Filed ℕ) (es : List (Entry ℕ)) → AreRising es → place_of r (marked_places None es) ≡ None → marked_places o (below r es ++ (r, f) ∷ from r es) ≡ put_if (passes o f.marks) r f.value (marked_places o es)
 marked_put o r f es h none =
-    let absent : slot_at r (from r (marked_places o es)) ≡ None = found_at r (marked_places o es) (marked_rising o es h) ∙ marked_absent o r es none in
-    marked_both o (entries.below r es) ((r, f) ∷ entries.from r es) ∙ (λ i. marked_below o r es h i ++ marked_on o (r, f) (entries.from r es) i)
+    let absent : filed_at r (from r (marked_places o es)) ≡ None = found_at r (marked_places o es) (marked_rising o es h) ∙ marked_absent o r es none in
+    marked_both o (below r es) ((r, f) ∷ from r es) ∙ (λ i. marked_below o r es h i ++ marked_on o (r, f) (from r es) i)
     ∙ ap (λ l. below r (marked_places o es) ++ cond (passes o f.marks) ((r, f.value) ∷ l) l) (marked_from o r es h)
     ∙ elim (passes o f.marks) as (λ b. below r (marked_places o es) ++ cond b ((r, f.value) ∷ from r (marked_places o es)) (from r (marked_places o es)) ≡ put_if b r f.value (marked_places o es)) [ true ↦ put_is r f.value (marked_places o es) absent | false ↦ cut_whole r (marked_places o es) ]
 
@@ -188,9 +166,9 @@ from_parts r f (e ∷ l) h =
     ] refl h
 
 -- What is left from a rank on rises.
-from_rising : (r : ℕ) (es : List (Entry ℕ)) → entries.AreRising es → entries.AreRising (entries.from r es)
+from_rising : (r : ℕ) (es : List (Entry ℕ)) → AreRising es → AreRising (from r es)
 from_rising r [] h = tt
-from_rising r (e ∷ es) h = elim (nat_lt e.0 r) as (λ b. entries.AreRising (cond b (entries.from r es) (e ∷ es))) [ true ↦ from_rising r es h.1 | false ↦ h ]
+from_rising r (e ∷ es) h = elim (nat_lt e.0 r) as (λ b. AreRising (cond b (from r es) (e ∷ es))) [ true ↦ from_rising r es h.1 | false ↦ h ]
 
 -- Nothing is left out where the rank is absent.
 pub out_absent : (r : ℕ) (xs : List EventPlace) → place_of r xs ≡ None → out r xs ≡ xs
@@ -201,19 +179,19 @@ out_absent r (x ∷ xs) none =
       | false ↦ λ left. ap (λ (l : List EventPlace). x ∷ l) (out_absent r xs left)
     ] none
 
-module _ (o : Option Mark) (r : ℕ) (f : Filed ℕ) (es : List (Entry ℕ)) (h : entries.AreRising es) (there : filed_at r (entries.from r es) ≡ Some f) where
+module _ (o : Option Mark) (r : ℕ) (f : Filed ℕ) (es : List (Entry ℕ)) (h : AreRising es) (there : filed_at r (from r es) ≡ Some f) where
   abbrev L : List EventPlace
   L = marked_places o es
 
   -- The entries behind that of the rank.
   abbrev rest : List (Entry ℕ)
-  rest = (from_parts r f (entries.from r es) there).0
+  rest = (from_parts r f (from r es) there).0
 
-  rest_is : entries.from r es ≡ (r, f) ∷ rest
-  rest_is = (from_parts r f (entries.from r es) there).1
+  rest_is : from r es ≡ (r, f) ∷ rest
+  rest_is = (from_parts r f (from r es) there).1
 
   rest_above : AreAbove r (marked_places o rest)
-  rest_above = marked_above o r rest (subst entries.AreRising rest_is (from_rising r es h)).0
+  rest_above = marked_above o r rest (subst AreRising rest_is (from_rising r es h)).0
 
   left_is : from r L ≡ cond (passes o f.marks) ((r, f.value) ∷ marked_places o rest) (marked_places o rest)
   left_is = sym (marked_from o r es h) ∙ ap (marked_places o) rest_is ∙ marked_on o (r, f) rest
@@ -221,38 +199,38 @@ module _ (o : Option Mark) (r : ℕ) (f : Filed ℕ) (es : List (Entry ℕ)) (h 
   -- Places without that of the entry.
   gone : below r L ++ marked_places o rest ≡ out r L
   gone = elim (passes o f.marks) as (λ b. from r L ≡ cond b ((r, f.value) ∷ marked_places o rest) (marked_places o rest) → below r L ++ marked_places o rest ≡ out r L) [
-    | true ↦ λ e. ap (λ l. below r L ++ drop 1 l) (sym e) ∙ out_is r L (marked_rising o es h) (ap (λ l. is_some (slot_at r l)) e ∙ ap (λ b. is_some (cond b (Some f.value) None)) ((Decides-eqb r r).1 refl))
-    | false ↦ λ e. let none : place_of r L ≡ None = sym (found_at r L (marked_rising o es h)) ∙ ap (slot_at r) e ∙ slot_none r r (marked_places o rest) rest_above (omega arith) in
+    | true ↦ λ e. ap (λ l. below r L ++ drop 1 l) (sym e) ∙ out_is r L (marked_rising o es h) (ap (λ l. is_some (filed_at r l)) e ∙ ap (λ b. is_some (cond b (Some f.value) None)) ((Decides-eqb r r).1 refl))
+    | false ↦ λ e. let none : place_of r L ≡ None = sym (found_at r L (marked_rising o es h)) ∙ ap (filed_at r) e ∙ slot_none r r (marked_places o rest) rest_above (omega arith) in
         ap (λ l. below r L ++ l) (sym e) ∙ cut_whole r L ∙ sym (out_absent r L none)
   ] left_is
 
   -- Places with that of the entry taken out.
-  pub marked_out : marked_places o (entries.below r es ++ drop 1 (entries.from r es)) ≡ out r L
-  marked_out = marked_both o (entries.below r es) (drop 1 (entries.from r es)) ∙ (λ i. marked_below o r es h i ++ marked_places o (drop 1 (rest_is i))) ∙ gone
+  pub marked_out : marked_places o (below r es ++ drop 1 (from r es)) ≡ out r L
+  marked_out = marked_both o (below r es) (drop 1 (from r es)) ∙ (λ i. marked_below o r es h i ++ marked_places o (drop 1 (rest_is i))) ∙ gone
 
   module _ (marks : Marks) where
-    marked_set : marked_places o (entries.below r es ++ mark_at marks 0 (entries.from r es)) ≡ below r L ++ cond (passes o marks) ((r, f.value) ∷ marked_places o rest) (marked_places o rest)
+    marked_set : marked_places o (below r es ++ mark_at marks 0 (from r es)) ≡ below r L ++ cond (passes o marks) ((r, f.value) ∷ marked_places o rest) (marked_places o rest)
     marked_set =
-        marked_both o (entries.below r es) (mark_at marks 0 (entries.from r es)) ∙ (λ i. marked_below o r es h i ++ marked_places o (mark_at marks 0 (rest_is i)))
+        marked_both o (below r es) (mark_at marks 0 (from r es)) ∙ (λ i. marked_below o r es h i ++ marked_places o (mark_at marks 0 (rest_is i)))
         ∙ ap (λ l. below r L ++ l) (marked_on o (r, record { value = f.value; marks = marks }) rest)
 
     -- Places that the entry leaves by its marks.
-    pub marked_void : passes o marks ≡ false → marked_places o (entries.below r es ++ mark_at marks 0 (entries.from r es)) ≡ out r L
+    pub marked_void : passes o marks ≡ false → marked_places o (below r es ++ mark_at marks 0 (from r es)) ≡ out r L
     marked_void never = marked_set ∙ ap (λ b. below r L ++ cond b ((r, f.value) ∷ marked_places o rest) (marked_places o rest)) never ∙ gone
 
     -- Places among which it stays.
-    pub marked_stays : passes o f.marks ≡ true → passes o marks ≡ true → marked_places o (entries.below r es ++ mark_at marks 0 (entries.from r es)) ≡ L
+    pub marked_stays : passes o f.marks ≡ true → passes o marks ≡ true → marked_places o (below r es ++ mark_at marks 0 (from r es)) ≡ L
     marked_stays was is = marked_set ∙ ap (λ b. below r L ++ cond b ((r, f.value) ∷ marked_places o rest) (marked_places o rest)) (is ∙ sym was) ∙ ap (λ l. below r L ++ l) (sym left_is) ∙ cut_whole r L
 
     -- Places that it enters where it was none of them.
-    pub marked_enter : place_of r L ≡ None → marked_places o (entries.below r es ++ mark_at marks 0 (entries.from r es)) ≡ put_if (passes o marks) r f.value L
+    pub marked_enter : place_of r L ≡ None → marked_places o (below r es ++ mark_at marks 0 (from r es)) ≡ put_if (passes o marks) r f.value L
     marked_enter none =
-        let absent : slot_at r (from r L) ≡ None = found_at r L (marked_rising o es h) ∙ none in
+        let absent : filed_at r (from r L) ≡ None = found_at r L (marked_rising o es h) ∙ none in
         marked_set ∙ ap (λ l. below r L ++ cond (passes o marks) ((r, f.value) ∷ l) l) (sym (behind absent))
         ∙ elim (passes o marks) as (λ b. below r L ++ cond b ((r, f.value) ∷ from r L) (from r L) ≡ put_if b r f.value L) [ true ↦ put_is r f.value L absent | false ↦ cut_whole r L ] where
-          behind : slot_at r (from r L) ≡ None → from r L ≡ marked_places o rest
+          behind : filed_at r (from r L) ≡ None → from r L ≡ marked_places o rest
           behind absent = elim (passes o f.marks) as (λ b. from r L ≡ cond b ((r, f.value) ∷ marked_places o rest) (marked_places o rest) → from r L ≡ marked_places o rest) [
-            | true ↦ λ e. let found : Some f.value ≡ None = sym (ap (λ b. cond b (Some f.value) None) ((Decides-eqb r r).1 refl)) ∙ sym (ap (slot_at r) e) ∙ absent in cc
+            | true ↦ λ e. let found : Some f.value ≡ None = sym (ap (λ b. cond b (Some f.value) None) ((Decides-eqb r r).1 refl)) ∙ sym (ap (filed_at r) e) ∙ absent in cc
             | false ↦ λ e. e
           ] left_is
 
@@ -266,7 +244,7 @@ abbrev pub live_marks : ByDirection Bool → Bool → Marks
 live_marks carries names = record { live = true; imports = carries.import; exports = carries.export; names = names }
 
 -- What a change of one index does to its places by each mark.
-module _ (old new : keyed.Index ℕ) (key : ℕ) (up : entries.AreRising old.entries) (room : new.capacity ≡ old.capacity) where
+module _ (old new : keyed.Index ℕ) (key : ℕ) (up : AreRising old.entries) (room : new.capacity ≡ old.capacity) where
   marked_is : (o : Option Mark) (xs : List EventPlace) → marked_places o new.entries ≡ xs → marked_index o new ≡ index xs old.capacity
   marked_is o xs is = λ i. index (is i) (room i)
 
@@ -278,7 +256,7 @@ module _ (old new : keyed.Index ℕ) (key : ℕ) (up : entries.AreRising old.ent
   }
 
   -- A live event is put in.
-  module _ (slot : ℕ) (carries : ByDirection Bool) (names : Bool) (none : place_of key (marked_places None old.entries) ≡ None) (is : new.entries ≡ entries.below key old.entries ++ (key, record { value = slot; marks = live_marks carries names }) ∷ entries.from key old.entries) where
+  module _ (slot : ℕ) (carries : ByDirection Bool) (names : Bool) (none : place_of key (marked_places None old.entries) ≡ None) (is : new.entries ≡ below key old.entries ++ (key, record { value = slot; marks = live_marks carries names }) ∷ from key old.entries) where
     put_in : (o : Option Mark) → marked_index o new ≡ index (put_if (passes o (live_marks carries names)) key slot (marked_places o old.entries)) old.capacity
     put_in o = marked_is o _ (ap (marked_places o) is ∙ marked_put o key (record { value = slot; marks = live_marks carries names }) old.entries up none)
 
@@ -289,8 +267,8 @@ module _ (old new : keyed.Index ℕ) (key : ℕ) (up : entries.AreRising old.ent
     lives_more = more slot carries names (λ m. put_in (Some m))
 
   -- The marks of an event change.
-  module _ (slot : ℕ) (at : place_of key (marked_places None old.entries) ≡ Some slot) (marks : Marks) (is : new.entries ≡ entries.below key old.entries ++ mark_at marks 0 (entries.from key old.entries)) where
-    abbrev f : (f : Filed ℕ) × ((filed_at key (entries.from key old.entries) ≡ Some f) × (f.value ≡ slot))
+  module _ (slot : ℕ) (at : place_of key (marked_places None old.entries) ≡ Some slot) (marks : Marks) (is : new.entries ≡ below key old.entries ++ mark_at marks 0 (from key old.entries)) where
+    abbrev f : (f : Filed ℕ) × ((filed_at key (from key old.entries) ≡ Some f) × (f.value ≡ slot))
     f = filed_there key slot old.entries up at
 
     pub stored_stays : marked_index None new ≡ marked_index None old
@@ -317,7 +295,7 @@ module _ (old new : keyed.Index ℕ) (key : ℕ) (up : entries.AreRising old.ent
           absent Names = none.naming
 
   -- An event that is not live is taken out.
-  module _ (f : Filed ℕ) (there : filed_at key (entries.from key old.entries) ≡ Some f) (is : new.entries ≡ entries.below key old.entries ++ drop 1 (entries.from key old.entries)) where
+  module _ (f : Filed ℕ) (there : filed_at key (from key old.entries) ≡ Some f) (is : new.entries ≡ below key old.entries ++ drop 1 (from key old.entries)) where
     pub stored_less : marked_index None new ≡ index (out key (marked_places None old.entries)) old.capacity
     stored_less = marked_is None _ (ap (marked_places None) is ∙ marked_out None key f old.entries up there)
 

@@ -2,7 +2,7 @@
 use Rattle.std.proofs.Common.{◌≡◌, ℕ, ◌/◌, ◌^◌, ◌==◌, Bool, true, false, cond, List, [], ◌∷◌, Option, Some, None, is_some, slice_get, refl, sym, ap, ◌∙◌, subst}
 use Rattle.std.specs.List.{filter}
 use Rattle.slot_arena.specs.Arena.{IsHeld}
-use Rattle.event_chain.specs.Ranked.{last_of}
+use Rattle.key_index.specs.Entries.{last_of}
 use Rattle.ledger_model.specs.Content.{Stored}
 use Rattle.ledger_model.proofs.Callers.{first, second}
 use Rattle.event_store.specs.Slots.{Held}
@@ -13,7 +13,7 @@ use Rattle.event_chain.specs.Kept.{AreRanks, IsSub, IsKeyed, chosen}
 use Rattle.event_chain.specs.Edits.{IsStored, first_under, last_under}
 use Rattle.event_chain.proofs.Decided.{rank_test, not_so}
 use Rattle.event_chain.proofs.Lives.{chosen_place, below_none}
-use Rattle.event_chain.proofs.Places.{last_cons}
+use Rattle.key_index.proofs.Orders.{last_cons}
 
 -- Each place of the list is so.
 abbrev pub AllPlaces : (EventPlace → Type 0) → List EventPlace → Type 0

@@ -3,7 +3,7 @@ use Rattle.std.proofs.Common.{◌≡◌, ℕ, suc, ◌-◌, ◌<◌, ◌/◌, �
 use Rattle.std.specs.List.{filter, flat_map}
 use Rattle.std.specs.Str.{bytes_eq}
 use Rattle.slot_arena.specs.Arena.{IsHeld}
-use Rattle.event_chain.specs.Ranked.{last_of}
+use Rattle.key_index.specs.Entries.{last_of}
 use Rattle.key_index.specs.Key.{rank, slot_back}
 use Rattle.ledger_model.specs.Key.{KeyName}
 use Rattle.ledger_model.specs.declared.reading.Direction.{Direction}
@@ -18,7 +18,7 @@ use Rattle.event_chain.specs.Flat.{EventPlace, stored_at, entry_of, segment, fla
 use Rattle.event_chain.specs.Kept.{IsSub, IsKeyed, is_live, is_carrier}
 use Rattle.event_chain.specs.Edits.{places_before, places_behind, IsStored, first_at, last_at}
 use Rattle.event_chain.proofs.Lives.{passing_of, live_of_is, segment_passing, none_passing}
-use Rattle.event_chain.proofs.Places.{last_cons}
+use Rattle.key_index.proofs.Orders.{last_cons}
 use Rattle.event_chain.proofs.Members.{AllPlaces, all_left, all_chosen, all_held, stored_first, stored_last}
 use Rattle.event_chain.proofs.Cuts.{map_cut, less_rank, more_rank}
 

@@ -7,8 +7,9 @@ use Rattle.std.specs.Ordering.{is_eq, is_lt, eq_by_cmp, nat_cmp}
 use Rattle.std.specs.declared.cmp.Ordering.TheVariants.{Less, Equal, Greater}
 use Rattle.std.specs.FinMap.{put}
 use Rattle.std.specs.FinMap.Entries.{by_order, below_all}
-use Rattle.event_chain.specs.Ranked.{below, from, slot_at, first_of, last_of, AreAbove, AreRising}
+use Rattle.key_index.specs.Entries.{below, from, filed_at, first_of, last_of, AreAbove, AreRising}
 use Rattle.key_index.specs.Key.{rank}
+use Rattle.key_index.proofs.Orders.{above_less, last_cons}
 use Rattle.ledger_model.proofs.Rising.{both}
 use Rattle.event_chain.specs.Flat.{EventPlace, place_of, segment}
 use Rattle.ledger_model.specs.Key.{KeyName}
@@ -38,36 +39,31 @@ none_below : (r : ℕ) (es : List EventPlace) → AreAbove r es → place_of r e
 none_below r [] h = refl
 none_below r (e ∷ es) h = ap (λ o. cond (is_eq o) (Some e.1) (place_of r es)) (nat_less r e.0 h.0) ∙ none_below r es h.1
 
--- More are above a smaller number.
-above_less : (m n : ℕ) (es : List EventPlace) → m < n → AreAbove n es → AreAbove m es
-above_less m n [] lt h = tt
-above_less m n (e ∷ es) lt h = let up = h.0 in (omega arith, above_less m n es lt h.1)
-
 -- What an index finds under a key.
-pub found_at : (key : ℕ) (es : List EventPlace) → AreRising es → slot_at key (from key es) ≡ place_of key es
+pub found_at : (key : ℕ) (es : List EventPlace) → AreRising es → filed_at key (from key es) ≡ place_of key es
 found_at key [] h = refl
 found_at key (e ∷ es) h =
     elim (cases_lt e.0 key) [
-      | inl lt ↦ ap (λ b. slot_at key (cond b (from key es) (e ∷ es))) ((Decides-ltb e.0 key).1 lt) ∙ found_at key es h.1 ∙ sym (ap (λ o. cond (is_eq o) (Some e.1) (place_of key es)) (nat_greater key e.0 lt))
-      | inr le ↦ ap (λ b. slot_at key (cond b (from key es) (e ∷ es))) (not_so _ (Decides-ltb e.0 key) (λ lt. absurd (omega arith))) ∙ elim (cases_eq e.0 key) [
+      | inl lt ↦ ap (λ b. filed_at key (cond b (from key es) (e ∷ es))) ((Decides-ltb e.0 key).1 lt) ∙ found_at key es h.1 ∙ sym (ap (λ o. cond (is_eq o) (Some e.1) (place_of key es)) (nat_greater key e.0 lt))
+      | inr le ↦ ap (λ b. filed_at key (cond b (from key es) (e ∷ es))) (not_so _ (Decides-ltb e.0 key) (λ lt. absurd (omega arith))) ∙ elim (cases_eq e.0 key) [
         | inl is ↦ ap (λ b. cond b (Some e.1) None) ((Decides-eqb e.0 key).1 is) ∙ sym (ap (λ b. cond b (Some e.1) (place_of key es)) ((rank_test key e.0).1 (sym is)))
-        | inr other ↦ ap (λ b. cond b (Some e.1) None) (not_so _ (Decides-eqb e.0 key) other) ∙ sym (none_below key (e ∷ es) (let up : key < e.0 = omega (arith, other) in (up, above_less key e.0 es up h.0)))
+        | inr other ↦ ap (λ b. cond b (Some e.1) None) (not_so _ (Decides-eqb e.0 key) other) ∙ sym (none_below key (e ∷ es) (let up : key < e.0 = omega (arith, other) in (up, above_less key e.0 es (omega arith) h.0)))
       ]
     ]
 
 -- An index with a new key.
-pub put_is : (key slot : ℕ) (es : List EventPlace) → slot_at key (from key es) ≡ None → below key es ++ (key, slot) ∷ from key es ≡ put nat_cmp key slot es
+pub put_is : (key slot : ℕ) (es : List EventPlace) → filed_at key (from key es) ≡ None → below key es ++ (key, slot) ∷ from key es ≡ put nat_cmp key slot es
 put_is key slot [] absent = refl
 put_is key slot (e ∷ es) absent =
     elim (cases_lt e.0 key) [
       | inl lt ↦
           let yes = (Decides-ltb e.0 key).1 lt in
           ap (λ b. cond b (e ∷ below key es) [] ++ (key, slot) ∷ cond b (from key es) (e ∷ es)) yes
-          ∙ ap (λ (rest : List EventPlace). e ∷ rest) (put_is key slot es (sym (ap (λ b. slot_at key (cond b (from key es) (e ∷ es))) yes) ∙ absent))
+          ∙ ap (λ (rest : List EventPlace). e ∷ rest) (put_is key slot es (sym (ap (λ b. filed_at key (cond b (from key es) (e ∷ es))) yes) ∙ absent))
           ∙ sym (ap (λ o. by_order o ((key, slot) ∷ e ∷ es) ((e.0, slot) ∷ es) (e ∷ put nat_cmp key slot es)) (nat_greater key e.0 lt))
       | inr le ↦
           let never = not_so _ (Decides-ltb e.0 key) (λ lt. absurd (omega arith)) in
-          let none : cond (e.0 == key) (Some e.1) None ≡ None = sym (ap (λ b. slot_at key (cond b (from key es) (e ∷ es))) never) ∙ absent in
+          let none : cond (e.0 == key) (Some e.1) None ≡ None = sym (ap (λ b. filed_at key (cond b (from key es) (e ∷ es))) never) ∙ absent in
           ap (λ b. cond b (e ∷ below key es) [] ++ (key, slot) ∷ cond b (from key es) (e ∷ es)) never
           ∙ sym (ap (λ o. by_order o ((key, slot) ∷ e ∷ es) ((e.0, slot) ∷ es) (e ∷ put nat_cmp key slot es)) (nat_less key e.0 (elim (cases_eq e.0 key) [
             | inl is ↦ let f : Some e.1 ≡ None = sym (ap (λ b. cond b (Some e.1) None) ((Decides-eqb e.0 key).1 is)) ∙ none in cc
@@ -81,7 +77,7 @@ without_above key [] h = refl
 without_above key (e ∷ es) h = ap (λ o. cond (not (is_eq o)) (e ∷ filter (λ x. not (eq_by_cmp nat_cmp key x.0)) es) (filter (λ x. not (eq_by_cmp nat_cmp key x.0)) es)) (nat_less key e.0 h.0) ∙ ap (λ (rest : List EventPlace). e ∷ rest) (without_above key es h.1)
 
 -- An index without a key that was there.
-pub out_is : (key : ℕ) (es : List EventPlace) → AreRising es → is_some (slot_at key (from key es)) ≡ true → below key es ++ drop 1 (from key es) ≡ filter (λ e. not (eq_by_cmp nat_cmp key e.0)) es
+pub out_is : (key : ℕ) (es : List EventPlace) → AreRising es → is_some (filed_at key (from key es)) ≡ true → below key es ++ drop 1 (from key es) ≡ filter (λ e. not (eq_by_cmp nat_cmp key e.0)) es
 out_is key [] rising there = cc
 out_is key (e ∷ es) rising there =
     let rest = filter (λ (x : EventPlace). not (eq_by_cmp nat_cmp key x.0)) es in
@@ -89,11 +85,11 @@ out_is key (e ∷ es) rising there =
       | inl lt ↦
           let yes = (Decides-ltb e.0 key).1 lt in
           ap (λ b. cond b (e ∷ below key es) [] ++ drop 1 (cond b (from key es) (e ∷ es))) yes
-          ∙ ap (λ (more : List EventPlace). e ∷ more) (out_is key es rising.1 (sym (ap (λ b. is_some (slot_at key (cond b (from key es) (e ∷ es)))) yes) ∙ there))
+          ∙ ap (λ (more : List EventPlace). e ∷ more) (out_is key es rising.1 (sym (ap (λ b. is_some (filed_at key (cond b (from key es) (e ∷ es)))) yes) ∙ there))
           ∙ sym (ap (λ o. cond (not (is_eq o)) (e ∷ rest) rest) (nat_greater key e.0 lt))
       | inr le ↦
           let never = not_so _ (Decides-ltb e.0 key) (λ lt. absurd (omega arith)) in
-          let some : is_some (cond (e.0 == key) (Some e.1) None) ≡ true = sym (ap (λ b. is_some (slot_at key (cond b (from key es) (e ∷ es)))) never) ∙ there in
+          let some : is_some (cond (e.0 == key) (Some e.1) None) ≡ true = sym (ap (λ b. is_some (filed_at key (cond b (from key es) (e ∷ es)))) never) ∙ there in
           let is : e.0 ≡ key = elim (e.0 == key) as (λ b. (e.0 == key) ≡ b → is_some (cond b (Some e.1) None) ≡ true → e.0 ≡ key) [ true ↦ λ y _. (Decides-eqb e.0 key).0 y | false ↦ λ _ f. cc ] refl some in
           ap (λ b. cond b (e ∷ below key es) [] ++ drop 1 (cond b (from key es) (e ∷ es))) never
           ∙ sym (without_above key es (subst (λ k. AreAbove k es) is rising.0))
@@ -127,12 +123,6 @@ first_seg t (e ∷ es) h =
             | false ↦ λ other. let no_more : e.0 / 2 ^ 31 ≡ t → ⊥ = denied _ (Decides-eqb (e.0 / 2 ^ 31) t) other in let up : t < e.0 / 2 ^ 31 = omega (arith, no_more) in sym (ap (λ xs. slice_get xs 0) (seg_above t e.0 es h.0 up))
           ] refl
     ] refl
-
--- The last of a list is that of its rest, where it has one.
-pub last_cons : (e f : EventPlace) (es : List EventPlace) → last_of (e ∷ f ∷ es) ≡ last_of (f ∷ es)
-last_cons e f es =
-    let a : suc (suc (length es)) - 1 ≡ suc (length es) = omega arith in let b : suc (length es) - 1 ≡ length es = omega arith in
-    ap (slice_get (e ∷ f ∷ es)) a ∙ sym (ap (slice_get (f ∷ es)) b)
 
 -- Ranks below the end of a slot's.
 abbrev pub AllUnder : ℕ → List EventPlace → Type 0

@@ -5,25 +5,13 @@ use Rattle.std.proofs.lemmas.Bool.Decides.{Decides-eqb, Decides-ltb}
 use Rattle.std.proofs.lemmas.List.Elements.{filter-append}
 use Rattle.std.specs.Ordering.{nat_cmp}
 use Rattle.std.specs.FinMap.{put}
-use Rattle.event_chain.specs.Ranked.{below, from, slot_at, AreAbove, AreRising}
+use Rattle.key_index.specs.Entries.{below, from, filed_at, AreAbove, AreRising}
+use Rattle.key_index.proofs.Orders.{cut_whole, from_end, from_on}
 use Rattle.event_chain.specs.Flat.{EventPlace, place_of, segment}
 use Rattle.event_chain.specs.Edits.{out, places_before, places_behind}
 use Rattle.event_chain.proofs.Decided.{not_so}
 use Rattle.event_chain.proofs.Places.{found_at, put_is, out_is}
 use Rattle.event_chain.proofs.Cuts.{seg_below, seg_from}
-
--- What stands before the key is passed over.
-from_on : (key : ℕ) (e : EventPlace) (es : List EventPlace) → e.0 < key → from key (e ∷ es) ≡ from key es
-from_on key e es lt = ap (λ b. cond b (from key es) (e ∷ es)) ((Decides-ltb e.0 key).1 lt)
-
--- What does not ends the search.
-from_end : (key : ℕ) (e : EventPlace) (es : List EventPlace) → key ≤ e.0 → from key (e ∷ es) ≡ e ∷ es
-from_end key e es le = ap (λ b. cond b (from key es) (e ∷ es)) (not_so _ (Decides-ltb e.0 key) (λ lt. absurd (omega arith)))
-
--- Both parts together are all.
-cut_whole : (key : ℕ) (es : List EventPlace) → below key es ++ from key es ≡ es
-cut_whole key [] = refl
-cut_whole key (e ∷ es) = elim (nat_lt e.0 key) as (λ b. cond b (e ∷ below key es) [] ++ cond b (from key es) (e ∷ es) ≡ e ∷ es) [ true ↦ ap (λ (xs : List EventPlace). e ∷ xs) (cut_whole key es) | false ↦ refl ]
 
 -- All greater ranks are from the next one on.
 from_above : (r : ℕ) (es : List EventPlace) → AreAbove r es → from (r + 1) es ≡ es
@@ -31,27 +19,27 @@ from_above r [] h = refl
 from_above r (e ∷ es) h = let up = h.0 in from_end (r + 1) e es (omega arith)
 
 -- From a rank that is not there on come those behind it.
-from_absent : (r : ℕ) (es : List EventPlace) → AreRising es → slot_at r (from r es) ≡ None → from r es ≡ from (r + 1) es
+from_absent : (r : ℕ) (es : List EventPlace) → AreRising es → filed_at r (from r es) ≡ None → from r es ≡ from (r + 1) es
 from_absent r [] h none = refl
 from_absent r (e ∷ es) h none = elim (cases_lt e.0 r) [
-  | inl lt ↦ from_on r e es lt ∙ from_absent r es h.1 (ap (slot_at r) (sym (from_on r e es lt)) ∙ none) ∙ sym (from_on (r + 1) e es (omega arith))
+  | inl lt ↦ from_on r e es lt ∙ from_absent r es h.1 (ap (filed_at r) (sym (from_on r e es lt)) ∙ none) ∙ sym (from_on (r + 1) e es (omega arith))
   | inr le ↦ elim (cases_eq e.0 r) [
-    | inl is ↦ let f : Some e.1 ≡ None = sym (ap (λ b. cond b (Some e.1) None) ((Decides-eqb e.0 r).1 is)) ∙ ap (slot_at r) (sym (from_end r e es le)) ∙ none in cc
+    | inl is ↦ let f : Some e.1 ≡ None = sym (ap (λ b. cond b (Some e.1) None) ((Decides-eqb e.0 r).1 is)) ∙ ap (filed_at r) (sym (from_end r e es le)) ∙ none in cc
     | inr other ↦ from_end r e es le ∙ sym (from_end (r + 1) e es (omega (arith, other)))
   ]
 ]
 
 -- From a rank that is there on comes its place, and those behind it.
-from_present : (r s : ℕ) (es : List EventPlace) → AreRising es → slot_at r (from r es) ≡ Some s → from r es ≡ (r, s) ∷ from (r + 1) es
+from_present : (r s : ℕ) (es : List EventPlace) → AreRising es → filed_at r (from r es) ≡ Some s → from r es ≡ (r, s) ∷ from (r + 1) es
 from_present r s [] h some = cc
 from_present r s (e ∷ es) h some = elim (cases_lt e.0 r) [
-  | inl lt ↦ from_on r e es lt ∙ from_present r s es h.1 (ap (slot_at r) (sym (from_on r e es lt)) ∙ some) ∙ ap (λ (xs : List EventPlace). (r, s) ∷ xs) (sym (from_on (r + 1) e es (omega arith)))
+  | inl lt ↦ from_on r e es lt ∙ from_present r s es h.1 (ap (filed_at r) (sym (from_on r e es lt)) ∙ some) ∙ ap (λ (xs : List EventPlace). (r, s) ∷ xs) (sym (from_on (r + 1) e es (omega arith)))
   | inr le ↦ elim (cases_eq e.0 r) [
     | inl is ↦
-        let slot : Some e.1 ≡ Some s = sym (ap (λ b. cond b (Some e.1) None) ((Decides-eqb e.0 r).1 is)) ∙ ap (slot_at r) (sym (from_end r e es le)) ∙ some in
+        let slot : Some e.1 ≡ Some s = sym (ap (λ b. cond b (Some e.1) None) ((Decides-eqb e.0 r).1 is)) ∙ ap (filed_at r) (sym (from_end r e es le)) ∙ some in
         let same : e.1 ≡ s = cc in
         from_end r e es le ∙ (λ i. (is i, same i) ∷ es) ∙ ap (λ (xs : List EventPlace). (r, s) ∷ xs) (sym (from_above r es (subst (λ k. AreAbove k es) is h.0)) ∙ sym (from_on (r + 1) e es (omega (arith, is))))
-    | inr other ↦ let f : None ≡ Some s = sym (ap (λ b. cond b (Some e.1) None) (not_so _ (Decides-eqb e.0 r) other)) ∙ ap (slot_at r) (sym (from_end r e es le)) ∙ some in cc
+    | inr other ↦ let f : None ≡ Some s = sym (ap (λ b. cond b (Some e.1) None) (not_so _ (Decides-eqb e.0 r) other)) ∙ ap (filed_at r) (sym (from_end r e es le)) ∙ some in cc
   ]
 ]
 
@@ -78,7 +66,7 @@ module _ (r : ℕ) (es : List EventPlace) (h : AreRising es) where
   back_is = sym (seg_from home r (r + 1) es refl h)
 
   module _ (none : place_of r es ≡ None) where
-    gap : slot_at r (from r es) ≡ None
+    gap : filed_at r (from r es) ≡ None
     gap = found_at r es h ∙ none
 
     -- Where the rank is not there, its transaction's places are those on either side.
@@ -98,7 +86,7 @@ module _ (r : ℕ) (es : List EventPlace) (h : AreRising es) where
         ∙ sym (seg_both t (below r es) (from r es)) ∙ ap (segment t) (cut_whole r es)
 
   module _ (s : ℕ) (some : place_of r es ≡ Some s) where
-    there : slot_at r (from r es) ≡ Some s
+    there : filed_at r (from r es) ≡ Some s
     there = found_at r es h ∙ some
 
     on : from r es ≡ (r, s) ∷ from (r + 1) es

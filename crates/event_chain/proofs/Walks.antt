@@ -5,8 +5,8 @@ use Rattle.std.specs.List.{filter}
 use Rattle.std.proofs.lemmas.Bool.{cases_eq, and_parts}
 use Rattle.std.proofs.lemmas.Bool.Decides.{Decides-ltb, Decides-eqb}
 use Rattle.slot_arena.specs.Arena.{value_at}
-use Rattle.event_chain.specs.Ranked.{AreAbove, below}
-use Rattle.event_chain.specs.Ranked as entries
+use Rattle.key_index.specs.Entries.{AreAbove, below}
+use Rattle.key_index.specs.Entries as entries
 use Rattle.ledger_model.specs.BoardLaws.{AreRising}
 use Rattle.ledger_model.proofs.Callers.{first, second}
 use Rattle.ledger_model.specs.Content.{Stored}

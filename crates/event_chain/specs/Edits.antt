@@ -4,7 +4,7 @@ use Rattle.std.specs.List.{filter}
 use Rattle.std.specs.Ordering.{eq_by_cmp, nat_cmp}
 use Rattle.std.specs.FinMap.{put}
 use Rattle.slot_arena.specs.Arena.{IsHeld}
-use Rattle.event_chain.specs.Ranked.{last_of}
+use Rattle.key_index.specs.Entries.{last_of}
 use Rattle.ledger_model.specs.declared.kind.Kind.{Kind}
 use Rattle.ledger_model.specs.Key.{KeyName}
 use Rattle.ledger_model.specs.ByDirection.{in_direction}

@@ -9,6 +9,5 @@ pub mod Lists
 pub mod Edits
 pub mod Room
 pub mod Walk
-pub mod Ranked
 pub mod Placed
 pub mod Sides

@@ -3,12 +3,11 @@ use Rattle.std.specs.Prelude.{◌≡◌, ℕ, ◌<◌, ◌≤◌, List, Option, 
 use Rattle.std.specs.List.{filter}
 use Rattle.std.specs.Ordering.{eq_by_cmp}
 use Rattle.std.specs.FinMap.{find, put}
-use Rattle.transaction_map.specs.Map as ids
 use Rattle.transaction_map.specs.Map.{Mapped}
 use Rattle.transaction_map.specs.Places.{IsAt}
 use Rattle.event_chain.specs.declared.row.TableRow.{TableRow}
--- The order of transaction ids: by their bytes.
-pub use Rattle.transaction_map.specs.Map.{id_cmp}
+-- The order of transaction ids, by their bytes, and rows by rising id.
+pub use Rattle.transaction_map.specs.Map.{id_cmp, AreRising}
 
 -- A transaction's id, and what the table keeps of it.
 abbrev pub TxRow : Type 0
@@ -17,10 +16,6 @@ TxRow = List ℕ × TableRow
 -- The transactions by rising id, and how many there may be.
 abbrev pub Table : Type 0
 Table = Mapped TableRow
-
--- The ids rise strictly.
-abbrev pub AreRising : List TxRow → Type 0
-AreRising rows = ids.AreRising rows
 
 -- What the table keeps of a transaction.
 abbrev pub row_of : List ℕ → List TxRow → Option TableRow

@@ -2,8 +2,8 @@
 ghost use Rattle.std.specs.Prelude.{◌≡◌, ℕ, ◌<◌, true, false, length, None, Some, IsSome, IfSome, slice_get, option_map};
 ghost use Rattle.std.specs.Option.{ForSome};
 ghost use Rattle.event_chain.specs.Placed.{carriers_of};
-ghost use Rattle.event_chain.specs.Ranked as ranked;
-ghost use Rattle.event_chain.specs.Ranked.{from, first_of, last_of};
+ghost use Rattle.key_index.specs.Entries as entries;
+ghost use Rattle.key_index.specs.Entries.{from, first_of, last_of};
 ghost use Rattle.key_index.specs.Key.{rank};
 ghost use Rattle.ledger_model.specs.Ranges.{sequence_end};
 ghost use Rattle.event_chain.specs.Table.{row_of, with_row, AreApart, AreRising, AreSlotted, IsRowAt};
@@ -230,7 +230,7 @@ fn behind_found(
     found: Option<(IndexKey, u32)>,
 ) -> Option<(IndexKey, u32)>
     requires found { found ≡ first_of (from key index.now.entries) }
-    requires rising { ranked.AreRising index.now.entries }
+    requires rising { entries.AreRising index.now.entries }
     ensures { result ≡ slice_get (places_behind key index.now.entries) 0 }
 {
     if is_at(&found, key) {

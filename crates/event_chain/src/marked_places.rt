@@ -1,7 +1,6 @@
 //! The places of a station's events, read by their marks.
 ghost use Rattle.std.specs.Prelude.{◌≡◌, option_map};
-ghost use Rattle.key_index.specs.Entries as entries;
-ghost use Rattle.event_chain.specs.Ranked.{below, from, slot_at, first_of, last_of, AreRising};
+ghost use Rattle.key_index.specs.Entries.{below, from, filed_at, first_of, last_of, AreRising};
 ghost use Rattle.event_chain.specs.Placed.{place_in, marked_index};
 
 use key_index::{Entry, IndexKey, KeyIndex, KeyPlace, Mark};
@@ -17,14 +16,14 @@ pub(crate) struct MarkedPlaces<'a> {
 }
 
 impl<'a> Model for MarkedPlaces<'a> {
-    ghost use Rattle.key_index.specs.Entries as entries;
+    ghost use Rattle.key_index.specs.Entries.{AreRising};
     ghost use Rattle.event_chain.specs.Placed.{Index, marked_index};
 
     ghost Value = { Index };
 
     ghost view = { λ l. marked_index l.mark l.index.now };
 
-    ghost invariant = { λ l. entries.AreRising l.index.now.entries };
+    ghost invariant = { λ l. AreRising l.index.now.entries };
 }
 
 // The key of an entry and its slot.
@@ -44,7 +43,7 @@ impl<'a> MarkedPlaces<'a> {
         mark: Option<Mark>,
         place: KeyPlace,
     ) -> Self
-        requires { entries.AreRising index.now.entries }
+        requires { AreRising index.now.entries }
         ensures { result ≡ marked_index mark index.now }
     {
         MarkedPlaces { index, mark, place }
@@ -52,7 +51,7 @@ impl<'a> MarkedPlaces<'a> {
 
     // The slot of a key; none where the key is absent.
     pub(crate) fn get(&self, key: IndexKey) -> Option<u32>
-        ensures { result ≡ slot_at key (from key self.now.entries) }
+        ensures { result ≡ filed_at key (from key self.now.entries) }
     {
         match self.at_or_after(key) {
             Some((found, slot)) if found == key => Some(slot),

@@ -2,8 +2,7 @@
 ghost use Rattle.std.specs.Prelude.{◌≡◌, ℕ, ◌<◌, [], length, None, Some, IfOk, IsSome, slice_get, option_map};
 ghost use Rattle.std.specs.Ordering.{nat_cmp};
 ghost use Rattle.std.specs.FinMap.{put};
-ghost use Rattle.key_index.specs.Entries as entries;
-ghost use Rattle.event_chain.specs.Ranked.{first_of, from, last_of, slot_at, AreRising};
+ghost use Rattle.key_index.specs.Entries.{from, filed_at, first_of, last_of, AreRising};
 ghost use Rattle.event_chain.specs.Links.{linked_in};
 ghost use Rattle.key_index.specs.declared.filed.Mark.TheVariants.{Live};
 ghost use Rattle.ledger_model.specs.declared.reading.Direction.{Direction};
@@ -95,7 +94,7 @@ fn link_live(
     key: IndexKey,
     slot: u32,
 )
-    requires rising { entries.AreRising index.now.entries }
+    requires rising { AreRising index.now.entries }
     requires listed { AreListed (marked_index (Some Live) index.now) links.old }
     requires absent { place_of key (marked_index (Some Live) index.now).entries ≡ None }
     requires slot { slot < (marked_index (Some Live) index.now).capacity }
@@ -167,7 +166,7 @@ impl PlaceIndex {
 
     // The slot of the first place from a key on, where that is the key's.
     fn first_slot(&self, key: IndexKey) -> (Option<u32>, KeyPlace)
-        ensures slot { result.0 ≡ slot_at key (from key self.now.stored.entries) }
+        ensures slot { result.0 ≡ filed_at key (from key self.now.stored.entries) }
         ensures rising { AreRising self.now.stored.entries }
     {
         let found = self.first_from(key);

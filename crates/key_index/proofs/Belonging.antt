@@ -6,7 +6,7 @@ use Rattle.std.proofs.lemmas.Bool.Decides.{nat_tests}
 use Rattle.std.proofs.lemmas.List.{append-nil, get_or_default}
 use Rattle.key_index.specs.Entries.{Entry, below, from, last_of, AreAbove, AreRising}
 use Rattle.key_index.specs.Leaves.{all_of, AreFilled, first_key, begun, AreBelow, Belongs, NoneFit}
-use Rattle.key_index.proofs.Orders.{below_on, below_end, from_on, from_end, above_less}
+use Rattle.key_index.proofs.Orders.{below_on, below_end, from_on, from_end, above_less, cut_none}
 
 module _ {V : Type 0} where
   -- A list above a number, in two parts.
@@ -45,14 +45,9 @@ module _ {V : Type 0} where
   cut_front key (x ∷ xs) ys a = let rest = cut_front key xs ys a.1 in
       (below_on key x (xs ++ ys) a.0 ∙ ap (λ l. x ∷ l) rest.0, from_on key x (xs ++ ys) a.0 ∙ rest.1)
 
-  -- Where all are above a key, none is in front of it.
-  cut_none : (key : ℕ) (ys : List (Entry V)) → AreAbove key ys → (below key ys ≡ []) × (from key ys ≡ ys)
-  cut_none key [] a = (refl, refl)
-  cut_none key (y ∷ ys) a = let le : key ≤ y.0 = omega (arith, a.0) in (below_end key y ys le, from_end key y ys le)
-
   -- A key is cut in front of what is above it.
   pub cut_back : (key : ℕ) (xs ys : List (Entry V)) → AreAbove key ys → (below key (xs ++ ys) ≡ below key xs) × (from key (xs ++ ys) ≡ from key xs ++ ys)
-  cut_back key [] ys a = cut_none key ys a
+  cut_back key [] ys a = cut_none key key ys a (omega arith)
   cut_back key (x ∷ xs) ys a = elim (cases_lt x.0 key) [
     | inl lt ↦ let rest = cut_back key xs ys a in
         rw (below_on key x (xs ++ ys) lt, below_on key x xs lt, from_on key x (xs ++ ys) lt, from_on key x xs lt) (ap (λ l. x ∷ l) rest.0, rest.1)

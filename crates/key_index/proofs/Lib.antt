@@ -1,7 +1,7 @@
 mod Belonging
 mod Cuts
 mod Edits
-mod Orders
+pub mod Orders
 mod Counting
 mod Nearest
 mod Placing

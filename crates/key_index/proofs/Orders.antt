@@ -1,28 +1,28 @@
 -- Entries in rising order, cut at a key.
-use Rattle.std.proofs.Common.{◌≡◌, ℕ, zero, suc, ◌<◌, ◌≤◌, List, [], ◌∷◌, ◌++◌, length, take, drop, get_or, refl, sym, ap, ◌∙◌, cond, Some, None, arith, inl, inr, length-append}
+use Rattle.std.proofs.Common.{◌≡◌, ℕ, zero, suc, ◌-◌, ◌<◌, ◌≤◌, List, [], ◌∷◌, ◌++◌, length, take, drop, get_or, slice_get, refl, sym, ap, ◌∙◌, cond, Some, None, arith, inl, inr, length-append}
 use Rattle.std.proofs.lemmas.Bool.{cases_lt, eq-eqb}
 use Rattle.std.proofs.lemmas.Bool.Decides.{nat_tests}
-use Rattle.key_index.specs.Entries.{Entry, below, from, filed_at, first_of, AreAbove, AreRising}
+use Rattle.key_index.specs.Entries.{below, from, filed_at, first_of, last_of, AreAbove, AreRising}
 
-module _ {V : Type 0} where
+module _ {X : Type 0} where
   -- An entry before the key stands in front.
-  pub below_on : (key : ℕ) (e : Entry V) (es : List (Entry V)) → e.0 < key → below key (e ∷ es) ≡ e ∷ below key es
+  pub below_on : (key : ℕ) (e : ℕ × X) (es : List (ℕ × X)) → e.0 < key → below key (e ∷ es) ≡ e ∷ below key es
   below_on key e es lt = grind (arith, nat_tests)
 
   -- No entry stands in front of the key where the first does not.
-  pub below_end : (key : ℕ) (e : Entry V) (es : List (Entry V)) → key ≤ e.0 → below key (e ∷ es) ≡ []
+  pub below_end : (key : ℕ) (e : ℕ × X) (es : List (ℕ × X)) → key ≤ e.0 → below key (e ∷ es) ≡ []
   below_end key e es le = grind (arith, nat_tests)
 
   -- An entry before the key is passed over.
-  pub from_on : (key : ℕ) (e : Entry V) (es : List (Entry V)) → e.0 < key → from key (e ∷ es) ≡ from key es
+  pub from_on : (key : ℕ) (e : ℕ × X) (es : List (ℕ × X)) → e.0 < key → from key (e ∷ es) ≡ from key es
   from_on key e es lt = grind (arith, nat_tests)
 
   -- Where the first entry does not stand before the key, all are left.
-  pub from_end : (key : ℕ) (e : Entry V) (es : List (Entry V)) → key ≤ e.0 → from key (e ∷ es) ≡ e ∷ es
+  pub from_end : (key : ℕ) (e : ℕ × X) (es : List (ℕ × X)) → key ≤ e.0 → from key (e ∷ es) ≡ e ∷ es
   from_end key e es le = grind (arith, nat_tests)
 
   -- What stands in front and what is left are the whole.
-  pub cut_whole : (key : ℕ) (es : List (Entry V)) → below key es ++ from key es ≡ es
+  pub cut_whole : (key : ℕ) (es : List (ℕ × X)) → below key es ++ from key es ≡ es
   cut_whole key [] = refl
   cut_whole key (e ∷ es) = elim (cases_lt e.0 key) [
     | inl lt ↦ rw (below_on key e es lt, from_on key e es lt) (ap (λ rest. e ∷ rest) (cut_whole key es))
@@ -30,11 +30,11 @@ module _ {V : Type 0} where
   ]
 
   -- No more stand in front than there are.
-  pub below_within : (key : ℕ) (es : List (Entry V)) → length (below key es) ≤ length es
+  pub below_within : (key : ℕ) (es : List (ℕ × X)) → length (below key es) ≤ length es
   below_within key es = omega (arith, length-append (below key es) (from key es), ap length (cut_whole key es))
 
   -- What stands in front is the part up to the key's place.
-  pub take_below : (key : ℕ) (es : List (Entry V)) → take (length (below key es)) es ≡ below key es
+  pub take_below : (key : ℕ) (es : List (ℕ × X)) → take (length (below key es)) es ≡ below key es
   take_below key [] = refl
   take_below key (e ∷ es) = elim (cases_lt e.0 key) [
     | inl lt ↦ rw (below_on key e es lt) (ap (λ rest. e ∷ rest) (take_below key es))
@@ -42,7 +42,7 @@ module _ {V : Type 0} where
   ]
 
   -- What is left is the part from the key's place on.
-  pub drop_below : (key : ℕ) (es : List (Entry V)) → drop (length (below key es)) es ≡ from key es
+  pub drop_below : (key : ℕ) (es : List (ℕ × X)) → drop (length (below key es)) es ≡ from key es
   drop_below key [] = refl
   drop_below key (e ∷ es) = elim (cases_lt e.0 key) [
     | inl lt ↦ rw (below_on key e es lt, from_on key e es lt) (drop_below key es)
@@ -50,18 +50,29 @@ module _ {V : Type 0} where
   ]
 
   -- Keys above a number are above a smaller one.
-  pub above_less : (m n : ℕ) (es : List (Entry V)) → m ≤ n → AreAbove n es → AreAbove m es
+  pub above_less : (m n : ℕ) (es : List (ℕ × X)) → m ≤ n → AreAbove n es → AreAbove m es
   above_less m n [] le above = tt
   above_less m n (e ∷ es) le above = (omega (arith, above.0), above_less m n es le above.1)
 
+  -- Where all are above a key, none is in front of it, and all are left.
+  pub cut_none : (key n : ℕ) (es : List (ℕ × X)) → AreAbove n es → key ≤ n → (below key es ≡ []) × (from key es ≡ es)
+  cut_none key n [] above le = (refl, refl)
+  cut_none key n (e ∷ es) above le = let end : key ≤ e.0 = omega (arith, above.0) in (below_end key e es end, from_end key e es end)
+
+  -- The last entry is that of the rest, where there is one.
+  pub last_cons : (e f : ℕ × X) (es : List (ℕ × X)) → last_of (e ∷ f ∷ es) ≡ last_of (f ∷ es)
+  last_cons e f es =
+      let a : suc (suc (length es)) - 1 ≡ suc (length es) = omega arith in let b : suc (length es) - 1 ≡ length es = omega arith in
+      ap (slice_get (e ∷ f ∷ es)) a ∙ sym (ap (slice_get (f ∷ es)) b)
+
   -- A key at a place is above the number.
-  pub above_at : (n : ℕ) (es : List (Entry V)) (i : ℕ) (d : Entry V) → AreAbove n es → i < length es → n < (get_or es i d).0
+  pub above_at : (n : ℕ) (es : List (ℕ × X)) (i : ℕ) (d : ℕ × X) → AreAbove n es → i < length es → n < (get_or es i d).0
   above_at n [] i d above lt = absurd (omega arith)
   above_at n (e ∷ es) zero d above lt = above.0
   above_at n (e ∷ es) (suc i) d above lt = above_at n es i d above.1 (omega arith)
 
   -- A place whose key is before the one sought lies in front of its place.
-  pub place_more : (key : ℕ) (es : List (Entry V)) (i : ℕ) (d : Entry V) → AreRising es → i < length es → (get_or es i d).0 < key → i < length (below key es)
+  pub place_more : (key : ℕ) (es : List (ℕ × X)) (i : ℕ) (d : ℕ × X) → AreRising es → i < length es → (get_or es i d).0 < key → i < length (below key es)
   place_more key [] i d rising lt small = absurd (omega arith)
   place_more key (e ∷ es) zero d rising lt small = rw (below_on key e es small) (omega arith)
   place_more key (e ∷ es) (suc i) d rising lt small =
@@ -69,7 +80,7 @@ module _ {V : Type 0} where
       rw (below_on key e es first) (omega (arith, place_more key es i d rising.1 within small))
 
   -- A place whose key is not before it does not.
-  pub place_less : (key : ℕ) (es : List (Entry V)) (i : ℕ) (d : Entry V) → i < length es → key ≤ (get_or es i d).0 → length (below key es) ≤ i
+  pub place_less : (key : ℕ) (es : List (ℕ × X)) (i : ℕ) (d : ℕ × X) → i < length es → key ≤ (get_or es i d).0 → length (below key es) ≤ i
   place_less key [] i d lt great = absurd (omega arith)
   place_less key (e ∷ es) zero d lt great = rw (below_end key e es great) (omega arith)
   place_less key (e ∷ es) (suc i) d lt great = elim (cases_lt e.0 key) [
@@ -78,12 +89,12 @@ module _ {V : Type 0} where
   ]
 
   -- The first entry from a key on has the key, where it is not behind it.
-  pub first_filed : (key : ℕ) (es : List (Entry V)) (e : Entry V) → first_of (from key es) ≡ Some e → e.0 ≤ key → filed_at key (from key es) ≡ Some e.1
+  pub first_filed : (key : ℕ) (es : List (ℕ × X)) (e : ℕ × X) → first_of (from key es) ≡ Some e → e.0 ≤ key → filed_at key (from key es) ≡ Some e.1
   first_filed key [] e is le = cc
   first_filed key (x ∷ xs) e is le = elim (cases_lt x.0 key) [
     | inl lt ↦ rw (from_on key x xs lt) (first_filed key xs e (sym (ap first_of (from_on key x xs lt)) ∙ is) le)
-    | inr ge ↦ let same : x ≡ e = here (sym (ap first_of (from_end key x xs ge)) ∙ is) in let level : x.0 ≡ key = omega (arith, ap (λ (y : Entry V). y.0) same) in
-        rw (from_end key x xs ge) (ap (λ b. cond b (Some x.1) None) (eq-eqb x.0 key level) ∙ ap (λ (y : Entry V). Some y.1) same)
+    | inr ge ↦ let same : x ≡ e = here (sym (ap first_of (from_end key x xs ge)) ∙ is) in let level : x.0 ≡ key = omega (arith, ap (λ (y : ℕ × X). y.0) same) in
+        rw (from_end key x xs ge) (ap (λ b. cond b (Some x.1) None) (eq-eqb x.0 key level) ∙ ap (λ (y : ℕ × X). Some y.1) same)
   ]
     where
       here : Some x ≡ Some e → x ≡ e

@@ -1,5 +1,5 @@
 use Rattle.std.proofs.Common.{ap, ◌∙◌}
-use Rattle.event_chain.specs.Ranked.{first_of, from}
+use Rattle.key_index.specs.Entries.{first_of, from}
 use Rattle.event_chain.specs.Edits.{at_home}
 use Rattle.event_chain.proofs.Places.{first_seg}
 use Rattle.event_chain.proofs.look_ups.first_place.Goals as goal

@@ -4,7 +4,7 @@ use Rattle.event_chain.specs.Table.{row_of}
 use Rattle.event_chain.specs.Flat.{place_of}
 use Rattle.event_chain.specs.Edits.{place_at}
 use Rattle.event_chain.specs.Placed.{Index}
-use Rattle.event_chain.specs.Ranked.{from, slot_at, AreRising}
+use Rattle.key_index.specs.Entries.{from, filed_at, AreRising}
 use Rattle.event_chain.proofs.Places.{found_at, place_at_row}
 use Rattle.event_chain.proofs.look_ups.locate.Goals as goal
 
@@ -21,6 +21,6 @@ pub returns : goal.returns
 returns c = record {
   row = sym (c.in-Some.ensures.value ∙ ap (λ t. row_of t c.args.table.now.rows) c.tx.ensures);
   key_is = c.new-at.ensures ∙ ap (rank c.in-Some.row.slot) c.seq.ensures.value;
-  slot = sym (found_at c.new-at.result c.args.places.now.stored.entries c.stored-stored.ensures.rising) ∙ sym (ap (λ (x : Index). slot_at c.new-at.result (from c.new-at.result x.entries)) c.stored-stored.ensures.same) ∙ sym c.get-2.ensures ∙ c.in-Some-get.is;
+  slot = sym (found_at c.new-at.result c.args.places.now.stored.entries c.stored-stored.ensures.rising) ∙ sym (ap (λ (x : Index). filed_at c.new-at.result (from c.new-at.result x.entries)) c.stored-stored.ensures.same) ∙ sym c.get-2.ensures ∙ c.in-Some-get.is;
   number = omega (arith, c.seq.ensures.value, c.seq.ensures.range);
 }

@@ -4,7 +4,7 @@ use Rattle.key_index.specs.declared.filed.Mark.TheVariants.{Live}
 use Rattle.event_chain.specs.Flat.{place_of}
 use Rattle.event_chain.specs.Lists.{slot_in, slot_before, slot_after, AreListed}
 use Rattle.event_chain.specs.Placed.{Index, marked_index}
-use Rattle.event_chain.specs.Ranked.{AreRising}
+use Rattle.key_index.specs.Entries.{AreRising}
 use Rattle.event_chain.proofs.MarkedIndexes.{marked_rising}
 use Rattle.event_chain.proofs.Lists.{sides_absent}
 use Rattle.event_chain.proofs.place_index.link_live.Goals as goal

@@ -2,7 +2,7 @@ use Rattle.std.proofs.Common.{Some, subst}
 use Rattle.key_index.specs.declared.filed.Mark.TheVariants.{Live}
 use Rattle.event_chain.specs.Lists.{AreOwn}
 use Rattle.event_chain.specs.Placed.{Placed}
-use Rattle.event_chain.specs.Ranked.{AreRising}
+use Rattle.key_index.specs.Entries.{AreRising}
 use Rattle.event_chain.proofs.MarkedIndexes.{marked_rising}
 use Rattle.event_chain.proofs.place_index.PlaceIndex.live.Goals as goal
 
