@@ -2,12 +2,12 @@
 use Rattle.std.proofs.Common.{◌≡◌, ℕ, ◌+◌, ◌<◌, ◌≤◌, ◌/◌, ◌%◌, ◌^◌, nat_lt, ◌==◌, Bool, true, false, cond, List, [], ◌∷◌, Some, None, map, slice_get, refl, sym, ap, ◌∙◌, arith}
 use Rattle.std.proofs.lemmas.Bool.Decides.{Decides-ltb, Decides-eqb}
 use Rattle.std.specs.List.{filter}
-use Rattle.key_index.specs.Entries.{below, from, first_of, last_of, AreAbove, AreRising}
+use Rattle.key_index.specs.Entries.{below, from, first_of, last_of, AreAbove, AreRising, AreBelow}
 use Rattle.key_index.specs.Key.{rank}
 use Rattle.event_chain.specs.Flat.{EventPlace, segment}
 use Rattle.event_chain.specs.Edits.{at_home, places_before, places_behind}
 use Rattle.event_chain.proofs.Decided.{denied, not_so, same_test}
-use Rattle.event_chain.proofs.Places.{AllUnder, not_less, seg_above, last_under_seg, below_under, below_rising}
+use Rattle.event_chain.proofs.Places.{not_less, seg_above, last_under_seg, below_under, below_rising}
 
 -- Of greater ranks none is in front.
 none_under : (t r n : ℕ) (es : List EventPlace) → AreAbove n es → r ≤ n → filter (λ e. nat_lt e.0 r) (segment t es) ≡ []
@@ -65,7 +65,7 @@ seg_from t r n (e ∷ es) up h =
     ] refl
 
 -- Ranks under a number are under a greater one.
-under_more : (m n : ℕ) (es : List EventPlace) → m ≤ n → AllUnder m es → AllUnder n es
+under_more : (m n : ℕ) (es : List EventPlace) → m ≤ n → AreBelow m es → AreBelow n es
 under_more m n [] le h = tt
 under_more m n (e ∷ es) le h = let lt = h.0 in (omega arith, under_more m n es le h.1)
 

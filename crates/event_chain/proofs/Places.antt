@@ -1,5 +1,5 @@
 -- An index with a place put in or taken out.
-use Rattle.std.proofs.Common.{◌≡◌, ℕ, suc, ◌+◌, ◌-◌, ◌<◌, ◌≤◌, ◌/◌, ◌^◌, nat_lt, ◌==◌, true, false, not, cond, T, List, [], ◌∷◌, ◌++◌, Some, None, is_some, length, drop, slice_get, refl, sym, ap, ◌∙◌, subst, arith, inl, inr}
+use Rattle.std.proofs.Common.{◌≡◌, ℕ, ◌+◌, ◌<◌, ◌≤◌, ◌/◌, ◌^◌, nat_lt, ◌==◌, true, false, not, cond, T, List, [], ◌∷◌, ◌++◌, Some, None, is_some, drop, slice_get, refl, sym, ap, ◌∙◌, subst, arith, inl, inr}
 use Rattle.std.proofs.lemmas.Bool.{cases_lt, cases_eq}
 use Rattle.std.proofs.lemmas.Bool.Decides.{Decides-ltb, Decides-eqb}
 use Rattle.std.specs.List.{filter}
@@ -7,7 +7,7 @@ use Rattle.std.specs.Ordering.{is_eq, is_lt, eq_by_cmp, nat_cmp}
 use Rattle.std.specs.declared.cmp.Ordering.TheVariants.{Less, Equal, Greater}
 use Rattle.std.specs.FinMap.{put}
 use Rattle.std.specs.FinMap.Entries.{by_order, below_all}
-use Rattle.key_index.specs.Entries.{below, from, filed_at, first_of, last_of, AreAbove, AreRising}
+use Rattle.key_index.specs.Entries.{below, from, filed_at, first_of, last_of, AreAbove, AreRising, AreBelow}
 use Rattle.key_index.specs.Key.{rank}
 use Rattle.key_index.proofs.Orders.{above_less, last_cons}
 use Rattle.ledger_model.proofs.Rising.{both}
@@ -124,13 +124,8 @@ first_seg t (e ∷ es) h =
           ] refl
     ] refl
 
--- Ranks below the end of a slot's.
-abbrev pub AllUnder : ℕ → List EventPlace → Type 0
-AllUnder n [] = Unit {0}
-AllUnder n (e ∷ es) = (e.0 < n) × AllUnder n es
-
 -- The last of a segment, among ranks below its end.
-pub last_under_seg : (t : ℕ) (es : List EventPlace) → AreRising es → AllUnder (rank (t + 1) 0) es → at_home t (last_of es) ≡ last_of (segment t es)
+pub last_under_seg : (t : ℕ) (es : List EventPlace) → AreRising es → AreBelow (rank (t + 1) 0) es → at_home t (last_of es) ≡ last_of (segment t es)
 last_under_seg t [] h u = refl
 last_under_seg t (e ∷ []) h u = elim (e.0 / 2 ^ 31 == t) as (λ b. cond b (Some e) None ≡ last_of (cond b (e ∷ []) [])) [ true ↦ refl | false ↦ refl ]
 last_under_seg t (e ∷ f ∷ es) h u =
@@ -144,9 +139,9 @@ last_under_seg t (e ∷ f ∷ es) h u =
     ] refl
 
 -- What stands below a rank is under it.
-pub below_under : (n : ℕ) (es : List EventPlace) → AllUnder n (below n es)
+pub below_under : (n : ℕ) (es : List EventPlace) → AreBelow n (below n es)
 below_under n [] = tt
-below_under n (e ∷ es) = elim (nat_lt e.0 n) as (λ b. nat_lt e.0 n ≡ b → AllUnder n (cond b (e ∷ below n es) [])) [ true ↦ λ y. ((Decides-ltb e.0 n).0 y, below_under n es) | false ↦ λ _. tt ] refl
+below_under n (e ∷ es) = elim (nat_lt e.0 n) as (λ b. nat_lt e.0 n ≡ b → AreBelow n (cond b (e ∷ below n es) [])) [ true ↦ λ y. ((Decides-ltb e.0 n).0 y, below_under n es) | false ↦ λ _. tt ] refl
 
 -- It stays above a number.
 below_above : (m n : ℕ) (es : List EventPlace) → AreAbove m es → AreAbove m (below n es)

@@ -5,7 +5,7 @@ use Rattle.std.specs.List.{filter}
 use Rattle.std.proofs.lemmas.Bool.{cases_eq, and_parts}
 use Rattle.std.proofs.lemmas.Bool.Decides.{Decides-ltb, Decides-eqb}
 use Rattle.slot_arena.specs.Arena.{value_at}
-use Rattle.key_index.specs.Entries.{AreAbove, below}
+use Rattle.key_index.specs.Entries.{AreAbove, below, AreBelow}
 use Rattle.key_index.specs.Entries as entries
 use Rattle.ledger_model.specs.BoardLaws.{AreRising}
 use Rattle.ledger_model.proofs.Callers.{first, second}
@@ -19,7 +19,7 @@ use Rattle.event_chain.specs.Walk.{number_in, is_under, are_under, numbers_on, n
 use Rattle.event_chain.proofs.Decided.{rank_test, not_so}
 use Rattle.event_chain.proofs.Lives.{below_none}
 use Rattle.event_chain.proofs.Members.{AllPlaces, all_found, never}
-use Rattle.event_chain.proofs.Places.{AllUnder, below_under, ranks_of}
+use Rattle.event_chain.proofs.Places.{below_under, ranks_of}
 use Rattle.event_chain.proofs.Splits.{cut_present, behind_present}
 
 -- Each number is above this one.
@@ -102,7 +102,7 @@ all_tested P f [] h = tt
 all_tested P f (e ∷ es) h = elim (f e) as (λ b. f e ≡ b → AllPlaces (λ p. (f p ≡ true) × P p) (cond b (e ∷ filter f es) (filter f es))) [ true ↦ λ y. ((y, h.0), all_tested P f es h.1) | false ↦ λ _. all_tested P f es h.1 ] refl
 
 -- No place in front of a slot's has the slot.
-none_front : (s r : ℕ) (es : List EventPlace) → AllPlaces (λ p. p.1 ≡ s → p.0 ≡ r) es → AllUnder r es → AllPlaces (λ p. p.1 ≡ s → ⊥) es
+none_front : (s r : ℕ) (es : List EventPlace) → AllPlaces (λ p. p.1 ≡ s → p.0 ≡ r) es → AreBelow r es → AllPlaces (λ p. p.1 ≡ s → ⊥) es
 none_front s r [] own under = tt
 none_front s r (e ∷ es) own under = ((λ is. let same = own.0 is in let lt = under.0 in absurd (omega arith)), none_front s r es own.1 under.1)
 

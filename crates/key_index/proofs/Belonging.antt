@@ -4,36 +4,11 @@ use Rattle.std.proofs.Math.Seq.{drop-nil}
 use Rattle.std.proofs.lemmas.Bool.{cases_lt}
 use Rattle.std.proofs.lemmas.Bool.Decides.{nat_tests}
 use Rattle.std.proofs.lemmas.List.{append-nil, get_or_default}
-use Rattle.key_index.specs.Entries.{Entry, below, from, last_of, AreAbove, AreRising}
-use Rattle.key_index.specs.Leaves.{all_of, AreFilled, first_key, begun, AreBelow, Belongs, NoneFit}
-use Rattle.key_index.proofs.Orders.{below_on, below_end, from_on, from_end, above_less, cut_none}
+use Rattle.key_index.specs.Entries.{Entry, below, from, last_of, AreAbove, AreRising, AreBelow}
+use Rattle.key_index.specs.Leaves.{all_of, AreFilled, first_key, begun, Belongs, NoneFit}
+use Rattle.key_index.proofs.Orders.{below_on, below_end, from_on, from_end, above_less, cut_none, above_parts, above_both, rising_parts, below_both, below_more}
 
 module _ {V : Type 0} where
-  -- A list above a number, in two parts.
-  pub above_parts : (n : ℕ) (xs ys : List (Entry V)) → AreAbove n (xs ++ ys) → AreAbove n xs × AreAbove n ys
-  above_parts n [] ys above = (tt, above)
-  above_parts n (x ∷ xs) ys above = let rest = above_parts n xs ys above.1 in ((above.0, rest.0), rest.1)
-
-  -- Two lists above a number, as one.
-  pub above_both : (n : ℕ) (xs ys : List (Entry V)) → AreAbove n xs → AreAbove n ys → AreAbove n (xs ++ ys)
-  above_both n [] ys a b = b
-  above_both n (x ∷ xs) ys a b = (a.0, above_both n xs ys a.1 b)
-
-  -- A rising list, in two parts.
-  pub rising_parts : (xs ys : List (Entry V)) → AreRising (xs ++ ys) → AreRising xs × AreRising ys
-  rising_parts [] ys rising = (tt, rising)
-  rising_parts (x ∷ xs) ys rising = let rest = rising_parts xs ys rising.1 in (((above_parts x.0 xs ys rising.0).0, rest.0), rest.1)
-
-  -- Two lists below a number, as one.
-  pub below_both : (n : ℕ) (xs ys : List (Entry V)) → AreBelow n xs → AreBelow n ys → AreBelow n (xs ++ ys)
-  below_both n [] ys a b = b
-  below_both n (x ∷ xs) ys a b = (a.0, below_both n xs ys a.1 b)
-
-  -- A list below a number is below a greater one.
-  pub below_more : (m n : ℕ) (xs : List (Entry V)) → m ≤ n → AreBelow m xs → AreBelow n xs
-  below_more m n [] le a = tt
-  below_more m n (x ∷ xs) le a = (omega (arith, a.0), below_more m n xs le a.1)
-
   -- What is in front of an entry of a rising list is below it.
   pub rising_front : (xs : List (Entry V)) (y : Entry V) (ys : List (Entry V)) → AreRising (xs ++ y ∷ ys) → AreBelow y.0 xs
   rising_front [] y ys rising = tt

@@ -6,8 +6,8 @@ use Rattle.std.proofs.lemmas.Bool.Decides.{nat_tests}
 use Rattle.key_index.specs.declared.filed.Filed.{Filed}
 use Rattle.key_index.specs.Entries.{Entry, below, from, filed_at, AreAbove, AreRising}
 use Rattle.key_index.specs.Leaves.{all_of, Belongs}
-use Rattle.key_index.proofs.Orders.{below_on, below_end, from_on, from_end, take_below, drop_below, cut_whole}
-use Rattle.key_index.proofs.Belonging.{all_at, rising_parts, leaf_above, cut_front, cut_back}
+use Rattle.key_index.proofs.Orders.{below_on, below_end, from_on, from_end, take_below, drop_below, cut_whole, rising_parts}
+use Rattle.key_index.proofs.Belonging.{all_at, leaf_above, cut_front, cut_back}
 use Rattle.key_index.proofs.Edits.{all_set}
 
 -- One more left out is one left out of the rest.

@@ -2,7 +2,7 @@
 use Rattle.std.proofs.Common.{◌≡◌, ℕ, zero, suc, ◌-◌, ◌<◌, ◌≤◌, List, [], ◌∷◌, ◌++◌, length, take, drop, get_or, slice_get, refl, sym, ap, ◌∙◌, cond, Some, None, arith, inl, inr, length-append}
 use Rattle.std.proofs.lemmas.Bool.{cases_lt, eq-eqb}
 use Rattle.std.proofs.lemmas.Bool.Decides.{nat_tests}
-use Rattle.key_index.specs.Entries.{below, from, filed_at, first_of, last_of, AreAbove, AreRising}
+use Rattle.key_index.specs.Entries.{below, from, filed_at, first_of, last_of, AreAbove, AreRising, AreBelow}
 
 module _ {X : Type 0} where
   -- An entry before the key stands in front.
@@ -64,6 +64,31 @@ module _ {X : Type 0} where
   last_cons e f es =
       let a : suc (suc (length es)) - 1 ≡ suc (length es) = omega arith in let b : suc (length es) - 1 ≡ length es = omega arith in
       ap (slice_get (e ∷ f ∷ es)) a ∙ sym (ap (slice_get (f ∷ es)) b)
+
+  -- A list above a number, in two parts.
+  pub above_parts : (n : ℕ) (xs ys : List (ℕ × X)) → AreAbove n (xs ++ ys) → AreAbove n xs × AreAbove n ys
+  above_parts n [] ys above = (tt, above)
+  above_parts n (x ∷ xs) ys above = let rest = above_parts n xs ys above.1 in ((above.0, rest.0), rest.1)
+
+  -- Two lists above a number, as one.
+  pub above_both : (n : ℕ) (xs ys : List (ℕ × X)) → AreAbove n xs → AreAbove n ys → AreAbove n (xs ++ ys)
+  above_both n [] ys a b = b
+  above_both n (x ∷ xs) ys a b = (a.0, above_both n xs ys a.1 b)
+
+  -- A rising list, in two parts.
+  pub rising_parts : (xs ys : List (ℕ × X)) → AreRising (xs ++ ys) → AreRising xs × AreRising ys
+  rising_parts [] ys rising = (tt, rising)
+  rising_parts (x ∷ xs) ys rising = let rest = rising_parts xs ys rising.1 in (((above_parts x.0 xs ys rising.0).0, rest.0), rest.1)
+
+  -- Two lists below a number, as one.
+  pub below_both : (n : ℕ) (xs ys : List (ℕ × X)) → AreBelow n xs → AreBelow n ys → AreBelow n (xs ++ ys)
+  below_both n [] ys a b = b
+  below_both n (x ∷ xs) ys a b = (a.0, below_both n xs ys a.1 b)
+
+  -- A list below a number is below a greater one.
+  pub below_more : (m n : ℕ) (xs : List (ℕ × X)) → m ≤ n → AreBelow m xs → AreBelow n xs
+  below_more m n [] le a = tt
+  below_more m n (x ∷ xs) le a = (omega (arith, a.0), below_more m n xs le a.1)
 
   -- A key at a place is above the number.
   pub above_at : (n : ℕ) (es : List (ℕ × X)) (i : ℕ) (d : ℕ × X) → AreAbove n es → i < length es → n < (get_or es i d).0

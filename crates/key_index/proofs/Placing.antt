@@ -5,12 +5,12 @@ use Rattle.std.proofs.lemmas.Bool.{cases_lt}
 use Rattle.std.proofs.lemmas.List.{append-nil}
 use Rattle.key_index.specs.declared.filed.Marks.{Marks}
 use Rattle.key_index.specs.declared.place.KeyPlace.{KeyPlace}
-use Rattle.key_index.specs.Entries.{Entry, below, from, first_of, last_of, AreAbove, AreRising}
-use Rattle.key_index.specs.Leaves.{all_of, AreBelow, Belongs}
+use Rattle.key_index.specs.Entries.{Entry, below, from, first_of, last_of, AreAbove, AreRising, AreBelow}
+use Rattle.key_index.specs.Leaves.{all_of, Belongs}
 use Rattle.key_index.specs.Marks.{mark_at}
 use Rattle.key_index.specs.Places.{in_front, on_from, IsCutAt, IsPlace}
-use Rattle.key_index.proofs.Orders.{below_on, below_end, from_on, from_end, take_below, drop_below}
-use Rattle.key_index.proofs.Belonging.{all_at, last_both, rising_parts, cut_front}
+use Rattle.key_index.proofs.Orders.{below_on, below_end, from_on, from_end, take_below, drop_below, rising_parts}
+use Rattle.key_index.proofs.Belonging.{all_at, last_both, cut_front}
 use Rattle.key_index.proofs.Edits.{all_set}
 use Rattle.key_index.proofs.Cuts.{below_at, from_at}
 

@@ -31,6 +31,11 @@ module _ {X : Type 0} where
   abbrev pub last_of : List (ℕ × X) → Option (ℕ × X)
   last_of es = slice_get es (length es - 1)
 
+  -- Each key of the list is below the number.
+  abbrev pub AreBelow : ℕ → List (ℕ × X) → Type 0
+  AreBelow n [] = Unit {0}
+  AreBelow n (e ∷ es) = (e.0 < n) × AreBelow n es
+
   -- Each key of the list is above the number.
   abbrev pub AreAbove : ℕ → List (ℕ × X) → Type 0
   AreAbove n [] = Unit {0}

@@ -2,7 +2,7 @@
 use Rattle.std.specs.Prelude.{◌≡◌, ℕ, suc, ◌+◌, ◌/◌, ◌<◌, ◌≤◌, List, [], ◌∷◌, ◌++◌, length, take, drop, get_or, nat_le, if◌then◌else◌}
 use Rattle.std.specs.Vec.{vec_len, vec_capacity}
 use Rattle.std.specs.declared.vec.Vec.{Vec}
-use Rattle.key_index.specs.Entries.{Entry, AreAbove, AreRising}
+use Rattle.key_index.specs.Entries.{Entry, AreAbove, AreBelow, AreRising}
 
 -- Each of two vectors has room for the elements of both.
 abbrev pub HaveRoom : {X Z : Type 0} → Vec X Z → Vec X Z → Type 0
@@ -33,11 +33,6 @@ module _ {V : Type 0} where
   abbrev pub begun : ℕ → List (List (Entry V)) → ℕ
   begun key [] = 0
   begun key (leaf ∷ leaves) = if nat_le (first_key leaf) key then suc (begun key leaves) else 0
-
-  -- Each key of the list is below the number.
-  abbrev pub AreBelow : ℕ → List (Entry V) → Type 0
-  AreBelow n [] = Unit {0}
-  AreBelow n (e ∷ es) = (e.0 < n) × AreBelow n es
 
   -- The key stands in this leaf, or belongs there: smaller keys are in front of the leaf, greater ones behind it.
   pub record Belongs (key : ℕ) (leaves : List (List (Entry V))) (at : ℕ) : Type 0 where

@@ -1,27 +1,25 @@
 -- Entries by rising rank, as readings by rising rank.
-use Rattle.std.proofs.Common.{◌≡◌, ℕ, ◌+◌, ◌-◌, ◌*◌, ◌/◌, ◌^◌, ◌<◌, ◌≤◌, ◌⊎◌, inl, inr, Bool, true, false, cond, not, ◌||◌, is_some, List, [], ◌∷◌, ◌++◌, Option, Some, None, length, map, drop, slice_get, refl, sym, ap, subst, ◌∙◌, ⊎_elim, eqb, nat_lt, option_map, arith, length-append}
-use Rattle.std.specs.List.{filter}
-use Rattle.std.proofs.Math.Nat.{div-le_of_le-mul, div-mul-le_self}
+use Rattle.std.proofs.Common.{◌≡◌, ℕ, ◌*◌, ◌/◌, ◌^◌, ◌<◌, ◌≤◌, Bool, true, false, cond, not, ◌||◌, is_some, List, [], ◌∷◌, ◌++◌, Option, Some, None, map, drop, refl, sym, ap, subst, ◌∙◌, ⊎_elim, eqb, nat_lt, option_map, arith}
+use Rattle.std.proofs.Math.Nat.{div-mul-le_self}
 use Rattle.std.proofs.lemmas.Nat.{le-div}
 use Rattle.std.proofs.lemmas.Bool.{cases_lt, cases_eq, eq-eqb, ne_eqb, lt-ltb, le-ltb, or_from, or_parts}
-use Rattle.std.proofs.lemmas.List.{map-append}
 use Rattle.key_index.specs.declared.filed.Filed.{Filed}
-use Rattle.key_index.specs.Entries as entries
-use Rattle.key_index.specs.Entries.{Entry, below, from, filed_at, AreAbove, AreRising}
+use Rattle.key_index.specs.Entries.{Entry, below, from, filed_at, AreAbove, AreRising, first_of, last_of}
+use Rattle.key_index.proofs.Orders.{last_cons}
 use Rattle.ledger_model.specs.Event.{MeterReading}
 use Rattle.ledger_model.specs.InTime.{put_in_time}
 use Rattle.reading_index.specs.Ranks.{owner_of}
-use Rattle.reading_index.specs.Timed.{Timed, first_of, from_on, in_front, last_of, only_owned, owned, has_rank, with_rank, without, AreBehind, IsRanked}
+use Rattle.reading_index.specs.Timed.{Timed, from_on, in_front, only_owned, owned, has_rank, with_rank, without}
 
 abbrev E : Type 0
 E = Entry MeterReading
 
 -- The ranks rise as the entries do.
-behind_above : (n : ℕ) (es : List E) → AreAbove n es → AreBehind n (map with_rank es)
+behind_above : (n : ℕ) (es : List E) → AreAbove n es → AreAbove n (map with_rank es)
 behind_above n [] above = tt
 behind_above n (e ∷ es) above = (above.0, behind_above n es above.1)
 
-pub ranked : (es : List E) → AreRising es → IsRanked (map with_rank es)
+pub ranked : (es : List E) → AreRising es → AreRising (map with_rank es)
 ranked [] rising = tt
 ranked (e ∷ es) rising = (behind_above e.0 es rising.0, ranked es rising.1)
 
@@ -130,15 +128,15 @@ not_yet r true e ts lt = ap (λ b. cond (not b) (e ∷ from_on r ts) (from_on r 
 not_yet r false e ts lt = refl
 
 -- The first reading of an owner from a rank on.
-pub first_behind : (r : ℕ) (es : List E) → AreRising es → only_owned (owner_of r) (option_map with_rank (entries.first_of (from r es))) ≡ first_of (from_on r (owned (owner_of r) (map with_rank es)))
+pub first_behind : (r : ℕ) (es : List E) → AreRising es → only_owned (owner_of r) (option_map with_rank (first_of (from r es))) ≡ first_of (from_on r (owned (owner_of r) (map with_rank es)))
 first_behind r [] rising = refl
 first_behind r (e ∷ es) rising =
     let o = owner_of r in let ts = owned o (map with_rank es) in ⊎_elim
     (λ (lt : e.0 < r).
-    ap (λ b. only_owned o (option_map with_rank (entries.first_of (cond b (from r es) (e ∷ es))))) (lt-ltb e.0 r lt)
+    ap (λ b. only_owned o (option_map with_rank (first_of (cond b (from r es) (e ∷ es))))) (lt-ltb e.0 r lt)
     ∙ first_behind r es rising.1
     ∙ ap first_of (sym (not_yet r (eqb (owner_of e.0) o) (with_rank e) ts lt)))
-    (λ (le : r ≤ e.0). ap (λ b. only_owned o (option_map with_rank (entries.first_of (cond b (from r es) (e ∷ es))))) (le-ltb e.0 r le) ∙ ⊎_elim
+    (λ (le : r ≤ e.0). ap (λ b. only_owned o (option_map with_rank (first_of (cond b (from r es) (e ∷ es))))) (le-ltb e.0 r le) ∙ ⊎_elim
     (λ (same : owner_of e.0 ≡ o).
     ap (λ b. cond b (Some (with_rank e)) None) (eq-eqb (owner_of e.0) o same)
     ∙ sym (ap (λ b. first_of (from_on r (cond b (with_rank e ∷ ts) ts))) (eq-eqb (owner_of e.0) o same) ∙ ap (λ b. first_of (cond (not b) (with_rank e ∷ from_on r ts) (from_on r ts))) (le-ltb e.0 r le)))
@@ -165,27 +163,22 @@ in_front_on : (r : ℕ) (b : Bool) (e : Timed) (ts : List Timed) → e.0 < r →
 in_front_on r true e ts lt = ap (λ b. cond b (e ∷ in_front r ts) (in_front r ts)) (lt-ltb e.0 r lt)
 in_front_on r false e ts lt = refl
 
-last_cons : {X : Type 0} (x y : X) (ys : List X) → slice_get (x ∷ y ∷ ys) (length (x ∷ y ∷ ys) - 1) ≡ slice_get (y ∷ ys) (length (y ∷ ys) - 1)
-last_cons x y ys =
-    let a : length (x ∷ y ∷ ys) - 1 ≡ length ys + 1 = omega arith in let b : length (y ∷ ys) - 1 ≡ length ys = omega arith in let s : length ys + 1 ≡ length (y ∷ ys) = omega arith in
-    ap (slice_get (x ∷ y ∷ ys)) (a ∙ s) ∙ sym (ap (slice_get (y ∷ ys)) b)
-
 -- A last entry in front of a rank is below it, and above what stands in front of all.
 record IsLastBelow (r n : ℕ) (l : E) : Type 0 where
   under : l.0 < r
   over : n < l.0
 
-last_below : (r n : ℕ) (e : E) (es : List E) (l : E) → AreAbove n (e ∷ es) → AreRising (e ∷ es) → e.0 < r → entries.last_of (e ∷ below r es) ≡ Some l → IsLastBelow r n l
+last_below : (r n : ℕ) (e : E) (es : List E) (l : E) → AreAbove n (e ∷ es) → AreRising (e ∷ es) → e.0 < r → last_of (e ∷ below r es) ≡ Some l → IsLastBelow r n l
 last_below r n e [] l above rising lt is = let same = unwrapped is in subst (IsLastBelow r n) same (record { under = lt; over = above.0 })
   where
     unwrapped : Some e ≡ Some l → e ≡ l
     unwrapped h = cc
 last_below r n e (f ∷ es) l above rising lt is = ⊎_elim
     (λ (on : f.0 < r).
-    let rest : IsLastBelow r e.0 l = last_below r e.0 f es l rising.0 rising.1 on (sym (last_cons e f (below r es)) ∙ sym (ap (λ b. entries.last_of (e ∷ cond b (f ∷ below r es) [])) (lt-ltb f.0 r on)) ∙ is) in
+    let rest : IsLastBelow r e.0 l = last_below r e.0 f es l rising.0 rising.1 on (sym (last_cons e f (below r es)) ∙ sym (ap (λ b. last_of (e ∷ cond b (f ∷ below r es) [])) (lt-ltb f.0 r on)) ∙ is) in
     record { under = rest.under; over = let up = rest.over in let a = above.0 in omega (arith, up, a) })
     (λ (end : r ≤ f.0).
-    let same = unwrapped (sym (ap (λ b. entries.last_of (e ∷ cond b (f ∷ below r es) [])) (le-ltb f.0 r end)) ∙ is) in subst (IsLastBelow r n) same (record { under = lt; over = above.0 }))
+    let same = unwrapped (sym (ap (λ b. last_of (e ∷ cond b (f ∷ below r es) [])) (le-ltb f.0 r end)) ∙ is) in subst (IsLastBelow r n) same (record { under = lt; over = above.0 }))
     (cases_lt f.0 r)
   where
     unwrapped : Some e ≡ Some l → e ≡ l
@@ -204,16 +197,16 @@ some_last l t [] h = cc
 some_last l t (u ∷ us) h = last_cons t u us ∙ sym h
 
 -- The last reading of an owner in front of a rank.
-pub last_in_front : (r : ℕ) (es : List E) → AreRising es → only_owned (owner_of r) (option_map with_rank (entries.last_of (below r es))) ≡ last_of (in_front r (owned (owner_of r) (map with_rank es)))
+pub last_in_front : (r : ℕ) (es : List E) → AreRising es → only_owned (owner_of r) (option_map with_rank (last_of (below r es))) ≡ last_of (in_front r (owned (owner_of r) (map with_rank es)))
 last_in_front r [] rising = refl
 last_in_front r (e ∷ es) rising =
     let o = owner_of r in let ts = owned o (map with_rank es) in let own = eqb (owner_of e.0) o in ⊎_elim
     (λ (lt : e.0 < r).
-    ap (λ b. only_owned o (option_map with_rank (entries.last_of (cond b (e ∷ below r es) [])))) (lt-ltb e.0 r lt)
+    ap (λ b. only_owned o (option_map with_rank (last_of (cond b (e ∷ below r es) [])))) (lt-ltb e.0 r lt)
     ∙ step (below r es) refl (last_in_front r es rising.1) lt
     ∙ ap last_of (sym (in_front_on r own (with_rank e) ts lt)))
     (λ (le : r ≤ e.0).
-    ap (λ b. only_owned o (option_map with_rank (entries.last_of (cond b (e ∷ below r es) [])))) (le-ltb e.0 r le)
+    ap (λ b. only_owned o (option_map with_rank (last_of (cond b (e ∷ below r es) [])))) (le-ltb e.0 r le)
     ∙ sym (ap last_of (front_none own le)))
     (cases_lt e.0 r)
   where
@@ -225,19 +218,19 @@ last_in_front r (e ∷ es) rising =
     alone true = refl
     alone false = refl
 
-    step : (fs : List E) → below r es ≡ fs → only_owned (owner_of r) (option_map with_rank (entries.last_of fs)) ≡ last_of (in_front r (owned (owner_of r) (map with_rank es))) → e.0 < r
-        → only_owned (owner_of r) (option_map with_rank (entries.last_of (e ∷ fs))) ≡ last_of (cond (eqb (owner_of e.0) (owner_of r)) (with_rank e ∷ in_front r (owned (owner_of r) (map with_rank es))) (in_front r (owned (owner_of r) (map with_rank es))))
+    step : (fs : List E) → below r es ≡ fs → only_owned (owner_of r) (option_map with_rank (last_of fs)) ≡ last_of (in_front r (owned (owner_of r) (map with_rank es))) → e.0 < r
+        → only_owned (owner_of r) (option_map with_rank (last_of (e ∷ fs))) ≡ last_of (cond (eqb (owner_of e.0) (owner_of r)) (with_rank e ∷ in_front r (owned (owner_of r) (map with_rank es))) (in_front r (owned (owner_of r) (map with_rank es))))
     step [] is rest lt =
         let none = none_last (in_front r (owned (owner_of r) (map with_rank es))) rest in
         alone (eqb (owner_of e.0) (owner_of r)) ∙ ap (λ ts. last_of (cond (eqb (owner_of e.0) (owner_of r)) (with_rank e ∷ ts) ts)) (sym none)
-    step (f ∷ fs) is rest lt = with_last (entries.last_of (f ∷ fs)) refl (ap (λ l. only_owned (owner_of r) (option_map with_rank l)) (last_cons e f fs)) rest
+    step (f ∷ fs) is rest lt = with_last (last_of (f ∷ fs)) refl (ap (λ l. only_owned (owner_of r) (option_map with_rank l)) (last_cons e f fs)) rest
       where
-        with_last : (l : Option E) → entries.last_of (f ∷ fs) ≡ l → only_owned (owner_of r) (option_map with_rank (entries.last_of (e ∷ f ∷ fs))) ≡ only_owned (owner_of r) (option_map with_rank l)
+        with_last : (l : Option E) → last_of (f ∷ fs) ≡ l → only_owned (owner_of r) (option_map with_rank (last_of (e ∷ f ∷ fs))) ≡ only_owned (owner_of r) (option_map with_rank l)
             → only_owned (owner_of r) (option_map with_rank l) ≡ last_of (in_front r (owned (owner_of r) (map with_rank es)))
-            → only_owned (owner_of r) (option_map with_rank (entries.last_of (e ∷ f ∷ fs))) ≡ last_of (cond (eqb (owner_of e.0) (owner_of r)) (with_rank e ∷ in_front r (owned (owner_of r) (map with_rank es))) (in_front r (owned (owner_of r) (map with_rank es))))
+            → only_owned (owner_of r) (option_map with_rank (last_of (e ∷ f ∷ fs))) ≡ last_of (cond (eqb (owner_of e.0) (owner_of r)) (with_rank e ∷ in_front r (owned (owner_of r) (map with_rank es))) (in_front r (owned (owner_of r) (map with_rank es))))
         with_last None last whole rest = absurd (never f fs last)
           where
-            never : (f : E) (fs : List E) → entries.last_of (f ∷ fs) ≡ None → ⊥
+            never : (f : E) (fs : List E) → last_of (f ∷ fs) ≡ None → ⊥
             never f [] h = cc
             never f (g ∷ gs) h = never g gs (sym (last_cons f g gs) ∙ h)
         with_last (Some l) last whole rest = ⊎_elim
@@ -257,12 +250,12 @@ last_in_front r (e ∷ es) rising =
             either true found = some_last (with_rank l) (with_rank e) (in_front r (owned (owner_of r) (map with_rank es))) found
             either false found = sym found
 
-            placed : (l : E) → entries.last_of (f ∷ fs) ≡ Some l → IsLastBelow r e.0 l
+            placed : (l : E) → last_of (f ∷ fs) ≡ Some l → IsLastBelow r e.0 l
             placed l last = found es rising.0 rising.1 is last
               where
-                found : (es : List E) → AreAbove e.0 es → AreRising es → below r es ≡ f ∷ fs → entries.last_of (f ∷ fs) ≡ Some l → IsLastBelow r e.0 l
+                found : (es : List E) → AreAbove e.0 es → AreRising es → below r es ≡ f ∷ fs → last_of (f ∷ fs) ≡ Some l → IsLastBelow r e.0 l
                 found [] above up is last = cc
                 found (g ∷ gs) above up is last = ⊎_elim
-                    (λ (on : g.0 < r). last_below r e.0 g gs l above up on (ap entries.last_of (sym (ap (λ b. cond b (g ∷ below r gs) []) (lt-ltb g.0 r on)) ∙ is) ∙ last))
+                    (λ (on : g.0 < r). last_below r e.0 g gs l above up on (ap last_of (sym (ap (λ b. cond b (g ∷ below r gs) []) (lt-ltb g.0 r on)) ∙ is) ∙ last))
                     (λ (end : r ≤ g.0). absurd (cons_nil f fs (sym is ∙ ap (λ b. cond b (g ∷ below r gs) []) (le-ltb g.0 r end))))
                     (cases_lt g.0 r)

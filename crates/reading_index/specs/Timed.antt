@@ -1,7 +1,8 @@
 -- Readings by their ranks.
-use Rattle.std.specs.Prelude.{ℕ, Bool, ◌<◌, ◌==◌, not, nat_lt, List, [], ◌∷◌, Option, None, Some, filter, length, map, slice_get, ◌-◌, if◌then◌else◌}
+use Rattle.std.specs.Prelude.{ℕ, Bool, ◌==◌, not, nat_lt, List, Option, None, Some, filter, map, if◌then◌else◌}
 use Rattle.std.specs.List.{list_any}
 use Rattle.key_index.specs.Entries.{Entry}
+pub use Rattle.key_index.specs.Entries.{first_of, last_of, AreAbove, AreBelow, AreRising}
 use Rattle.key_index.specs.Index as keyed
 use Rattle.ledger_model.specs.Event.{MeterReading}
 use Rattle.reading_index.specs.Ranks.{owner_of}
@@ -31,13 +32,6 @@ from_on r es = filter (λ e. not (nat_lt e.0 r)) es
 abbrev pub without : ℕ → List Timed → List Timed
 without r es = filter (λ e. not (e.0 == r)) es
 
--- The first of them, and the last.
-abbrev pub first_of : List Timed → Option Timed
-first_of es = slice_get es 0
-
-abbrev pub last_of : List Timed → Option Timed
-last_of es = slice_get es (length es - 1)
-
 -- Tells whether a reading has this rank.
 abbrev pub has_rank : ℕ → List Timed → Bool
 has_rank r es = list_any (λ e. e.0 == r) es
@@ -46,15 +40,6 @@ has_rank r es = list_any (λ e. e.0 == r) es
 abbrev pub only_owned : ℕ → Option Timed → Option Timed
 only_owned owner None = None
 only_owned owner (Some e) = if owner_of e.0 == owner then Some e else None
-
--- The ranks rise.
-abbrev pub AreBehind : ℕ → List Timed → Type 0
-AreBehind r [] = Unit {0}
-AreBehind r (e ∷ es) = (r < e.0) × AreBehind r es
-
-abbrev pub IsRanked : List Timed → Type 0
-IsRanked [] = Unit {0}
-IsRanked (e ∷ es) = AreBehind e.0 es × IsRanked es
 
 -- The rank and the reading of an entry.
 abbrev pub with_rank : Entry MeterReading → Timed

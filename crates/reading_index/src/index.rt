@@ -1,7 +1,7 @@
 ghost use Rattle.std.specs.Prelude.{◌≡◌, ◌<◌, ◌≤◌, [], false, length, option_map, IfOk};
 ghost use Rattle.ledger_model.specs.InTime.{put_in_time};
 ghost use Rattle.reading_index.specs.Ranks.{owner_of};
-ghost use Rattle.reading_index.specs.Timed.{first_of, from_on, has_rank, in_front, last_of, only_owned, owned, with_rank, without, IsRanked};
+ghost use Rattle.reading_index.specs.Timed.{first_of, from_on, has_rank, in_front, last_of, only_owned, owned, with_rank, without, AreRising};
 
 use crate::MomentKey;
 use key_index::{Entry, Filed, KeyIndex, KeyPlace, Marks};
@@ -58,7 +58,7 @@ impl ReadingIndex {
     pub fn len(&self) -> u32
         ensures len { result ≡ length self.now.entries }
         ensures within { length self.now.entries ≤ self.now.capacity }
-        ensures rising { IsRanked self.now.entries }
+        ensures rising { AreRising self.now.entries }
     {
         self.index.len()
     }

@@ -17,7 +17,7 @@ use Rattle.ledger_model.proofs.Callers.{live_else, live_with, transactions_more}
 use Rattle.quarter_table.specs.Pairs.{rows_of}
 use Rattle.quarter_table.specs.Table.{Table}
 use Rattle.reading_index.specs.Ranks.{owner}
-use Rattle.reading_index.specs.Timed.{Timed, TimedReadings, IsRanked, owned}
+use Rattle.reading_index.specs.Timed.{Timed, TimedReadings, AreRising, owned}
 use Rattle.station_ledger.specs.ByMoment.{put_each, ranked, timed_of, AreByMoment, IsSlotGiven}
 use Rattle.station_ledger.specs.declared.by_moment.ByMoment.{ByMoment}
 use Rattle.station_ledger.specs.declared.by_moment.Moved.{Moved}
@@ -91,7 +91,7 @@ module _ {chains : Chained} {es : List Entry} {key : KeyName} {b : ByMoment} {pe
       room_meanwhile : u.capacity ≡ chains.limits.readings
       room_meanwhile = put.room ∙ is.rows.room
 
-      rising_meanwhile : IsRanked index.entries
+      rising_meanwhile : AreRising index.entries
       rising_meanwhile = put_ranked chains is.one is.before is.after is.readings is.few slot period b.index t is.timed.in_order Import (before Import) put
 
       longer : length index.entries ≡ length b.index.entries + length (listed slot Import)

@@ -16,7 +16,7 @@ use Rattle.ledger_model.specs.InTime.{in_time}
 use Rattle.ledger_model.specs.Limits.{Bounds}
 use Rattle.ledger_model.specs.Ranges.{most_event_readings}
 use Rattle.reading_index.specs.Ranks.{owner}
-use Rattle.reading_index.specs.Timed.{Timed, IsRanked, owned}
+use Rattle.reading_index.specs.Timed.{Timed, AreRising, owned}
 use Rattle.station_ledger.specs.ByMoment.{live_readings, ranked, timed_of, AreByMoment, AreSlots, IsSlotGiven}
 use Rattle.station_ledger.specs.declared.by_moment.ByMoment.{ByMoment}
 use Rattle.station_ledger.proofs.MomentRanks.{at}
@@ -51,7 +51,7 @@ pub record IsTurned (tx : List ℕ) (slot : ℕ) (es new : List Entry) (entries 
   pub others : (d : Direction) (s : ℕ) → (slot ≡ s → ⊥) → owned (owner s d) next ≡ owned (owner s d) entries
   pub same : (s : ℕ) (d : Direction) (u : List ℕ) → bytes_eq u tx ≡ false → timed_of s d u new ≡ timed_of s d u es
   pub alive : (u : List ℕ) → bytes_eq u tx ≡ false → live_of u new ≡ live_of u es
-  pub ranked_next : IsRanked next
+  pub ranked_next : AreRising next
 
 module _ {limits : Bounds} {tx : List ℕ} {es : List Entry} {b : ByMoment} (timed : AreByMoment limits es b) {slots : Table} {slot : ℕ} (given : IsSlotGiven tx b.slots slots slot) where
   -- what stands under the slot before
@@ -110,7 +110,7 @@ module _ {limits : Bounds} {tx : List ℕ} {es new : List Entry} {b : ByMoment} 
         held = subst (λ (t : Table). (d : Direction) (u : List ℕ) (row : TableRow) → row_of u t.rows ≡ Some row → owned (owner row.slot d) after.index.entries ≡ timed_of row.slot d u new) (sym s)
             (λ d u row there. ap (owned (owner row.slot d)) e ∙ held_next d u row there);
         spare = subst (λ (t : Table). (d : Direction) (x : ℕ) → IsFresh x t.rows → owned (owner x d) after.index.entries ≡ []) (sym s) (λ d x fresh. ap (owned (owner x d)) e ∙ spare_next d x fresh);
-        in_order = subst IsRanked (sym e) turned.ranked_next;
+        in_order = subst AreRising (sym e) turned.ranked_next;
         few = subst (λ (l : List Timed). length l ≤ live_readings new) (sym e) few;
         room = cap ∙ timed.room;
         list_room = room;
@@ -142,7 +142,7 @@ module _ {limits : Bounds} {tx : List ℕ} {es new : List Entry} {b : ByMoment} 
         (λ (apart_u : bytes_eq u tx ≡ false). fresh u row (left u apart_u ∙ given.others u apart_u ∙ there) at_s)
         (cases_Bool (bytes_eq u tx))))
         (cases_eq slot s);
-    in_order = subst IsRanked (sym e) turned.ranked_next;
+    in_order = subst AreRising (sym e) turned.ranked_next;
     few = subst (λ (l : List Timed). length l ≤ live_readings new) (sym e) few;
     room = index_cap ∙ timed.room;
     list_room = room;

@@ -7,7 +7,7 @@ use Rattle.std.proofs.lemmas.Bool.Decides.{Decides-eqb}
 use Rattle.event_chain.specs.Chains.{Chained, stored}
 use Rattle.event_chain.specs.Table as table
 use Rattle.event_chain.specs.declared.row.TableRow.{TableRow}
-use Rattle.event_chain.specs.Table.{Table as Slots, AreRising, TxRow, row_of, without_row}
+use Rattle.event_chain.specs.Table.{Table as Slots, TxRow, row_of, without_row}
 use Rattle.transaction_map.proofs.Found.{found_out, length_out}
 use Rattle.transaction_map.proofs.Rising.{id_total}
 use Rattle.ledger_model.specs.Content.{Entry, live, live_of, transactions_of, has_transaction}
@@ -23,7 +23,7 @@ use Rattle.ledger_model.proofs.Callers.{live_else, transactions_more}
 use Rattle.quarter_table.specs.Pairs.{rows_of}
 use Rattle.quarter_table.specs.Table.{Table}
 use Rattle.reading_index.specs.Ranks.{owner}
-use Rattle.reading_index.specs.Timed.{TimedReadings, IsRanked, owned}
+use Rattle.reading_index.specs.Timed.{TimedReadings, AreRising, owned}
 use Rattle.station_ledger.specs.ByMoment.{live_readings, timed_of, AreByMoment, IsSlotGiven}
 use Rattle.station_ledger.specs.declared.by_moment.ByMoment.{ByMoment}
 use Rattle.station_ledger.specs.declared.by_moment.Moved.{Moved}
@@ -47,7 +47,7 @@ row_gone tx rows = found_out tx tx rows ∙ ap (λ b. cond b None (row_of tx row
 row_else : (tx u : List ℕ) (rows : List TxRow) → bytes_eq u tx ≡ false → row_of u (without_row tx rows) ≡ row_of u rows
 row_else tx u rows other = found_out u tx rows ∙ ap (λ b. cond b None (row_of u rows)) (not_tied u tx other)
 
-rows_less : (tx : List ℕ) (rows : List TxRow) (row : TableRow) → AreRising rows → row_of tx rows ≡ Some row → length (without_row tx rows) + 1 ≡ length rows
+rows_less : (tx : List ℕ) (rows : List TxRow) (row : TableRow) → table.AreRising rows → row_of tx rows ≡ Some row → length (without_row tx rows) + 1 ≡ length rows
 rows_less tx rows row rising there = let n = length_out tx rows rising in let one = ap (λ (o : Option TableRow). cond {A = ℕ} (is_some o) 1 0) there in omega (arith, n, one)
 
 -- each reading is of one direction
@@ -109,7 +109,7 @@ module _ {chains : Chained} {es : List Entry} {key : KeyName} {b : ByMoment} {pe
       room_meanwhile : t2.capacity ≡ chains.limits.readings
       room_meanwhile = took.room ∙ is.rows.room
 
-      rising_meanwhile : IsRanked index.entries
+      rising_meanwhile : AreRising index.entries
       rising_meanwhile = take_ranked chains is.one is.after is.before is.readings is.few slot period b.index t is.timed.in_order Import (before Import) took
 
       beside : side slot Export index ≡ timed_of slot Export key.tx es
@@ -166,7 +166,7 @@ module _ {chains : Chained} {es : List Entry} {key : KeyName} {b : ByMoment} {pe
             few_then
 
         -- or none
-        pub timed_goes : (after : ByMoment) → table.AreApart slots.rows → AreRising slots.rows → after.slots.rows ≡ without_row key.tx slots.rows → after.slots.capacity ≡ slots.capacity → after.index ≡ last → most_event_readings ≤ vec_capacity after.listed → length (live_of key.tx new) ≡ 0 → AreByMoment chains.limits new after
+        pub timed_goes : (after : ByMoment) → table.AreApart slots.rows → table.AreRising slots.rows → after.slots.rows ≡ without_row key.tx slots.rows → after.slots.capacity ≡ slots.capacity → after.index ≡ last → most_event_readings ≤ vec_capacity after.listed → length (live_of key.tx new) ≡ 0 → AreByMoment chains.limits new after
         timed_goes after apart risen rows cap i room none =
             by_moment_gone is.timed given apart turned after
             (λ u other. ap (row_of u) rows ∙ row_else key.tx u slots.rows other)

@@ -4,7 +4,7 @@ use Rattle.std.specs.List.{AllByRecursion}
 use Rattle.std.proofs.lemmas.Bool.{eq-eqb, ne_eqb}
 use Rattle.ledger_model.specs.InTime.{put_in_time}
 use Rattle.reading_index.specs.Ranks.{owner_of}
-use Rattle.reading_index.specs.Timed.{Timed, has_rank, owned, without, AreBehind, IsRanked}
+use Rattle.reading_index.specs.Timed.{Timed, has_rank, owned, without, AreAbove, AreRising}
 use Rattle.station_ledger.specs.ByMoment.{ArePuttable, put_each, take_each}
 use Rattle.station_ledger.specs.Runs.{own_timed}
 use Rattle.station_ledger.proofs.MomentLists.{AreApart, behind_apart, each_put_each, foreign_apart, none_has, put_each-put, without_put}
@@ -26,16 +26,16 @@ has_put n x (t ∷ ts) apart =
       | false ↦ ap (λ b. b || has_rank n (t ∷ ts)) (ne_eqb x.0 n apart)
     ])
 
-new-put : (x : Timed) (xs ts : List Timed) → AreBehind x.0 xs → AreNew xs ts → AreNew xs (put_in_time at x ts)
+new-put : (x : Timed) (xs ts : List Timed) → AreAbove x.0 xs → AreNew xs ts → AreNew xs (put_in_time at x ts)
 new-put x [] ts behind new = tt
 new-put x (y ∷ ys) ts behind new = (has_put y.0 x ts (λ same. absurd (let lt : x.0 < y.0 = behind.0 in omega (arith, lt, same))) ∙ new.0, new-put x ys ts behind.1 new.1)
 
-puttable : (xs ts : List Timed) → IsRanked xs → AreNew xs ts → ArePuttable xs ts
+puttable : (xs ts : List Timed) → AreRising xs → AreNew xs ts → ArePuttable xs ts
 puttable [] ts up new = tt
 puttable (x ∷ xs) ts up new = (new.0, puttable xs (put_in_time at x ts) up.1 (new-put x xs ts up.0 new.1))
 
 -- An event's readings may be put in where those of their owner are others.
-pub own_puttable : (o seq : ℕ) (xs ts : List Timed) → IsRanked xs → AreOf o xs → AllByRecursion (λ t. own_timed seq t ≡ true) xs → AllByRecursion (λ t. own_timed seq t ≡ false) (owned o ts) → ArePuttable xs ts
+pub own_puttable : (o seq : ℕ) (xs ts : List Timed) → AreRising xs → AreOf o xs → AllByRecursion (λ t. own_timed seq t ≡ true) xs → AllByRecursion (λ t. own_timed seq t ≡ false) (owned o ts) → ArePuttable xs ts
 own_puttable o seq xs ts up mine own foreign = puttable xs ts up (new xs mine own)
   where
     new : (xs : List Timed) → AreOf o xs → AllByRecursion (λ t. own_timed seq t ≡ true) xs → AreNew xs ts
@@ -45,20 +45,20 @@ own_puttable o seq xs ts up mine own foreign = puttable xs ts up (new xs mine ow
       new xs mine.1 own.1,
     )
 
-pub ranked-put_each : (xs ts : List Timed) → ArePuttable xs ts → IsRanked ts → IsRanked (put_each xs ts)
+pub ranked-put_each : (xs ts : List Timed) → ArePuttable xs ts → AreRising ts → AreRising (put_each xs ts)
 ranked-put_each [] ts can up = up
 ranked-put_each (x ∷ xs) ts can up = ranked-put_each xs (put_in_time at x ts) can.1 (put-ranked x ts up can.0)
 
-pub owned-put_each : (o : ℕ) (xs ts : List Timed) → ArePuttable xs ts → IsRanked ts → AreOf o xs → owned o (put_each xs ts) ≡ put_each xs (owned o ts)
+pub owned-put_each : (o : ℕ) (xs ts : List Timed) → ArePuttable xs ts → AreRising ts → AreOf o xs → owned o (put_each xs ts) ≡ put_each xs (owned o ts)
 owned-put_each o [] ts can up mine = refl
 owned-put_each o (x ∷ xs) ts can up mine = owned-put_each o xs (put_in_time at x ts) can.1 (put-ranked x ts up can.0) mine.1 ∙ ap (put_each xs) (owned-put o x ts up mine.0)
 
-pub owned-put_each_else : (o u : ℕ) (xs ts : List Timed) → (o ≡ u → ⊥) → ArePuttable xs ts → IsRanked ts → AreOf o xs → owned u (put_each xs ts) ≡ owned u ts
+pub owned-put_each_else : (o u : ℕ) (xs ts : List Timed) → (o ≡ u → ⊥) → ArePuttable xs ts → AreRising ts → AreOf o xs → owned u (put_each xs ts) ≡ owned u ts
 owned-put_each_else o u [] ts apart can up mine = refl
 owned-put_each_else o u (x ∷ xs) ts apart can up mine =
     owned-put_each_else o u xs (put_in_time at x ts) apart can.1 (put-ranked x ts up can.0) mine.1 ∙ owned-put_else u x ts up (λ same. apart (sym mine.0 ∙ same))
 
-pub ranked-take_each : (xs ts : List Timed) → IsRanked ts → IsRanked (take_each xs ts)
+pub ranked-take_each : (xs ts : List Timed) → AreRising ts → AreRising (take_each xs ts)
 ranked-take_each [] ts up = up
 ranked-take_each (x ∷ xs) ts up = ranked-take_each xs (without x.0 ts) (filter-ranked (λ t. not (eqb t.0 x.0)) ts up)
 
@@ -83,7 +83,7 @@ has_here x (t ∷ ts) =
     or_true false = refl
 
 -- Readings of an owner that are there are taken out: so many fewer.
-pub fewer-take_each : (o seq : ℕ) (xs others ts : List Timed) → IsRanked xs → AreOf o xs → AllByRecursion (λ t. own_timed seq t ≡ true) xs → AllByRecursion (λ t. own_timed seq t ≡ false) others → owned o ts ≡ put_each xs others → length (take_each xs ts) + length xs ≤ length ts
+pub fewer-take_each : (o seq : ℕ) (xs others ts : List Timed) → AreRising xs → AreOf o xs → AllByRecursion (λ t. own_timed seq t ≡ true) xs → AllByRecursion (λ t. own_timed seq t ≡ false) others → owned o ts ≡ put_each xs others → length (take_each xs ts) + length xs ≤ length ts
 fewer-take_each o seq [] others ts up mine own foreign is = omega arith
 fewer-take_each o seq (x ∷ xs) others ts up mine own foreign is =
     let apart : AreApart x.0 xs = behind_apart x.0 xs up.0 in

@@ -7,14 +7,13 @@ use Rattle.ledger_model.specs.InTime.{put_in_time}
 use Rattle.ledger_model.specs.Ranges.{most_event_readings}
 use Rattle.ledger_model.proofs.Callers.{AreFrom}
 use Rattle.reading_index.specs.Ranks.{rank}
-use Rattle.reading_index.specs.Timed.{Timed, from_on, in_front, AreBehind, IsRanked}
+use Rattle.reading_index.specs.Timed.{Timed, from_on, in_front, AreAbove, AreRising, AreBelow}
 use Rattle.station_ledger.specs.ByMoment.{ranked_from}
 use Rattle.station_ledger.proofs.MomentLists.{each_put, from_after, none_has, AreApart, IsAfter}
 use Rattle.station_ledger.proofs.MomentRanks.{at, length-put, put-ranked}
-use Rattle.station_ledger.proofs.MomentWalks.{AreUnder}
 
 -- Where those in front of a place are below a rank and the others are not, the place is the rank's.
-cut : (k : ℕ) (front back : List Timed) → AreUnder k front → AreFrom at k back → (front ≡ in_front k (front ++ back)) × (back ≡ from_on k (front ++ back))
+cut : (k : ℕ) (front back : List Timed) → AreBelow k front → AreFrom at k back → (front ≡ in_front k (front ++ back)) × (back ≡ from_on k (front ++ back))
 cut k [] [] under from = (refl, refl)
 cut k [] (t ∷ ts) under from =
     let rest = cut k [] ts tt from.1 in let over = le-ltb t.0 k from.0 in
@@ -28,17 +27,17 @@ take_drop zero ts = refl
 take_drop (suc n) [] = refl
 take_drop (suc n) (t ∷ ts) = ap (λ us. t ∷ us) (take_drop n ts)
 
-pub placed : (k n : ℕ) (ts : List Timed) → AreUnder k (take n ts) → AreFrom at k (drop n ts) → (take n ts ≡ in_front k ts) × (drop n ts ≡ from_on k ts)
+pub placed : (k n : ℕ) (ts : List Timed) → AreBelow k (take n ts) → AreFrom at k (drop n ts) → (take n ts ≡ in_front k ts) × (drop n ts ≡ from_on k ts)
 placed k n ts under from =
     let parts = cut k (take n ts) (drop n ts) under from in
     (parts.0 ∙ ap (in_front k) (take_drop n ts), parts.1 ∙ ap (from_on k) (take_drop n ts))
 
-behind_at : (n p : ℕ) (ts : List Timed) (d : Timed) → AreBehind n ts → p < length ts → n < (get_or ts p d).0
+behind_at : (n p : ℕ) (ts : List Timed) (d : Timed) → AreAbove n ts → p < length ts → n < (get_or ts p d).0
 behind_at n p [] d behind lt = absurd (omega (arith, lt))
 behind_at n zero (t ∷ ts) d behind lt = behind.0
 behind_at n (suc p) (t ∷ ts) d behind lt = behind_at n p ts d behind.1 (omega (arith, lt))
 
-under_at : (k p : ℕ) (ts : List Timed) (d : Timed) → IsRanked ts → p < length ts → (get_or ts p d).0 < k → AreUnder k (take (suc p) ts)
+under_at : (k p : ℕ) (ts : List Timed) (d : Timed) → AreRising ts → p < length ts → (get_or ts p d).0 < k → AreBelow k (take (suc p) ts)
 under_at k p [] d up lt below = absurd (omega (arith, lt))
 under_at k zero (t ∷ ts) d up lt below = (below, tt)
 under_at k (suc p) (t ∷ ts) d up lt below =
@@ -46,12 +45,12 @@ under_at k (suc p) (t ∷ ts) d up lt below =
     (omega (arith, on, below), under_at k p ts d up.1 (omega (arith, lt)) below)
 
 -- Ranks rise, so that all in front of one that is below another are.
-pub under-to : (k n : ℕ) (ts : List Timed) (d : Timed) → IsRanked ts → n < length ts → (get_or ts n d).0 < k → AreUnder k (take (n + 1) ts)
-under-to k n ts d up lt below = let on : suc n ≡ n + 1 = omega arith in subst (λ m. AreUnder k (take m ts)) on (under_at k n ts d up lt below)
+pub under-to : (k n : ℕ) (ts : List Timed) (d : Timed) → AreRising ts → n < length ts → (get_or ts n d).0 < k → AreBelow k (take (n + 1) ts)
+under-to k n ts d up lt below = let on : suc n ≡ n + 1 = omega arith in subst (λ m. AreBelow k (take m ts)) on (under_at k n ts d up lt below)
 
 -- A list by rank, and the readings to come: their ranks are new.
 pub record IsListing (o number place : ℕ) (left : List MeterReading) (listed : List Timed) (capacity : ℕ) : Type 0 where
-  pub ranked : IsRanked listed
+  pub ranked : AreRising listed
   pub new : AllByRecursion (λ (x : Timed). AreApart x.0 listed) (ranked_from o number place left)
   pub few : length listed + length left ≤ most_event_readings
   pub places : place + length left ≤ most_event_readings

@@ -6,9 +6,9 @@ use Rattle.std.proofs.lemmas.Grind.{flat_map-append}
 use Rattle.std.proofs.lemmas.List.{map-append}
 use Rattle.std.proofs.lemmas.List.Elements.{recursion_from_All}
 use Rattle.std.proofs.lemmas.List.Sums.{sum_by-append, sum_by-cons}
+use Rattle.ledger_model.specs.BoardLaws as laws
 use Rattle.ledger_model.specs.declared.order.Order.TheVariants.{Moment}
 use Rattle.ledger_model.specs.declared.reading.Direction.{Direction}
-use Rattle.ledger_model.specs.BoardLaws.{AreRising}
 use Rattle.ledger_model.specs.Content.{Entry, live, live_of}
 use Rattle.ledger_model.specs.Deltas.{before_key, behind_key, own_events, IsOneMore}
 use Rattle.ledger_model.specs.Energy.{readings_by}
@@ -18,7 +18,7 @@ use Rattle.ledger_model.specs.InTime.{in_time, put_in_time}
 use Rattle.ledger_model.specs.ReadingOrder.{Numbered, numbered, numbered_by}
 use Rattle.ledger_model.proofs.Callers.{AreEntries, AreForeign, AreOwn, IsEntry, few_toward, in_time-map, live_else, live_with, live_without, numbered_readings, own_before_key, own_behind_key, put-behind, put-front}
 use Rattle.reading_index.specs.Ranks.{number_of, owner, owner_of, rank}
-use Rattle.reading_index.specs.Timed.{Timed, has_rank, without, AreBehind, IsRanked}
+use Rattle.reading_index.specs.Timed.{Timed, has_rank, without, AreAbove, AreRising}
 use Rattle.station_ledger.specs.ByMoment.{bare, live_readings, put_each, ranked, ranked_from, take_each, timed_of}
 use Rattle.station_ledger.specs.Runs.{own_timed}
 use Rattle.station_ledger.proofs.MomentRanks.{at, number_of-rank, owner_of-rank, length-put, put-ranked}
@@ -57,16 +57,16 @@ pub none_has : (n : ℕ) (ts : List Timed) → AreApart n ts → has_rank n ts �
 none_has n [] apart = refl
 none_has n (t ∷ ts) apart = or_from (eqb t.0 n) (has_rank n ts) (ne_eqb t.0 n apart.0) (none_has n ts apart.1)
 
-pub behind_apart : (n : ℕ) (ts : List Timed) → AreBehind n ts → AreApart n ts
+pub behind_apart : (n : ℕ) (ts : List Timed) → AreAbove n ts → AreApart n ts
 behind_apart n [] behind = tt
 behind_apart n (t ∷ ts) behind = (λ same. absurd (let lt : n < t.0 = behind.0 in omega (arith, lt, same)), behind_apart n ts behind.1)
 
-ranked_distinct : (ts : List Timed) → IsRanked ts → AreDistinct ts
+ranked_distinct : (ts : List Timed) → AreRising ts → AreDistinct ts
 ranked_distinct [] up = tt
 ranked_distinct (t ∷ ts) up = (behind_apart t.0 ts up.0, ranked_distinct ts up.1)
 
 -- Of different ranks, by rank, they stand by rank.
-distinct_ranked : (ts : List Timed) → AreDistinct ts → IsRanked (in_time at ts)
+distinct_ranked : (ts : List Timed) → AreDistinct ts → AreRising (in_time at ts)
 distinct_ranked [] apart = tt
 distinct_ranked (t ∷ ts) apart = put-ranked t (in_time at ts) (distinct_ranked ts apart.1) (none_has t.0 (in_time at ts) (each_in_time (λ u. u.0 ≡ t.0 → ⊥) ts apart.0))
 
@@ -253,8 +253,8 @@ module _ (slot : ℕ) (d : Direction) (e : Entry) where
     its_own : AllByRecursion (λ t. own_timed e.0.seq t ≡ true) (ranked slot d e)
     its_own = each_from (λ t. own_timed e.0.seq t ≡ true) (owner slot d) e.0.seq 0 (toward d e.1.event.readings) (λ q r lt. eq-eqb (number_of (rank (owner slot d) r.moment e.0.seq q)) e.0.seq (number_of-rank (owner slot d) r.moment e.0.seq q number lt)) room
 
-    pub listed-ranked : IsRanked listed
-    listed-ranked = subst IsRanked (sym (listed_sorted (ranked slot d e) its_distinct)) (distinct_ranked (ranked slot d e) its_distinct)
+    pub listed-ranked : AreRising listed
+    listed-ranked = subst AreRising (sym (listed_sorted (ranked slot d e) its_distinct)) (distinct_ranked (ranked slot d e) its_distinct)
 
     pub listed_each : AllByRecursion (λ t. own_timed e.0.seq t ≡ true) listed
     listed_each = each_put_each (λ t. own_timed e.0.seq t ≡ true) (ranked slot d e) [] its_own tt
@@ -400,7 +400,7 @@ pub timed_else : (slot : ℕ) (d : Direction) (es new front : List Entry) (e : E
 timed_else slot d es new front e back u one apart = ap (λ l. in_time at (flat_map (ranked slot d) l)) (live_else es new front e back u one apart)
 
 -- A number is below those of entries.
-above_all : (n : ℕ) (es : List Entry) → AreRising (n ∷ map (λ e. e.0.seq) es) → AllByRecursion (λ (e : Entry). n < e.0.seq) es
+above_all : (n : ℕ) (es : List Entry) → laws.AreRising (n ∷ map (λ e. e.0.seq) es) → AllByRecursion (λ (e : Entry). n < e.0.seq) es
 above_all n [] up = tt
 above_all n (e ∷ es) up = (up.0, later n e.0.seq es up.0 (above_all e.0.seq es up.1))
   where
@@ -408,7 +408,7 @@ above_all n (e ∷ es) up = (up.0, later n e.0.seq es up.0 (above_all e.0.seq es
     later m n [] lt all = tt
     later m n (e ∷ es) lt all = (let over : n < e.0.seq = all.0 in omega (arith, over, lt), later m n es lt all.1)
 
-rising_tail : (n : ℕ) (ns : List ℕ) → AreRising (n ∷ ns) → AreRising ns
+rising_tail : (n : ℕ) (ns : List ℕ) → laws.AreRising (n ∷ ns) → laws.AreRising ns
 rising_tail n [] up = tt
 rising_tail n (m ∷ ns) up = up.1
 
@@ -421,7 +421,7 @@ entries_behind slot d n q r (e ∷ es) number place range above =
     (from_after (owner slot d) n q e.0.seq 0 r (toward d e.1.event.readings) number place it.key.number (few_ranked d e it) (omega (arith, over, place)))
     (entries_behind slot d n q r es number place range.1 above.1)
 
-entries_listed : (slot : ℕ) (d : Direction) (es : List Entry) → AreEntries es → AreRising (map (λ e. e.0.seq) es) → AreListed (flat_map (ranked slot d) es)
+entries_listed : (slot : ℕ) (d : Direction) (es : List Entry) → AreEntries es → laws.AreRising (map (λ e. e.0.seq) es) → AreListed (flat_map (ranked slot d) es)
 entries_listed slot d [] range up = tt
 entries_listed slot d (e ∷ es) range up =
     let it : IsEntry e = range.0 in
@@ -449,7 +449,7 @@ bare_shown [] = refl
 bare_shown (t ∷ ts) = ap (λ rs. t.1 ∷ rs) (bare_shown ts)
 
 -- The live readings of a transaction, where its numbers rise.
-module _ (slot : ℕ) (d : Direction) (tx : List ℕ) (es : List Entry) (range : AreEntries es) (up : AreRising (numbers_of tx es)) where
+module _ (slot : ℕ) (d : Direction) (tx : List ℕ) (es : List Entry) (range : AreEntries es) (up : laws.AreRising (numbers_of tx es)) where
   live_range : AreEntries (live_of tx es)
   live_range = entries_passed (λ e. bytes_eq tx e.0.tx) (live es) (entries_passed (λ e. not e.1.voided) es range)
 
@@ -457,7 +457,7 @@ module _ (slot : ℕ) (d : Direction) (tx : List ℕ) (es : List Entry) (range :
   live_listed = entries_listed slot d (live_of tx es) live_range up
 
   -- no two have one rank
-  pub timed-ranked : IsRanked (timed_of slot d tx es)
+  pub timed-ranked : AreRising (timed_of slot d tx es)
   timed-ranked = distinct_ranked (flat_map (ranked slot d) (live_of tx es)) (listed_distinct _ live_listed)
 
   -- by rank they stand as by moment, with the numbers of their events

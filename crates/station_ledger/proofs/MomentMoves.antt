@@ -19,7 +19,7 @@ use Rattle.ledger_model.specs.InTime.{runs}
 use Rattle.quarter_table.specs.Pairs.{rows_of}
 use Rattle.quarter_table.specs.Table.{Table}
 use Rattle.reading_index.specs.Ranks.{owner}
-use Rattle.reading_index.specs.Timed.{Timed, TimedReadings, IsRanked, owned}
+use Rattle.reading_index.specs.Timed.{Timed, TimedReadings, AreRising, owned}
 use Rattle.station_ledger.specs.ByMoment.{live_readings, listed_of, put_each, ranked, ranked_from, take_each, timed_of, ArePuttable}
 use Rattle.station_ledger.specs.declared.by_moment.Moved.{Moved}
 use Rattle.station_ledger.specs.Quarters.{IsWork, both_quartered, readings_at}
@@ -73,7 +73,7 @@ module _ (chains : Chained) {less more : List Entry} {key : KeyName} {event : St
   listed_is : (d : Direction) → listed_of slot d chains key ≡ S d
   listed_is d = ap (λ rs. put_each (ranked_from (owner slot d) key.seq 0 rs) []) (readings d)
 
-  up : (d : Direction) → IsRanked (S d)
+  up : (d : Direction) → AreRising (S d)
   up d = listed-ranked slot d e number few
 
   mine : (d : Direction) → AreOf (owner slot d) (S d)
@@ -105,7 +105,7 @@ module _ (chains : Chained) {less more : List Entry} {key : KeyName} {event : St
   with_is : (d : Direction) {l : List Timed} → l ≡ without_it d → put_each (listed_of slot d chains key) l ≡ put_each (S d) (without_it d)
   with_is d l_is = λ i. put_each (listed_is d i) (l_is i)
 
-  module _ (period : ℕ) (index : TimedReadings) (t : Table) (rising : IsRanked index.entries) where
+  module _ (period : ℕ) (index : TimedReadings) (t : Table) (rising : AreRising index.entries) where
     -- before and after the readings of one direction came
     module _ (d : Direction) (l_is : side slot d index ≡ without_it d) where
       pub can_put_entries : ArePuttable (listed_of slot d chains key) index.entries
@@ -127,8 +127,8 @@ module _ (chains : Chained) {less more : List Entry} {key : KeyName} {event : St
         entries_are : next.entries ≡ put_each (S d) index.entries
         entries_are = put.entries ∙ ap (λ r. put_each r index.entries) (listed_is d)
 
-        pub put_ranked : IsRanked next.entries
-        put_ranked = subst IsRanked (sym put.entries) (ranked-put_each (listed_of slot d chains key) index.entries can_put_entries rising)
+        pub put_ranked : AreRising next.entries
+        put_ranked = subst AreRising (sym put.entries) (ranked-put_each (listed_of slot d chains key) index.entries can_put_entries rising)
 
         pub put_own : side slot d next ≡ timed_of slot d key.tx more
         put_own =
@@ -176,8 +176,8 @@ module _ (chains : Chained) {less more : List Entry} {key : KeyName} {event : St
         next_is : next.entries ≡ left.entries
         next_is = took.entries
 
-        pub take_ranked : IsRanked next.entries
-        take_ranked = subst IsRanked (sym took.entries) (ranked-take_each (listed_of slot d chains key) index.entries rising)
+        pub take_ranked : AreRising next.entries
+        take_ranked = subst AreRising (sym took.entries) (ranked-take_each (listed_of slot d chains key) index.entries rising)
 
         pub take_own : side slot d next ≡ without_it d
         take_own = ap (owned (owner slot d)) took.entries ∙ left_own

@@ -8,7 +8,8 @@ use Rattle.ledger_model.specs.declared.reading.Direction.TheVariants.{Import, Ex
 use Rattle.ledger_model.specs.InTime.{put_in_time, AreInTime}
 use Rattle.ledger_model.proofs.Callers.{put-behind, put-front, put-passed}
 use Rattle.reading_index.specs.Ranks.{number_of, owner, owner_of, rank}
-use Rattle.reading_index.specs.Timed.{Timed, from_on, has_rank, in_front, owned, without, AreBehind, IsRanked}
+use Rattle.key_index.proofs.Orders.{above_less}
+use Rattle.reading_index.specs.Timed.{Timed, from_on, has_rank, in_front, owned, without, AreAbove, AreRising}
 
 abbrev pub at : Timed → ℕ
 at t = t.0
@@ -33,46 +34,42 @@ owner-apart s u Export Import same = absurd (omega (arith, same))
 owner-apart s u Export Export same = (omega (arith, same), refl)
 
 -- Ranks that rise do so weakly.
-pub ranked-in_time : (ts : List Timed) → IsRanked ts → AreInTime at ts
+pub ranked-in_time : (ts : List Timed) → AreRising ts → AreInTime at ts
 ranked-in_time [] up = tt
 ranked-in_time (t ∷ []) up = tt
 ranked-in_time (t ∷ u ∷ ts) up = (let lt : t.0 < u.0 = up.0.0 in omega (arith, lt), ranked-in_time (u ∷ ts) up.1)
 
-later_behind : (m n : ℕ) (ts : List Timed) → m ≤ n → AreBehind n ts → AreBehind m ts
-later_behind m n [] le behind = tt
-later_behind m n (t ∷ ts) le behind = (let lt : n < t.0 = behind.0 in omega (arith, lt, le), later_behind m n ts le behind.1)
-
-put_behind : (n : ℕ) (x : Timed) (ts : List Timed) → n < x.0 → AreBehind n ts → AreBehind n (put_in_time at x ts)
+put_behind : (n : ℕ) (x : Timed) (ts : List Timed) → n < x.0 → AreAbove n ts → AreAbove n (put_in_time at x ts)
 put_behind n x [] lt behind = (lt, tt)
 put_behind n x (t ∷ ts) lt behind = ⊎_elim
-    (λ (on : t.0 < x.0). subst (AreBehind n) (sym (put-behind at x t ts on)) (behind.0, put_behind n x ts lt behind.1))
-    (λ (end : x.0 ≤ t.0). subst (AreBehind n) (sym (put-front at x t ts end)) (lt, behind))
+    (λ (on : t.0 < x.0). subst (AreAbove n) (sym (put-behind at x t ts on)) (behind.0, put_behind n x ts lt behind.1))
+    (λ (end : x.0 ≤ t.0). subst (AreAbove n) (sym (put-front at x t ts end)) (lt, behind))
     (cases_lt t.0 x.0)
 
 -- A reading of a rank that none has is put in by rank.
-pub put-ranked : (x : Timed) (ts : List Timed) → IsRanked ts → has_rank x.0 ts ≡ false → IsRanked (put_in_time at x ts)
+pub put-ranked : (x : Timed) (ts : List Timed) → AreRising ts → has_rank x.0 ts ≡ false → AreRising (put_in_time at x ts)
 put-ranked x [] up none = (tt, tt)
 put-ranked x (t ∷ ts) up none =
     let parts = or_parts (eqb t.0 x.0) (has_rank x.0 ts) none in
     ⊎_elim
-    (λ (on : t.0 < x.0). subst IsRanked (sym (put-behind at x t ts on)) (put_behind t.0 x ts on up.0, put-ranked x ts up.1 parts.1))
+    (λ (on : t.0 < x.0). subst AreRising (sym (put-behind at x t ts on)) (put_behind t.0 x ts on up.0, put-ranked x ts up.1 parts.1))
     (λ (end : x.0 ≤ t.0).
     let apart : t.0 ≡ x.0 → ⊥ = eqb-false t.0 x.0 parts.0 in
     let lt : x.0 < t.0 = strictly end apart in
-    subst IsRanked (sym (put-front at x t ts end)) ((lt, later_behind x.0 t.0 ts end up.0), up))
+    subst AreRising (sym (put-front at x t ts end)) ((lt, above_less x.0 t.0 ts end up.0), up))
     (cases_lt t.0 x.0)
   where
     strictly : {m n : ℕ} → m ≤ n → (n ≡ m → ⊥) → m < n
     strictly {m} {n} le apart = ⊎_elim (λ (same : n ≡ m). absurd (apart same)) (λ (other : n ≡ m → ⊥). omega (arith, le, other)) (cases_eq n m)
 
-behind_passed : (p : Timed → Bool) (n : ℕ) (ts : List Timed) → AreBehind n ts → AreBehind n (filter p ts)
+behind_passed : (p : Timed → Bool) (n : ℕ) (ts : List Timed) → AreAbove n ts → AreAbove n (filter p ts)
 behind_passed p n [] behind = tt
-behind_passed p n (t ∷ ts) behind = elim (p t) as (λ b. AreBehind n (cond b (t ∷ filter p ts) (filter p ts))) [ true ↦ (behind.0, behind_passed p n ts behind.1) | false ↦ behind_passed p n ts behind.1 ]
+behind_passed p n (t ∷ ts) behind = elim (p t) as (λ b. AreAbove n (cond b (t ∷ filter p ts) (filter p ts))) [ true ↦ (behind.0, behind_passed p n ts behind.1) | false ↦ behind_passed p n ts behind.1 ]
 
 -- Those that pass a test stand by rank as all do.
-pub filter-ranked : (p : Timed → Bool) (ts : List Timed) → IsRanked ts → IsRanked (filter p ts)
+pub filter-ranked : (p : Timed → Bool) (ts : List Timed) → AreRising ts → AreRising (filter p ts)
 filter-ranked p [] up = tt
-filter-ranked p (t ∷ ts) up = elim (p t) as (λ b. IsRanked (cond b (t ∷ filter p ts) (filter p ts))) [ true ↦ (behind_passed p t.0 ts up.0, filter-ranked p ts up.1) | false ↦ filter-ranked p ts up.1 ]
+filter-ranked p (t ∷ ts) up = elim (p t) as (λ b. AreRising (cond b (t ∷ filter p ts) (filter p ts))) [ true ↦ (behind_passed p t.0 ts up.0, filter-ranked p ts up.1) | false ↦ filter-ranked p ts up.1 ]
 
 -- A rank is looked for among the readings of its owner.
 pub has_owned : (k : ℕ) (ts : List Timed) → has_rank k (owned (owner_of k) ts) ≡ has_rank k ts
@@ -109,11 +106,11 @@ length-without k (t ∷ ts) some = ⊎_elim
     (cases_eq t.0 k)
 
 -- From a rank on nothing is in front of it.
-front_none : (k n : ℕ) (ts : List Timed) → k ≤ n → AreBehind n ts → in_front k ts ≡ []
+front_none : (k n : ℕ) (ts : List Timed) → k ≤ n → AreAbove n ts → in_front k ts ≡ []
 front_none k n [] le behind = refl
 front_none k n (t ∷ ts) le behind = ap (λ b. cond b (t ∷ in_front k ts) (in_front k ts)) (le-ltb t.0 k (let lt : n < t.0 = behind.0 in omega (arith, lt, le))) ∙ front_none k n ts le behind.1
 
-all_on : (k n : ℕ) (ts : List Timed) → k ≤ n → AreBehind n ts → from_on k ts ≡ ts
+all_on : (k n : ℕ) (ts : List Timed) → k ≤ n → AreAbove n ts → from_on k ts ≡ ts
 all_on k n [] le behind = refl
 all_on k n (t ∷ ts) le behind = ap (λ b. cond (not b) (t ∷ from_on k ts) (from_on k ts)) (le-ltb t.0 k (let lt : n < t.0 = behind.0 in omega (arith, lt, le))) ∙ ap (λ us. t ∷ us) (all_on k n ts le behind.1)
 
@@ -123,14 +120,14 @@ front_cons k t ts lt = ap (λ b. cond b (t ∷ in_front k ts) (in_front k ts)) (
 on_cons : (k : ℕ) (t : Timed) (ts : List Timed) → t.0 < k → from_on k (t ∷ ts) ≡ from_on k ts
 on_cons k t ts lt = ap (λ b. cond (not b) (t ∷ from_on k ts) (from_on k ts)) (lt-ltb t.0 k lt)
 
-front_end : (k : ℕ) (t : Timed) (ts : List Timed) → k ≤ t.0 → IsRanked (t ∷ ts) → in_front k (t ∷ ts) ≡ []
+front_end : (k : ℕ) (t : Timed) (ts : List Timed) → k ≤ t.0 → AreRising (t ∷ ts) → in_front k (t ∷ ts) ≡ []
 front_end k t ts le up = ap (λ b. cond b (t ∷ in_front k ts) (in_front k ts)) (le-ltb t.0 k le) ∙ front_none k t.0 ts le up.0
 
-on_end : (k : ℕ) (t : Timed) (ts : List Timed) → k ≤ t.0 → IsRanked (t ∷ ts) → from_on k (t ∷ ts) ≡ t ∷ ts
+on_end : (k : ℕ) (t : Timed) (ts : List Timed) → k ≤ t.0 → AreRising (t ∷ ts) → from_on k (t ∷ ts) ≡ t ∷ ts
 on_end k t ts le up = ap (λ b. cond (not b) (t ∷ from_on k ts) (from_on k ts)) (le-ltb t.0 k le) ∙ ap (λ us. t ∷ us) (all_on k t.0 ts le up.0)
 
 -- By rank, those in front of a rank stand in front of those from it on.
-pub parted : (k : ℕ) (ts : List Timed) → IsRanked ts → ts ≡ in_front k ts ++ from_on k ts
+pub parted : (k : ℕ) (ts : List Timed) → AreRising ts → ts ≡ in_front k ts ++ from_on k ts
 parted k [] up = refl
 parted k (t ∷ ts) up = ⊎_elim
     (λ (lt : t.0 < k). ap (λ us. t ∷ us) (parted k ts up.1) ∙ sym (λ i. front_cons k t ts lt i ++ on_cons k t ts lt i))
@@ -138,7 +135,7 @@ parted k (t ∷ ts) up = ⊎_elim
     (cases_lt t.0 k)
 
 -- A reading is put in between them.
-pub put-between : (x : Timed) (ts : List Timed) → IsRanked ts → put_in_time at x ts ≡ in_front x.0 ts ++ x ∷ from_on x.0 ts
+pub put-between : (x : Timed) (ts : List Timed) → AreRising ts → put_in_time at x ts ≡ in_front x.0 ts ++ x ∷ from_on x.0 ts
 put-between x [] up = refl
 put-between x (t ∷ ts) up = ⊎_elim
     (λ (lt : t.0 < x.0). put-behind at x t ts lt ∙ ap (λ us. t ∷ us) (put-between x ts up.1) ∙ sym (λ i. front_cons x.0 t ts lt i ++ x ∷ on_cons x.0 t ts lt i))
@@ -146,10 +143,10 @@ put-between x (t ∷ ts) up = ⊎_elim
     (cases_lt t.0 x.0)
 
 -- A reading of the owner is put in among the owner's, and one of another changes none of them.
-pub owned-put : (o : ℕ) (x : Timed) (ts : List Timed) → IsRanked ts → owner_of x.0 ≡ o → owned o (put_in_time at x ts) ≡ put_in_time at x (owned o ts)
+pub owned-put : (o : ℕ) (x : Timed) (ts : List Timed) → AreRising ts → owner_of x.0 ≡ o → owned o (put_in_time at x ts) ≡ put_in_time at x (owned o ts)
 owned-put o x ts up same = put-passed at (λ t. eqb (owner_of t.0) o) x ts (ranked-in_time ts up) ∙ ap (λ b. cond b (put_in_time at x (owned o ts)) (owned o ts)) (eq-eqb (owner_of x.0) o same)
 
-pub owned-put_else : (o : ℕ) (x : Timed) (ts : List Timed) → IsRanked ts → (owner_of x.0 ≡ o → ⊥) → owned o (put_in_time at x ts) ≡ owned o ts
+pub owned-put_else : (o : ℕ) (x : Timed) (ts : List Timed) → AreRising ts → (owner_of x.0 ≡ o → ⊥) → owned o (put_in_time at x ts) ≡ owned o ts
 owned-put_else o x ts up apart = put-passed at (λ t. eqb (owner_of t.0) o) x ts (ranked-in_time ts up) ∙ ap (λ b. cond b (put_in_time at x (owned o ts)) (owned o ts)) (ne_eqb (owner_of x.0) o apart)
 
 -- Two tests pass the same in either order.

@@ -16,13 +16,14 @@ use Rattle.quarter_table.specs.Pairs.{rows_of, rows_with}
 use Rattle.quarter_table.specs.Table.{Table}
 use Rattle.quarter_table.proofs.Several.{made_with}
 use Rattle.reading_index.specs.Ranks.{number_of, owner_of}
-use Rattle.reading_index.specs.Timed.{Timed, first_of, from_on, in_front, last_of, owned, AreBehind, IsRanked}
+use Rattle.key_index.proofs.Orders.{above_less, rising_parts, below_more, below_both}
+use Rattle.reading_index.specs.Timed.{Timed, first_of, from_on, in_front, last_of, owned, AreAbove, AreRising, AreBelow}
 use Rattle.station_ledger.specs.ByMoment.{bare, bare_one, beyond, fits, fitting, put_each}
 use Rattle.station_ledger.specs.Quarters.{HasRoom, HoldsPairs, IsWith, IsWithout, IsWork, quartered}
 use Rattle.station_ledger.specs.declared.by_moment.Moved.{Moved}
 use Rattle.station_ledger.specs.Runs.{own_timed, pairs_among, AreApart, AreExchanged, AreFew, AreSwapped}
 use Rattle.station_ledger.proofs.MomentRanks.{at, filter-ranked, length-put, parted}
-use Rattle.station_ledger.proofs.MomentWalks.{AreInFront, AreOver, AreUnder, FirstFails, LastFails, few_more, fitting-beyond, fitting-front, followed_fewer, first_bare, foreign_first, foreign_last, foreign_parts, has_room, in_front-append, in_front-under, last-append, last_bare, last_behind, moved_in, one_run_more, own_parts, put_each-append, put_each-before, put_each-row, put_each-under, ranked-apart, ranked-back, ranked-front, three_down, three_up, under-more, behind-less, under-append, with_run, without_run}
+use Rattle.station_ledger.proofs.MomentWalks.{AreInFront, AreOver, FirstFails, LastFails, few_more, fitting-beyond, fitting-front, followed_fewer, first_bare, foreign_first, foreign_last, foreign_parts, has_room, in_front-append, in_front-under, last-append, last_bare, last_behind, moved_in, one_run_more, own_parts, put_each-append, put_each-before, put_each-row, put_each-under, ranked-apart, three_down, three_up, with_run, without_run}
 use Rattle.station_ledger.proofs.Rows.{rows_less}
 use Rattle.station_ledger.proofs.Walks.{first_and_rest}
 
@@ -32,13 +33,13 @@ length-put_each [] ts = omega arith
 length-put_each (x ∷ xs) ts = let rest = length-put_each xs (put_in_time at x ts) in let one = length-put x ts in omega (arith, rest, one)
 
 -- Below a rank stay those below it.
-under-put : (n : ℕ) (x : Timed) (ts : List Timed) → x.0 < n → AreUnder n ts → AreUnder n (put_in_time at x ts)
+under-put : (n : ℕ) (x : Timed) (ts : List Timed) → x.0 < n → AreBelow n ts → AreBelow n (put_in_time at x ts)
 under-put n x [] lt h = (lt, tt)
 under-put n x (t ∷ ts) lt h =
     let rest = under-put n x ts lt h.1 in
-    elim (nat_lt t.0 x.0) as (λ b. AreUnder n (cond b (t ∷ put_in_time at x ts) (x ∷ t ∷ ts))) [ true ↦ (h.0, rest) | false ↦ (lt, h) ]
+    elim (nat_lt t.0 x.0) as (λ b. AreBelow n (cond b (t ∷ put_in_time at x ts) (x ∷ t ∷ ts))) [ true ↦ (h.0, rest) | false ↦ (lt, h) ]
 
-under-put_each : (n : ℕ) (xs ts : List Timed) → AreUnder n xs → AreUnder n ts → AreUnder n (put_each xs ts)
+under-put_each : (n : ℕ) (xs ts : List Timed) → AreBelow n xs → AreBelow n ts → AreBelow n (put_each xs ts)
 under-put_each n [] ts h k = k
 under-put_each n (x ∷ xs) ts h k = under-put_each n xs (put_in_time at x ts) h.1 (under-put n x ts h.0 k)
 
@@ -47,7 +48,7 @@ abbrev AreFromRank : ℕ → List Timed → Type 0
 AreFromRank n [] = Unit {0}
 AreFromRank n (t ∷ ts) = (n ≤ t.0) × AreFromRank n ts
 
-from-rising : (n : ℕ) (ts : List Timed) → AreBehind n ts → AreFromRank n ts
+from-rising : (n : ℕ) (ts : List Timed) → AreAbove n ts → AreFromRank n ts
 from-rising n [] h = tt
 from-rising n (t ∷ ts) h = (let a = h.0 in omega (arith, a), from-rising n ts h.1)
 
@@ -55,15 +56,15 @@ from-parts : (n : ℕ) (ts us : List Timed) → AreFromRank n (ts ++ us) → Are
 from-parts n [] us h = (tt, h)
 from-parts n (t ∷ ts) us h = let rest = from-parts n ts us h.1 in ((h.0, rest.0), rest.1)
 
-over-under : (n : ℕ) (ts xs : List Timed) → AreUnder n ts → AreFromRank n xs → AreOver ts xs
+over-under : (n : ℕ) (ts xs : List Timed) → AreBelow n ts → AreFromRank n xs → AreOver ts xs
 over-under n ts [] h k = tt
-over-under n ts (x ∷ xs) h k = (under-more n x.0 ts k.0 h, over-under n ts xs h k.1)
+over-under n ts (x ∷ xs) h k = (below_more n x.0 ts k.0 h, over-under n ts xs h k.1)
 
-front-of : (n : ℕ) (xs us : List Timed) → AreUnder n xs → AreBehind n us → AreInFront xs us
+front-of : (n : ℕ) (xs us : List Timed) → AreBelow n xs → AreAbove n us → AreInFront xs us
 front-of n [] us h k = tt
-front-of n (x ∷ xs) us h k = (behind-less x.0 n us (let a = h.0 in omega (arith, a)) k, front-of n xs us h.1 k)
+front-of n (x ∷ xs) us h k = (above_less x.0 n us (let a = h.0 in omega (arith, a)) k, front-of n xs us h.1 k)
 
-under-first : (xs us : List Timed) (u : Timed) → AreInFront xs (u ∷ us) → AreUnder u.0 xs
+under-first : (xs us : List Timed) (u : Timed) → AreInFront xs (u ∷ us) → AreBelow u.0 xs
 under-first [] us u h = tt
 under-first (x ∷ xs) us u h = (h.0.0, under-first xs us u h.1)
 
@@ -78,21 +79,21 @@ strictly : (m n : ℕ) → m ≤ n → (m ≡ n → ⊥) → m < n
 strictly m n le apart = ⊎_elim (λ (same : m ≡ n). absurd (apart same)) (λ (other : m ≡ n → ⊥). omega (arith, le, other)) (cases_eq m n)
 
 -- The others from an event's reading on are behind it.
-from_on-behind : (seq : ℕ) (x : Timed) (ts : List Timed) → own_timed seq x ≡ true → AreForeign (own_timed seq) ts → AreBehind x.0 (from_on x.0 ts)
+from_on-behind : (seq : ℕ) (x : Timed) (ts : List Timed) → own_timed seq x ≡ true → AreForeign (own_timed seq) ts → AreAbove x.0 (from_on x.0 ts)
 from_on-behind seq x [] mine h = tt
 from_on-behind seq x (t ∷ ts) mine h = ⊎_elim
-    (λ (lt : t.0 < x.0). subst (λ b. AreBehind x.0 (cond (not b) (t ∷ from_on x.0 ts) (from_on x.0 ts))) (sym (lt-ltb t.0 x.0 lt)) (from_on-behind seq x ts mine h.1))
-    (λ (ge : x.0 ≤ t.0). subst (λ b. AreBehind x.0 (cond (not b) (t ∷ from_on x.0 ts) (from_on x.0 ts))) (sym (le-ltb t.0 x.0 ge)) (strictly x.0 t.0 ge (apart seq x t mine h.0), from_on-behind seq x ts mine h.1))
+    (λ (lt : t.0 < x.0). subst (λ b. AreAbove x.0 (cond (not b) (t ∷ from_on x.0 ts) (from_on x.0 ts))) (sym (lt-ltb t.0 x.0 lt)) (from_on-behind seq x ts mine h.1))
+    (λ (ge : x.0 ≤ t.0). subst (λ b. AreAbove x.0 (cond (not b) (t ∷ from_on x.0 ts) (from_on x.0 ts))) (sym (le-ltb t.0 x.0 ge)) (strictly x.0 t.0 ge (apart seq x t mine h.0), from_on-behind seq x ts mine h.1))
     (cases_lt t.0 x.0)
 
 -- Those that are beyond another reading are behind it.
-beyond-behind : (seq : ℕ) (y : Timed) (xs : List Timed) → own_timed seq y ≡ false → AreOwn (own_timed seq) xs → IsRanked xs → AreBehind y.0 (beyond (Some y) xs)
+beyond-behind : (seq : ℕ) (y : Timed) (xs : List Timed) → own_timed seq y ≡ false → AreOwn (own_timed seq) xs → AreRising xs → AreAbove y.0 (beyond (Some y) xs)
 beyond-behind seq y [] other mine up = tt
 beyond-behind seq y (x ∷ xs) other mine up = ⊎_elim
-    (λ (lt : x.0 < y.0). subst (λ b. AreBehind y.0 (cond b (beyond (Some y) xs) (x ∷ xs))) (sym (lt-ltb x.0 y.0 lt)) (beyond-behind seq y xs other mine.1 up.1))
+    (λ (lt : x.0 < y.0). subst (λ b. AreAbove y.0 (cond b (beyond (Some y) xs) (x ∷ xs))) (sym (lt-ltb x.0 y.0 lt)) (beyond-behind seq y xs other mine.1 up.1))
     (λ (ge : y.0 ≤ x.0).
     let more : y.0 < x.0 = strictly y.0 x.0 ge (λ e. apart seq x y mine.0 other (sym e)) in
-    subst (λ b. AreBehind y.0 (cond b (beyond (Some y) xs) (x ∷ xs))) (sym (le-ltb x.0 y.0 ge)) (more, behind-less y.0 x.0 xs (omega (arith, more)) up.0))
+    subst (λ b. AreAbove y.0 (cond b (beyond (Some y) xs) (x ∷ xs))) (sym (le-ltb x.0 y.0 ge)) (more, above_less y.0 x.0 xs (omega (arith, more)) up.0))
     (cases_lt x.0 y.0)
 
 none_beyond : (xs : List Timed) → beyond None xs ≡ []
@@ -100,7 +101,7 @@ none_beyond [] = refl
 none_beyond (x ∷ xs) = none_beyond xs
 
 -- The first one fits.
-fits-first : (x : Timed) (us : List Timed) → AreBehind x.0 us → fits (first_of us) x ≡ true
+fits-first : (x : Timed) (us : List Timed) → AreAbove x.0 us → fits (first_of us) x ≡ true
 fits-first x [] h = refl
 fits-first x (u ∷ us) h = lt-ltb x.0 u.0 h.0
 
@@ -195,11 +196,11 @@ pub record AreParted (done left others : List Timed) : Type 0 where
   pub y : Timed
   pub back : List Timed
   pub is : others ≡ front ++ y ∷ back
-  pub above : AreUnder y.0 done
-  pub below : AreBehind y.0 left
+  pub above : AreBelow y.0 done
+  pub below : AreAbove y.0 left
 
 -- The next run of an event's readings.
-module _ (seq : ℕ) (others done left : List Timed) (x : Timed) (xs : List Timed) (left_is : left ≡ x ∷ xs) (own : AreOwn (own_timed seq) (done ++ left)) (rising : IsRanked (done ++ left)) (foreign : AreForeign (own_timed seq) others) (sorted : IsRanked others) where
+module _ (seq : ℕ) (others done left : List Timed) (x : Timed) (xs : List Timed) (left_is : left ≡ x ∷ xs) (own : AreOwn (own_timed seq) (done ++ left)) (rising : AreRising (done ++ left)) (foreign : AreForeign (own_timed seq) others) (sorted : AreRising others) where
   abbrev F : List Timed
   F = in_front x.0 others
 
@@ -221,22 +222,22 @@ module _ (seq : ℕ) (others done left : List Timed) (x : Timed) (xs : List Time
   x_own : own_timed seq x ≡ true
   x_own = let h : AreOwn (own_timed seq) (x ∷ xs) = subst (AreOwn (own_timed seq)) left_is left_own in h.0
 
-  left_rising : IsRanked left
-  left_rising = ranked-back done left rising
+  left_rising : AreRising left
+  left_rising = (rising_parts done left rising).1
 
-  B_behind : AreBehind x.0 B
+  B_behind : AreAbove x.0 B
   B_behind = from_on-behind seq x others x_own foreign
 
   parts_foreign : AreForeign (own_timed seq) F × AreForeign (own_timed seq) B
   parts_foreign = foreign_parts (own_timed seq) F B (subst (AreForeign (own_timed seq)) others_are foreign)
 
-  B_sorted : IsRanked B
-  B_sorted = ranked-back F B (subst IsRanked others_are sorted)
+  B_sorted : AreRising B
+  B_sorted = (rising_parts F B (subst AreRising others_are sorted)).1
 
-  F_under : AreUnder x.0 F
+  F_under : AreBelow x.0 F
   F_under = in_front-under x.0 others
 
-  done_under : AreUnder x.0 done
+  done_under : AreBelow x.0 done
   done_under = under-first done xs x (subst (AreInFront done) left_is (ranked-apart done left rising))
 
   left_parts : run ++ rest ≡ left
@@ -245,14 +246,14 @@ module _ (seq : ℕ) (others done left : List Timed) (x : Timed) (xs : List Time
   run_own : AreOwn (own_timed seq) run
   run_own = (own_parts (own_timed seq) run rest (subst (AreOwn (own_timed seq)) (sym left_parts) left_own)).0
 
-  run_rising : IsRanked run
-  run_rising = ranked-front run rest (subst IsRanked (sym left_parts) left_rising)
+  run_rising : AreRising run
+  run_rising = (rising_parts run rest (subst AreRising (sym left_parts) left_rising)).0
 
   run_in_front : AreInFront run B
   run_in_front = fitting-front B left B_sorted
 
   from_left : AreFromRank x.0 left
-  from_left = subst (AreFromRank x.0) (sym left_is) (omega arith, from-rising x.0 xs (let h : IsRanked (x ∷ xs) = subst IsRanked left_is left_rising in h.0))
+  from_left = subst (AreFromRank x.0) (sym left_is) (omega arith, from-rising x.0 xs (let h : AreRising (x ∷ xs) = subst AreRising left_is left_rising in h.0))
 
   from_run : AreFromRank x.0 run × AreFromRank x.0 rest
   from_run = from-parts x.0 run rest (subst (AreFromRank x.0) (sym left_parts) from_left)
@@ -271,8 +272,8 @@ module _ (seq : ℕ) (others done left : List Timed) (x : Timed) (xs : List Time
         y = y;
         back = ys;
         is = others_are ∙ ap (λ l. F ++ l) is;
-        above = under-append y.0 done run (under-more x.0 y.0 done (let b : AreBehind x.0 (y ∷ ys) = subst (AreBehind x.0) is B_behind in let a = b.0 in omega (arith, a)) done_under) (under-first run ys y (subst (AreInFront run) is run_in_front));
-        below = subst (λ o. AreBehind y.0 (beyond o left)) (sym (ap first_of is)) (beyond-behind seq y left (let f : AreForeign (own_timed seq) (y ∷ ys) = subst (AreForeign (own_timed seq)) is parts_foreign.1 in f.0) left_own left_rising);
+        above = below_both y.0 done run (below_more x.0 y.0 done (let b : AreAbove x.0 (y ∷ ys) = subst (AreAbove x.0) is B_behind in let a = b.0 in omega (arith, a)) done_under) (under-first run ys y (subst (AreInFront run) is run_in_front));
+        below = subst (λ o. AreAbove y.0 (beyond o left)) (sym (ap first_of is)) (beyond-behind seq y left (let f : AreForeign (own_timed seq) (y ∷ ys) = subst (AreForeign (own_timed seq)) is parts_foreign.1 in f.0) left_own left_rising);
       })
 
   -- a run that comes, where those before it came
@@ -307,19 +308,19 @@ module _ (seq : ℕ) (others done left : List Timed) (x : Timed) (xs : List Time
         behind : AreParted done left others → (last_of (put_each done F) ≡ last_of F) × LastFails (own_timed seq) (put_each done F)
         behind p =
             let y = p.y in let f = in_front x.0 p.front in let b = in_front x.0 p.back in
-            let lt : y.0 < x.0 = (let h : AreBehind y.0 (x ∷ xs) = subst (AreBehind y.0) left_is p.below in h.0) in
+            let lt : y.0 < x.0 = (let h : AreAbove y.0 (x ∷ xs) = subst (AreAbove y.0) left_is p.below in h.0) in
             let F_is : F ≡ f ++ y ∷ b = ap (in_front x.0) p.is ∙ in_front-append x.0 p.front (y ∷ p.back) ∙ ap (λ c. f ++ cond c (y ∷ b) b) (lt-ltb y.0 x.0 lt) in
-            let F_sorted : IsRanked (f ++ y ∷ b) = subst IsRanked F_is (filter-ranked (λ t. nat_lt t.0 x.0) others sorted) in
-            let tail : IsRanked (y ∷ b) = ranked-back f (y ∷ b) F_sorted in
+            let F_sorted : AreRising (f ++ y ∷ b) = subst AreRising F_is (filter-ranked (λ t. nat_lt t.0 x.0) others sorted) in
+            let tail : AreRising (y ∷ b) = (rising_parts f (y ∷ b) F_sorted).1 in
             let fore : AreForeign (own_timed seq) (y ∷ b) = (foreign_parts (own_timed seq) f (y ∷ b) (subst (AreForeign (own_timed seq)) F_is parts_foreign.0)).1 in
             let put : put_each done F ≡ put_each done f ++ y ∷ b = ap (put_each done) F_is ∙ put_each-before done f (y ∷ b) (with_it done p.above tail.0) in (
               ap last_of put ∙ last-append (put_each done f) b y ∙ sym (last-append f b y) ∙ sym (ap last_of F_is),
               subst (LastFails (own_timed seq)) (sym put) (last_behind (own_timed seq) (put_each done f) b y (foreign_last (own_timed seq) (y ∷ b) fore)),
             )
           where
-            with_it : (ds : List Timed) → AreUnder p.y.0 ds → AreBehind p.y.0 (in_front x.0 p.back) → AreInFront ds (p.y ∷ in_front x.0 p.back)
+            with_it : (ds : List Timed) → AreBelow p.y.0 ds → AreAbove p.y.0 (in_front x.0 p.back) → AreInFront ds (p.y ∷ in_front x.0 p.back)
             with_it [] h k = tt
-            with_it (d ∷ ds) h k = ((h.0, behind-less d.0 p.y.0 (in_front x.0 p.back) (let a = h.0 in omega (arith, a)) k), with_it ds h.1 k)
+            with_it (d ∷ ds) h k = ((h.0, above_less d.0 p.y.0 (in_front x.0 p.back) (let a = h.0 in omega (arith, a)) k), with_it ds h.1 k)
 
   -- a run that goes, where those behind it are still there
   pub going_run : IsRun seq (bare_one (last_of F)) (bare_one (first_of B)) run (put_each rest others) (put_each left others)
@@ -334,14 +335,14 @@ module _ (seq : ℕ) (others done left : List Timed) (x : Timed) (xs : List Time
         ap (λ l. put_each l others) (sym left_parts) ∙ put_each-append run rest others
         ∙ ap (put_each rest) (ap (put_each run) others_are ∙ put_each-under run F B (over-under x.0 F run F_under from_run.0) ∙ ap (λ l. F ++ l) (put_each-row run B run_rising run_in_front))
         ∙ put_each-under rest F (run ++ B) (over-under x.0 F rest F_under from_run.1)
-        ∙ ap (λ l. F ++ l) (put_each-under rest run B (over_run run rest (subst IsRanked (sym left_parts) left_rising)));
+        ∙ ap (λ l. F ++ l) (put_each-under rest run B (over_run run rest (subst AreRising (sym left_parts) left_rising)));
     before_is = last_bare F;
     after_is = ap bare_one (sym (begins B refl).0) ∙ first_bare (put_each rest B);
     last_fails = foreign_last (own_timed seq) F parts_foreign.0;
     first_fails = (begins B refl).1;
     own = run_own;
   } where
-    over_run : (ts us : List Timed) → IsRanked (ts ++ us) → AreOver ts us
+    over_run : (ts us : List Timed) → AreRising (ts ++ us) → AreOver ts us
     over_run ts us h = all_over ts us (ranked-apart ts us h)
       where
         all_over : (ts us : List Timed) → AreInFront ts us → AreOver ts us
@@ -358,11 +359,11 @@ module _ (seq : ℕ) (others done left : List Timed) (x : Timed) (xs : List Time
         (ap (λ l. first_of (put_each l B)) gone, subst (λ l. FirstFails (own_timed seq) (put_each l B)) (sym gone) (foreign_first (own_timed seq) B parts_foreign.1))
     begins (y ∷ ys) is =
         let fore : AreForeign (own_timed seq) (y ∷ ys) = subst (AreForeign (own_timed seq)) is parts_foreign.1 in
-        let behind : AreBehind y.0 rest = subst (λ o. AreBehind y.0 (beyond o left)) (sym (ap first_of is)) (beyond-behind seq y left fore.0 left_own left_rising) in
+        let behind : AreAbove y.0 rest = subst (λ o. AreAbove y.0 (beyond o left)) (sym (ap first_of is)) (beyond-behind seq y left fore.0 left_own left_rising) in
         let put : put_each rest B ≡ y ∷ put_each rest ys = ap (put_each rest) is ∙ put_each-under rest (y ∷ []) ys (over_one y rest behind) in
         (ap first_of put ∙ sym (ap first_of is), subst (FirstFails (own_timed seq)) (sym put) fore.0)
       where
-        over_one : (y : Timed) (us : List Timed) → AreBehind y.0 us → AreOver (y ∷ []) us
+        over_one : (y : Timed) (us : List Timed) → AreAbove y.0 us → AreOver (y ∷ []) us
         over_one y [] h = tt
         over_one y (u ∷ us) h = ((h.0, tt), over_one y us h.1)
 
@@ -487,8 +488,8 @@ module _ {others left run next_left : List Timed} {before behind : Option Timed}
       mine : AreOwn (own_timed seq) (done ++ left)
       mine = subst (AreOwn (own_timed seq)) split a.own
 
-      up : IsRanked (done ++ left)
-      up = subst IsRanked split a.rising
+      up : AreRising (done ++ left)
+      up = subst AreRising split a.rising
 
       pub next_split : all ≡ (done ++ run) ++ next_left
       next_split = split ∙ ap (λ l. done ++ l) (sym (fitting-beyond behind left) ∙ sym (λ i. turn.run_is i ++ turn.next_is i)) ∙ sym (append_assoc done run next_left)

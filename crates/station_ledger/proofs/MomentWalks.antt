@@ -18,7 +18,8 @@ use Rattle.ledger_model.proofs.Callers.{AreForeign, AreOwn, followed_cut, put-be
 use Rattle.quarter_table.specs.Table.{Table}
 use Rattle.quarter_table.specs.Pairs.{rows_of}
 use Rattle.quarter_table.proofs.Made.{made_alike}
-use Rattle.reading_index.specs.Timed.{Timed, first_of, in_front, last_of, AreBehind, IsRanked}
+use Rattle.key_index.proofs.Orders.{above_parts, above_less}
+use Rattle.reading_index.specs.Timed.{Timed, first_of, in_front, last_of, AreAbove, AreRising, AreBelow}
 use Rattle.station_ledger.specs.ByMoment.{bare, bare_one, beyond, fits, fitting, put_each}
 use Rattle.station_ledger.specs.Runs.{AreFew}
 use Rattle.station_ledger.specs.Quarters.{HasRoom, quartered}
@@ -96,49 +97,28 @@ has_room period d ps rest n most t rows room few_rows few small =
       },
     )
 
--- Each is below a rank.
-abbrev pub AreUnder : ℕ → List Timed → Type 0
-AreUnder r [] = Unit {0}
-AreUnder r (t ∷ ts) = (t.0 < r) × AreUnder r ts
-
 -- Each of the second is above all of the first.
 abbrev pub AreOver : List Timed → List Timed → Type 0
 AreOver ts [] = Unit {0}
-AreOver ts (x ∷ xs) = AreUnder x.0 ts × AreOver ts xs
+AreOver ts (x ∷ xs) = AreBelow x.0 ts × AreOver ts xs
 
 -- Each of the first is below all of the second.
 abbrev pub AreInFront : List Timed → List Timed → Type 0
 AreInFront [] us = Unit {0}
-AreInFront (x ∷ xs) us = AreBehind x.0 us × AreInFront xs us
-
-pub under-more : (m n : ℕ) (ts : List Timed) → m ≤ n → AreUnder m ts → AreUnder n ts
-under-more m n [] le h = tt
-under-more m n (t ∷ ts) le h = (let a = h.0 in omega (arith, a, le), under-more m n ts le h.1)
-
-pub behind-less : (m n : ℕ) (ts : List Timed) → m ≤ n → AreBehind n ts → AreBehind m ts
-behind-less m n [] le h = tt
-behind-less m n (t ∷ ts) le h = (let a = h.0 in omega (arith, a, le), behind-less m n ts le h.1)
-
-pub under-append : (n : ℕ) (ts us : List Timed) → AreUnder n ts → AreUnder n us → AreUnder n (ts ++ us)
-under-append n [] us h k = k
-under-append n (t ∷ ts) us h k = (h.0, under-append n ts us h.1 k)
-
-pub behind-parts : (n : ℕ) (ts us : List Timed) → AreBehind n (ts ++ us) → AreBehind n ts × AreBehind n us
-behind-parts n [] us h = (tt, h)
-behind-parts n (t ∷ ts) us h = let rest = behind-parts n ts us h.1 in ((h.0, rest.0), rest.1)
+AreInFront (x ∷ xs) us = AreAbove x.0 us × AreInFront xs us
 
 -- One that stands behind all of a front.
-put-under : (x : Timed) (ts us : List Timed) → AreUnder x.0 ts → put_in_time at x (ts ++ us) ≡ ts ++ put_in_time at x us
+put-under : (x : Timed) (ts us : List Timed) → AreBelow x.0 ts → put_in_time at x (ts ++ us) ≡ ts ++ put_in_time at x us
 put-under x [] us h = refl
 put-under x (t ∷ ts) us h = put-behind at x t (ts ++ us) h.0 ∙ ap (λ l. t ∷ l) (put-under x ts us h.1)
 
 -- One that stands in front of all.
-put-over : (x : Timed) (us : List Timed) → AreBehind x.0 us → put_in_time at x us ≡ x ∷ us
+put-over : (x : Timed) (us : List Timed) → AreAbove x.0 us → put_in_time at x us ≡ x ∷ us
 put-over x [] h = refl
 put-over x (u ∷ us) h = put-front at x u us (let a = h.0 in omega (arith, a))
 
 -- One that stands in front of all of a back.
-put-before : (x : Timed) (ts us : List Timed) → AreBehind x.0 us → put_in_time at x (ts ++ us) ≡ put_in_time at x ts ++ us
+put-before : (x : Timed) (ts us : List Timed) → AreAbove x.0 us → put_in_time at x (ts ++ us) ≡ put_in_time at x ts ++ us
 put-before x [] us h = put-over x us h
 put-before x (t ∷ ts) us h = ⊎_elim
     (λ (lt : t.0 < x.0). put-behind at x t (ts ++ us) lt ∙ ap (λ l. t ∷ l) (put-before x ts us h) ∙ sym (ap (λ l. l ++ us) (put-behind at x t ts lt)))
@@ -157,34 +137,26 @@ pub put_each-append : (xs ys ts : List Timed) → put_each (xs ++ ys) ts ≡ put
 put_each-append [] ys ts = refl
 put_each-append (x ∷ xs) ys ts = put_each-append xs ys (put_in_time at x ts)
 
-over-one : (x : Timed) (xs : List Timed) → AreBehind x.0 xs → AreOver (x ∷ []) xs
+over-one : (x : Timed) (xs : List Timed) → AreAbove x.0 xs → AreOver (x ∷ []) xs
 over-one x [] h = tt
 over-one x (y ∷ ys) h = ((h.0, tt), over-one x ys h.1)
 
 -- Several that rise, in front of all.
-pub put_each-row : (xs us : List Timed) → IsRanked xs → AreInFront xs us → put_each xs us ≡ xs ++ us
+pub put_each-row : (xs us : List Timed) → AreRising xs → AreInFront xs us → put_each xs us ≡ xs ++ us
 put_each-row [] us up h = refl
 put_each-row (x ∷ xs) us up h = ap (put_each xs) (put-over x us h.0) ∙ put_each-under xs (x ∷ []) us (over-one x xs up.0) ∙ ap (λ l. x ∷ l) (put_each-row xs us up.1 h.1)
 
--- Parts of what rises.
-pub ranked-front : (ts us : List Timed) → IsRanked (ts ++ us) → IsRanked ts
-ranked-front [] us h = tt
-ranked-front (t ∷ ts) us h = ((behind-parts t.0 ts us h.0).0, ranked-front ts us h.1)
-
-pub ranked-back : (ts us : List Timed) → IsRanked (ts ++ us) → IsRanked us
-ranked-back [] us h = h
-ranked-back (t ∷ ts) us h = ranked-back ts us h.1
-
-pub ranked-apart : (ts us : List Timed) → IsRanked (ts ++ us) → AreInFront ts us
+-- A front of what rises is in front of the rest.
+pub ranked-apart : (ts us : List Timed) → AreRising (ts ++ us) → AreInFront ts us
 ranked-apart [] us h = tt
-ranked-apart (t ∷ ts) us h = ((behind-parts t.0 ts us h.0).1, ranked-apart ts us h.1)
+ranked-apart (t ∷ ts) us h = ((above_parts t.0 ts us h.0).1, ranked-apart ts us h.1)
 
 -- Those in front of a rank are below it, and those from it on are not.
-pub in_front-under : (k : ℕ) (ts : List Timed) → AreUnder k (in_front k ts)
+pub in_front-under : (k : ℕ) (ts : List Timed) → AreBelow k (in_front k ts)
 in_front-under k [] = tt
 in_front-under k (t ∷ ts) = ⊎_elim
-    (λ (lt : t.0 < k). subst (λ b. AreUnder k (cond b (t ∷ in_front k ts) (in_front k ts))) (sym (lt-ltb t.0 k lt)) (lt, in_front-under k ts))
-    (λ (ge : k ≤ t.0). subst (λ b. AreUnder k (cond b (t ∷ in_front k ts) (in_front k ts))) (sym (le-ltb t.0 k ge)) (in_front-under k ts))
+    (λ (lt : t.0 < k). subst (λ b. AreBelow k (cond b (t ∷ in_front k ts) (in_front k ts))) (sym (lt-ltb t.0 k lt)) (lt, in_front-under k ts))
+    (λ (ge : k ≤ t.0). subst (λ b. AreBelow k (cond b (t ∷ in_front k ts) (in_front k ts))) (sym (le-ltb t.0 k ge)) (in_front-under k ts))
     (cases_lt t.0 k)
 
 pub in_front-append : (k : ℕ) (ts us : List Timed) → in_front k (ts ++ us) ≡ in_front k ts ++ in_front k us
@@ -196,7 +168,7 @@ fitting-beyond a [] = refl
 fitting-beyond a (x ∷ xs) = elim (fits a x) as (λ b. cond b (x ∷ fitting a xs) [] ++ cond b (beyond a xs) (x ∷ xs) ≡ x ∷ xs) [ true ↦ ap (λ l. x ∷ l) (fitting-beyond a xs) | false ↦ refl ]
 
 -- All that fit stand in front of a row that begins there.
-pub fitting-front : (us xs : List Timed) → IsRanked us → AreInFront (fitting (first_of us) xs) us
+pub fitting-front : (us xs : List Timed) → AreRising us → AreInFront (fitting (first_of us) xs) us
 fitting-front [] xs up = nothing (fitting None xs)
   where
     nothing : (ys : List Timed) → AreInFront ys []
@@ -204,7 +176,7 @@ fitting-front [] xs up = nothing (fitting None xs)
     nothing (y ∷ ys) = (tt, nothing ys)
 fitting-front (u ∷ us) [] up = tt
 fitting-front (u ∷ us) (x ∷ xs) up = ⊎_elim
-    (λ (lt : x.0 < u.0). subst (λ b. AreInFront (cond b (x ∷ fitting (Some u) xs) []) (u ∷ us)) (sym (lt-ltb x.0 u.0 lt)) ((lt, behind-less x.0 u.0 us (omega (arith, lt)) up.0), fitting-front (u ∷ us) xs up))
+    (λ (lt : x.0 < u.0). subst (λ b. AreInFront (cond b (x ∷ fitting (Some u) xs) []) (u ∷ us)) (sym (lt-ltb x.0 u.0 lt)) ((lt, above_less x.0 u.0 us (omega (arith, lt)) up.0), fitting-front (u ∷ us) xs up))
     (λ (ge : u.0 ≤ x.0). subst (λ b. AreInFront (cond b (x ∷ fitting (Some u) xs) []) (u ∷ us)) (sym (le-ltb x.0 u.0 ge)) tt)
     (cases_lt x.0 u.0)
 

@@ -13,7 +13,7 @@ use Rattle.ledger_model.specs.Key.{KeyName}
 use Rattle.ledger_model.specs.Limits.{Bounds}
 use Rattle.ledger_model.specs.Ranges.{most_event_readings}
 use Rattle.reading_index.specs.Ranks.{owner, rank}
-use Rattle.reading_index.specs.Timed.{Timed, IsRanked, has_rank, owned, without}
+use Rattle.reading_index.specs.Timed.{Timed, AreRising, has_rank, owned, without}
 use Rattle.station_ledger.specs.declared.by_moment.ByMoment.{ByMoment}
 use Rattle.station_ledger.specs.Quarters.{readings_at}
 
@@ -86,7 +86,7 @@ pub record AreByMoment (limits : Bounds) (es : List Entry) (b : ByMoment) : Type
   pub slots : AreSlots limits es b.slots
   pub held : (d : Direction) (tx : List ℕ) (row : TableRow) → row_of tx b.slots.rows ≡ Some row → owned (owner row.slot d) b.index.entries ≡ timed_of row.slot d tx es
   pub spare : (d : Direction) (slot : ℕ) → IsFresh slot b.slots.rows → owned (owner slot d) b.index.entries ≡ []
-  pub in_order : IsRanked b.index.entries
+  pub in_order : AreRising b.index.entries
   pub few : length b.index.entries ≤ live_readings es
   pub room : b.index.capacity ≡ limits.readings
   pub list_room : most_event_readings ≤ vec_capacity b.listed

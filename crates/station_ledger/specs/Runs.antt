@@ -14,7 +14,7 @@ use Rattle.quarter_table.specs.Table.{Table}
 use Rattle.event_chain.specs.Chains.{Chained}
 use Rattle.ledger_model.specs.Key.{KeyName}
 use Rattle.reading_index.specs.Ranks.{number_of, owner, owner_of}
-use Rattle.reading_index.specs.Timed.{Timed, TimedReadings, IsRanked, owned}
+use Rattle.reading_index.specs.Timed.{Timed, TimedReadings, AreRising, owned}
 use Rattle.station_ledger.specs.declared.by_moment.Moved.{Moved}
 use Rattle.station_ledger.specs.ByMoment.{bare, bare_one, listed_of, put_each, take_each, ArePuttable}
 use Rattle.station_ledger.specs.Quarters.{HasRoom, IsAdded, IsTaken, IsWithout, IsWork, quartered, readings_at}
@@ -39,8 +39,8 @@ pub record AreApart (o seq period : ℕ) (d : Direction) (readings others : List
   pub owned_by : AllByRecursion (λ r. owner_of r.0 ≡ o) readings
   pub own : AreOwn (own_timed seq) readings
   pub foreign : AreForeign (own_timed seq) others
-  pub rising : IsRanked readings
-  pub sorted : IsRanked others
+  pub rising : AreRising readings
+  pub sorted : AreRising others
   pub small : length readings ≤ most_event_readings
   pub rows : t.rows ≡ rows_of (quartered period d ps ++ rest)
   pub room : length others + length readings + length rest ≤ t.capacity + 1

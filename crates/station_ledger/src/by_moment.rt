@@ -8,7 +8,7 @@ ghost use Rattle.ledger_model.specs.Deltas.{across, pairs_between};
 ghost use Rattle.ledger_model.specs.InTime.{put_in_time};
 ghost use Rattle.ledger_model.specs.Ranges.{most_event_readings, most_readings};
 ghost use Rattle.ledger_model.specs.declared.order.Order.TheVariants.{Moment};
-ghost use Rattle.reading_index.specs.Timed.{from_on, in_front, IsRanked};
+ghost use Rattle.reading_index.specs.Timed.{from_on, in_front, AreRising};
 ghost use Rattle.station_ledger.specs.ByMoment.{bare, bare_one, beyond, fits, fitting, listed_of, put_each, take_each, IsSlotGiven, AreByMoment, ArePuttable};
 ghost use Rattle.station_ledger.specs.Exchange.{IsComing, IsGoing};
 ghost use Rattle.station_ledger.specs.Moved.{IsExchanged};
@@ -151,7 +151,7 @@ pub(crate) fn take_all(index: &mut ReadingIndex, readings: &[KeyedReading])
 // How many readings of a list by rising rank come in front of a key, searched for from the end: the readings
 // of an event nearly always rise.
 fn place_of(listed: &[KeyedReading], key: MomentKey) -> usize
-    requires ranked { IsRanked listed.now }
+    requires ranked { AreRising listed.now }
     ensures within { result ≤ length listed.now }
     ensures front { take result listed.now ≡ in_front key listed.now }
     ensures rest { drop result listed.now ≡ from_on key listed.now }
@@ -169,7 +169,7 @@ fn place_of(listed: &[KeyedReading], key: MomentKey) -> usize
 // Puts a reading into a list by rising rank.
 fn enter(listed: &mut Vec<KeyedReading>, entry: KeyedReading)
     requires room { vec_len listed.old < vec_capacity listed.old }
-    requires ranked { IsRanked listed.old.items }
+    requires ranked { AreRising listed.old.items }
     ensures items { listed.new.items ≡ put_in_time (λ t. t.0) entry listed.old.items }
     ensures capacity { vec_capacity listed.old ≤ vec_capacity listed.new }
 {

@@ -1,5 +1,4 @@
 use Rattle.std.proofs.Common.{ap, ◌∙◌, option_map}
-use Rattle.key_index.specs.Entries as entries
 use Rattle.reading_index.specs.Ranks.{owner_of}
 use Rattle.reading_index.specs.Timed.{TimedReadings, first_of, from_on, in_front, last_of, only_owned, owned, with_rank}
 use Rattle.reading_index.proofs.Ranked.{first_behind, last_in_front}

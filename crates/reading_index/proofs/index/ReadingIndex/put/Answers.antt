@@ -1,4 +1,4 @@
-use Rattle.std.proofs.Common.{sym, ap, ◌∙◌}
+use Rattle.std.proofs.Common.{ap, ◌∙◌}
 use Rattle.std.specs.Prelude.{map}
 use Rattle.ledger_model.specs.InTime.{put_in_time}
 use Rattle.reading_index.specs.Timed.{Timed, TimedReadings, has_rank, with_rank}

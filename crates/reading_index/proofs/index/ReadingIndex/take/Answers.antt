@@ -1,4 +1,4 @@
-use Rattle.std.proofs.Common.{◌≡◌, refl, Option, Some, None, is_some, true, false, sym, ap, ◌∙◌}
+use Rattle.std.proofs.Common.{◌≡◌, refl, Option, Some, None, is_some, false, sym, ap, ◌∙◌}
 use Rattle.std.specs.Prelude.{map}
 use Rattle.key_index.specs.declared.filed.Filed.{Filed}
 use Rattle.ledger_model.specs.Event.{MeterReading}
