@@ -1,6 +1,6 @@
 -- Chains put together, cut, and left alone.
 use Rattle.std.proofs.Common.{◌≡◌, ℕ, ◌<◌, List, [], ◌∷◌, ◌++◌, Option, Some, None, length, refl, sym, ◌∙◌, subst}
-use Rattle.event_chain.specs.Links.{Links, links, linked_in, linked_out, written, IsSlot}
+use Rattle.event_chain.specs.Links.{Links, links, linked_in, linked_out, written}
 use Rattle.slot_arena.specs.Free.{IsApart, AreApart}
 use Rattle.event_chain.specs.LinkChain.{head_or, last_or, IsChain, IsBeside, AreSlots}
 use Rattle.event_chain.proofs.LinksWritten.{length-written}
@@ -113,8 +113,3 @@ chain_back_in l back first last prev before apart slots hf hl hb chain =
     )
     )
     )
-
--- A slot is one after a run was put in.
-pub slot_in : (l : Links) (before : Option ℕ) (first last : ℕ) (after : Option ℕ) (s : ℕ) → IsSlot l s → IsSlot (linked_in l before first last after) s
-slot_in l before first last after s slot = let lens = length-linked_in l before first last after in
-    (slots_kept l (linked_in l before first last after) (s ∷ []) lens.0 lens.1 (slot, tt)).0

@@ -27,16 +27,6 @@ abbrev AllAbove : ℕ → List ℕ → Type 0
 AllAbove n [] = Unit {0}
 AllAbove n (m ∷ ms) = (n < m) × AllAbove n ms
 
--- They are above a smaller one.
-above_less : (n m : ℕ) (ns : List ℕ) → n < m → AllAbove m ns → AllAbove n ns
-above_less n m [] lt h = tt
-above_less n m (k ∷ ks) lt h = let up = h.0 in (omega arith, above_less n m ks lt h.1)
-
--- Rising numbers are above their first.
-above_first : (n : ℕ) (ns : List ℕ) → AreRising (n ∷ ns) → AllAbove n ns
-above_first n [] h = tt
-above_first n (m ∷ ms) h = (h.0, above_less n m ms h.0 (above_first m ms h.1))
-
 -- They rise with a smaller one in front.
 rising_more : (n : ℕ) (ns : List ℕ) → AllAbove n ns → AreRising ns → AreRising (n ∷ ns)
 rising_more n [] h rising = tt

@@ -87,10 +87,6 @@ shown_by order es tx = record {
   gaps = gaps (numbers_of tx es);
 }
 
--- A transaction as a board shows it, by sequence.
-abbrev pub shown : List Entry → List ℕ → Shown
-shown es tx = shown_by Sequence es tx
-
 -- The board of a station: its settlement period in seconds, its figures, its EVSEs and its quarters with their energies, and its transactions with a live event.
 pub record Board : Type 0 where
   pub period : ℕ

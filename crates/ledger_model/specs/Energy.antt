@@ -104,10 +104,6 @@ minus_flows a b = record { flow = minus a.flow b.flow; export = minus a.export b
 abbrev pub flows_in_by : Order → ℕ → ℕ → List Entry → Flows
 flows_in_by order period quarter es = record { flow = energy_in_by order Import period quarter es; export = energy_in_by order Export period quarter es }
 
--- The energies of a quarter of a station, by sequence.
-abbrev pub flows_in : ℕ → ℕ → List Entry → Flows
-flows_in period quarter es = flows_in_by Sequence period quarter es
-
 -- A number put into a rising list, where it does not stand in it already.
 abbrev pub put_in : ℕ → List ℕ → List ℕ
 put_in n [] = n ∷ []
@@ -121,7 +117,3 @@ rising (n ∷ ns) = put_in n (rising ns)
 -- The quarters of a station that are shown, its readings in an order: each that has a pair of either direction, even one of difference zero.
 abbrev pub quarters_by : Order → ℕ → List Entry → List ℕ
 quarters_by order period es = rising (map (quarter_of period) (all_pairs_by order Import es ++ all_pairs_by order Export es))
-
--- The quarters of a station that are shown, by sequence.
-abbrev pub quarters : ℕ → List Entry → List ℕ
-quarters period es = quarters_by Sequence period es

@@ -5,7 +5,6 @@ use Rattle.ledger_model.specs.Content.{Entry, live, live_of, transactions_of}
 use Rattle.ledger_model.specs.declared.reading.Direction.{Direction}
 use Rattle.ledger_model.specs.declared.reading.Direction.TheVariants.{Import, Export}
 use Rattle.ledger_model.specs.declared.order.Order.{Order}
-use Rattle.ledger_model.specs.declared.order.Order.TheVariants.{Sequence}
 use Rattle.ledger_model.specs.Energy.{Flows, pairs_by, energy_over, rising}
 
 -- The first of a list, or 0 where there is none.
@@ -25,17 +24,9 @@ transactions_at evse es = filter (λ tx. evse_of tx es == evse) (transactions_of
 abbrev pub energy_at_by : Order → Direction → ℕ → List Entry → Energy
 energy_at_by order d evse es = energy_over (flat_map (λ tx. pairs_by order d tx es) (transactions_at evse es))
 
--- The energy of an EVSE in one direction, by sequence.
-abbrev pub energy_at : Direction → ℕ → List Entry → Energy
-energy_at d evse es = energy_at_by Sequence d evse es
-
 -- The energies of an EVSE, in an order.
 abbrev pub flows_at_by : Order → ℕ → List Entry → Flows
 flows_at_by order evse es = record { flow = energy_at_by order Import evse es; export = energy_at_by order Export evse es }
-
--- The energies of an EVSE, by sequence.
-abbrev pub flows_at : ℕ → List Entry → Flows
-flows_at evse es = flows_at_by Sequence evse es
 
 -- The EVSEs of a station that are shown: each that has a transaction with a live event.
 abbrev pub evses : List Entry → List ℕ

@@ -152,9 +152,6 @@ lines_alike f g [] same = refl
 lines_alike f g (n ∷ ns) same = let first = same n (inl refl) in let rest = lines_alike f g ns (λ k h. same k (inr h)) in λ i. (n, first i) ∷ rest i
 
 module _ (order : Order) (sums : List EvseSum) (es : List Entry) (in_range : AreNumbered es) (are : AreEvseSums order es sums) where
-  abbrev named : List ℕ
-  named = map (λ tx. evse_of tx es) (transactions_of (live es))
-
   named_few : (n : ℕ) (ts : List (List ℕ)) → IsIn n (map (λ tx. evse_of tx es) ts) → n ≤ greatest_evse
   named_few n [] h = absurd h
   named_few n (t ∷ ts) (inl e) = omega (arith, e, evse_few t es in_range)

@@ -1,12 +1,12 @@
-use Rattle.std.specs.Prelude.{ℕ, Bool, List, refl}
-use Rattle.std.specs.Coded.{Coded, code_by, coded×, coded_bool, coded_list, coded_ℕ}
+use Rattle.std.specs.Prelude.{ℕ, Bool, refl}
+use Rattle.std.specs.Coded.{Coded, code_by, coded×, coded_bool, coded_ℕ}
 use Rattle.std.specs.FinMap as finite
 use Rattle.std.specs.FinMap.{FinMap}
 use Rattle.ledger_model.specs.contracts.event.Event.{the_row}
 use Rattle.ledger_model.specs.Event.{EventContent}
 use Rattle.ledger_model.specs.Key.{key_cmp, key_code}
 use Rattle.ledger_model.specs.Limits.{Bounds}
-use Rattle.ledger_model.specs.Content.{Content, Stored, Entry}
+use Rattle.ledger_model.specs.Content.{Content, Stored}
 use Rattle.ledger_model.specs.declared.order.Order.{Order}
 use Rattle.ledger_model.specs.contracts.order.Order as orders
 
@@ -21,14 +21,6 @@ pub record Ledger : Type 0 where
 abbrev pub stored_code : Coded Stored
 stored_code = code_by (EventContent × Bool) (coded× the_row.coded coded_bool) (λ s. (s.event, s.voided)) (λ p. record { event = p.0; voided = p.1 }) (λ _. refl)
 
--- An entry is kept as the pair of its parts.
-abbrev pub entry_code : Coded Entry
-entry_code = coded× key_code stored_code
-
--- A transaction with its live events is kept as the pair of its parts.
-abbrev pub group_code : Coded (List ℕ × List Entry)
-group_code = coded× (coded_list coded_ℕ) (coded_list entry_code)
-
 -- A content is kept as the pair of its parts.
 abbrev pub content_code : Coded Content
 content_code = code_by (FinMap key_cmp Stored × ℕ) (coded× (finite.code key_code stored_code) coded_ℕ) (λ c. (c.events, c.changes)) (λ p. record { events = p.0; changes = p.1 }) (λ _. refl)
@@ -40,7 +32,3 @@ bounds_code = code_by (ℕ × (ℕ × (ℕ × ℕ))) (coded× coded_ℕ (coded×
 -- A ledger is kept as the tuple of its parts.
 abbrev pub ledger_code : Coded Ledger
 ledger_code = code_by (Bounds × (ℕ × (Order × Content))) (coded× bounds_code (coded× coded_ℕ (coded× orders.the_row.coded content_code))) (λ l. (l.limits, (l.period, (l.order, l.content)))) (λ p. record { limits = p.0; period = p.1.0; order = p.1.1.0; content = p.1.1.1 }) (λ _. refl)
-
--- The content of entries in the order of their keys, after so many changes.
-abbrev pub content_of : List Entry → ℕ → Content
-content_of es changes = record { events = finite.from_sorted es; changes = changes }
