@@ -1,10 +1,11 @@
-"""Compares what two programs write of drawn scripts, the one on four processors and the other on one, two and four.
+"""Compares what two programs write of drawn scripts, the one on one, two and four processors and through a pipe.
 
     tests/one drawn_scripts PROGRAM OTHER [--scripts 1000] [--first 1] [--least 1] [--most 8]
 
-Each script has so many MiB and ends anywhere. It has new events of several stations, repeats, late ones and ones with
-other readings, messages of other actions and with faults, texts of many readings, an operator's lines, questions, boards,
-moments, comments and lines with a fault, with either line end. The status is 1 where a text or an exit status differs.
+Each script has so many MiB and ends anywhere. It has new events of several stations, repeats, late
+ones and ones with other readings, messages of other actions and with faults, texts of many readings,
+an operator's lines, questions, boards, moments, comments and lines with a fault, with either line
+end. The status is 1 where a text or an exit status differs.
 """
 
 import argparse
@@ -13,6 +14,7 @@ import os
 import random
 import subprocess
 import sys
+import tempfile
 from collections.abc import Iterator
 
 MIB = 1_048_576
@@ -122,17 +124,31 @@ def drawn(draws: random.Random, stations: list[str], size: int, share: float) ->
         yield line
 
 
-def written(program: str, script: bytes, processors: int) -> tuple[str, int]:
+def written(program: str, path: str, processors: int, is_piped: bool = False) -> tuple[str, int]:
     """What a program writes of a script on so many processors, as a sum of its bytes, and its exit status."""
-    run = subprocess.run(
-        [program, "replay"],
-        input=script,
-        stdout=subprocess.PIPE,
-        stderr=subprocess.DEVNULL,
-        check=False,
-        preexec_fn=lambda: os.sched_setaffinity(0, range(processors)),
-    )
+    source = ["cat", path] if is_piped else ["true"]
+    with open(path, "rb") as file, subprocess.Popen(source, stdout=subprocess.PIPE) as writer:
+        run = subprocess.run(
+            [program, "replay"],
+            stdin=writer.stdout if is_piped else file,
+            stdout=subprocess.PIPE,
+            stderr=subprocess.DEVNULL,
+            check=False,
+            preexec_fn=lambda: os.sched_setaffinity(0, range(processors)),
+        )
     return hashlib.sha256(run.stdout).hexdigest(), run.returncode
+
+
+def others(program: str, other: str, script: bytes, folder: str) -> list[str]:
+    """Where the program writes another text than the other one."""
+    path = f"{folder}/script"
+    with open(path, "wb") as file:
+        file.write(script)
+    wanted = written(other, path, max(PROCESSORS))
+    found = [f"on {number}" for number in PROCESSORS if written(program, path, number) != wanted]
+    if written(program, path, max(PROCESSORS), is_piped=True) != wanted:
+        found.append("through a pipe")
+    return found
 
 
 def main() -> int:
@@ -148,16 +164,17 @@ def main() -> int:
     parser.add_argument("--most", type=int, default=8, help="MiB of a script")
     words = parser.parse_args()
     differ, size = list[str](), 0
-    for seed in range(words.first, words.first + words.scripts):
-        script = script_of(seed, words.least, words.most)
-        size += len(script)
-        wanted = written(words.other, script, max(PROCESSORS))
-        for processors in PROCESSORS:
-            if written(words.program, script, processors) != wanted:
-                differ.append(f"seed {seed} on {processors} processors")
+    with tempfile.TemporaryDirectory() as folder:
+        for seed in range(words.first, words.first + words.scripts):
+            script = script_of(seed, words.least, words.most)
+            size += len(script)
+            for which in others(words.program, words.other, script, folder):
+                differ.append(f"seed {seed} {which}")
     for which in differ[:5]:
         print(f"another text: {which}")
-    print(f"drawn scripts: {words.scripts}, of {size / MIB:.0f} MiB, texts that differ: {len(differ)}")
+    print(
+        f"drawn scripts: {words.scripts}, of {size / MIB:.0f} MiB, texts that differ: {len(differ)}"
+    )
     return 1 if differ else 0
 
 

@@ -3,7 +3,7 @@ use Rattle.std.proofs.Common.{ℕ, ◌≡◌, ◌-◌, ◌≤◌, ◌++◌, List
 use Rattle.std.proofs.lemmas.List.{take-append-le, drop-append-le, length-append}
 use Rattle.std.specs.Prelude.{IfSome}
 use Rattle.ledger_model.specs.Event.{MeterReading}
-use Rattle.message_ahead.specs.Ahead.{Asks, Extends, HasRange, IsFound, with_readings}
+use Rattle.message_ahead.specs.Ahead.{Asks, Extends, IsFound, with_readings}
 use Rattle.message_ahead.specs.declared.found_event.FoundEvent.{FoundEvent}
 
 -- the readings between two places that stood are the same
