@@ -2,7 +2,7 @@
 ghost use Rattle.std.specs.Prelude.{◌≤◌, length};
 ghost use Rattle.std.specs.Io.{ReadsAtMost};
 
-use crate::reading::{BLOCKS, Part, Reading};
+use crate::reading::{BLOCK, BLOCKS, Part, Reading};
 use rtrb::{Consumer, Producer, RingBuffer};
 use std::alloc::{AllocError, Global};
 use std::io::{ErrorKind, Read, Stdin};
@@ -17,6 +17,8 @@ pub struct AheadInput<'a, X: Threads> {
     rt: &'a X,
     // Whether a thread may read.
     is_ahead: bool,
+    // Whether the input gives more at once than a pipe, so that no thread is wanted.
+    is_file: bool,
     // Where no thread has the input.
     idle: Option<Reading>,
     running: Option<JoinHandle<Reading>>,
@@ -58,6 +60,7 @@ impl<'a, X: AllocGlobal + Threads> AheadInput<'a, X> {
         Ok(AheadInput {
             rt,
             is_ahead: has_processors(rt),
+            is_file: false,
             idle: Some(reading),
             running: None,
             parts,
@@ -189,7 +192,12 @@ impl<'a, X: Threads> AheadInput<'a, X> {
             None => {}
         }
         match &mut self.idle {
-            Some(reading) => reading.input.read(buf),
+            Some(reading) => {
+                let given = reading.input.read(buf);
+                // A pipe gives no more at once.
+                self.is_file = matches!(&given, Ok(count) if *count > BLOCK);
+                given
+            }
             None => Err(io::Error::from(ErrorKind::OutOfMemory)),
         }
     }
@@ -198,7 +206,7 @@ impl<'a, X: Threads> AheadInput<'a, X> {
 impl<'a, X: Threads> Read for AheadInput<'a, X> {
     fn read(&mut self, buf: &mut [u8]) -> io::Result<usize> {
         let given = self.take_or_read(buf);
-        if matches!(&given, Ok(count) if *count > 0) {
+        if matches!(&given, Ok(count) if *count > 0) && !self.is_file {
             self.start();
         }
         given
