@@ -1,13 +1,30 @@
 -- What is known of an event that was read before its line was reached.
-use Rattle.std.specs.Prelude.{ℕ, ◌-◌, ◌≤◌, List, length, take, drop}
+use Rattle.std.specs.Prelude.{◌≡◌, ℕ, ◌-◌, ◌≤◌, List, ◌++◌, length, take, drop}
+use Rattle.ledger_model.specs.Event.{MeterReading}
 use Rattle.transaction_event.specs.MessageMeaning.{HasShortId, IsMeaningOf, asking}
 use Rattle.transaction_event.specs.declared.delivery.Delivery.{Delivery}
-use Rattle.message_ahead.specs.declared.chunk.FoundEvent.{FoundEvent}
+use Rattle.message_ahead.specs.declared.found_event.FoundEvent.{FoundEvent}
 
 -- The text asks for this delivery, at any moment.
 abbrev pub Asks : List ℕ → Delivery → Type 0
 Asks text d = HasShortId (asking d) × ((now : ℕ) → IsMeaningOf text now (asking d))
 
--- What was found stands in these bytes, and the text there asks for it.
-abbrev pub IsFound : List ℕ → FoundEvent → Type 0
-IsFound bytes f = (f.from ≤ f.to) × (f.to ≤ length bytes) × Asks (take (f.to - f.from) (drop f.from bytes)) f.delivery
+-- The delivery of these parts, with readings.
+abbrev pub with_readings : FoundEvent → List MeterReading → Delivery
+with_readings f own = record { id = f.id; key = f.key; event = record { kind = f.kind; moment = f.moment; evse = f.evse; readings = own }; token = f.token }
+
+-- The delivery that was found, whose readings stand among those of its piece.
+abbrev pub found_delivery : List MeterReading → FoundEvent → Delivery
+found_delivery readings f = with_readings f (take (f.end - f.first) (drop f.first readings))
+
+-- Its readings stand among these.
+abbrev pub HasRange : List MeterReading → FoundEvent → Type 0
+HasRange readings f = (f.first ≤ f.end) × (f.end ≤ length readings)
+
+-- More readings were put behind those that stood.
+abbrev pub Extends : List MeterReading → List MeterReading → Type 0
+Extends old new = (more : List MeterReading) × (new ≡ old ++ more)
+
+-- What was found stands in these bytes, its readings among these, and the text there asks for it.
+abbrev pub IsFound : List ℕ → List MeterReading → FoundEvent → Type 0
+IsFound bytes readings f = (f.from ≤ f.to) × (f.to ≤ length bytes) × HasRange readings f × Asks (take (f.to - f.from) (drop f.from bytes)) (found_delivery readings f)

@@ -1,11 +1,12 @@
 //! The events of a piece of lines, read by one thread.
 ghost use Rattle.std.specs.Prelude.{◌≡◌, ◌≤◌, ◌<◌, ◌-◌, ◌+◌, ℕ, [], All, length, IfOk, IfSome, IsTrue, take, drop};
 ghost use Rattle.std.specs.Arc.{arc_value};
-ghost use Rattle.message_ahead.specs.Ahead.{Asks, IsFound};
+ghost use Rattle.message_ahead.specs.Ahead.{Asks, Extends, IsFound};
 
+use crate::found_event::FoundEvent;
 use crate::pieces::Pieces;
 use arrayvec::ArrayString;
-use ledger_model::Moment;
+use ledger_model::{Moment, Reading};
 use memchr::memrchr;
 use script_lines::without_return;
 use std::alloc::{AllocError, Global};
@@ -21,28 +22,17 @@ pub trait MessageLines {
     fn text(line: &[u8]) -> Option<&str>;
 }
 
-/// An event of a line, and where its text stands.
-#[derive(Drop)]
-pub struct FoundEvent {
-    /// How many bytes may still be read where its line begins.
-    pub room: usize,
-    /// Where its text begins among the lines.
-    pub from: usize,
-    /// Where its text ends among them.
-    pub to: usize,
-    /// The event.
-    pub delivery: Delivery,
-}
-
-/// The events that were found in a piece of lines.
+/// The events that were found in a piece of lines, in two blocks: one of events, and one of the readings of all.
 #[derive(Drop)]
 pub struct Chunk {
+    alloc: Global,
     pieces: Arc<Pieces, Global>,
     // The last first.
     found: Vec<FoundEvent>,
+    readings: Vec<Reading>,
     // Whether a growth was refused.
     is_short: bool,
-    ghost read: { All (IsFound (arc_value pieces).bytes.items) found.items },
+    ghost read: { All (IsFound (arc_value pieces).bytes.items readings.items) found.items },
 }
 
 impl Chunk {
@@ -56,11 +46,25 @@ impl Chunk {
     ) -> Chunk {
         let (begin, end) = pieces.bounds(piece);
         let mut found = Vec::new(alloc);
-        let is_short = found.reserve((end - begin) / USUAL_LINE).is_err()
-            || find::<T>(alloc, &pieces.bytes, begin, end, room, &mut found).is_err();
+        let mut readings = Vec::new(alloc);
+        let lines = (end - begin) / USUAL_LINE;
+        let is_short = found.reserve(lines).is_err()
+            || readings.reserve(lines).is_err()
+            || find::<T>(
+                alloc,
+                &pieces.bytes,
+                begin,
+                end,
+                room,
+                &mut found,
+                &mut readings,
+            )
+            .is_err();
         Chunk {
+            alloc,
             pieces,
             found,
+            readings,
             is_short,
         }
     }
@@ -84,25 +88,25 @@ impl Chunk {
                 return None;
             };
             if next.room == room {
-                return with_text(&self.pieces.bytes, next, text);
+                return with_text(self.alloc, &self.pieces.bytes, &self.readings, next, text);
             }
         }
     }
 }
 
 // The event that was found, if its text is this one.
-fn with_text(bytes: &[u8], found: FoundEvent, text: &str) -> Option<Delivery>
-    requires { IsFound bytes.now found }
+fn with_text(
+    alloc: Global,
+    bytes: &[u8],
+    readings: &[Reading],
+    found: FoundEvent,
+    text: &str,
+) -> Option<Delivery>
+    requires { IsFound bytes.now readings.now found }
     ensures { IfSome result (λ d. Asks text.now d) }
 {
-    let FoundEvent {
-        room: _,
-        from,
-        to,
-        delivery,
-    } = found;
-    if is_text_at(bytes, from, to, text) {
-        Some(delivery)
+    if is_text_at(bytes, found.from, found.to, text) {
+        found.into_delivery(alloc, readings)
     } else {
         None
     }
@@ -127,15 +131,16 @@ fn find<T: MessageLines>(
     end: usize,
     room: usize,
     found: &mut Vec<FoundEvent>,
+    readings: &mut Vec<Reading>,
 ) -> Result<(), AllocError>
     requires within { (begin ≤ end) × (end ≤ length bytes.now) }
-    requires found { All (IsFound bytes.now) found.old.items }
-    ensures { All (IsFound bytes.now) found.new.items }
+    requires found { All (IsFound bytes.now readings.old.items) found.old.items }
+    ensures { All (IsFound bytes.now readings.new.items) found.new.items }
 {
     let mut end = end;
     'lines: while end > begin {
         let start = begin + line_start(&bytes[begin..end - 1]);
-        if let Some(event) = event_of_line::<T>(alloc, bytes, start, end - 1, room)? {
+        if let Some(event) = event_of_line::<T>(alloc, bytes, start, end - 1, room, readings)? {
             found.push(event)?;
         }
         end = start;
@@ -160,9 +165,11 @@ fn event_of_line<T: MessageLines>(
     start: usize,
     end: usize,
     room: usize,
+    readings: &mut Vec<Reading>,
 ) -> Result<Option<FoundEvent>, AllocError>
     requires { (start ≤ end) × (end ≤ length bytes.now) }
-    ensures { IfOk result (λ event. IfSome event (λ f. IsFound bytes.now f)) }
+    ensures found { IfOk result (λ event. IfSome event (λ f. IsFound bytes.now readings.new.items f)) }
+    ensures kept { Extends readings.old.items readings.new.items }
 {
     let line = without_return(&bytes[start..end]);
     let Some(text) = T::text(line) else {
@@ -174,12 +181,11 @@ fn event_of_line<T: MessageLines>(
         return Ok(None);
     }
     match delivery_of(alloc, text)? {
-        Some(delivery) => Ok(Some(FoundEvent {
-            room: room.saturating_sub(start),
-            from,
-            to,
-            delivery,
-        })),
+        Some(delivery) => {
+            let room = room.saturating_sub(start);
+            let event = FoundEvent::put(room, from, to, delivery, readings)?;
+            Ok(Some(event))
+        }
         None => Ok(None),
     }
 }

@@ -13,13 +13,14 @@
 #![tactic(auto)]
 
 mod chunk;
+mod found_event;
 mod lookahead;
 mod pieces;
 mod window;
 
-#[doc(hidden)]
-pub use chunk::FoundEvent;
 pub use chunk::{Chunk, MessageLines};
+#[doc(hidden)]
+pub use found_event::FoundEvent;
 pub use lookahead::Lookahead;
 #[doc(hidden)]
 pub use pieces::Pieces;

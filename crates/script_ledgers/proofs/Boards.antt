@@ -99,24 +99,28 @@ one_place (m ∷ names) zero (suc k) once lj lk same = absurd (differ m (get_or 
 one_place (m ∷ names) (suc j) zero once lj lk same = absurd (differ m (get_or names j []) (none_at names m j (neither (list_any (bytes_eq m) names) (has_twice names) once).0 (omega (arith, lj))) (sym same))
 one_place (m ∷ names) (suc j) (suc k) once lj lk same = ap suc (one_place names j k (neither (list_any (bytes_eq m) names) (has_twice names) once).1 (omega (arith, lj)) (omega (arith, lk)) same)
 
--- a site is found by its name
-pub at_site : (sites : List SitePlan) (site : ℕ) → has_twice (map (λ s. s.name) sites) ≡ false → site < length sites → position (λ s. bytes_eq (site_name sites site) s.name) sites ≡ Some site
-at_site sites site once less = at (position (λ (s : SitePlan). bytes_eq (site_name sites site) s.name) sites) refl
+-- what has a name that stands once is found by it
+pub found_once : {X : Type 0} (f : X → List ℕ) (xs : List X) (k : ℕ) (name : List ℕ) → has_twice (map f xs) ≡ false → k < length xs → get_or (map f xs) k [] ≡ name → position (λ x. bytes_eq name (f x)) xs ≡ Some k
+found_once {X} f xs k name once less named = at (position (λ (x : X). bytes_eq name (f x)) xs) refl
   where
     names : List (List ℕ)
-    names = map (λ (s : SitePlan). s.name) sites
+    names = map f xs
 
-    within : (k : ℕ) → k < length sites → k < length names
-    within k lt = omega (arith, lt, length-map sites (λ (s : SitePlan). s.name))
+    within : (n : ℕ) → n < length xs → n < length names
+    within n lt = omega (arith, lt, length-map xs f)
 
-    at : (o : Option ℕ) → position (λ (s : SitePlan). bytes_eq (site_name sites site) s.name) sites ≡ o → o ≡ Some site
+    at : (o : Option ℕ) → position (λ (x : X). bytes_eq name (f x)) xs ≡ o → o ≡ Some k
     at None e =
-        let none = none_placed {X = SitePlan} (λ s. s.name) (site_name sites site) sites e in
-        let never : bytes_eq (site_name sites site) (site_name sites site) ≡ false = none_at names (site_name sites site) site none (within site less) in
-        absurd (false≢true (sym never ∙ (bytes_eq-Decides (site_name sites site) (site_name sites site)).1 refl))
+        let none = none_placed {X = X} f name xs e in
+        let never : bytes_eq name (get_or names k []) ≡ false = none_at names name k none (within k less) in
+        absurd (false≢true (sym never ∙ (bytes_eq-Decides name (get_or names k [])).1 (sym named)))
     at (Some n) e =
-        let there = some_placed {X = SitePlan} (λ s. s.name) (site_name sites site) sites n e in
-        ap Some (one_place names n site once (within n there.less) (within site less) there.named)
+        let there = some_placed {X = X} f name xs n e in
+        ap Some (one_place names n k once (within n there.less) (within k less) (there.named ∙ sym named))
+
+-- a site is found by its name
+pub at_site : (sites : List SitePlan) (site : ℕ) → has_twice (map (λ s. s.name) sites) ≡ false → site < length sites → position (λ s. bytes_eq (site_name sites site) s.name) sites ≡ Some site
+at_site sites site once less = found_once {X = SitePlan} (λ s. s.name) sites site (site_name sites site) once less refl
 
 -- a site is found by its name as by its number
 found_alike : (sites : List SitePlan) (name : List ℕ) (site k : ℕ) → has_twice (map (λ (s : SitePlan). s.name) sites) ≡ false → site < length sites → k < length sites → site_name sites site ≡ name

@@ -1,4 +1,4 @@
-ghost use Rattle.std.specs.Prelude.{◌≡◌, ◌<◌, false, None, [], length, IfOk, IfSome, OnOk};
+ghost use Rattle.std.specs.Prelude.{◌≡◌, ◌<◌, false, None, Some, [], length, IfOk, IfSome, IsTrue, OnOk};
 ghost use Rattle.site_desk.specs.Plan.{sites_by, sites_in};
 ghost use Rattle.std.specs.Option.{is_some};
 ghost use Rattle.std.specs.List.{position};
@@ -71,6 +71,27 @@ impl Draft {
         ensures { result ≡ position (λ s. bytes_eq name.now s.name) self.now.stations }
     {
         self.plan.station(name)
+    }
+
+    /// The number of the station of this name, which is looked for at this number first.
+    pub(crate) fn station_near(&self, name: &Name, near: usize) -> Option<usize>
+        ensures { result ≡ position (λ s. bytes_eq name.now s.name) self.now.stations }
+    {
+        if self.is_station(near, name) {
+            Some(near)
+        } else {
+            self.station(name)
+        }
+    }
+
+    // Tells whether there is a station of this number, and it has this name. No other one has it.
+    fn is_station(&self, number: usize, name: &Name) -> bool
+        ensures { IsTrue result → position (λ s. bytes_eq name.now s.name) self.now.stations ≡ Some number }
+    {
+        match self.plan.stations.as_slice().get(number) {
+            Some(station) => *name == station.name,
+            None => false,
+        }
     }
 
     /// The number of the site of this name.

@@ -12,6 +12,7 @@
 #![tactic(auto)]
 
 mod draft;
+mod hints;
 mod messages;
 mod opened_script;
 mod script_state;

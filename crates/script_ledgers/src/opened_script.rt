@@ -16,6 +16,7 @@ ghost use Rattle.script_ledgers.specs.Script.{board_answer, board_of_site, step_
 ghost use Rattle.transaction_event.specs.MessageMeaning.{HasShortId, asking, with_reply};
 
 use crate::draft::Draft;
+use crate::hints::StationHints;
 use crate::messages::ScriptMessages;
 use arrayvec::ArrayString;
 use board_report::{energy_text, export_text, total_text};
@@ -42,6 +43,8 @@ pub(crate) struct OpenedScript<J: Naming> {
     pub(crate) books: Vec<SiteBook<J>>,
     // What threads have read of the lines to come.
     ahead: Lookahead,
+    // Where the stations of messages were found.
+    hints: StationHints,
     // The reply to the message at hand.
     text: ArrayString<512>,
     passes: Vec<Pass>,
@@ -73,6 +76,7 @@ impl<J: Naming> OpenedScript<J> {
                     cells,
                     books: books.into_vec(),
                     ahead: Lookahead::new(alloc),
+                    hints: StationHints::new(),
                     text: ArrayString::new(),
                     passes,
                     alloc,
@@ -95,6 +99,7 @@ impl<J: Naming> OpenedScript<J> {
             cells,
             books: _,
             ahead: _,
+            hints: _,
             text: _,
             passes,
             alloc: _,
@@ -164,8 +169,12 @@ impl<J: Naming> OpenedScript<J> {
         ensures step { OnOk result (step_by (running self.old.draft self.old.cells.items) (sends name.now text.now) ≡ (running self.new.draft self.new.cells.items, reply.new.items)) }
         ensures posts { OnOk result (posts_in self.new.books.items ≤ posts_in self.old.books.items + 1) }
     {
-        match self.draft.station(name) {
-            Some(number) => self.receive_at(number, text, reply),
+        let near = self.hints.number(name);
+        match self.draft.station_near(name, near) {
+            Some(number) => {
+                self.hints.keep(name, number);
+                self.receive_at(number, text, reply)
+            }
             None => put_fault(reply, LineFault::UnknownStation),
         }
     }

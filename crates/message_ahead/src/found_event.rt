@@ -1,0 +1,118 @@
+//! An event of a piece of lines, of which all readings stand in one vector.
+ghost use Rattle.std.specs.Prelude.{◌≡◌, ◌≤◌, length, IfOk, IfSome, slice_range};
+ghost use Rattle.message_ahead.specs.Ahead.{Extends, HasRange, found_delivery};
+
+use arrayvec::ArrayString;
+use ledger_model::{Event, EvseId, Key, Kind, Moment, Reading};
+use std::alloc::{AllocError, Global};
+use transaction_event::Delivery;
+
+/// An event of a line, and where its text and its readings stand.
+#[derive(Drop)]
+pub struct FoundEvent {
+    /// How many bytes may still be read where its line begins.
+    pub room: usize,
+    /// Where its text begins among the lines.
+    pub from: usize,
+    /// Where its text ends among them.
+    pub to: usize,
+    /// The id of the call.
+    pub id: ArrayString<144>,
+    /// The event's key.
+    pub key: Key,
+    /// What the event tells of its transaction.
+    pub kind: Kind,
+    /// The moment of the event.
+    pub moment: Moment,
+    /// The EVSE that it names.
+    pub evse: Option<EvseId>,
+    /// Whether the request had an `idToken`.
+    pub token: bool,
+    /// Where its readings begin among those of its piece.
+    pub first: usize,
+    /// Where its readings end among them.
+    pub end: usize,
+}
+
+impl FoundEvent {
+    /// The event of a line whose text stands between these places. Its readings are put behind those of its piece.
+    pub(crate) fn put(
+        room: usize,
+        from: usize,
+        to: usize,
+        delivery: Delivery,
+        readings: &mut Vec<Reading>,
+    ) -> Result<FoundEvent, AllocError>
+        ensures places { IfOk result (λ f. (f.from ≡ from) × (f.to ≡ to)) }
+        ensures range { IfOk result (λ f. HasRange readings.new.items f) }
+        ensures delivery { IfOk result (λ f. found_delivery readings.new.items f ≡ delivery) }
+        ensures kept { Extends readings.old.items readings.new.items }
+    {
+        let Delivery {
+            id,
+            key,
+            event,
+            token,
+        } = delivery;
+        let first = readings.len();
+        readings.extend_from_slice(event.readings())?;
+        Ok(FoundEvent {
+            room,
+            from,
+            to,
+            id,
+            key,
+            kind: event.kind(),
+            moment: event.moment(),
+            evse: event.evse(),
+            token,
+            first,
+            end: readings.len(),
+        })
+    }
+
+    /// The delivery, with readings of its own; None where no memory was found for them.
+    pub(crate) fn into_delivery(self, alloc: Global, readings: &[Reading]) -> Option<Delivery>
+        requires { HasRange readings.now self }
+        ensures { IfSome result (λ d. d ≡ found_delivery readings.now self) }
+    {
+        let FoundEvent {
+            room: _,
+            from: _,
+            to: _,
+            id,
+            key,
+            kind,
+            moment,
+            evse,
+            token,
+            first,
+            end,
+        } = self;
+        let event = event_of(alloc, kind, moment, evse, &readings[first..end])?;
+        Some(Delivery {
+            id,
+            key,
+            event,
+            token,
+        })
+    }
+}
+
+// The event of these parts, with readings of its own; None where no memory was found for them.
+fn event_of(
+    alloc: Global,
+    kind: Kind,
+    moment: Moment,
+    evse: Option<EvseId>,
+    readings: &[Reading],
+) -> Option<Event>
+    ensures { IfSome result (λ e. e ≡ record { kind = kind; moment = moment; evse = evse; readings = readings.now }) }
+{
+    let mut own = Vec::with_capacity(alloc, readings.len()).ok()?;
+    own.extend_from_slice(readings).ok()?;
+    match Event::new(kind, moment, evse, own) {
+        Ok(event) => Some(event),
+        Err(_) => None,
+    }
+}
