@@ -12,6 +12,14 @@ from pathlib import Path
 from ocpp_board.statuses import Status
 
 PACKAGES = Path(__file__).resolve().parent.parent
+# How a module of this package is run, by the Python that runs this one.
+MODULE = (sys.executable, "-P", "-m")
+
+
+def environment() -> dict[str, str]:
+    """The environment in which another process finds this package."""
+    path = os.pathsep.join(filter(None, [str(PACKAGES), os.environ.get("PYTHONPATH")]))
+    return os.environ | {"PYTHONPATH": path}
 
 
 def run_tool(name: str, words: Sequence[str], data: bytes) -> "subprocess.CompletedProcess[bytes]":
@@ -19,13 +27,11 @@ def run_tool(name: str, words: Sequence[str], data: bytes) -> "subprocess.Comple
 
     It is not checked how it ends. Raises OSError where it can't be started.
     """
-    found = os.environ.get("PYTHONPATH")
-    path = os.pathsep.join([str(PACKAGES), *([found] if found else [])])
     return subprocess.run(
-        [sys.executable, "-P", "-m", "ocpp_board", name, *words],
+        [*MODULE, "ocpp_board", name, *words],
         input=data,
         stderr=subprocess.PIPE,
-        env=os.environ | {"PYTHONPATH": path},
+        env=environment(),
         check=False,
     )
 

@@ -11,29 +11,20 @@ legend or its columns off. The status is 1 where one of these is not so, and 77 
 
 import argparse
 import asyncio
-import base64
 import json
 import os
 import signal
 import sys
 from pathlib import Path
-from typing import Any
 
+from tests.fleet import chromium
 from tests.fleet.dashboard import Panel, fill, greatest, page, panels_of
 from tests.fleet.page_client import Client
-from tests.fleet.trials import parsed, parser_of, skipped, tried
-from tests.fleet.watching import FOLDER, PROMETHEUS, WatchedTrial, event
+from tests.fleet.trials import event, parsed, parser_of, skipped, tried
+from tests.fleet.watching import FOLDER, PROMETHEUS, WatchedTrial
 
-try:
-    from selenium.webdriver import Chrome, ChromeOptions
-    from selenium.webdriver.chrome.service import Service
-
-    HAS_SELENIUM = True
-except ImportError:
-    HAS_SELENIUM = False
-
-DRIVER = "/usr/bin/chromedriver"
-WIDE, NARROW = 1600, 390
+# Pixels of a desk's screen.
+WIDE = 1600
 # What fails here, one behind the other, and seconds until all is as before.
 FAULTS = {
     "replay": 3,
@@ -142,40 +133,16 @@ class Demo(WatchedTrial):
         """The dashboard in a browser's window."""
         path = self.fleet.folder / f"{name}.html"
         path.write_text(text)
-        options: Any = ChromeOptions()
-        options.binary_location = "/usr/bin/chromium"
-        for word in (
-            "--headless=new",
-            "--no-sandbox",
-            "--disable-gpu",
-            "--disable-dev-shm-usage",
-            "--hide-scrollbars",
-        ):
-            options.add_argument(word)
-        options.add_argument(f"--user-data-dir={self.fleet.folder / 'browser'}-{name}")
-        browser = Chrome(service=Service(DRIVER), options=options)
+        browser = chromium.opened(self.fleet.folder / f"browser-{name}")
         try:
-            size = {
-                "width": pixels,
-                "height": 900,
-                "deviceScaleFactor": 1,
-                "mobile": pixels == NARROW,
-            }
-            browser.execute_cdp_cmd("Emulation.setDeviceMetricsOverride", size)
+            chromium.resize(browser, pixels)
             browser.get(f"file://{path}")
-            cut = browser.execute_script(CUT)
-            over = browser.execute_script(
-                "return document.documentElement.scrollWidth - window.innerWidth"
-            )
+            cut, over = browser.execute_script(CUT), chromium.wider(browser)
             self.check(
                 not cut and over <= 0, f"{name}, {pixels} pixels: {cut or 'nothing is cut off'}"
             )
             if self.words.shots:
-                height = browser.execute_script("return document.documentElement.scrollHeight")
-                clip = {"x": 0, "y": 0, "width": pixels, "height": height, "scale": 1}
-                words = {"captureBeyondViewport": True, "clip": clip}
-                made = browser.execute_cdp_cmd("Page.captureScreenshot", words)
-                (self.words.shots / f"{name}.png").write_bytes(base64.b64decode(made["data"]))
+                chromium.picture(browser, self.words.shots / f"{name}.png", pixels)
         finally:
             browser.quit()
 
@@ -185,7 +152,7 @@ class Demo(WatchedTrial):
         panels = panels_of(dashboard)
         await asyncio.to_thread(fill, panels, self.ports["prometheus"], 150)
         self.shown(panels)
-        for name, pixels in (("dashboard-wide", WIDE), ("dashboard-narrow", NARROW)):
+        for name, pixels in (("dashboard-wide", WIDE), ("dashboard-narrow", chromium.PHONE)):
             text = page(dashboard["title"], panels, pixels)
             await asyncio.to_thread(self.looked_at, name, text, pixels)
         if self.sending:
@@ -198,8 +165,8 @@ def main() -> int:
     parser = parser_of(__doc__)
     parser.add_argument("--shots", type=Path, metavar="FOLDER", help="where pictures are kept")
     words: argparse.Namespace = parsed(parser)
-    if not HAS_SELENIUM or not os.access(DRIVER, os.X_OK) or not os.access(PROMETHEUS, os.X_OK):
-        return skipped("prometheus chromium chromium-driver python3-selenium")
+    if not chromium.is_installed() or not os.access(PROMETHEUS, os.X_OK):
+        return skipped(f"prometheus {chromium.PACKAGES}")
     if words.shots:
         words.shots.mkdir(parents=True, exist_ok=True)
     return tried("dashboard", lambda: Demo(words))

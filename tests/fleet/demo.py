@@ -46,11 +46,13 @@ from tests.fleet.fleet import (
     BIN,
     CLOCK,
     CRASHES,
+    HOLD_ALL,
     PATIENCE,
     SCHEMA,
     children,
     ended,
     free_port,
+    own_functions,
     part,
     tool,
 )
@@ -282,10 +284,7 @@ class Demo(Trial):
         self.workers[0].send_signal(signal.SIGCONT)
 
     async def two_workers(self) -> None:
-        await self.owner.execute(
-            "create or replace function hold_shard(shard_number integer) returns boolean language sql as 'select true';"
-            "create or replace function living_workers() returns bigint language sql as 'select 1::bigint'"
-        )
+        await self.owner.execute(HOLD_ALL)
         for _ in range(150):
             await asyncio.sleep(0.1)
             all_held = await self.owner.fetchval(
@@ -666,14 +665,6 @@ class Demo(Trial):
         else:
             await self.common()
         await self.owner.close()
-
-
-def own_functions() -> bytes:
-    """The schema's own functions of holding, in place of those that were put there."""
-    files = [SCHEMA, *sorted(SCHEMA.with_name("schema").iterdir())]
-    pattern = r"create or replace (function (?:living_workers|hold_shard)\(.*?\$\$;\n)"
-    parts = [part for file in files for part in re.findall(pattern, file.read_text(), re.DOTALL)]
-    return "".join(f"create or replace {part}" for part in parts).encode()
 
 
 def main() -> int:

@@ -3,6 +3,7 @@
 import asyncio
 import os
 import pwd
+import re
 import secrets
 import shutil
 import signal
@@ -70,6 +71,11 @@ where (coalesce(s.transactions, 0), coalesce(s.complete, 0), coalesce(s.missing,
     or (coalesce(s.up, 0), coalesce(s.down, 0), coalesce(s.export_up, 0), coalesce(s.export_down, 0))
     <> (coalesce(p.up, 0), coalesce(p.down, 0), coalesce(p.export_up, 0), coalesce(p.export_down, 0))
 """
+# Functions by which each worker believes that it holds all shards, in place of the schema's own.
+HOLD_ALL = """
+create or replace function hold_shard(shard_number integer) returns boolean language sql as 'select true';
+create or replace function living_workers() returns bigint language sql as 'select 1::bigint'
+"""
 BIN = Path("/usr/lib/postgresql/15/bin")
 # The roles of the schema's tools, each of which has a password of its own.
 ROLES = ["GATEWAY", "FEED", "WORKER", "READER", "OPERATOR", "PROVISIONER", "ADMINISTRATOR"]
@@ -98,6 +104,15 @@ def free_port() -> int:
     with socket.socket() as one:
         one.bind(("127.0.0.1", 0))
         return int(one.getsockname()[1])
+
+
+def own_functions() -> bytes:
+    """The schema's own functions of holding, in place of those of HOLD_ALL."""
+    files = [SCHEMA, *sorted(SCHEMA.with_name("schema").iterdir())]
+    pattern = r"create or replace function (?:living_workers|hold_shard)\(.*?\$\$;\n"
+    return "".join(
+        text for file in files for text in re.findall(pattern, file.read_text(), re.DOTALL)
+    ).encode()
 
 
 def children(pid: int) -> list[int]:

@@ -3,7 +3,8 @@
     tests/one fleet.load --stations 300 --record sent.script ws://127.0.0.1:9100/ocpp ws://127.0.0.1:9101/ocpp
 
 Station k is CS-0000k; its events come in sessions of eight, shuffled, one in five sent twice. It sends the next
-message after the answer to the last one; where its connection ends it connects to the next gateway and sends again.
+message after the answer to the last one, and with --rate when it is due: who waited for longer than that catches up.
+Where its connection ends it connects to the next gateway and sends again.
 With --password all come with this one, and with --ca by TLS. With --together all are connected, so many at a time,
 before the first one sends: how many a second that were is told.
 Each message is recorded once its answer is there, as a line of a script. A message's wait is from when it was first
@@ -108,7 +109,8 @@ class Station:
         self.load, self.name, self.turn = load, f"CS-{number:05}", number
         self.rest, self.wanted = messages(number, words.events, words.step, words.near), ""
         self.pause = words.stations / words.rate if words.rate else 0.0
-        self.first = 0.0
+        # When the message that waits for its answer was first sent, and when the next one is due.
+        self.first = self.due = 0.0
         self.link: StationEnd | None = None
         self.next: asyncio.TimerHandle | None = None
         self.beginning: asyncio.Future[None] | None = None
@@ -162,6 +164,7 @@ class Station:
         assert self.link
         self.load.again += self.first > 0
         self.first = self.first or time.monotonic()
+        self.due = self.due or self.first
         self.wanted = f'[3,"{json.loads(self.rest[0])[1]}",{{}}]'
         self.link.send(self.rest[0].encode())
         self.next = asyncio.get_running_loop().call_later(PATIENCE, self.link.transport.abort)
@@ -170,15 +173,14 @@ class Station:
         assert self.link and self.next
         self.next.cancel()
         self.load.answered(self, answer)
-        wait = time.monotonic() - self.first
         self.first = 0.0
+        self.due += self.pause
         del self.rest[0]
         if not self.rest:
             self.link.close(1000, "")
         elif self.pause:
-            self.next = asyncio.get_running_loop().call_later(
-                max(0.0, self.pause - wait), self.send
-            )
+            wait = max(0.0, self.due - time.monotonic())
+            self.next = asyncio.get_running_loop().call_later(wait, self.send)
         else:
             self.send()
 

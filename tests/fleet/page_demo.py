@@ -13,8 +13,6 @@ missing. What nobody may do is tried by operator_demo.py.
 
 import argparse
 import asyncio
-import base64
-import os
 import re
 import subprocess
 import sys
@@ -25,24 +23,20 @@ from typing import Any
 from ocpp_board.fleet.database import Fault
 from ocpp_board.fleet.figures import joined
 from ocpp_board.fleet.plans import Reckoning
+from tests.fleet import chromium
 from tests.fleet.fleet import ended
 from tests.fleet.page_client import PASSWORD, Client, make_operator, start_page
 from tests.fleet.trials import Trial, event, parsed, parser_of, skipped, tried
 
 try:
     from selenium.common.exceptions import WebDriverException
-    from selenium.webdriver import Chrome, ChromeOptions
-    from selenium.webdriver.chrome.service import Service
     from selenium.webdriver.common.by import By
     from selenium.webdriver.support.ui import Select, WebDriverWait
-
-    HAS_SELENIUM = True
 except ImportError:
-    HAS_SELENIUM = False
+    pass  # Told by main.
 
-DRIVER = "/usr/bin/chromedriver"
-# Widths of a desk's screen and of a phone's.
-WIDE, NARROW = 1280, 390
+# Pixels of a desk's screen, and of the highest picture.
+WIDE, HIGHEST = 1280, 2400
 WORKERS = "select count(*) from pg_stat_activity where application_name ~ '^worker_'"
 # A transaction id that would be HTML, were it not escaped.
 EVIL = "<b>\"x\"&'y'</b>"
@@ -132,24 +126,6 @@ class Demo(Trial):
 
     # By a browser -----------------------------------------------------------------------------------------------------
 
-    def open_browser(self) -> None:
-        options: Any = ChromeOptions()
-        options.binary_location = "/usr/bin/chromium"
-        for word in (
-            "--headless=new",
-            "--no-sandbox",
-            "--disable-gpu",
-            "--disable-dev-shm-usage",
-            "--hide-scrollbars",
-        ):
-            options.add_argument(word)
-        options.add_argument(f"--user-data-dir={self.fleet.folder / 'browser'}")
-        # No script may run, and each page has to do without.
-        prefs = {"profile.managed_default_content_settings.javascript": 2}
-        options.add_experimental_option("prefs", prefs)
-        self.browser = Chrome(service=Service(DRIVER), options=options)
-        self.browser.set_page_load_timeout(30)
-
     def enter(self, name: str) -> str:
         """Signs in as a person does, and gives where that leads."""
         self.browser.get(self.url + "/site/north/")
@@ -168,10 +144,6 @@ class Demo(Trial):
             and one.find_element(By.TAG_NAME, "html").id != page
         )
 
-    def width(self, pixels: int) -> None:
-        size = {"width": pixels, "height": 900, "deviceScaleFactor": 1, "mobile": pixels < 600}
-        self.browser.execute_cdp_cmd("Emulation.setDeviceMetricsOverride", size)
-
     def dark(self, is_dark: bool) -> None:
         value = "dark" if is_dark else "light"
         features = [{"name": "prefers-color-scheme", "value": value}]
@@ -186,28 +158,22 @@ class Demo(Trial):
 
     def picture(self, name: str, pixels: int) -> None:
         if self.words.shots:
-            height = self.browser.execute_script("return document.documentElement.scrollHeight")
-            clip = {"x": 0, "y": 0, "width": pixels, "height": min(height, 2400), "scale": 1}
-            words = {"captureBeyondViewport": True, "clip": clip}
-            made = self.browser.execute_cdp_cmd("Page.captureScreenshot", words)
-            (self.words.shots / f"{name}.png").write_bytes(base64.b64decode(made["data"]))
+            chromium.picture(self.browser, self.words.shots / f"{name}.png", pixels, HIGHEST)
 
     def shot(self, name: str) -> None:
         """A picture of the page at both widths, neither of which may need to be moved sideways, and in dark; the page
         is kept for page_check.py."""
-        for pixels, which in ((WIDE, "wide"), (NARROW, "narrow")):
-            self.width(pixels)
-            over = self.browser.execute_script(
-                "return document.documentElement.scrollWidth - window.innerWidth"
-            )
+        for pixels, which in ((WIDE, "wide"), (chromium.PHONE, "narrow")):
+            chromium.resize(self.browser, pixels)
+            over = chromium.wider(self.browser)
             broken = self.browser.execute_script(BROKEN)
             if over > 0 or broken:
                 self.check(False, f"{name}: {over} pixels wider than {pixels}; broken: {broken}")
             self.picture(f"{name}.{which}", pixels)
         self.dark(True)
-        self.picture(f"{name}.dark", NARROW)
+        self.picture(f"{name}.dark", chromium.PHONE)
         self.dark(False)
-        self.width(WIDE)
+        chromium.resize(self.browser, WIDE)
         # Those of a site have links to files beside them; site_kept keeps these whole.
         if "/site/" not in self.browser.current_url:
             (self.kept / f"{name}.html").write_text(self.browser.page_source)
@@ -532,7 +498,7 @@ class Demo(Trial):
         await self.open()
         await self.joins()
         page, self.url = start_page(self.fleet)
-        self.open_browser()
+        self.browser = chromium.opened(self.fleet.folder / "browser")
         await self.looked_at()
         await self.operated()
         await self.closed()
@@ -566,8 +532,8 @@ def main() -> int:
     parser = parser_of(__doc__)
     parser.add_argument("--shots", type=Path, metavar="FOLDER", help="where pictures are kept")
     words = parsed(parser)
-    if not HAS_SELENIUM or not os.access(DRIVER, os.X_OK):
-        return skipped("chromium chromium-driver python3-selenium")
+    if not chromium.is_installed():
+        return skipped(chromium.PACKAGES)
     if words.shots:
         words.shots.mkdir(parents=True, exist_ok=True)
     return tried("page", lambda: Demo(words))

@@ -11,14 +11,13 @@ import time
 import urllib.error
 import urllib.request
 from collections.abc import Awaitable, Callable
-from typing import Any
 
 from ocpp_board.fleet.database import Fault, connect
 from tests.fleet.client import Client
-from tests.fleet.fleet import BIN, SCHEMA, TOP, children, free_port, part
+from tests.fleet.fleet import BIN, HOLD_ALL, TOP, children, free_port, own_functions, part
 from tests.fleet.page_client import Client as Browser
 from tests.fleet.page_client import make_operator
-from tests.fleet.trials import Trial
+from tests.fleet.trials import Trial, event
 
 PROMETHEUS = "/usr/bin/prometheus"
 FOLDER = TOP / "examples/thousands-of-stations"
@@ -246,10 +245,7 @@ class WatchedTrial(Trial):
         self.parts["worker-1"].send_signal(signal.SIGSTOP)
 
     async def two_workers(self) -> None:
-        await self.owner.execute(
-            "create or replace function hold_shard(shard_number integer) returns boolean language sql as 'select true';"
-            "create or replace function living_workers() returns bigint language sql as 'select 1::bigint'"
-        )
+        await self.owner.execute(HOLD_ALL)
 
     async def network(self) -> None:
         port = free_port()
@@ -423,24 +419,3 @@ def asked(port: int, path: str) -> tuple[int, str]:
         return fault.code, fault.read().decode()
     except OSError as fault:
         return 0, str(fault)
-
-
-def event(name: str, number: int, kind: str, moment: str, wh: int) -> str:
-    """The message of an event of a transaction."""
-    reading: dict[str, Any] = {"timestamp": moment, "sampledValue": [{"value": wh}]}
-    payload = {
-        "eventType": kind,
-        "timestamp": moment,
-        "triggerReason": "MeterValuePeriodic",
-        "seqNo": number,
-    }
-    payload |= {"transactionInfo": {"transactionId": name}, "meterValue": [reading]}
-    return json.dumps([2, f"{name}-{number}", "TransactionEvent", payload])
-
-
-def own_functions() -> bytes:
-    """The schema's own functions of holding, in place of those that were put there."""
-    files = [SCHEMA, *sorted(SCHEMA.with_name("schema").iterdir())]
-    pattern = r"create or replace (function (?:living_workers|hold_shard)\(.*?\$\$;\n)"
-    parts = [one for file in files for one in re.findall(pattern, file.read_text(), re.DOTALL)]
-    return "".join(f"create or replace {one}" for one in parts).encode()

@@ -2,6 +2,7 @@
 
 import argparse
 import asyncio
+import time
 from datetime import datetime, timezone
 from pathlib import Path
 
@@ -15,7 +16,7 @@ import asyncpg  # noqa: E402
 from ocpp_board.energies import Flow  # noqa: E402
 from ocpp_board.fleet.archives import Late, packed, unpacked, widened  # noqa: E402
 from ocpp_board.fleet.close_day import differences  # noqa: E402
-from ocpp_board.fleet import begun_anew, database, metrics, watched as watching  # noqa: E402
+from ocpp_board.fleet import begun_anew, database, metrics, parts, watched as watching  # noqa: E402
 from ocpp_board.fleet.board_writer import Board, chunks  # noqa: E402
 from ocpp_board.fleet.database import (  # noqa: E402
     Fault,
@@ -216,6 +217,20 @@ def test_work_is_begun_anew_where_its_session_is_lost(monkeypatch: pytest.Monkey
     monkeypatch.setattr(begun_anew, "PATIENCE", -1.0)
     with pytest.raises(Unreachable):
         anew(monkeypatch, away, fine)
+
+
+def test_another_tool_is_run_with_what_it_reads_and_tells() -> None:
+    made = asyncio.run(parts.completed(["ocpp_board", "tables", "--out", "/none/x", "-"], 60, b"x"))
+    assert made.returncode == 2 and made.stdout == b""
+    assert parts.last_of(made.stderr).startswith("ocpp-board tables: ")
+    assert parts.last_of(b"") == ""
+
+
+def test_one_that_takes_too_long_is_ended() -> None:
+    began = time.monotonic()
+    with pytest.raises(TimeoutError):
+        asyncio.run(parts.completed(["http.server", "--bind", "127.0.0.1", "0"], 0.5))
+    assert time.monotonic() < began + 20
 
 
 def test_a_plan_declares_limits_where_they_change() -> None:

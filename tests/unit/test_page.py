@@ -51,7 +51,7 @@ from ocpp_board.fleet.page_render import (  # noqa: E402
     moment,
     rendered,
 )
-from ocpp_board.fleet.page_views import FILE  # noqa: E402
+from ocpp_board.fleet.page_views import FILE, reading_text  # noqa: E402
 from ocpp_board.fleet.page_words import Words, meaning_of, reason_of  # noqa: E402
 from ocpp_board.fleet.passwords import FREE, SALT, address_told, hashed  # noqa: E402
 from ocpp_board.fleet.set_operator import days_of, operator_of, roles_of, sites_of  # noqa: E402
@@ -434,7 +434,17 @@ def test_answers_behind_an_archive() -> None:
 def test_an_event_that_is_none_shows_itself() -> None:
     for text in ("msg A x", "msg A [2]", 'msg A [2,"1","x",[]]', "void A t1 0"):
         assert Entry(text, "", None, None, None).message is None
-    assert Entry(line("A", "T1", 7)["line"], "", 1, None, None).message["seqNo"] == 7  # type: ignore[index]
+
+
+def test_an_event_shows_its_numbers_as_they_are_written() -> None:
+    long = line("A", "T1", 7)["line"].replace(
+        '"seqNo"', f'"customData": {{"x": {5_000 * "7"}}}, "seqNo"'
+    )
+    text = long.replace(
+        "}]", ', "eventType": "Updated", "meterValue": [{"sampledValue": [{"value": 1.50}]}]}]'
+    )
+    entry = Entry(text, "", 1, None, None)
+    assert reading_text(entry) == "Updated 7, reads 1.50"
 
 
 def test_months_of_a_zone() -> None:

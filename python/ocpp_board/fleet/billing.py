@@ -15,14 +15,11 @@ not come, by its earliest event. Sessions of the log are replayed for their time
 """
 
 import argparse
-import asyncio
 import csv
 import io
-import os
 import re
 import sys
 from collections.abc import Sequence
-from contextlib import suppress
 from datetime import date, datetime, time, timezone
 from http import HTTPStatus
 from typing import Any, NamedTuple
@@ -43,7 +40,6 @@ from ocpp_board.fleet.plans import Plan, Reckoning, known_lines
 from ocpp_board.fleet.replays import Replay
 from ocpp_board.fleet.states import CORRECTED, PROVISIONAL, SETTLED
 from ocpp_board.limits import MOMENT, is_name
-from ocpp_board.processes import PACKAGES
 from ocpp_board.session_times import times_of
 from ocpp_board.statuses import Status
 from ocpp_board.words import add_program, parser_of
@@ -264,29 +260,15 @@ async def table(cells: Cells, program: str, operator: Operator, site: str, month
     await cells.site(operator, site)
     words = [word for cell in cells.cells for word in ("--db", cell.dsn)]
     words += ["--program", program, "--site", site, "--month", month]
-    path = os.pathsep.join(filter(None, [str(PACKAGES), os.environ.get("PYTHONPATH")]))
     async with ROOM:
-        process = await asyncio.create_subprocess_exec(
-            *(sys.executable, "-P", "-m", "ocpp_board", "billing", *words),
-            stdin=asyncio.subprocess.DEVNULL,
-            stdout=asyncio.subprocess.PIPE,
-            stderr=asyncio.subprocess.PIPE,
-            env={**os.environ, "PYTHONPATH": path},
-        )
         try:
-            with suppress(asyncio.TimeoutError):
-                data, told = await asyncio.wait_for(process.communicate(), PATIENCE)
-                if process.returncode == Status.DONE:
-                    return data
-                said = told.decode("utf-8", "replace").strip().splitlines()[-1:]
-                raise Wrong(HTTPStatus.SERVICE_UNAVAILABLE, " ".join(said) or "it ended")
-        finally:
-            if process.returncode is None:
-                process.kill()
-                await process.wait()
-    raise Wrong(
-        HTTPStatus.SERVICE_UNAVAILABLE, f"the table took more than {PATIENCE} seconds to make"
-    )
+            made = await parts.completed(["ocpp_board", "billing", *words], PATIENCE)
+        except TimeoutError:
+            said = f"the table took more than {PATIENCE} seconds to make"
+            raise Wrong(HTTPStatus.SERVICE_UNAVAILABLE, said) from None
+    if made.returncode != Status.DONE:
+        raise Wrong(HTTPStatus.SERVICE_UNAVAILABLE, parts.last_of(made.stderr) or "it ended")
+    return made.stdout
 
 
 def month_word(text: str) -> tuple[int, int]:

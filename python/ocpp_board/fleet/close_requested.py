@@ -9,10 +9,8 @@ ocpp-board-close-day@SITE do. A timer calls it each minute. Exit status: 0; 1 wh
 """
 
 import argparse
-import asyncio
 import logging
-import os
-import sys
+import subprocess
 from collections.abc import Sequence
 from pathlib import Path
 from typing import Any
@@ -20,7 +18,6 @@ from typing import Any
 from ocpp_board.fleet import parts
 from ocpp_board.fleet.begun_anew import begun_anew
 from ocpp_board.fleet.database import Fault
-from ocpp_board.processes import PACKAGES
 from ocpp_board.statuses import Status
 from ocpp_board.words import add_program, parser_of
 
@@ -49,26 +46,13 @@ async def closed(words: argparse.Namespace, row: Any) -> tuple[int, str]:
     if folder.parent != words.archives or folder.name in ("", ".", ".."):
         return Status.MISTAKEN, f"no folder can have the name {row['site']!r}"
     folder.mkdir(exist_ok=True)
-    path = os.pathsep.join(filter(None, [str(PACKAGES), os.environ.get("PYTHONPATH")]))
-    process = await asyncio.create_subprocess_exec(
-        *(sys.executable, "-P", "-m", "ocpp_board", "close-day"),
-        *("--db", words.db, "--program", words.program, "--archive", str(folder)),
-        *("--site", row["site"], "--day", str(row["day"])),
-        stdin=asyncio.subprocess.DEVNULL,
-        stdout=asyncio.subprocess.PIPE,
-        stderr=asyncio.subprocess.STDOUT,
-        env={**os.environ, "PYTHONPATH": path},
-    )
+    command = ["ocpp_board", "close-day", "--db", words.db, "--program", words.program]
+    command += ["--archive", str(folder), "--site", row["site"], "--day", str(row["day"])]
     try:
-        data, _ = await asyncio.wait_for(process.communicate(), PATIENCE)
-    except asyncio.TimeoutError:
+        made = await parts.completed(command, PATIENCE, errors=subprocess.STDOUT)
+    except TimeoutError:
         return Status.TOLD, f"it took more than {PATIENCE} seconds, and was ended"
-    finally:
-        if process.returncode is None:
-            process.kill()
-            await process.wait()
-    text = data.decode("utf-8", "replace").strip()
-    return process.returncode or 0, text[-TOLD:]
+    return made.returncode, made.stdout.decode("utf-8", "replace").strip()[-TOLD:]
 
 
 async def asked(words: argparse.Namespace, query: str, *values: Any) -> Any:

@@ -6,7 +6,6 @@ other. What came for an archived session is answered behind its archived lines, 
 """
 
 import asyncio
-import json
 from collections.abc import Iterable, Sequence
 from contextlib import suppress
 from dataclasses import dataclass, field
@@ -24,6 +23,7 @@ from ocpp_board.fleet.operators import Operator
 from ocpp_board.fleet.plans import Plan, Reckoning
 from ocpp_board.fleet.replays import Replay, ReplayEnded
 from ocpp_board.fleet.states import CORRECTED, PROVISIONAL, SETTLED
+from ocpp_board.messages import parsed
 from ocpp_board.session_times import SessionTimes, times_of
 from ocpp_board.transactions import Transactions
 
@@ -84,11 +84,11 @@ class Entry(NamedTuple):
 
     @property
     def message(self) -> dict[str, Any] | None:
-        """The payload of the event, where it can be read."""
+        """The payload of the event with its numbers as they are written, where it can be read."""
         if not self.line.startswith("msg "):
             return None
         with suppress(*ODD):
-            payload = json.loads(self.line.split(" ", 2)[2])[3]
+            payload = parsed(self.line.split(" ", 2)[2])[3]
             return payload if isinstance(payload, dict) else None
         return None
 

@@ -5,6 +5,7 @@ import asyncio
 import getpass
 import logging
 import os
+import subprocess
 import sys
 from collections.abc import Callable, Coroutine, Sequence
 from pathlib import Path
@@ -15,6 +16,7 @@ import asyncpg
 from ocpp_board import words
 from ocpp_board.fleet.database import LOST, Fault, Unreachable, password_or_fault, said
 from ocpp_board.fleet.replays import ReplayEnded
+from ocpp_board.processes import MODULE, environment
 from ocpp_board.statuses import Mistaken, Status
 
 log = logging.getLogger(__name__)
@@ -106,6 +108,40 @@ def password_read(fault_of: Callable[[str], str]) -> str:
     if fault := fault_of(password):
         raise Fault(fault)
     return password
+
+
+async def completed(
+    words: Sequence[str],
+    seconds: float,
+    data: bytes = b"",
+    errors: int = subprocess.PIPE,
+    **variables: str,
+) -> "subprocess.CompletedProcess[bytes]":
+    """Runs a module of this package with its words on these bytes of standard input, in this environment with these
+    variables, and gives what it wrote and told.
+
+    It is not checked how it ends. Raises TimeoutError where it takes more than so many seconds, and ends it.
+    """
+    process = await asyncio.create_subprocess_exec(
+        *MODULE,
+        *words,
+        stdin=subprocess.PIPE,
+        stdout=subprocess.PIPE,
+        stderr=errors,
+        env=environment() | variables,
+    )
+    try:
+        written, told = await asyncio.wait_for(process.communicate(data), seconds)
+    finally:
+        if process.returncode is None:
+            process.kill()
+            await process.wait()
+    return subprocess.CompletedProcess(words, process.returncode or 0, written, told)
+
+
+def last_of(told: bytes) -> str:
+    """The last line of what a process told; nothing where it told nothing."""
+    return " ".join(told.decode("utf-8", "replace").strip().splitlines()[-1:])
 
 
 def use_uvloop() -> None:

@@ -2,8 +2,6 @@
 
 import asyncio
 import json
-import os
-import sys
 import tempfile
 from collections import OrderedDict
 from datetime import datetime
@@ -11,11 +9,11 @@ from http import HTTPStatus
 from pathlib import Path
 from typing import Any, NamedTuple
 
+from ocpp_board.fleet import parts
 from ocpp_board.fleet.api_queries import STATIONS
 from ocpp_board.fleet.cells import FINDINGS, Cell, Room, Wrong, board_text
 from ocpp_board.fleet.page_render import zone_of
 from ocpp_board.fleet.states import figures_said, station_states
-from ocpp_board.processes import PACKAGES
 
 # Sites whose pages are kept, processes at once that make some with those that wait, and seconds for one.
 KEPT, MAKERS, WAITING, PATIENCE = 16, 2, 16, 60
@@ -86,25 +84,15 @@ class SiteStore:
 
 async def run_maker(folder: str, data: bytes) -> None:
     """Has the files made in a folder. Raises Wrong where that fails or takes too long."""
-    path = os.pathsep.join(filter(None, [str(PACKAGES), os.environ.get("PYTHONPATH")]))
-    process = await asyncio.create_subprocess_exec(
-        *(sys.executable, "-P", "-m", "ocpp_board.fleet.site_pages", folder),
-        stdin=asyncio.subprocess.PIPE,
-        stderr=asyncio.subprocess.PIPE,
-        env={**os.environ, "PYTHONPATH": path, "PGPASSWORD": ""},
-    )
+    words = ["ocpp_board.fleet.site_pages", folder]
     try:
-        _, told = await asyncio.wait_for(process.communicate(data), PATIENCE)
-    except asyncio.TimeoutError:
+        made = await parts.completed(words, PATIENCE, data, PGPASSWORD="")
+    except TimeoutError:
         raise Wrong(
             HTTPStatus.SERVICE_UNAVAILABLE, f"the page took more than {PATIENCE} seconds to make"
         ) from None
-    finally:
-        if process.returncode is None:
-            process.kill()
-            await process.wait()
-    if process.returncode:
-        said = told.decode("utf-8", "replace").strip().splitlines()[-1:]
+    if made.returncode:
         raise Wrong(
-            HTTPStatus.INTERNAL_SERVER_ERROR, f"the page could not be made: {' '.join(said)}"
+            HTTPStatus.INTERNAL_SERVER_ERROR,
+            f"the page could not be made: {parts.last_of(made.stderr)}",
         )

@@ -526,10 +526,10 @@ class Session:
         """Compacts a shard in a process of its own. Its plan then changes, and its replay begins anew."""
         words = ["--db", self.words.db, "--program", self.words.program, "--shard", str(number)]
         made = await asyncio.to_thread(run_tool, "compact", words, b"")
-        told = made.stderr.decode("utf-8", "replace").strip().splitlines()[-1:]
         if made.returncode:
             self.seen.counts["compactions_failed"] += 1
-            log.error("shard %d: not compacted: %s", number, *(told or ["it ended"]))
+            told = parts.last_of(made.stderr) or "it ended"
+            log.error("shard %d: not compacted: %s", number, told)
         else:
             log.info("shard %d: compacted", number)
 
