@@ -1,9 +1,9 @@
 ghost use Rattle.std.specs.Prelude.{◌≡◌, List, [], ◌∷◌, ◌++◌, length, IfOk};
 ghost use Rattle.kept_desk.specs.Entries.{IsNote, entry, of_station};
 ghost use Rattle.ledger_model.specs.Laws.{IsAccepted};
-ghost use Rattle.ledger_model.specs.Step.{answer};
 ghost use Rattle.station_cell.specs.Cell.{IsInService};
 ghost use Rattle.station_cell.specs.Settle.{cell_after};
+ghost use Rattle.station_ledger.specs.Judged.{IsJudged};
 ghost use Rattle.site_desk.specs.Submit.{CanJudge, Submitted};
 ghost use Rattle.kept_desk.specs.Kept.{IsReceived, KeepsCell, given_with};
 ghost use Rattle.kept_desk.specs.Speaking.{SpeaksOf};
@@ -15,9 +15,9 @@ use crate::share::Share;
 use crate::way::Journalled;
 use ledger_model::{Answer, Command, Refusal};
 use site_book::{Naming, SiteBook, Told};
-use site_desk::{
-    HasCell, Pass, StationCell, StationPlace, TooManyPasses, can_post, enlist_cell, settle_at,
-};
+use site_desk::{HasCell, StationPlace, can_post, settle_judged_at};
+use station_cell::{Pass, StationCell, TooManyPasses, enlist_cell};
+use station_ledger::Judgement;
 use std::io::Write;
 use std::marker::Model;
 use std::sync::{Mutex, Wait};
@@ -55,6 +55,13 @@ impl<K: Opening> HasCell for KeptCell<K> {
     fn enlist<R: Threads>(&mut self, rt: &R) -> Result<Pass, TooManyPasses> {
         enlist_cell(rt, &mut self.cell)
     }
+}
+
+// A command, and what the cell's ledger answers to it.
+#[derive(Drop)]
+struct Judged {
+    command: Command,
+    judgement: Judgement,
 }
 
 impl<K: Opening> KeptCell<K> {
@@ -95,9 +102,11 @@ impl<K: Opening> KeptCell<K> {
         ensures submitted { Submitted place.now pass.old command result.0 pass.new result.1 }
         ensures received { IsReceived result.0 (entry number way.now.note.now way.now.line.now command) result.2 }
     {
-        match self.cell.ledger().judge(&command) {
+        let judgement = self.cell.ledger().judgement(&command);
+        match judgement.answer {
             Answer::Accepted(_) => {
-                self.take_written(rt, book, number, place, pass, command, way)
+                let judged = Judged { command, judgement };
+                self.take_written(rt, book, number, place, pass, judged, way)
             }
             Answer::Repeat => (Answer::Repeat, None, None),
             Answer::Refused(why) => (Answer::Refused(why), None, None),
@@ -112,20 +121,20 @@ impl<K: Opening> KeptCell<K> {
         number: usize,
         place: &StationPlace,
         pass: &mut Pass,
-        command: Command,
+        judged: Judged,
         way: &Journalled<'_, K, W>,
     ) -> (Answer, Option<Told<J>>, Option<Receipt<K>>)
         requires can { CanJudge number place.now self.old pass.old }
-        requires accepted { IsAccepted (answer self.old.limits self.old.content command) }
+        requires judged { IsJudged self.old.limits self.old.content judged.command judged.judgement.answer }
+        requires accepted { IsAccepted judged.judgement.answer }
         requires note { IsNote way.now.note.now }
-        requires speaks { SpeaksOf (K.name number) way.now.line.now command }
-        ensures submitted { Submitted place.now pass.old command result.0 pass.new result.1 }
-        ensures received { IsReceived result.0 (entry number way.now.note.now way.now.line.now command) result.2 }
+        requires speaks { SpeaksOf (K.name number) way.now.line.now judged.command }
+        ensures submitted { Submitted place.now pass.old judged.command result.0 pass.new result.1 }
+        ensures received { IsReceived result.0 (entry number way.now.note.now way.now.line.now judged.command) result.2 }
     {
-        command.keeps_ranges();
-        match way.write(rt, &mut self.share, &command) {
+        match way.write(rt, &mut self.share, &judged.command) {
             Ok(receipt) => with_receipt(
-                settle_written(rt, &mut self.cell, book, number, place, pass, command),
+                settle_written(rt, &mut self.cell, book, number, place, pass, judged),
                 receipt,
             ),
             Err(Broken) => (Answer::Refused(Refusal::ChangesExhausted), None, None),
@@ -160,15 +169,17 @@ fn settle_written<J: Naming, R: Wait>(
     number: usize,
     place: &StationPlace,
     pass: &mut Pass,
-    command: Command,
+    judged: Judged,
 ) -> (Answer, Option<Told<J>>)
     requires can { CanJudge number place.now cell.old pass.old }
-    ensures settled { IsInService cell.new → cell.new ≡ cell_after cell.old pass.old command }
-    ensures submitted { Submitted place.now pass.old command result.0 pass.new result.1 }
+    requires judged { IsJudged cell.old.limits cell.old.content judged.command judged.judgement.answer }
+    ensures settled { IsInService cell.new → cell.new ≡ cell_after cell.old pass.old judged.command }
+    ensures submitted { Submitted place.now pass.old judged.command result.0 pass.new result.1 }
 {
     let mut book = book.lock(rt);
     if can_post(cell, &book, number, place, pass) {
-        settle_at(cell, &mut book, number, place, pass, command)
+        let Judged { command, judgement } = judged;
+        settle_judged_at(cell, &mut book, number, place, pass, command, judgement)
     } else {
         cell.retire();
         (Answer::Refused(Refusal::ChangesExhausted), None)

@@ -11,7 +11,7 @@ use crate::journal::Journal;
 use crate::opening::Opening;
 use crate::receipt::Receipt;
 use ledger_model::Command;
-use site_desk::StationCell;
+use station_cell::StationCell;
 use std::alloc::{AllocError, Global};
 use std::io::Write;
 

@@ -3,7 +3,8 @@ use crate::opening::Opening;
 use crate::receipt::Receipt;
 use ledger_model::Listed;
 use site_book::{Naming, Viewer};
-use site_desk::{CloseFault, Closed, Pass};
+use site_desk::{CloseFault, Closed};
+use station_cell::Pass;
 use std::io::{BufWriter, Write};
 
 /// A desk with a journal that was closed.

@@ -11,7 +11,7 @@
 //!
 //! A desk may keep more than a cell behind a station's lock, as one with a journal does: anything that [`HasCell`]
 //! ([`Desk::over`], [`Desk::take_apart`]), and a command is then taken by a way of its own that [`Settles`]
-//! ([`Desk::submit_by`]; [`can_judge`], [`can_post`] and [`settle_at`] are its parts). A cell whose site's book is not
+//! ([`Desk::submit_by`]; [`can_judge`], [`can_post`] and [`settle_judged_at`] are its parts). A cell whose site's book is not
 //! as it should be leaves service there ([`StationCell::retire`]).
 //!
 //! The crate's one contract: what [`Desk::submit`] answers is the step's answer at some content that
@@ -52,5 +52,4 @@ pub use parts::Parts;
 pub use plan::{MAX_VIEWERS, Plan, SitePlan, StationPlan};
 pub use roster::StationPlace;
 pub use settles::Settles;
-pub use station_cell::{MAX_PASSES, Pass, StationCell, TooManyPasses, enlist_cell, settle, tied};
-pub use submit::{can_judge, can_post, settle_at};
+pub use submit::{can_judge, can_post, settle_judged_at};

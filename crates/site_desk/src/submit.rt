@@ -1,15 +1,15 @@
 ghost use Rattle.std.specs.Prelude.{◌≡◌, IsTrue, IfOk};
 ghost use Rattle.ledger_model.specs.Figures.{AreWithin};
-ghost use Rattle.ledger_model.specs.Step.{answer};
 ghost use Rattle.site_desk.specs.Roster.{StandsAt};
 ghost use Rattle.station_cell.specs.Settle.{cell_after};
+ghost use Rattle.station_ledger.specs.Judged.{IsJudged};
 ghost use Rattle.site_desk.specs.Submit.{CanJudge, CanSettle, IsBoardWithin, Submitted};
 
 use crate::roster::StationPlace;
 use ledger_model::{Answer, Command, Refusal};
 use site_book::{Naming, SiteBook, Told};
-use station_cell::{Pass, StationCell, settle, tied};
-use station_ledger::StationBoard;
+use station_cell::{Pass, StationCell, settle, settle_judged, tied};
+use station_ledger::{Judgement, StationBoard};
 use std::alloc::{AllocError, Global};
 
 // Tells whether the cell is that of the station of this number and place.
@@ -82,24 +82,26 @@ fn can_settle<J: Naming>(
         && tied(cell, book)
 }
 
-/// Settles the command ([`settle`]), and tells also what that means to one who does not know what lay
-/// behind the locks.
+/// Settles a command that was judged already ([`settle_judged`]), and tells also what that means to one who does not
+/// know what lay behind the locks.
 ///
-/// Condition: what settling asks ([`can_judge`] and then [`can_post`] tell).
-pub fn settle_at<J: Naming>(
+/// Conditions: what settling asks ([`can_judge`] and then [`can_post`] tell), and this is the judgement of the command by
+/// the cell's ledger as it is now ([`StationLedger::judgement`](station_ledger::StationLedger::judgement) gives it).
+pub fn settle_judged_at<J: Naming>(
     cell: &mut StationCell,
     book: &mut SiteBook<J>,
     number: usize,
     place: &StationPlace,
     pass: &mut Pass,
     command: Command,
+    judgement: Judgement,
 ) -> (Answer, Option<Told<J>>)
-    requires { CanSettle number place.now cell.old book.old pass.old }
-    ensures answer { result.0 ≡ answer cell.old.limits cell.old.content command }
+    requires can { CanSettle number place.now cell.old book.old pass.old }
+    requires judged { IsJudged cell.old.limits cell.old.content command judgement.answer }
     ensures cell { cell.new ≡ cell_after cell.old pass.old command }
     ensures submitted { Submitted place.now pass.old command result.0 pass.new result.1 }
 {
-    settle(cell, book, pass, command)
+    settle_judged(cell, book, pass, command, judgement)
 }
 
 // Settles the command where all that settling asks is so; else nothing changes.
@@ -114,7 +116,7 @@ pub(crate) fn try_settle<J: Naming>(
     ensures { Submitted place.now pass.old command result.0 pass.new result.1 }
 {
     if can_settle(cell, book, number, place, pass) {
-        settle_at(cell, book, number, place, pass, command)
+        settle(cell, book, pass, command)
     } else {
         (Answer::Refused(Refusal::ChangesExhausted), None)
     }

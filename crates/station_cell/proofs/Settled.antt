@@ -10,11 +10,17 @@ use Rattle.ledger_model.specs.Content.{Content, entries}
 use Rattle.ledger_model.specs.Posts.{row_after}
 use Rattle.ledger_model.specs.Step.{answer, step, content_after}
 use Rattle.ledger_model.proofs.PostLemmas.{row-push_same, row-push_other}
+use Rattle.ledger_model.specs.Limits.{Bounds}
+use Rattle.station_ledger.specs.Judged.{IsJudged}
 use Rattle.station_ledger.specs.Ledger.{Ledger}
 use Rattle.site_book.specs.Book.{Book}
 use Rattle.site_book.proofs.Named.{get_here}
 use Rattle.station_cell.specs.Cell.{Cell, Held, Knows}
 use Rattle.station_cell.specs.Settle.{Tied, cell_after, counts_after, pass_after, posts_after}
+
+-- a judgement by a cell's ledger is one by the cell
+pub judged_here : (limits limits' : Bounds) (content content' : Content) (command : Command) (a : Answer) → limits ≡ limits' → content ≡ content' → IsJudged limits content command a → IsJudged limits' content' command a
+judged_here limits limits' content content' command a bounds contents j = record { answered = j.answered ∙ (λ i. answer (bounds i) (contents i) command); admissible = j.admissible }
 
 -- a cell after an accepted command, by its parts
 pub cell_changed : (c : Cell) (p : Held) (command : Command) (l : Ledger) (n v : ℕ) → l ≡ record { limits = c.limits; period = c.period; order = c.order; content = (step c.limits c.content command).0 } → answer c.limits c.content command ≡ Accepted n → v ≡ p.changes

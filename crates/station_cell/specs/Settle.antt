@@ -7,7 +7,7 @@ use Rattle.ledger_model.specs.Content.{entries}
 use Rattle.ledger_model.specs.Posts.{Post, row_after}
 use Rattle.ledger_model.specs.Step.{answer, step}
 use Rattle.site_book.specs.Book.{Book, Known, known}
-use Rattle.station_cell.specs.Cell.{Cell, Held}
+use Rattle.station_cell.specs.Cell.{Cell, Held, Knows}
 
 -- The book has the cell's row, which was opened with the cell's limits.
 abbrev pub Holds : Cell → Book → Type 0
@@ -44,3 +44,13 @@ abbrev pub told_after : Book → Answer → Option Known
 told_after b (Accepted n) = Some (known b.site b.posts)
 told_after b Repeat = None
 told_after b (Refused why) = None
+
+-- A command of a pass was settled at a cell and its site's book: the answer and the cell are the step's, the pass and the posts follow them, what the book told is told, the pass is still the cell's, and the row is still tied.
+pub record IsSettled (c : Cell) (b : Book) (p : Held) (command : Command) (a : Answer) (t : Option Known) (c' : Cell) (b' : Book) (p' : Held) : Type 0 where
+  pub answer : a ≡ answer c.limits c.content command
+  pub cell : c' ≡ cell_after c p command
+  pub pass : p' ≡ pass_after p a
+  pub book : b' ≡ record b { posts = posts_after b.posts c' a }
+  pub told : t ≡ told_after b' a
+  pub known : Knows c' p'
+  pub tied : Tied c' b'

@@ -2,12 +2,13 @@ ghost use Rattle.std.specs.Prelude.{◌≡◌, ◌↔◌, ◌++◌, ◌∷◌, [
 ghost use Rattle.ledger_model.specs.Step.{Reached, answer};
 ghost use Rattle.station_cell.specs.Cell.{IsInService, Knows, most_passes, new_cell, new_pass, no_station};
 ghost use Rattle.station_cell.specs.Settle.{cell_after, pass_after};
+ghost use Rattle.station_ledger.specs.Judged.{IsJudged};
 
 use crate::fault::TooManyPasses;
 use crate::pass::Pass;
 use energy_flow::Work;
 use ledger_model::{Answer, Command, Limits, Order, Period};
-use station_ledger::StationLedger;
+use station_ledger::{Judgement, StationLedger};
 use std::alloc::{AllocError, Global};
 use std::marker::Model;
 use std::thread::Threads;
@@ -155,14 +156,20 @@ impl StationCell {
         })
     }
 
-    // Takes a command of a pass, and counts the change where it is accepted.
-    pub(crate) fn change(&mut self, pass: &mut Pass, command: Command) -> Answer
-        requires { Knows self.old pass.old }
+    // Takes a command of a pass that was judged so, and counts the change where it is accepted.
+    pub(crate) fn change(
+        &mut self,
+        pass: &mut Pass,
+        command: Command,
+        judgement: Judgement,
+    ) -> Answer
+        requires known { Knows self.old pass.old }
+        requires judged { IsJudged self.old.limits self.old.content command judgement.answer }
         ensures answer { result ≡ answer self.old.limits self.old.content command }
         ensures cell { self.new ≡ cell_after self.old pass.old command }
         ensures pass { pass.new ≡ pass_after pass.old result }
     {
-        let answer = self.ledger.apply(command, &mut pass.work);
+        let answer = self.ledger.apply_judged(command, judgement, &mut pass.work);
         if let Answer::Accepted(_) = answer {
             self.counts[pass.slot] += 1;
             pass.changes += 1;

@@ -2,8 +2,8 @@
 //!
 //! A [`StationCell`] has a station's number and its site's, the station's row in that site's book, its ledger,
 //! and a count for each [`Pass`] that it gave out. [`settle`] takes a command of a pass at a cell: where it is
-//! accepted, it posts the station's new figures in the book, in one step. [`StationCell::open`] alone takes
-//! memory.
+//! accepted, it posts the station's new figures in the book, in one step. [`settle_judged`] does so where the command
+//! was judged before. [`StationCell::open`] alone takes memory.
 //!
 //! The crate's one contract: a cell's content is always one that as many accepted commands as its passes made
 //! leave of the empty content, under its limits. `settle` takes the step of the ledger and posts the figures
@@ -26,4 +26,4 @@ mod steps;
 pub use cell::{MAX_PASSES, StationCell, enlist_cell};
 pub use fault::TooManyPasses;
 pub use pass::Pass;
-pub use steps::{are_same, settle, tied};
+pub use steps::{are_same, settle, settle_judged, tied};

@@ -1,12 +1,14 @@
 ghost use Rattle.std.specs.Prelude.{◌≡◌, ◌↔◌, ◌<◌, ◌^◌, length, IsTrue};
 ghost use Rattle.ledger_model.specs.Step.{answer};
 ghost use Rattle.station_cell.specs.Cell.{Knows};
-ghost use Rattle.station_cell.specs.Settle.{Holds, Tied, cell_after, pass_after, posts_after, told_after};
+ghost use Rattle.station_cell.specs.Settle.{Holds, IsSettled, Tied, cell_after, pass_after, posts_after, told_after};
+ghost use Rattle.station_ledger.specs.Judged.{IsJudged};
 
 use crate::cell::StationCell;
 use crate::pass::Pass;
 use ledger_model::{Answer, Command, Figures};
 use site_book::{Naming, SiteBook, Told};
+use station_ledger::Judgement;
 
 /// Takes a command of a pass at its station and answers it. Where it is accepted, the station's new
 /// figures are posted in its row, and what the book told comes with the answer; any other answer
@@ -33,14 +35,36 @@ pub fn settle<J: Naming>(
     ensures known { Knows cell.new pass.new }
     ensures tied { Tied cell.new book.new }
 {
-    let answer = cell.change(pass, command);
+    let judgement = cell.ledger().judgement(&command);
+    settle_judged(cell, book, pass, command, judgement)
+}
+
+/// Takes a command of a pass at its station as [`settle`] does, where it was judged already.
+///
+/// Conditions: those of [`settle`], and this is the judgement of the command by the cell's ledger as it is now
+/// ([`StationLedger::judgement`](station_ledger::StationLedger::judgement) gives it).
+pub fn settle_judged<J: Naming>(
+    cell: &mut StationCell,
+    book: &mut SiteBook<J>,
+    pass: &mut Pass,
+    command: Command,
+    judgement: Judgement,
+) -> (Answer, Option<Told<J>>)
+    requires known { Knows cell.old pass.old }
+    requires held { Holds cell.old book.old }
+    requires room { length book.old.posts < 2 ^ 62 }
+    requires tied { Tied cell.old book.old }
+    requires judged { IsJudged cell.old.limits cell.old.content command judgement.answer }
+    ensures { IsSettled cell.old book.old pass.old command result.0 result.1 cell.new book.new pass.new }
+{
+    let answer = cell.change(pass, command, judgement);
     match answer {
         Answer::Accepted(_) => {
             let told = book.post(cell.row(), cell.ledger().figures());
             (answer, Some(told))
         }
-        Answer::Repeat => (answer, None),
-        Answer::Refused(_) => (answer, None),
+        Answer::Repeat => (Answer::Repeat, None),
+        Answer::Refused(why) => (Answer::Refused(why), None),
     }
 }
 

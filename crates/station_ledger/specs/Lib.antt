@@ -2,6 +2,7 @@ pub mod ByMoment
 pub mod Runs
 pub mod Kept
 pub mod Ledger
+pub mod Judged
 pub mod Quarters
 pub mod Sides
 pub mod Moved

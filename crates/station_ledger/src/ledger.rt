@@ -1,7 +1,6 @@
 ghost use Rattle.std.specs.Prelude.{◌≡◌, ◌+◌, ◌<◌, ◌≤◌, ◌^◌, IfOk};
 ghost use Rattle.std.specs.FinMap as finite;
 ghost use Rattle.ledger_model.specs.Ranges.{most_event_readings};
-ghost use Rattle.ledger_model.specs.Admissible.{IsAdmissible};
 ghost use Rattle.ledger_model.specs.Content.{empty_content, entries};
 ghost use Rattle.ledger_model.specs.declared.reading.Direction.TheVariants.{Import, Export};
 ghost use Rattle.ledger_model.specs.Energy.{energy_by};
@@ -9,18 +8,19 @@ ghost use Rattle.ledger_model.specs.Evse.{energy_at_by};
 ghost use Rattle.ledger_model.specs.Figures.{AreWithin};
 ghost use Rattle.ledger_model.specs.Board.{board_by, figures_by};
 ghost use Rattle.ledger_model.specs.Step.{Reached, answer, answer_to_deliver, answer_to_void, answer_to_voided, accepted_within_limit, step};
+ghost use Rattle.station_ledger.specs.Judged.{IsApplied, IsJudged};
 ghost use Rattle.station_ledger.specs.New.{answer_to_new};
 ghost use Rattle.station_ledger.specs.Spent.{IsSpent, most_spent};
 ghost use Rattle.station_ledger.specs.Used.{used_limits};
 
 use crate::board::StationBoard;
+use crate::judgement::Judgement;
 use crate::lines::board_of;
 use crate::moves::carry_out;
 use crate::sums::Sums;
 use crate::used::UsedLimits;
 use energy_flow::{Flow, Work};
 use event_chain::{Chains, Found, Room};
-use key_index::KeyPlace;
 use ledger_model::{
     Answer, Command, Event, EvseId, Figures, Key, Limits, Order, Period, Refusal, TxId,
 };
@@ -78,36 +78,46 @@ impl StationLedger {
     pub fn judge(&self, command: &Command) -> Answer
         ensures { result ≡ answer self.now.limits self.now.content command.now }
     {
-        self.judge_at(command).0
+        self.judgement(command).answer
     }
 
-    // What the command would be answered, and where its key stands or belongs, where that was searched.
-    fn judge_at(&self, command: &Command) -> (Answer, KeyPlace)
-        ensures answer { result.0 ≡ answer self.now.limits self.now.content command.now }
-        ensures admissible { IsAdmissible command.now }
+    /// What [`StationLedger::judge`] answers, for [`StationLedger::apply_judged`]; nothing changes.
+    pub fn judgement(&self, command: &Command) -> Judgement
+        ensures { IsJudged self.now.limits self.now.content command.now result.answer }
     {
         let key = command.key();
         match command {
             Command::Deliver(_, event) => self.judge_delivery(key, event),
-            Command::Void(_) => (self.judge_void(key), KeyPlace::UNKNOWN),
-            Command::Restore(_) | Command::Erase(_) => (self.judge_voided(key), KeyPlace::UNKNOWN),
+            Command::Void(_) => Judgement::without_place(self.judge_void(key)),
+            Command::Restore(_) | Command::Erase(_) => {
+                Judgement::without_place(self.judge_voided(key))
+            }
         }
     }
 
-    // The answer to an event under this key, and where the key stands or belongs.
-    fn judge_delivery(&self, key: &Key, event: &Event) -> (Answer, KeyPlace)
-        ensures { result.0 ≡ answer_to_deliver self.now.limits self.now.content key.now event.now (finite.get self.now.content.events key.now) }
+    // The answer to an event under this key.
+    fn judge_delivery(&self, key: &Key, event: &Event) -> Judgement
+        ensures { result.answer ≡ answer_to_deliver self.now.limits self.now.content key.now event.now (finite.get self.now.content.events key.now) }
     {
         let (found, place) = self.chains.look(key);
         match found {
             Some(stored) => {
                 if stored.same_as(event) {
-                    (Answer::Repeat, place)
+                    Judgement {
+                        answer: Answer::Repeat,
+                        place,
+                    }
                 } else {
-                    (Answer::Refused(Refusal::ConflictingEvent), place)
+                    Judgement {
+                        answer: Answer::Refused(Refusal::ConflictingEvent),
+                        place,
+                    }
                 }
             }
-            None => (self.judge_new(key.tx(), event.readings().len()), place),
+            None => Judgement {
+                answer: self.judge_new(key.tx(), event.readings().len()),
+                place,
+            },
         }
     }
 
@@ -167,12 +177,33 @@ impl StationLedger {
         ensures reached { Reached self.new.limits self.new.content.changes self.new.content }
         ensures fits { self.new.content.changes < 2 ^ 64 }
     {
-        let (answer, place) = self.judge_at(&command);
-        if let Answer::Accepted(changes) = answer {
-            carry_out(&mut self.chains, &mut self.sums, place, &command, work);
-            self.changes = changes;
+        let judgement = self.judgement(&command);
+        self.apply_judged(command, judgement, work)
+    }
+
+    /// Takes the command as [`StationLedger::apply`] does, where it was judged already.
+    ///
+    /// Condition: this is the judgement of the command by what the ledger holds now
+    /// ([`StationLedger::judgement`] gives it).
+    pub fn apply_judged(
+        &mut self,
+        command: Command,
+        judgement: Judgement,
+        work: &mut Work,
+    ) -> Answer
+        requires { IsJudged self.old.limits self.old.content command judgement.answer }
+        ensures { IsApplied self.old command result self.new work.old work.new }
+    {
+        let Judgement { answer, place } = judgement;
+        match answer {
+            Answer::Accepted(changes) => {
+                carry_out(&mut self.chains, &mut self.sums, place, &command, work);
+                self.changes = changes;
+                Answer::Accepted(changes)
+            }
+            Answer::Repeat => Answer::Repeat,
+            Answer::Refused(why) => Answer::Refused(why),
         }
-        answer
     }
 
     /// What the import register rose and fell by over all transactions, in milliwatt-hours; no reading

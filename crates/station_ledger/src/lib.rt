@@ -17,7 +17,8 @@
 //! The crate's one contract: contracts see a ledger as its limits, its period, its order and its
 //! content, and know nothing of how these are kept. `apply` gives the answer of the ledger's step and
 //! leaves the step's content; whatever a ledger holds was left by as many accepted commands as it
-//! counts. `energy`, `evse`, `export`, `evse_export`, `figures` and `board` are those that the
+//! counts. Who has to know the answer before the change, as one that writes it down first, asks for the judgement and
+//! hands it on ([`StationLedger::judgement`], [`StationLedger::apply_judged`]). `energy`, `evse`, `export`, `evse_export`, `figures` and `board` are those that the
 //! definitions make, from scratch, of the present content. `open` and `board` alone can run out of
 //! memory; what the other calls promise has no exception for it.
 //!
@@ -40,6 +41,7 @@
 
 mod board;
 mod by_moment;
+mod judgement;
 mod ledger;
 mod lines;
 mod moves;
@@ -50,6 +52,7 @@ mod totals;
 mod used;
 
 pub use board::{EvseLine, QuarterLine, StationBoard, TxLine};
+pub use judgement::Judgement;
 pub use ledger::StationLedger;
 #[doc(hidden)]
 pub use standing::Standing;

@@ -1,17 +1,26 @@
-use Rattle.std.proofs.Common.{[], refl, ap, ◌∙◌}
+use Rattle.std.proofs.Common.{[], refl, ap, sym, subst, ◌∙◌}
 use Rattle.ledger_model.specs.declared.answer.Answer.TheVariants.{Repeat, Refused}
+use Rattle.ledger_model.specs.Laws.{IsAccepted}
 use Rattle.ledger_model.specs.Step.{answer}
 use Rattle.site_book.specs.Book.{Book}
 use Rattle.station_cell.specs.Settle.{cell_after}
+use Rattle.station_cell.proofs.Settled.{judged_here}
 use Rattle.site_desk.proofs.Submits.{submitted}
 use Rattle.kept_desk.proofs.cell.KeptCell.take.Goals as goal
+
+pub take_written-requires-clause-judged : goal.take_written-requires-clause-judged
+take_written-requires-clause-judged g c =
+    judged_here _ _ _ _ c.args.command c.judgement-judgement.result.answer (c.ledger.ensures.limits ∙ ap (λ d. d.limits) c.self.view_is) (c.ledger.ensures.content ∙ ap (λ d. d.content) c.self.view_is) c.judgement-judgement.ensures
+
+pub take_written-requires-clause-accepted : goal.take_written-requires-clause-accepted
+take_written-requires-clause-accepted g c = subst IsAccepted (sym c.in-Accepted.is) tt
 
 pub returns-in-Repeat-clause-submitted : goal.returns-in-Repeat-clause-submitted
 returns-in-Repeat-clause-submitted g c =
     let may = c.requires.can in
     let cell = c.args.self.now in
     let book : Book = record { site = c.args.place.now.site; limits = []; posts = [] } in
-    let is = c.in-Repeat.ensures ∙ (λ i. answer (c.ledger.ensures.limits i) (c.ledger.ensures.content i) c.args.command) ∙ ap (λ d. answer d.limits d.content c.args.command) c.self.view_is in
+    let is = sym c.in-Repeat.is ∙ c.judgement-judgement.ensures.answered ∙ (λ i. answer (c.ledger.ensures.limits i) (c.ledger.ensures.content i) c.args.command) ∙ ap (λ d. answer d.limits d.content c.args.command) c.self.view_is in
     submitted c.args.place.now c.args.number cell book c.args.pass.now c.args.command may.stands refl may.reached may.counted may.knows
     Repeat (cell_after cell c.args.pass.now c.args.command) book c.args.pass.now _ is refl refl refl refl
 
@@ -20,6 +29,6 @@ returns-in-Refused-clause-submitted g c =
     let may = c.requires.can in
     let cell = c.args.self.now in
     let book : Book = record { site = c.args.place.now.site; limits = []; posts = [] } in
-    let is = c.in-Refused.ensures ∙ (λ i. answer (c.ledger.ensures.limits i) (c.ledger.ensures.content i) c.args.command) ∙ ap (λ d. answer d.limits d.content c.args.command) c.self.view_is in
+    let is = sym c.in-Refused.is ∙ c.judgement-judgement.ensures.answered ∙ (λ i. answer (c.ledger.ensures.limits i) (c.ledger.ensures.content i) c.args.command) ∙ ap (λ d. answer d.limits d.content c.args.command) c.self.view_is in
     submitted c.args.place.now c.args.number cell book c.args.pass.now c.args.command may.stands refl may.reached may.counted may.knows
     (Refused c.in-Refused.why) (cell_after cell c.args.pass.now c.args.command) book c.args.pass.now _ is refl refl refl refl

@@ -2,6 +2,7 @@ use Rattle.std.proofs.Common.{ap, sym, ◌∙◌, subst}
 use Rattle.ledger_model.specs.Laws.{IsAccepted}
 use Rattle.ledger_model.specs.Step.{answer}
 use Rattle.station_cell.specs.Cell.{IsInService}
+use Rattle.station_ledger.specs.Judged.{IsJudged}
 use Rattle.site_desk.specs.Submit.{CanJudge}
 use Rattle.kept_desk.specs.Speaking.{SpeaksOf}
 use Rattle.kept_desk.proofs.Left.{kept_more}
@@ -11,15 +12,18 @@ pub write-requires-clause-speaks : goal.write-requires-clause-speaks
 write-requires-clause-speaks g c =
     let serves = subst IsInService (sym c.self.view_is) c.requires.can.serves in
     let station = (c.self.invariant serves).station ∙ ap (λ d. d.station) c.self.view_is ∙ c.requires.can.stands.station in
-    subst (λ n. SpeaksOf (g.K.Opening.name n) c.args.way.now.line.now c.args.command) (sym station) c.requires.speaks
+    subst (λ n. SpeaksOf (g.K.Opening.name n) c.args.way.now.line.now c.args.judged.command) (sym station) c.requires.speaks
 
 pub settle_written-requires : goal.settle_written-requires
-settle_written-requires g c = record { can = subst (λ d. CanJudge c.args.number c.args.place.now d c.args.pass.now) (sym c.self.view_is) c.requires.can }
+settle_written-requires g c = record {
+  can = subst (λ d. CanJudge c.args.number c.args.place.now d c.args.pass.now) (sym c.self.view_is) c.requires.can;
+  judged = subst (λ d. IsJudged d.limits d.content c.args.judged.command c.args.judged.judgement.answer) (sym c.self.view_is) c.requires.judged;
+}
 
 pub invariant_of-self : goal.invariant_of-self
 invariant_of-self g c =
     let serves = subst IsInService (sym c.self.view_is) c.requires.can.serves in
-    let accepted = subst (λ d. IsAccepted (answer d.limits d.content c.args.command)) (sym c.self.view_is) c.requires.accepted in
+    let accepted = subst (λ d. IsAccepted (answer d.limits d.content c.args.judged.command)) (sym c.self.view_is) (subst IsAccepted c.requires.judged.answered c.requires.accepted) in
     λ s.
-    kept_more g.K.Opening.first c.self.inside.cell c.settle_written.new.cell c.args.pass.now c.self.inside.share c.write.new.share c.args.way.now.note.now c.args.way.now.line.now c.args.command c.keeps_ranges.ensures accepted
+    kept_more g.K.Opening.first c.self.inside.cell c.settle_written.new.cell c.args.pass.now c.self.inside.share c.write.new.share c.args.way.now.note.now c.args.way.now.line.now c.args.judged.command c.requires.judged.admissible accepted
     (c.settle_written.ensures.settled s) c.in-Ok.ensures.known (c.self.invariant serves)

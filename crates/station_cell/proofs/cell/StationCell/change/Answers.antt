@@ -7,32 +7,32 @@ use Rattle.station_cell.proofs.cell.StationCell.change.Goals as goal
 
 pub overflow_add-index_mut : goal.overflow_add-index_mut
 overflow_add-index_mut c =
-    let at = count_at _ _ _ _ c.self.view_is c.pass.view_is c.requires in
+    let at = count_at _ _ _ _ c.self.view_is c.pass.view_is c.requires.known in
     let read = count_read c.self.inside.counts.items c.pass.inside.slot c.pass.inside.changes at _ c.index_mut.ensures.value in
     let part = count_part c.self.inside.counts.items c.pass.inside.slot c.pass.inside.changes at in
-    let more = one_more c.self.inside.ledger.limits c.self.inside.ledger.content c.args.command c.in-Accepted.field-0 (sym c.apply-answer.ensures.answer ∙ c.in-Accepted.is) in
-    let left = ap (λ (l : Ledger). l.content.changes) c.apply-answer.ensures.content in
-    omega (arith, read, part, more, left, c.self.invariant.counted, c.apply-answer.ensures.fits)
+    let more = one_more c.self.inside.ledger.limits c.self.inside.ledger.content c.args.command c.in-Accepted.field-0 (sym c.apply_judged-answer.ensures.answer ∙ c.in-Accepted.is) in
+    let left = ap (λ (l : Ledger). l.content.changes) c.apply_judged-answer.ensures.content in
+    omega (arith, read, part, more, left, c.self.invariant.counted, c.apply_judged-answer.ensures.fits)
 
 pub overflow_add-pass : goal.overflow_add-pass
 overflow_add-pass c =
-    let at = count_at _ _ _ _ c.self.view_is c.pass.view_is c.requires in
+    let at = count_at _ _ _ _ c.self.view_is c.pass.view_is c.requires.known in
     let part = count_part c.self.inside.counts.items c.pass.inside.slot c.pass.inside.changes at in
-    let more = one_more c.self.inside.ledger.limits c.self.inside.ledger.content c.args.command c.in-Accepted.field-0 (sym c.apply-answer.ensures.answer ∙ c.in-Accepted.is) in
-    let left = ap (λ (l : Ledger). l.content.changes) c.apply-answer.ensures.content in
-    omega (arith, part, more, left, c.self.invariant.counted, c.apply-answer.ensures.fits)
+    let more = one_more c.self.inside.ledger.limits c.self.inside.ledger.content c.args.command c.in-Accepted.field-0 (sym c.apply_judged-answer.ensures.answer ∙ c.in-Accepted.is) in
+    let left = ap (λ (l : Ledger). l.content.changes) c.apply_judged-answer.ensures.content in
+    omega (arith, part, more, left, c.self.invariant.counted, c.apply_judged-answer.ensures.fits)
 
 pub invariant_of-self : goal.invariant_of-self
 invariant_of-self c =
-    let at = count_at _ _ _ _ c.self.view_is c.pass.view_is c.requires in
+    let at = count_at _ _ _ _ c.self.view_is c.pass.view_is c.requires.known in
     let read = count_read c.self.inside.counts.items c.pass.inside.slot c.pass.inside.changes at _ c.index_mut.ensures.value in
-    let more = one_more c.self.inside.ledger.limits c.self.inside.ledger.content c.args.command c.in-Accepted.field-0 (sym c.apply-answer.ensures.answer ∙ c.in-Accepted.is) in
-    let left = ap (λ (l : Ledger). l.content.changes) c.apply-answer.ensures.content in
-    cell_more _ _ _ _ c.self.inside.counts.items c.pass.inside.slot c.pass.inside.changes _ _ _ c.self.invariant at read (left ∙ more) refl c.apply-answer.ensures.reached
+    let more = one_more c.self.inside.ledger.limits c.self.inside.ledger.content c.args.command c.in-Accepted.field-0 (sym c.apply_judged-answer.ensures.answer ∙ c.in-Accepted.is) in
+    let left = ap (λ (l : Ledger). l.content.changes) c.apply_judged-answer.ensures.content in
+    cell_more _ _ _ _ c.self.inside.counts.items c.pass.inside.slot c.pass.inside.changes _ _ _ c.self.invariant at read (left ∙ more) refl c.apply_judged-answer.ensures.reached
 
 pub returns-in-Accepted-clause-cell : goal.returns-in-Accepted-clause-cell
 returns-in-Accepted-clause-cell c =
-    let at = count_at _ _ _ _ c.self.view_is c.pass.view_is c.requires in
+    let at = count_at _ _ _ _ c.self.view_is c.pass.view_is c.requires.known in
     let read = count_read c.self.inside.counts.items c.pass.inside.slot c.pass.inside.changes at _ c.index_mut.ensures.value in
-    cell_changed (record { station = c.self.inside.station; site = c.self.inside.site; row = c.self.inside.row; limits = c.self.inside.ledger.limits; period = c.self.inside.ledger.period; order = c.self.inside.ledger.order; content = c.self.inside.ledger.content; counts = c.self.inside.counts.items }) (record { station = c.pass.inside.station; slot = c.pass.inside.slot; changes = c.pass.inside.changes }) c.args.command c.apply-answer.new.self c.in-Accepted.field-0 _ c.apply-answer.ensures.content (sym c.apply-answer.ensures.answer ∙ c.in-Accepted.is) read
+    cell_changed (record { station = c.self.inside.station; site = c.self.inside.site; row = c.self.inside.row; limits = c.self.inside.ledger.limits; period = c.self.inside.ledger.period; order = c.self.inside.ledger.order; content = c.self.inside.ledger.content; counts = c.self.inside.counts.items }) (record { station = c.pass.inside.station; slot = c.pass.inside.slot; changes = c.pass.inside.changes }) c.args.command c.apply_judged-answer.new.self c.in-Accepted.field-0 _ c.apply_judged-answer.ensures.content (sym c.apply_judged-answer.ensures.answer ∙ c.in-Accepted.is) read
     ∙ (λ i. cell_after (c.self.view_is i) (c.pass.view_is i) c.args.command)

@@ -1,0 +1,43 @@
+use Rattle.std.proofs.Common.{rules, refl, ◌∙◌}
+use Rattle.ledger_model.specs.declared.answer.Answer.TheVariants.{Repeat, Refused}
+use Rattle.ledger_model.specs.Board.{figures_by}
+use Rattle.ledger_model.specs.Content.{entries}
+use Rattle.station_cell.proofs.Settled.{book_posted, known_after, tied_after}
+use Rattle.station_cell.proofs.steps.settle_judged.Goals as goal
+
+pub returns-in-Accepted : goal.returns-in-Accepted
+returns-in-Accepted g c =
+    let book =
+    book_posted c.args.book.now c.post-told.new.self c.change-answer.new.self c.change-answer.result c.in-Accepted.field-0 c.row.result c.figures.result c.post-told.ensures.posted c.row.ensures
+    (c.figures.ensures.value ∙ (λ i. figures_by (c.ledger.ensures.order i) (entries (c.ledger.ensures.content i)))) c.in-Accepted.is in
+    record {
+      answer = c.change-answer.ensures.answer;
+      cell = c.change-answer.ensures.cell;
+      pass = c.change-answer.ensures.pass;
+      book = book;
+      told = search rules;
+      known = known_after _ _ _ _ c.args.command _ c.change-answer.ensures.cell c.change-answer.ensures.pass c.change-answer.ensures.answer c.requires.known;
+      tied = tied_after _ _ c.args.pass.now _ _ c.args.command _ c.change-answer.ensures.cell book c.change-answer.ensures.answer c.requires.tied;
+    }
+
+pub returns-in-Repeat : goal.returns-in-Repeat
+returns-in-Repeat g c = record {
+  answer = c.in-Repeat.ensures.answer;
+  cell = c.change-answer.ensures.cell;
+  pass = c.in-Repeat.ensures.pass;
+  book = refl;
+  told = refl;
+  known = known_after _ _ _ _ c.args.command Repeat c.change-answer.ensures.cell c.in-Repeat.ensures.pass c.in-Repeat.ensures.answer c.requires.known;
+  tied = tied_after _ _ c.args.pass.now c.args.book.now c.args.book.now c.args.command Repeat c.change-answer.ensures.cell refl c.in-Repeat.ensures.answer c.requires.tied;
+}
+
+pub returns-in-Refused : goal.returns-in-Refused
+returns-in-Refused g c = record {
+  answer = c.in-Refused.ensures.answer;
+  cell = c.change-answer.ensures.cell;
+  pass = c.in-Refused.ensures.pass;
+  book = refl;
+  told = refl;
+  known = known_after _ _ _ _ c.args.command (Refused c.in-Refused.why) c.change-answer.ensures.cell c.in-Refused.ensures.pass c.in-Refused.ensures.answer c.requires.known;
+  tied = tied_after _ _ c.args.pass.now c.args.book.now c.args.book.now c.args.command (Refused c.in-Refused.why) c.change-answer.ensures.cell refl c.in-Refused.ensures.answer c.requires.tied;
+}

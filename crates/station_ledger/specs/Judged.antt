@@ -1,0 +1,23 @@
+use Rattle.std.specs.Prelude.{◌≡◌, ℕ, ◌+◌, ◌<◌, ◌≤◌, ◌^◌}
+use Rattle.ledger_model.specs.declared.answer.Answer.{Answer}
+use Rattle.ledger_model.specs.declared.command.Command.{Command}
+use Rattle.ledger_model.specs.Admissible.{IsAdmissible}
+use Rattle.ledger_model.specs.Content.{Content}
+use Rattle.ledger_model.specs.Limits.{Bounds}
+use Rattle.ledger_model.specs.Step.{Reached, answer, step}
+use Rattle.station_ledger.specs.Ledger.{Ledger}
+use Rattle.station_ledger.specs.Spent.{IsSpent, most_spent}
+
+-- A ledger within these limits, with this content, gives this answer to the command, the parts of which are in range.
+pub record IsJudged (limits : Bounds) (c : Content) (command : Command) (a : Answer) : Type 0 where
+  pub answered : a ≡ answer limits c command
+  pub admissible : IsAdmissible command
+
+-- A ledger took the command: it gave the step's answer, has the step's content, and evaluated so many differences more.
+pub record IsApplied (l : Ledger) (command : Command) (a : Answer) (l' : Ledger) (count count' : ℕ) : Type 0 where
+  pub answer : a ≡ answer l.limits l.content command
+  pub content : l' ≡ record l { content = (step l.limits l.content command).0 }
+  pub work : IsSpent a count count'
+  pub bound : count' ≤ count + most_spent l.order l.content.events command
+  pub reached : Reached l'.limits l'.content.changes l'.content
+  pub fits : l'.content.changes < 2 ^ 64
