@@ -1,6 +1,5 @@
 pub mod Entries
 pub mod Speaking
-pub mod Writing
 pub mod Journal
 pub mod Rule
 pub mod Held

@@ -1,3 +1,11 @@
+use script_lines::WriteStopped;
+
 /// The journal takes nothing more: a write or a flush failed, at this line or at an earlier one.
 #[derive(Clone, Copy, Debug, PartialEq, Eq)]
 pub struct Broken;
+
+impl From<WriteStopped> for Broken {
+    fn from(_stopped: WriteStopped) -> Broken {
+        Broken
+    }
+}

@@ -3,11 +3,10 @@ ghost use Rattle.std.specs.Prelude.{◌≡◌, ℕ, ◌↔◌, ◌++◌, List, [
 ghost use Rattle.std.specs.Io.Buffered.{writer_buffer, writer_contents};
 ghost use Rattle.std.specs.Io.KnownBytes.{Appends};
 ghost use Rattle.kept_desk.specs.Entries.{IsComment, IsNote, line_text};
-ghost use Rattle.kept_desk.specs.Writing.{WritesFront};
+ghost use Rattle.script_lines.specs.Writing.{WritesFront};
 ghost use Rattle.script_lines.specs.Lines.{HasNoFeed};
 
-use crate::broken::Broken;
-use script_lines::MAX_LINE_BYTES;
+use script_lines::{MAX_LINE_BYTES, WriteStopped, write_bytes};
 use std::io::{BufWriter, Write};
 
 /// Tells whether these bytes may stand in front of a line: they are none, or a comment line of at most
@@ -50,7 +49,7 @@ pub(crate) fn write_entry<W: Write + Drop>(
     writer: &mut BufWriter<W>,
     note: &[u8],
     line: &[u8],
-) -> Result<(), Broken>
+) -> Result<(), WriteStopped>
     ensures written { (written : List ℕ) × Appends (writer_contents W.contents writer.old) (writer_contents W.contents writer.new) written
         × WritesFront result (note.now ++ line_text line.now) written }
     ensures handed_on { OnOk result (writer_buffer writer.new ≡ []) }
@@ -60,7 +59,7 @@ pub(crate) fn write_entry<W: Write + Drop>(
 }
 
 // Writes a line and a line feed, and flushes them: nothing is left in the buffer then.
-fn write_line<W: Write + Drop>(writer: &mut BufWriter<W>, line: &[u8]) -> Result<(), Broken>
+fn write_line<W: Write + Drop>(writer: &mut BufWriter<W>, line: &[u8]) -> Result<(), WriteStopped>
     ensures written { (written : List ℕ) × Appends (writer_contents W.contents writer.old) (writer_contents W.contents writer.new) written
         × WritesFront result (line_text line.now) written }
     ensures handed_on { OnOk result (writer_buffer writer.new ≡ []) }
@@ -70,7 +69,7 @@ fn write_line<W: Write + Drop>(writer: &mut BufWriter<W>, line: &[u8]) -> Result
 }
 
 // Writes a line feed and flushes.
-fn end_line<W: Write + Drop>(writer: &mut BufWriter<W>) -> Result<(), Broken>
+fn end_line<W: Write + Drop>(writer: &mut BufWriter<W>) -> Result<(), WriteStopped>
     ensures written { (written : List ℕ) × Appends (writer_contents W.contents writer.old) (writer_contents W.contents writer.new) written
         × WritesFront result (10 ∷ []) written }
     ensures handed_on { OnOk result (writer_buffer writer.new ≡ []) }
@@ -78,22 +77,6 @@ fn end_line<W: Write + Drop>(writer: &mut BufWriter<W>) -> Result<(), Broken>
     write_bytes(writer, b"\n")?;
     match writer.flush() {
         Ok(()) => Ok(()),
-        Err(_) => Err(Broken),
+        Err(_) => Err(WriteStopped),
     }
-}
-
-// Writes all of these bytes. A write that fails, or takes none, ends it, and what was taken before stands.
-fn write_bytes<W: Write>(writer: &mut W, bytes: &[u8]) -> Result<(), Broken>
-    ensures { (written : List ℕ) × Appends (W.contents writer.old) (W.contents writer.new) written
-        × WritesFront result bytes.now written }
-{
-    let mut done = 0;
-    while done < bytes.len() {
-        match writer.write(&bytes[done..]) {
-            Ok(0) => return Err(Broken),
-            Ok(count) => done += count,
-            Err(_) => return Err(Broken),
-        }
-    }
-    Ok(())
 }

@@ -3,3 +3,4 @@ pub mod PartOfLine
 pub mod Cuts
 pub mod LineWords
 pub mod Numbers
+mod WrittenBytes

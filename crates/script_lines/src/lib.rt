@@ -3,7 +3,7 @@
 //! A script has one line for each step of what an operator and his stations do: declarations, messages of
 //! stations, an operator's commands and questions. [`LineReader`] reads it line by line within limits, and
 //! flushes what was written before it waits for more. [`read_line`] says what a line means, or which fault it
-//! has. [`put_line`], [`put_fault`] and [`put_answer`] make the lines that answer. Nothing here knows a ledger.
+//! has. [`put_line`], [`put_fault`] and [`put_answer`] make the lines that answer, and [`write_bytes`] writes them. Nothing here knows a ledger.
 //!
 //! The crate's one contract: a line that was read is one of those that the definition cuts the bytes into, and
 //! its meaning is that of the definition `line_meaning`.
@@ -18,8 +18,10 @@ mod fault;
 mod line_reader;
 mod script_line;
 mod text;
+mod write;
 
 pub use fault::ReplayFault;
 pub use line_reader::{LineEnd, LineReader, MAX_LINE_BYTES, without_return};
 pub use script_line::{LineFault, Operation, ScriptLine, order_of, read_line};
 pub use text::{put_answer, put_fault, put_line};
+pub use write::{WriteStopped, write_bytes};

@@ -11,13 +11,14 @@ use Rattle.script_lines.specs.declared.fault.ReplayFault.TheVariants.{ReadFault,
 use Rattle.script_lines.specs.declared.line_reader.LineEnd.{LineEnd}
 use Rattle.script_lines.specs.declared.line_reader.LineEnd.TheVariants.{Feed, Input}
 use Rattle.script_lines.specs.Lines.{Line, HasNoFeed, ended, unended, cut, complete_lines, lines_of, text_by}
-use Rattle.script_ledgers.specs.Script.{Script, line_step, script_text}
-use Rattle.script_replay.specs.Outcome.{Replays, WritesFrontOf, Began, AnsweredBy}
+use Rattle.script_ledgers.specs.Ranges.{longest_script}
+use Rattle.script_ledgers.specs.Script.{Script, line_step, script_text, start}
+use Rattle.script_replay.specs.Outcome.{IsReplay, Replays, WritesFrontOf, Began, AnsweredBy}
+use Rattle.script_lines.specs.Ranges.{longest_line}
 use Rattle.script_lines.specs.Reading.{TakesLine, line_of, line_read}
 use Rattle.std.specs.Io.BufRead.{strip_last}
 use Rattle.std.proofs.lemmas.Bool.{cases_lt, false≢true}
 use Rattle.script_replay.specs.Answering.{Replies, StopsAtLine}
-use Rattle.script_replay.specs.Writing.{WritesFront}
 use Rattle.script_lines.proofs.PartOfLine.{passed_on}
 use Rattle.script_lines.proofs.Pieces.{front_has_none, but_last}
 use Rattle.script_lines.proofs.Cuts.{cut-open, cut-ended, cut-unended, complete-unended, kept_line_of, unended_whole, none_kept, all_kept}
@@ -168,19 +169,20 @@ module _ (old now : List Line → List ℕ) (max_line_bytes room left : ℕ) (r0
         all.1,
       )
 
--- a reply that was not written whole, after the machine made it
-pub stops_writing : (old new : List Line → List ℕ) (line : Line) (reply shown written : List ℕ) (fault : ReplayFault) → shown ≡ reply → Replies old new line reply
-    → WritesFront {T = Unit {0}} (Err fault) shown written → StopsAtLine old line fault written
-stops_writing old new line reply shown written ReadFault same replies front = absurd front
-stops_writing old new line reply shown written TooMuchInput same replies front = absurd front
-stops_writing old new line reply shown written OutOfMemory same replies front = absurd front
-stops_writing old new line reply shown written WriteFault same replies front = λ more.
+-- a reply of which a front was written
+pub stops_writing : (old new : List Line → List ℕ) (line : Line) (reply shown written : List ℕ) → shown ≡ reply → Replies old new line reply
+    → (rest : List ℕ) × (shown ≡ written ++ rest) → StopsAtLine old line WriteFault written
+stops_writing old new line reply shown written same replies front = λ more.
     (front.0 ++ new more, replies more ∙ ap (λ l. l ++ new more) (sym same ∙ front.1) ∙ append_assoc written front.0 (new more))
 
 -- what a loop told at its end
 abbrev pub Tells : (T : Type 0) → (List Line → List ℕ) → ℕ → ℕ → Option (List ℕ) → Option (List ℕ) → Option (List ℕ) → Option (List ℕ) → Result T ReplayFault → Type 0
 Tells T old max_line_bytes room r0 r1 w0 w1 result =
     (read written : List ℕ) × Consumes r0 r1 read × Appends w0 w1 written × Began result read × Replays (OnSome r0 (IsAtEnd r1)) old max_line_bytes room result read written
+
+-- what a replay of a whole script told
+pub as_replay : (r0 r1 w0 w1 : Option (List ℕ)) (result : Result (Unit {0}) ReplayFault) → Tells (Unit {0}) (script_text start) longest_line longest_script r0 r1 w0 w1 result → IsReplay r0 r1 w0 w1 result
+as_replay r0 r1 w0 w1 result t = (t.0, t.1, t.2, t.3, t.5)
 
 -- a look at what comes next failed, and consumed nothing
 pub look_failed : (T : Type 0) (old now now' : List Line → List ℕ) (max_line_bytes room left : ℕ) (r0 r1 r1' w0 w1 : Option (List ℕ)) → AnsweredLines old now max_line_bytes room left r0 r1 w0 w1

@@ -1,4 +1,3 @@
-mod WrittenReplies
 mod AnsweredLines
 pub mod AdmissibleLines
 pub mod Flushes

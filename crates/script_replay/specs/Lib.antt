@@ -1,4 +1,3 @@
 pub mod Outcome
 pub mod Answering
-pub mod Writing
 pub mod Laws

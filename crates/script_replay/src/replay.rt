@@ -1,45 +1,41 @@
 ghost use Rattle.std.specs.Prelude.{◌≡◌, ℕ, ◌+◌, ◌<◌, ◌≤◌, ◌^◌, List, OnOk, OnSome};
-ghost use Rattle.std.specs.Io.KnownBytes.{Consumes, Appends, IsAtEnd};
+ghost use Rattle.std.specs.Io.KnownBytes.{Appends, IsAtEnd};
 ghost use Rattle.script_lines.specs.Lines.{line_bytes};
 ghost use Rattle.script_replay.specs.Answering.{WritesLine};
-ghost use Rattle.script_replay.specs.Outcome.{Began, Replays};
+ghost use Rattle.script_replay.specs.Outcome.{IsReplay};
+ghost use Rattle.site_book.specs.Tables.{HasTable, NamedBy};
 ghost use Rattle.script_ledgers.specs.Script.{script_text};
 
-mod reply;
-
-use crate::replay::reply::write_reply;
-use script_ledgers::ScriptState;
-use script_lines::{LineEnd, LineReader, ReplayFault};
-use site_book::Naming;
+use script_ledgers::{MAX_SCRIPT_BYTES, ScriptState};
+use script_lines::{LineEnd, LineReader, MAX_LINE_BYTES, ReplayFault, WriteStopped, write_bytes};
+use site_book::{Naming, Tables};
 use std::io::{BufRead, Write};
 use std::thread::Threads;
 
-// Answers all lines that are still to be read. The answer of each is written before more input is waited for; the last
+// Replays a script over tables that J names. The answer of each line is written before more input is waited for; the last
 // flush is left to the caller.
 pub(crate) fn replay_lines<J: Naming, X: AllocGlobal + Threads, R: BufRead, W: Write>(
     rt: &X,
-    script: &mut ScriptState<J>,
-    lines: &mut LineReader,
+    tables: Tables,
     reader: &mut R,
     writer: &mut W,
 ) -> Result<(), ReplayFault>
-    requires short { lines.old.max_line_bytes < 2 ^ 62 }
-    requires few { script.old.posts + lines.old.room < 2 ^ 62 }
-    ensures run { (read written : List ℕ) × Consumes (R.remaining reader.old) (R.remaining reader.new) read
-        × Appends (W.contents writer.old) (W.contents writer.new) written
-        × Began result read
-        × Replays (OnSome (R.remaining reader.old) (IsAtEnd (R.remaining reader.new))) (script_text script.old.script) lines.old.max_line_bytes lines.old.room result read written }
+    requires named { NamedBy J.table tables }
+    requires there { (site : ℕ) → site < 16 → HasTable tables site }
+    ensures run { IsReplay (R.remaining reader.old) (R.remaining reader.new) (W.contents writer.old) (W.contents writer.new) result }
     ensures end { OnOk result (OnSome (R.remaining reader.old) (IsAtEnd (R.remaining reader.new))) }
 {
+    let mut script = ScriptState::<J>::begin(tables);
+    let mut lines = LineReader::open(rt.alloc(), MAX_LINE_BYTES, MAX_SCRIPT_BYTES);
     let mut reply = Vec::new(rt.alloc());
     'lines: loop {
-        if script.look(rt, lines, reader).is_err() {
+        if script.look(rt, &lines, reader).is_err() {
             return Err(ReplayFault::ReadFault);
         }
         match lines.next_line_flushing(reader, writer)? {
             LineEnd::Feed => {
                 let line = lines.line(LineEnd::Feed);
-                answer_line(rt, script, line, &mut reply, writer)?;
+                answer_line(rt, &mut script, line, &mut reply, writer)?;
                 continue 'lines;
             }
             LineEnd::Input => {
@@ -47,7 +43,7 @@ pub(crate) fn replay_lines<J: Naming, X: AllocGlobal + Threads, R: BufRead, W: W
                     return Ok(());
                 }
                 let line = lines.line(LineEnd::Input);
-                answer_line(rt, script, line, &mut reply, writer)?;
+                answer_line(rt, &mut script, line, &mut reply, writer)?;
                 return Ok(());
             }
         }
@@ -69,10 +65,10 @@ fn answer_line<J: Naming, X: AllocGlobal + Threads, W: Write>(
 {
     reply.clear();
     match script.answer(rt, line, reply) {
-        Ok(()) => {
-            write_reply(writer, reply)?;
-            Ok(())
-        }
+        Ok(()) => match write_bytes(writer, reply) {
+            Ok(()) => Ok(()),
+            Err(WriteStopped) => Err(ReplayFault::WriteFault),
+        },
         Err(_) => Err(ReplayFault::OutOfMemory),
     }
 }

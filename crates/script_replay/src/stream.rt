@@ -2,13 +2,11 @@ ghost use Rattle.std.specs.Prelude.{ℕ, ◌<◌, ◌≡◌, [], OnOk, OnSome};
 ghost use Rattle.std.specs.Io.Buffered.{writer_buffer, writer_contents};
 ghost use Rattle.std.specs.Io.KnownBytes.{IsAtEnd};
 ghost use Rattle.script_replay.specs.Outcome.{IsReplay};
-ghost use Rattle.site_book.specs.Tables.{HasTable, NamedBy};
 
 use crate::replay::replay_lines;
 use ledger_model::MAX_SITES;
-use script_ledgers::{MAX_SCRIPT_BYTES, ScriptState};
-use script_lines::{LineReader, MAX_LINE_BYTES, ReplayFault};
-use site_book::{Naming, Tables};
+use script_lines::ReplayFault;
+use site_book::Tables;
 use std::io::{BufRead, BufWriter, Write};
 use std::marker::Brand;
 use std::thread::Threads;
@@ -62,24 +60,7 @@ fn replay_unflushed<X: AllocGlobal + Threads, R: BufRead, W: Write>(
     ensures end { OnOk result (OnSome (R.remaining reader.old) (IsAtEnd (R.remaining reader.new))) }
 {
     match Tables::make(rt.alloc(), MAX_SITES as u16) {
-        Ok(tables) => replay_script::<Brand, X, R, W>(rt, tables, reader, writer),
+        Ok(tables) => replay_lines::<Brand, X, R, W>(rt, tables, reader, writer),
         Err(_) => Err(ReplayFault::OutOfMemory),
     }
-}
-
-// Replays a script over tables that J names.
-fn replay_script<J: Naming, X: AllocGlobal + Threads, R: BufRead, W: Write>(
-    rt: &X,
-    tables: Tables,
-    reader: &mut R,
-    writer: &mut W,
-) -> Result<(), ReplayFault>
-    requires named { NamedBy J.table tables }
-    requires there { (site : ℕ) → site < 16 → HasTable tables site }
-    ensures run { IsReplay (R.remaining reader.old) (R.remaining reader.new) (W.contents writer.old) (W.contents writer.new) result }
-    ensures end { OnOk result (OnSome (R.remaining reader.old) (IsAtEnd (R.remaining reader.new))) }
-{
-    let mut script = ScriptState::<J>::begin(tables);
-    let mut lines = LineReader::open(rt.alloc(), MAX_LINE_BYTES, MAX_SCRIPT_BYTES);
-    replay_lines(rt, &mut script, &mut lines, reader, writer)
 }

@@ -1,13 +1,15 @@
 use Rattle.std.proofs.Common.{◌≡◌, ◌+◌, ◌≤◌}
-use Rattle.script_ledgers.specs.Script.{script_text}
+use Rattle.script_lines.specs.Ranges.{longest_line}
+use Rattle.script_ledgers.specs.Ranges.{longest_script}
+use Rattle.script_ledgers.specs.Script.{start, script_text}
 use Rattle.script_replay.proofs.AnsweredLines.{AnsweredLines}
 use Rattle.script_replay.proofs.replay.replay_lines.Given as goal
 
 abbrev pub invariant-lines : goal.invariant-lines
 invariant-lines g l =
-    AnsweredLines (script_text l.fn.script.script) (script_text l.script.script) l.fn.lines.max_line_bytes l.fn.lines.room l.lines.room (g.R.Read.remaining l.fn.reader) (g.R.Read.remaining l.reader) (g.W.Write.contents l.fn.writer) (g.W.Write.contents l.writer)
-    × (l.lines.max_line_bytes ≡ l.fn.lines.max_line_bytes)
-    × (l.script.posts + l.lines.room ≤ l.fn.script.posts + l.fn.lines.room)
+    AnsweredLines (script_text start) (script_text l.script.script) longest_line longest_script l.lines.room (g.R.Read.remaining l.fn.reader) (g.R.Read.remaining l.reader) (g.W.Write.contents l.fn.writer) (g.W.Write.contents l.writer)
+    × (l.lines.max_line_bytes ≡ longest_line)
+    × (l.script.posts + l.lines.room ≤ longest_script)
 
 abbrev pub decreases-lines : goal.decreases-lines
 decreases-lines g l = l.lines.room

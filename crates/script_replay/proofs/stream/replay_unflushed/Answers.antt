@@ -1,5 +1,5 @@
 use Rattle.site_book.proofs.Named.{named-made}
 use Rattle.script_replay.proofs.stream.replay_unflushed.Goals as goal
 
-pub replay_script-requires-clause-named : goal.replay_script-requires-clause-named
-replay_script-requires-clause-named g c = named-made _
+pub replay_lines-requires-clause-named : goal.replay_lines-requires-clause-named
+replay_lines-requires-clause-named g c = named-made _

@@ -1,6 +1,6 @@
 use Rattle.std.proofs.Common.{rules, arith, length-drop}
-use Rattle.kept_desk.proofs.Written.{took, took_none, stopped}
-use Rattle.kept_desk.proofs.write.write_bytes.Goals as goal
+use Rattle.script_lines.proofs.WrittenBytes.{took, took_none, stopped}
+use Rattle.script_lines.proofs.write.write_bytes.Goals as goal
 
 pub returns-in-Ok-eq0 : goal.returns-in-Ok-eq0
 returns-in-Ok-eq0 g c = took_none c.args.bytes.now c.loop-done.done _ _ _ c.loop-done.invariant.0 c.in-Ok-eq0.field-0 (search rules) c.in-Ok-eq0.ensures.bytes
