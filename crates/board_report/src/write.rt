@@ -45,7 +45,7 @@ fn put_fields(text: &mut Vec<u8>, flow: Flow, export: Flow) -> Result<(), AllocE
     put_field(text, " export_down=", export.down())
 }
 
-// The same, and a line feed.
+// Puts the same fields, and a line feed behind them.
 fn put_flows(text: &mut Vec<u8>, flow: Flow, export: Flow) -> Result<(), AllocError>
     ensures { OnOk result (text.new.items ≡ text.old.items ++ line (flows_fields flow.up flow.down export.up export.down)) }
 {

@@ -24,7 +24,7 @@ boards_at order period (s ∷ stations) [] site = []
 boards_at order period (s ∷ stations) (c ∷ cells) site =
     if s.site == site then (s.name, board_by order period (entries c.content)) ∷ boards_at order period stations cells site else boards_at order period stations cells site
 
--- The same by the site's own settlement period and in its own order of readings.
+-- The boards of the stations of the site of this number, by the site's own settlement period and in its own order of readings.
 abbrev pub site_boards : List SitePlan → List StationPlan → List Cell → ℕ → List (List ℕ × Board)
 site_boards sites stations cells site = boards_at (order_at sites site) (period_at sites site) stations cells site
 

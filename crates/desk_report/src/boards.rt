@@ -7,7 +7,8 @@ ghost use Rattle.desk_report.specs.Boards.{AreOpenedFor, site_boards, site_under
 
 use board_report::{site_board, write_board};
 use ledger_model::{Figures, Name};
-use site_desk::{Plan, StationCell};
+use site_desk::Plan;
+use station_cell::StationCell;
 use station_ledger::StationBoard;
 use std::alloc::{AllocError, Global};
 

@@ -76,7 +76,7 @@ pub record Place : Type 0 where
 abbrev pub place : Script → Source → Place
 place script source = record { standing = standing script source.left_out; lines = source.lines }
 
--- The same place, once the line that is held was taken.
+-- A place, once the line that is held was taken.
 abbrev pub read_on : Place → Place
 read_on p = record { standing = read_line p.standing (held_line p.lines); lines = p.lines }
 

@@ -1,5 +1,5 @@
 use script_ledgers::Draft;
-use site_desk::{Pass, StationCell};
+use station_cell::{Pass, StationCell};
 
 /// What a restored script leaves.
 #[derive(Drop)]

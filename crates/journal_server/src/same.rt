@@ -3,7 +3,8 @@ ghost use Rattle.std.specs.Prelude.{◌≡◌, ◌↔◌, IsTrue, All, map};
 ghost use Rattle.ledger_model.specs.Content.{empty_content};
 ghost use Rattle.journal_server.specs.Served.{Declares};
 
-use site_desk::{Plan, SitePlan, StationCell, StationPlan};
+use site_desk::{Plan, SitePlan, StationPlan};
+use station_cell::StationCell;
 
 // Tells whether a plan that was read, with the cells of its stations, is one that declares the plan: the names,
 // settlement periods and orders of readings of its sites, and its stations, none of which has changed.

@@ -12,7 +12,7 @@ const MIN_FREE: usize = 16;
 
 // A connection that a worker serves.
 #[derive(Clone, Copy)]
-pub(crate) struct Served {
+pub(crate) struct ServedConnection {
     // The station of its session; none in its handshake.
     pub(crate) station: Option<u16>,
     // Its number among all handshakes and sessions that began.
@@ -23,7 +23,7 @@ pub(crate) struct Served {
 #[derive(Drop)]
 pub struct Seats {
     // What each worker serves; a connection that was told to end counts no more.
-    pub(crate) served: Vec<Option<Served>>,
+    pub(crate) served: Vec<Option<ServedConnection>>,
     pub(crate) begun: u64,
 }
 
@@ -83,7 +83,7 @@ impl Seats {
         self.begun = self.begun.wrapping_add(1);
         let number = self.begun;
         if let Some(row) = self.served.get_mut(worker) {
-            *row = Some(Served { station, number });
+            *row = Some(ServedConnection { station, number });
         }
     }
 
@@ -124,7 +124,7 @@ impl Seats {
 }
 
 // Tells whether a worker has a session of this station, or a handshake where there is none.
-fn is_at(station: Option<u16>, row: &Option<Served>) -> bool
+fn is_at(station: Option<u16>, row: &Option<ServedConnection>) -> bool
     ensures { result ≡ is_at station row.now }
 {
     match row {
@@ -136,7 +136,7 @@ fn is_at(station: Option<u16>, row: &Option<Served>) -> bool
 // The worker of the oldest session of a station, or of the oldest handshake, among those up to this worker, where this
 // one is the oldest of those before.
 fn older_of(
-    rows: &[Option<Served>],
+    rows: &[Option<ServedConnection>],
     worker: usize,
     oldest: Option<usize>,
     station: Option<u16>,
@@ -158,7 +158,12 @@ fn older_of(
 }
 
 // The first of these workers, unless it has a greater number than this one, which the second has.
-fn oldest_of_two(rows: &[Option<Served>], first: usize, second: usize, number: u64) -> Option<usize>
+fn oldest_of_two(
+    rows: &[Option<ServedConnection>],
+    first: usize,
+    second: usize,
+    number: u64,
+) -> Option<usize>
     requires { first < length rows.now }
     ensures { result ≡ older_by (slice_get rows.now first) first second number }
 {

@@ -8,7 +8,8 @@ use crate::near_limits::NearLimits;
 use crate::workers::Workers;
 use running_desk::{Running, Serves};
 use site_book::Naming;
-use site_desk::{HasCell, Pass, Plan};
+use site_desk::{HasCell, Plan};
+use station_cell::Pass;
 use std::alloc::{AllocError, Global};
 use std::io::Write;
 

@@ -3,7 +3,7 @@ ghost use Rattle.std.specs.Prelude.{◌≡◌, ◌==◌};
 ghost use Rattle.std.specs.List.{position};
 ghost use Rattle.running_desk.specs.Pooled.{IsLaid, IsReserved, IsTaken};
 
-use site_desk::Pass;
+use station_cell::Pass;
 use std::alloc::AllocError;
 use std::marker::Model;
 

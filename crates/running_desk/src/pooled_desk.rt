@@ -8,7 +8,8 @@ ghost use Rattle.running_desk.specs.declared.pooled_desk.PassFault.{PassFault};
 use crate::pass_pool::PassPool;
 use ledger_model::Name;
 use site_book::Naming;
-use site_desk::{Desk, EnlistFault, HasCell, Pass, StationCell};
+use site_desk::{Desk, EnlistFault, HasCell};
+use station_cell::{Pass, StationCell};
 use std::sync::{Mutex, Wait};
 use std::thread::Threads;
 

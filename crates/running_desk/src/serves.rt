@@ -3,7 +3,8 @@ ghost use Rattle.std.specs.Prelude.{◌≡◌, Some, slice_get};
 
 use ledger_model::{Answer, Command, Name};
 use site_book::{Naming, Told};
-use site_desk::{Desk, HasCell, NoGate, Pass, StationCell};
+use site_desk::{Desk, HasCell, NoGate};
+use station_cell::{Pass, StationCell};
 use station_link::Delivers;
 use std::sync::Wait;
 use std::time::Clock;

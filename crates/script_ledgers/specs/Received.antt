@@ -5,7 +5,6 @@ use Rattle.ledger_model.specs.Step.{answer}
 use Rattle.ledger_model.specs.World.{Station, world_after}
 use Rattle.transaction_event.specs.declared.message.Message.{Message}
 use Rattle.transaction_event.specs.declared.message.Message.TheVariants as message
-use Rattle.transaction_event.specs.MessageMeaning.{IsMeaningOf}
 use Rattle.transaction_event.specs.Reply.{event_reply_bytes}
 use Rattle.script_lines.specs.Texts.{ended_line}
 use Rattle.script_ledgers.specs.Script.{Script}
@@ -19,14 +18,6 @@ TakesMessage old new s (message.Reply text true) reply = ⊥
 TakesMessage old new s (message.Reply text false) reply = (new ≡ old) × (reply ≡ ended_line text.bytes)
 TakesMessage old new s message.Silent reply = (new ≡ old) × (reply ≡ ended_line (codes "silent"))
 
--- a text means something at the script's moment, and that is taken
-abbrev pub ReceivesText : Script → Script → Station → List ℕ → List ℕ → Type 0
-ReceivesText old new s text reply = (m : Message) × IsMeaningOf text old.moment m × TakesMessage old new s m reply
-
 -- a message is taken so by the station of this number, where there is one
 abbrev pub TakesMessageAt : ℕ → Script → Script → Message → List ℕ → Type 0
 TakesMessageAt number old new m reply = IfSome (slice_get old.world number) (λ s. TakesMessage old new s m reply)
-
--- a text is received so by the station of this number, where there is one
-abbrev pub ReceivesTextAt : ℕ → Script → Script → List ℕ → List ℕ → Type 0
-ReceivesTextAt number old new text reply = IfSome (slice_get old.world number) (λ s. ReceivesText old new s text reply)

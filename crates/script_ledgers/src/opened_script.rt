@@ -10,7 +10,7 @@ ghost use Rattle.site_desk.specs.Roster.{AreCellsOf};
 ghost use Rattle.script_ledgers.specs.Drafts.{planned};
 ghost use Rattle.script_lines.specs.LineMeaning.{asks_energy, asks_export, asks_total, commands, sends};
 ghost use Rattle.script_lines.specs.ScriptLines.{meaning_of};
-ghost use Rattle.script_ledgers.specs.Received.{ReceivesTextAt, TakesMessageAt};
+ghost use Rattle.script_ledgers.specs.Received.{TakesMessageAt};
 ghost use Rattle.script_ledgers.specs.Running.{IsRunning, SettlesAt, posts_in, running};
 ghost use Rattle.script_ledgers.specs.Script.{board_answer, board_of_site, step_by};
 ghost use Rattle.transaction_event.specs.MessageMeaning.{HasShortId, asking, with_reply};
@@ -25,7 +25,8 @@ use ledger_model::{Answer, Command, Name};
 use message_ahead::Lookahead;
 use script_lines::{LineFault, LineReader, ScriptLine, put_answer, put_fault, put_line};
 use site_book::{Naming, SiteBook, Tables};
-use site_desk::{Parts, Pass, StationCell, enlist_cell, settle};
+use site_desk::Parts;
+use station_cell::{Pass, StationCell, enlist_cell, settle_judged};
 use std::alloc::{AllocError, Global};
 use std::io;
 use std::io::BufRead;
@@ -162,7 +163,7 @@ impl<J: Naming> OpenedScript<J> {
         }
     }
 
-    // Delivers a station's message, and puts its reply into the reply.
+    // Delivers a station's message, as it was read ahead or is read now, and puts its reply into the reply.
     fn receive(&mut self, name: &Name, text: &str, reply: &mut Vec<u8>) -> Result<(), AllocError>
         requires empty { reply.old.items ≡ [] }
         requires few { posts_in self.old.books.items < 2 ^ 62 }
@@ -170,29 +171,10 @@ impl<J: Naming> OpenedScript<J> {
         ensures posts { OnOk result (posts_in self.new.books.items ≤ posts_in self.old.books.items + 1) }
     {
         let near = self.hints.number(name);
-        match self.draft.station_near(name, near) {
-            Some(number) => {
-                self.hints.keep(name, number);
-                self.receive_at(number, text, reply)
-            }
-            None => put_fault(reply, LineFault::UnknownStation),
-        }
-    }
-
-    // Delivers a message to the station of this number, as it was read ahead or is read now, and puts its reply
-    // into the reply.
-    fn receive_at(
-        &mut self,
-        number: usize,
-        text: &str,
-        reply: &mut Vec<u8>,
-    ) -> Result<(), AllocError>
-        requires empty { reply.old.items ≡ [] }
-        requires there { number < length self.old.draft.stations }
-        requires few { posts_in self.old.books.items < 2 ^ 62 }
-        ensures receives { OnOk result (ReceivesTextAt number (running self.old.draft self.old.cells.items) (running self.new.draft self.new.cells.items) text.now reply.new.items) }
-        ensures posts { OnOk result (posts_in self.new.books.items ≤ posts_in self.old.books.items + 1) }
-    {
+        let Some(number) = self.draft.station_near(name, near) else {
+            return put_fault(reply, LineFault::UnknownStation);
+        };
+        self.hints.keep(name, number);
         match self.ahead.take(text) {
             Some(delivery) => self.deliver(number, delivery, reply),
             None => {
@@ -285,7 +267,8 @@ impl<J: Naming> OpenedScript<J> {
         let cell = &mut self.cells[number];
         let site = cell.site() as usize;
         let pass = &mut self.passes[number];
-        let (answer, _) = settle(cell, &mut self.books[site], pass, command);
+        let judgement = cell.ledger().judgement(&command);
+        let (answer, _) = settle_judged(cell, &mut self.books[site], pass, command, judgement);
         answer
     }
 

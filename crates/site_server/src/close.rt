@@ -8,7 +8,8 @@ ghost use Rattle.desk_report.specs.Closed.{AreBoards};
 use crate::fault::ServiceFault;
 use desk_report::write_boards;
 use site_book::{Naming, Viewer};
-use site_desk::{Desk, Pass, Plan};
+use site_desk::{Desk, Plan};
+use station_cell::Pass;
 use std::alloc::Global;
 use std::io::Write;
 

@@ -33,7 +33,7 @@ pub use host::{Host, Sockets};
 pub use moments::SystemMoments;
 pub use serve::{MAX_CONNECTIONS, serve_many, serve_on};
 pub use service::{
-    Served, Service, address_of, listen, open_desk, serve_plan, serve_watched, tell_port,
+    Service, WatchedRun, address_of, listen, open_desk, serve_plan, serve_watched, tell_port,
 };
 pub use simulation::{MAX_SIMULATED_EVENTS, simulate};
 pub use watch::tell_totals;

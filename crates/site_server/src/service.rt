@@ -17,7 +17,8 @@ use core::thread::{Anything, Stack};
 use desk_report::write_out;
 use itoa::Buffer;
 use site_book::{Naming, Tables, Viewer};
-use site_desk::{Desk, NoGate, Pass, Plan};
+use site_desk::{Desk, NoGate, Plan};
+use station_cell::Pass;
 use std::alloc::{AllocError, Global};
 use std::io::Write;
 use std::marker::Brand;
@@ -162,7 +163,7 @@ fn port_line(port: u16) -> ArrayString<32>
 }
 
 /// What serving gives back when all connections have ended: their passes, the viewers, and the lines.
-pub type Served<J, L> = (Result<Vec<Pass>, AllocError>, Vec<Viewer<J>>, L);
+pub type WatchedRun<J, L> = (Result<Vec<Pass>, AllocError>, Vec<Viewer<J>>, L);
 
 /// Serves the connections, with a thread beside them, of so large a stack in bytes, that glances at the totals;
 /// where that thread can't start, no line is written.
@@ -180,7 +181,7 @@ pub fn serve_watched<
     viewers: Vec<Viewer<J>>,
     lines: L,
     stack: usize,
-) -> Served<J, L>
+) -> WatchedRun<J, L>
     requires some { 1 ≤ service.connections }
     requires most { service.connections ≤ 64 }
     ensures { IfOk result.0 (λ passes. AreOfSessions service.connections (length desk.now.stations) passes.items) }
@@ -192,7 +193,7 @@ pub fn serve_watched<
     thread::scope(
         thread::scope_env(),
         rt,
-        |scope| -> Served<J, L>
+        |scope| -> WatchedRun<J, L>
             requires { (1 ≤ connections) × (connections ≤ 64) }
             ensures { IfOk result.0 (λ passes. AreOfSessions connections (length desk.entry.now.stations) passes.items) }
         {

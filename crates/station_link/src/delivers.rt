@@ -1,7 +1,8 @@
 //! What takes the events of a session.
 use ledger_model::{Answer, Command, Event, Key};
 use site_book::{Naming, Told};
-use site_desk::{Desk, Gate, Pass};
+use site_desk::{Desk, Gate};
+use station_cell::Pass;
 use std::alloc::{AllocError, Global};
 use std::sync::Wait;
 use std::time::Clock;

@@ -13,7 +13,8 @@ use ledger_model::Moment;
 use memory::{Frames, Memory, Peer, TEXT};
 use sims::each_text;
 use site_book::{Naming, Tables};
-use site_desk::{Desk, NoGate, Pass, Plan};
+use site_desk::{Desk, NoGate, Plan};
+use station_cell::Pass;
 use station_link::{MomentSource, SessionEnd, Why, serve_connection};
 use std::alloc::Global;
 use std::cell::RefCell;
@@ -94,13 +95,13 @@ fn plays<R: Threads + Wait + Clock>(
 
 // A session that was served: how it ended, and what the server wrote.
 #[derive(Drop)]
-struct Served {
+struct EndedSession {
     why: Why,
     pass: Option<Pass>,
     written: Vec<u8>,
 }
 
-impl Served {
+impl EndedSession {
     // How many changes its pass made.
     fn changes(&self) -> Option<u64> {
         Some(self.pass.as_ref()?.changes())
@@ -139,7 +140,7 @@ fn serve<J: Naming, R: Threads + Wait + Clock>(
     alloc: Global,
     desk: &Desk<J>,
     peer: Peer<'_>,
-) -> Served {
+) -> EndedSession {
     let written = RefCell::new(Vec::new(alloc));
     let stream = Memory::new(peer, &written);
     let SessionEnd { why, pass, .. } = serve_connection(
@@ -150,7 +151,7 @@ fn serve<J: Naming, R: Threads + Wait + Clock>(
         &NoGate,
         &mut TenOClock,
     );
-    Served {
+    EndedSession {
         why,
         pass,
         written: written.into_inner(),

@@ -3,7 +3,8 @@ use super::{FIRST, both_of, delivery_of, pass_of, tells};
 use desk_fixtures::HoldsA;
 use ledger_model::{Answer, Kind};
 use site_book::Naming;
-use site_desk::{Desk, NoGate, Pass};
+use site_desk::{Desk, NoGate};
+use station_cell::Pass;
 use std::alloc::Global;
 use std::sync::Wait;
 use std::test::Fail;
@@ -26,7 +27,7 @@ fn send<J: Naming, R: Wait + Clock>(
     }
 }
 
-// The same on B, once the gate holds A.
+// Sends an event to B, once the gate holds A.
 fn send_then<J: Naming, R: Wait + Clock>(
     rt: &R,
     alloc: Global,

@@ -1,7 +1,8 @@
 use super::memory::Peer;
-use super::{FIRST, Scene, Served, head, plays, serve, text_frames};
+use super::{EndedSession, FIRST, Scene, head, plays, serve, text_frames};
 use site_book::Naming;
-use site_desk::{Desk, Pass};
+use site_desk::Desk;
+use station_cell::Pass;
 use station_link::Why;
 use std::alloc::Global;
 use std::sync::Wait;
@@ -13,7 +14,7 @@ fn sent_twice<J: Naming, R: Threads + Wait + Clock>(
     rt: &R,
     alloc: Global,
     desk: &Desk<J>,
-) -> Option<(Served, Served)> {
+) -> Option<(EndedSession, EndedSession)> {
     let head = head(alloc, "A")?;
     let sent = text_frames(alloc, true, &[FIRST])?;
     let peer = Peer::of(head.as_str().as_bytes(), sent.bytes());

@@ -2,8 +2,9 @@
 use super::client::{A, sends_one};
 use super::scenes::{Scene, plays};
 use site_book::{Naming, Viewer};
-use site_desk::{Desk, NoGate, Pass, Plan};
-use site_server::{Served, Service, serve_on, serve_watched};
+use site_desk::{Desk, NoGate, Plan};
+use site_server::{Service, WatchedRun, serve_on, serve_watched};
+use station_cell::Pass;
 use std::alloc::Global;
 use std::net::{Net, SocketAddr, TcpListener, TcpStream};
 use std::sync::Wait;
@@ -56,7 +57,7 @@ fn watched<
     address: SocketAddr,
     plan: &Plan,
     viewers: Vec<Viewer<J>>,
-) -> (Served<J, Vec<u8>>, Option<bool>) {
+) -> (WatchedRun<J, Vec<u8>>, Option<bool>) {
     let lines = Vec::<u8>::new(alloc);
     thread::join(
         rt,

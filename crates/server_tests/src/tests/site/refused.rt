@@ -1,8 +1,9 @@
 // Connections that can't be accepted.
 use super::scenes::{Scene, plays};
 use site_book::Naming;
-use site_desk::{Desk, NoGate, Pass};
+use site_desk::{Desk, NoGate};
 use site_server::serve_many;
+use station_cell::Pass;
 use std::alloc::Global;
 use std::net::{Net, TcpListener, TcpStream};
 use std::sync::Wait;
