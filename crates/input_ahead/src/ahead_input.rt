@@ -11,6 +11,10 @@ use std::sync::atomic::{AtomicBool, Ordering};
 use std::thread::{JoinHandle, Threads};
 use std::{io, thread};
 
+// From how many bytes on, given at once, an input is one that a thread reads on: where less comes, whoever writes it is no
+// faster than its reader.
+const FAST: usize = 32_768;
+
 /// Standard input, which a thread reads while what came before is taken.
 #[derive(Drop)]
 pub struct AheadInput<'a, X: Threads> {
@@ -206,7 +210,7 @@ impl<'a, X: Threads> AheadInput<'a, X> {
 impl<'a, X: Threads> Read for AheadInput<'a, X> {
     fn read(&mut self, buf: &mut [u8]) -> io::Result<usize> {
         let given = self.take_or_read(buf);
-        if matches!(&given, Ok(count) if *count > 0) && !self.is_file {
+        if matches!(&given, Ok(count) if *count >= FAST) && !self.is_file {
             self.start();
         }
         given
