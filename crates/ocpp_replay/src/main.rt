@@ -8,12 +8,10 @@
 mod words;
 
 use crate::words::{Asked, HELP, VERSION, read_words};
-use input_ahead::AheadInput;
 use script_replay::{ReplayFault, buffered, replay_buffered};
-use std::io::{Read, Write};
+use std::io::Write;
 use std::process::ExitCode;
 use std::rt::Env;
-use std::thread::Threads;
 use std::{env, io};
 
 // The exit status where a replay stopped before its end.
@@ -24,8 +22,8 @@ const MISTAKEN: u8 = 2;
 
 fn main(rt: HostRuntime) -> ExitCode {
     let ended = match program_asked(&rt) {
-        Ok(Asked::Replay) => match AheadInput::open(&rt, rt.stdin()) {
-            Ok(input) => replay(&rt, input, rt.stdout()),
+        Ok(Asked::Replay) => match buffered(&rt, rt.stdin(), rt.stdout()) {
+            Ok((mut reader, mut writer)) => replay_buffered(&rt, &mut reader, &mut writer),
             Err(_) => Err(ReplayFault::OutOfMemory),
         },
         Ok(Asked::Help) => tell(&mut rt.stdout(), HELP),
@@ -34,18 +32,6 @@ fn main(rt: HostRuntime) -> ExitCode {
         Err(_) => Err(ReplayFault::OutOfMemory),
     };
     exit_of(&mut rt.stderr(), ended)
-}
-
-// Replays the script that this input gives.
-fn replay<X: AllocGlobal + Threads, R: Read + Drop, W: Write + Drop>(
-    rt: &X,
-    input: R,
-    output: W,
-) -> Result<(), ReplayFault> {
-    match buffered(rt, input, output) {
-        Ok((mut reader, mut writer)) => replay_buffered(rt, &mut reader, &mut writer),
-        Err(_) => Err(ReplayFault::OutOfMemory),
-    }
 }
 
 // What the program's words ask for; the only error is want of memory.
