@@ -1,5 +1,5 @@
 use Rattle.site_book.specs.Tables.{names_of}
 use Rattle.script_replay.proofs.stream.replay_unflushed.Given as goal
 
-abbrev pub ghosts-replay_script : goal.ghosts-replay_script
-ghosts-replay_script g a = record { table = names_of a.tables }
+abbrev pub ghosts-replay_lines : goal.ghosts-replay_lines
+ghosts-replay_lines g a = record { table = names_of a.tables }
