@@ -25,7 +25,7 @@ OPTIONS = (
 # No script may run, and each page has to do without.
 NO_SCRIPT = {"profile.managed_default_content_settings.javascript": 2}
 # The height of a window, seconds that a page may take, and the width of a phone's.
-HEIGHT, PATIENCE, PHONE = 900, 30, 390
+HEIGHT, PATIENCE, PHONE = 900, 120, 390
 
 
 def is_installed() -> bool:

@@ -144,6 +144,7 @@ class Demo(Trial):
             ),
         )
         await asyncio.sleep(1)
+        await self.is_sending(load)
         await fault()
         status, text = await ended(load)
         if self.owner.is_closed():
@@ -161,6 +162,14 @@ class Demo(Trial):
             not differ,
             f"{name}: every answered message is in the log, every board equals a replay {differ or ''}",
         )
+
+    async def is_sending(self, load: subprocess.Popen[bytes]) -> None:
+        """Waits until stations were answered, which may be late where the machine is busy."""
+        record, end = self.fleet.records[-1], time.monotonic() + PATIENCE
+        while load.poll() is None and time.monotonic() < end:
+            if record.exists() and record.stat().st_size:
+                return
+            await asyncio.sleep(0.05)
 
     # Faults -----------------------------------------------------------------------------------------------------------
 

@@ -207,7 +207,7 @@ class Demo(Trial):
         await self.owned()
         left = [process.poll() for process in (self.process, *self.workers)]
         self.check(left == [None] * 3, f"while the other host is away they go on: {left}")
-        await self.answered("once it is back")
+        await self.answered("once it is back", 20)
 
     def begun(self, login: str) -> str:
         """How a gateway begins, or why it does not."""
@@ -403,11 +403,14 @@ class Demo(Trial):
             all(new > old for new, old in zip(after, before)),
             f"a station that changes its shard tells both: plans {before}, then {after}",
         )
-        await self.answered("in its new shard", station="NEW")
+        await self.answered("in its new shard", 20, "NEW")
         names = {
             row["name"] for row in await self.owner.fetch("select name from pg_timezone_names")
         }
-        odd = sorted(await self.taken([*names - available_timezones(), "CET-1", "europe/berlin"]))
+        # Each name is looked up in a list that the server makes anew, so of folders of all names some have to do.
+        more = sorted(names - available_timezones())
+        own = [name for name in more if not name.startswith(("posix/", "right/"))]
+        odd = await self.taken([*own, *more[:3], *more[-3:], "CET-1", "europe/berlin"])
         self.check(not odd, f"zones that Python does not have are refused: {odd}")
         some = ["UTC", "Europe/Berlin", "America/Argentina/Buenos_Aires"]
         self.check(await self.taken(some) == some, f"and others are taken: {some}")
@@ -494,7 +497,7 @@ class Demo(Trial):
         self.workers = [self.fleet.worker("--boards", 0.5)]
         login = self.fleet.dsn("ledger_gateway", database.port)
         self.process, self.url = await asyncio.to_thread(self.fleet.gateway, login)
-        await self.answered("with synchronous_commit off in the server's file")
+        await self.answered("with synchronous_commit off in the server's file", 20)
         await self.load(4)
         database.kill()
         database.start()

@@ -17,7 +17,7 @@ from ocpp_board.energies import Flow  # noqa: E402
 from ocpp_board.fleet.archives import Late, packed, unpacked, widened  # noqa: E402
 from ocpp_board.fleet.close_day import differences  # noqa: E402
 from ocpp_board.fleet import begun_anew, database, metrics, parts, watched as watching  # noqa: E402
-from ocpp_board.fleet.board_writer import Board, chunks  # noqa: E402
+from ocpp_board.fleet.board_writer import Board, BoardWriter, chunks  # noqa: E402
 from ocpp_board.fleet.database import (  # noqa: E402
     Fault,
     SessionLost,
@@ -348,6 +348,29 @@ def test_chunks_of_a_board_have_whole_stations_that_changed() -> None:
     assert list(found[0].lines) == ["S3"] and found[0].rows["stations"][0][:2] == ("S3", 5)
     del shown["S3"]
     assert chunks(board, shown)[0].rows["stations"][0][:2] == ("S3", None)
+
+
+def test_a_statement_that_waits_for_its_turn_is_not_begun() -> None:
+    begun = list[str]()
+
+    class Session:
+        async def answered(self) -> list[list[int]]:
+            return [[1]]
+
+        def ask(self, query: str) -> object:
+            begun.append(query)
+            return self.answered()
+
+    async def run() -> object:
+        writer = BoardWriter(Session(), lambda: False)  # type: ignore[arg-type]
+        async with writer.turn:
+            waiting = asyncio.create_task(writer.ask("first"))
+            await asyncio.sleep(0)
+            waiting.cancel()
+            assert begun == []
+        return await writer.ask("second")
+
+    assert asyncio.run(run()) == 1 and begun == ["second"]
 
 
 def test_answers_are_told_in_notifications_that_fit() -> None:

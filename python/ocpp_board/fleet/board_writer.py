@@ -73,23 +73,24 @@ class BoardWriter:
         self.session, self.is_answering = session, is_answering
         self.turn = asyncio.Lock()
 
-    async def in_turn(self, job: Coroutine[Any, Any, T]) -> T:
-        """What a job gives, which waits for its turn and is followed by a pause."""
+    async def in_turn(self, job: Callable[[], Coroutine[Any, Any, T]]) -> T:
+        """What a job gives, which is begun in its turn and is followed by a pause."""
         async with self.turn:
             clock = asyncio.get_running_loop().time
             began = clock()
-            given = await job
+            given = await job()
             pause = PAUSE if self.is_answering() else IDLE_PAUSE
             await asyncio.sleep(pause * (clock() - began))
         return given
 
     async def ask(self, query: str, *values: object) -> Any:
         """What a statement gives."""
-        return (await self.in_turn(self.session.ask(query, *values)))[0][0]
+        return (await self.in_turn(lambda: self.session.ask(query, *values)))[0][0]
 
     async def write(self, board: Board, shown: Shown) -> bool:
         """Writes a board, and notes in `shown` what it wrote. False where not all of it could be."""
-        made = await self.in_turn(asyncio.to_thread(chunks, board, dict(shown.stations)))
+        before = dict(shown.stations)
+        made = await self.in_turn(lambda: asyncio.to_thread(chunks, board, before))
         # Without a base each station is among these.
         names = [name for chunk in made for name in chunk.lines]
         places = (shown.place, board.place, board.plan)
