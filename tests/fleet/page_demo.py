@@ -139,7 +139,9 @@ class Demo(Trial):
         page = self.browser.find_element(By.TAG_NAME, "html").id
         self.browser.find_element(how, what).click()
         # The page before may be gone while it is looked for.
-        WebDriverWait(self.browser, chromium.PATIENCE, ignored_exceptions=[WebDriverException]).until(
+        WebDriverWait(
+            self.browser, chromium.PATIENCE, ignored_exceptions=[WebDriverException]
+        ).until(
             lambda one: one.find_element(By.TAG_NAME, "body")
             and one.find_element(By.TAG_NAME, "html").id != page
         )
