@@ -189,13 +189,18 @@ class Database:
                 cwd="/",
                 **self.fleet.user,
             )
-        end = time.monotonic() + PATIENCE
+        # It may have much to replay.
+        began = time.monotonic()
         while subprocess.run(
             [BIN / "pg_isready", "-q", "-h127.0.0.1", f"-p{self.port}", "-Uowner", "-dpostgres"],
             check=False,
         ).returncode:
-            if process.poll() is not None or time.monotonic() > end:
-                raise Fault(f"the database does not start: {self.fleet.folder / 'database.log'}")
+            took = time.monotonic() - began
+            if process.poll() is not None or took > 3 * PATIENCE:
+                why = f"status {process.poll()} after {took:.0f} s"
+                raise Fault(
+                    f"the database does not start: {why}: {self.fleet.folder / 'database.log'}"
+                )
             time.sleep(0.05)
 
     def psql(self, database: str, *words: object, **more: Any) -> None:

@@ -55,6 +55,7 @@ from ocpp_board.fleet.lines import (  # noqa: E402
     transaction_of,
 )
 from ocpp_board.fleet.plans import Plan, Reckoning, known_lines  # noqa: E402
+from ocpp_board.fleet.replays import Replay, ReplayEnded  # noqa: E402
 from ocpp_board.fleet.worker import Session, payloads_of  # noqa: E402
 from ocpp_board.messages import Refused  # noqa: E402
 
@@ -371,6 +372,47 @@ def test_a_statement_that_waits_for_its_turn_is_not_begun() -> None:
         return await writer.ask("second")
 
     assert asyncio.run(run()) == 1 and begun == ["second"]
+
+
+# A replay that waits in the middle of a board.
+SLOW = """#!/usr/bin/env -S python3 -u
+import sys, time
+for line in sys.stdin:
+    if line.startswith("board "):
+        print("board north period=900", flush=True)
+        time.sleep(1)
+        print("total events=0\\nend", flush=True)
+    else:
+        print("answer " + line.strip(), flush=True)
+"""
+
+
+@pytest.mark.parametrize("is_killed", [False, True])
+def test_a_replay_whose_board_was_not_waited_for_answers_no_more(
+    tmp_path: Path, is_killed: bool
+) -> None:
+    program = tmp_path / "slow"
+    program.write_text(SLOW)
+    program.chmod(0o755)
+
+    async def run() -> None:
+        replay = await Replay.start(str(program))
+        replay.write(b"one\n")
+        assert await replay.answers(1) == [b"answer one"]
+        assert (await replay.board("north")).endswith(b"end\n")
+        with pytest.raises(TimeoutError):
+            await asyncio.wait_for(replay.board("north"), 0.5)
+        if is_killed:
+            replay.kill()
+        replay.write(b"two\n")
+        with pytest.raises(ReplayEnded):
+            await replay.answers(1)
+        with pytest.raises(ReplayEnded):
+            await replay.board("north")
+        replay.kill()
+        await replay.process.wait()
+
+    asyncio.run(run())
 
 
 def test_answers_are_told_in_notifications_that_fit() -> None:

@@ -1,6 +1,8 @@
 """An `ocpp_board replay` that runs beside asyncio."""
 
 import asyncio
+from collections.abc import Iterator
+from contextlib import contextmanager
 
 from ocpp_board.fleet.database import Fault
 from ocpp_board.fleet.plans import Plan
@@ -14,11 +16,17 @@ class ReplayEnded(Exception):
 
 
 class Replay:
-    """An `ocpp_board replay` that runs: lines go in, and their answers come out."""
+    """An `ocpp_board replay` that runs: lines go in, and their answers come out.
+
+    One whose answers were not waited for to their end, or that was killed, gives nothing any more: what it wrote since
+    would be taken for the answers to other lines.
+    """
 
     def __init__(self, process: asyncio.subprocess.Process) -> None:
         self.process = process
         self.rest = b""
+        # Whether it was killed, and whether it gives nothing any more.
+        self.is_killed = self.is_over = False
 
     @classmethod
     async def start(cls, program: str) -> "Replay":
@@ -36,24 +44,38 @@ class Replay:
         try:
             self.process.stdin.write(data)
         except RuntimeError:  # What uvloop says of a pipe that is closed.
-            raise ReplayEnded(f"the replay {self.process.pid} ended") from None
+            raise self.ended() from None
+
+    def ended(self) -> ReplayEnded:
+        """That it ended."""
+        return ReplayEnded(f"the replay {self.process.pid} ended")
+
+    @contextmanager
+    def reading(self) -> Iterator[None]:
+        """Whatever ends this but its end leaves the replay over. Raises ReplayEnded where it is that."""
+        if self.is_over:
+            raise self.ended()
+        self.is_over = True
+        yield
+        self.is_over = self.is_killed
 
     async def more(self) -> bytes:
         """What it wrote meanwhile. Raises ReplayEnded."""
         assert self.process.stdout
         data = await self.process.stdout.read(CHUNK)
-        if not data:
-            raise ReplayEnded(f"the replay {self.process.pid} ended")
+        if not data or self.is_killed:
+            raise self.ended()
         return data
 
     async def answers(self, count: int) -> list[bytes]:
         """The next so many lines. Raises ReplayEnded."""
-        chunks, lines = [self.rest], self.rest.count(b"\n")
-        while lines < count:
-            chunks.append(await self.more())
-            lines += chunks[-1].count(b"\n")
-        parts = b"".join(chunks).split(b"\n", count)
-        self.rest = parts.pop()
+        with self.reading():
+            chunks, lines = [self.rest], self.rest.count(b"\n")
+            while lines < count:
+                chunks.append(await self.more())
+                lines += chunks[-1].count(b"\n")
+            parts = b"".join(chunks).split(b"\n", count)
+            self.rest = parts.pop()
         return parts
 
     async def open(self, plan: Plan) -> None:
@@ -69,17 +91,19 @@ class Replay:
 
     async def board(self, site: str) -> bytes:
         """A site's board, which ends with the line `end`."""
-        self.write(f"board {site}\n".encode())
-        chunks = [self.rest]
-        while not (text := b"".join(chunks[-2:])).endswith(b"\nend\n") and not text.startswith(
-            b"fault "
-        ):
-            chunks.append(await self.more())
-        self.rest = b""
+        with self.reading():
+            self.write(f"board {site}\n".encode())
+            chunks = [self.rest]
+            while not (text := b"".join(chunks[-2:])).endswith(b"\nend\n") and not text.startswith(
+                b"fault "
+            ):
+                chunks.append(await self.more())
+            self.rest = b""
         return b"".join(chunks)
 
     def kill(self) -> None:
         """Ends it, whether it runs or not."""
+        self.is_killed = self.is_over = True
         if self.process.returncode is None:
             try:
                 self.process.kill()
