@@ -115,6 +115,15 @@ def own_functions() -> bytes:
     ).encode()
 
 
+def is_alive(pid: int) -> bool:
+    """Whether there is a process of this number that has not ended."""
+    try:
+        stat = Path(f"/proc/{pid}/stat").read_text(encoding="utf-8")
+    except OSError:
+        return False
+    return stat.rpartition(")")[2].split()[0] not in "ZX"
+
+
 def children(pid: int) -> list[int]:
     """The processes that this one started, and those that they started."""
     try:
@@ -231,12 +240,19 @@ class Database:
     def kill(self) -> None:
         """Ends the server and all its processes at once, as a machine that fails."""
         if self.process and self.process.poll() is None:
-            for pid in [self.process.pid, *children(self.process.pid)]:
+            # Once it is stopped it begins no further process.
+            self.process.send_signal(signal.SIGSTOP)
+            pids = [self.process.pid, *children(self.process.pid)]
+            for pid in pids:
                 try:
                     os.kill(pid, signal.SIGKILL)
                 except ProcessLookupError:
                     pass
             self.process.wait()
+            # Its memory is there until the last of them is gone.
+            end = time.monotonic() + PATIENCE
+            while any(is_alive(pid) for pid in pids) and time.monotonic() < end:
+                time.sleep(0.05)
 
     def stop(self) -> None:
         if self.process and self.process.poll() is None:
