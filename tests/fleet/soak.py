@@ -1,7 +1,7 @@
 """A fleet of its own for some minutes: stations send, parts are killed at random, events voided, days closed.
 
     tests/one fleet.soak ocpp_board                                              two minutes
-    tests/one fleet.soak ocpp_board --seconds 3600 --stations 1000 --rate 500 --each-close 600
+    tests/one fleet.soak ocpp_board --seconds 3600 --stations 1000 --rate 200 --each-close 300
 
 Each 6 seconds a worker, a gateway or a replay is killed with -9; each second an answered event is voided, and one is
 sent again over another gateway; each 20 seconds the next day of each site is closed, and one `ocpp-board close-day` in
