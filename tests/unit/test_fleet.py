@@ -16,7 +16,8 @@ import asyncpg  # noqa: E402
 from ocpp_board.energies import Flow  # noqa: E402
 from ocpp_board.fleet.archives import Late, packed, unpacked, widened  # noqa: E402
 from ocpp_board.fleet.close_day import differences  # noqa: E402
-from ocpp_board.fleet import begun_anew, database, metrics, parts, watched as watching  # noqa: E402
+from ocpp_board.fleet import begun_anew, database, metrics, parts, worker  # noqa: E402
+from ocpp_board.fleet import watched as watching  # noqa: E402
 from ocpp_board.fleet.board_writer import Board, BoardWriter, chunks  # noqa: E402
 from ocpp_board.fleet.database import (  # noqa: E402
     Fault,
@@ -54,6 +55,7 @@ from ocpp_board.fleet.lines import (  # noqa: E402
     readings_of,
     transaction_of,
 )
+from ocpp_board.fleet.orders import WAITS  # noqa: E402
 from ocpp_board.fleet.plans import Plan, Reckoning, known_lines  # noqa: E402
 from ocpp_board.fleet.replays import Replay, ReplayEnded  # noqa: E402
 from ocpp_board.fleet.worker import Session, payloads_of  # noqa: E402
@@ -132,6 +134,43 @@ def test_a_worker_whose_session_is_ended_beats_until_it_is_told() -> None:
                 await session.beat_once()
 
     asyncio.run(beaten())
+
+
+class Slow:
+    """A session with the database whose commit takes so many seconds, and waits for a standby or does not."""
+
+    def __init__(self, seconds: float, waits: bool) -> None:
+        self.seconds, self.rows = seconds, [object()] if waits else []
+
+    def get_server_pid(self) -> int:
+        return 7
+
+    async def fetch(self, query: str, *_values: object) -> list[object]:
+        if query == WAITS:
+            return self.rows
+        await asyncio.sleep(self.seconds)
+        return []
+
+
+@pytest.mark.parametrize("waits", [True, False])
+def test_a_commit_that_waits_for_a_standby_is_told_at_once_and_waited_for(
+    waits: bool, monkeypatch: pytest.MonkeyPatch
+) -> None:
+    async def committed() -> None:
+        words = argparse.Namespace(hang=1.0, name="worker_1", seen=metrics.WorkerSeen(1.0))
+        session = Session(words, [Slow(0.5, waits), Slow(0.5, waits), Slow(0.5, waits)])
+        session.patience = 0.2
+        job = asyncio.ensure_future(session.committed("commit"))
+        await asyncio.sleep(0.1)
+        assert (words.seen.standby_since is not None) == waits and not job.done()
+        if waits:
+            assert await job == [] and words.seen.standby_since is None
+        else:
+            with pytest.raises(asyncio.TimeoutError):
+                await job
+
+    monkeypatch.setattr(worker, "WAITING", 0.01)
+    asyncio.run(committed())
 
 
 def test_payloads_of_wakes_fit() -> None:

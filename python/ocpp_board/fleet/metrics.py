@@ -338,7 +338,9 @@ class WorkerSeen:
 
     def waits_since(self, began: float) -> None:
         """A commit waits for the standby since then."""
-        self.standby_since = began if self.standby_since is None else self.standby_since
+        if self.standby_since is None:
+            log.warning("commits wait for the synchronous standby")
+            self.standby_since = began
 
     async def look(
         self, ask: Callable[..., Awaitable[Any]], shards: Callable[[], list[int]]

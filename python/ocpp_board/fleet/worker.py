@@ -98,8 +98,9 @@ NOTING, CONTEST = 0.5, 0.05
 SHOWN = 8
 # Shards taken at once, and seconds in which the program has to open a plan.
 TAKEN, OPENING_TIME = 16, 60
-# Seconds in which the database has to answer at least, however soon workers that hang are ended.
-ANSWER = 10.0
+# Seconds in which the database has to answer at least, however soon workers that hang are ended, and after which a
+# commit is asked whether it waits for a standby.
+ANSWER, WAITING = 10.0, 1.0
 
 
 class Shard:
@@ -198,16 +199,17 @@ class Session:
 
     async def committed(self, query: str, *values: Any) -> Any:
         """The same, with a commit that is waited for as long as it waits for a standby: another session would wait
-        behind it, and one more each time."""
+        behind it, and one more each time. That it waits is told from its first second on."""
         async with self.holder.using:
-            database = self.holder.database
-            job, began = asyncio.ensure_future(database.fetch(query, *values)), time.monotonic()
+            job = asyncio.ensure_future(self.holder.database.fetch(query, *values))
+            began = last = time.monotonic()
             job.add_done_callback(seen)
-            while not (await asyncio.wait([job], timeout=self.patience))[0]:
-                if not await self.beats.ask(WAITS, self.pid):
+            while not (await asyncio.wait([job], timeout=WAITING))[0]:
+                if await self.beats.ask(WAITS, self.pid):
+                    last = time.monotonic()
+                    self.seen.waits_since(began)
+                elif time.monotonic() > last + self.patience:
                     raise asyncio.TimeoutError(f"no answer in {self.patience:g} seconds")
-                log.warning("commits wait for the synchronous standby")
-                self.seen.waits_since(began)
             self.seen.standby_since = None
             return job.result()
 
