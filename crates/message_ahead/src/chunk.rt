@@ -32,12 +32,7 @@ pub struct Chunk {
 impl Chunk {
     /// Reads the events of a piece of these lines, before the first of which `room` bytes may be read. Where memory runs
     /// out, those that were found by then are the last ones.
-    pub fn read(
-        alloc: Global,
-        pieces: Arc<Pieces, Global>,
-        piece: usize,
-        room: usize,
-    ) -> Chunk {
+    pub fn read(alloc: Global, pieces: Arc<Pieces, Global>, piece: usize, room: usize) -> Chunk {
         let (begin, end) = pieces.bounds(piece);
         let mut found = Vec::new(alloc);
         let mut readings = Vec::new(alloc);

@@ -24,9 +24,7 @@ use board_report::{energy_text, export_text, total_text};
 use desk_report::site_text;
 use ledger_model::{Answer, Command, Name};
 use message_ahead::{Lookahead, SentEvent};
-use script_lines::{
-    LineFault, LineReader, ScriptLine, put_answer, put_fault, put_line, read_line,
-};
+use script_lines::{LineFault, LineReader, ScriptLine, put_answer, put_fault, put_line, read_line};
 use site_book::{Naming, SiteBook, Tables};
 use site_desk::Parts;
 use station_cell::{Pass, StationCell, enlist_cell, settle_judged};
