@@ -20,8 +20,7 @@ ghost use Rattle.transaction_event.specs.MessageMeaning.{HasShortId, asking, wit
 use crate::draft::Draft;
 use crate::hints::StationHints;
 use arrayvec::ArrayString;
-use board_report::{energy_text, export_text, total_text};
-use desk_report::site_text;
+use board_report::{energy_text, export_text, site_text, total_text};
 use ledger_model::{Answer, Command, Name};
 use message_ahead::{Lookahead, SentEvent};
 use script_lines::{LineFault, LineReader, ScriptLine, put_answer, put_fault, put_line, read_line};

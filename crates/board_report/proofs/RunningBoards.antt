@@ -14,7 +14,7 @@ use Rattle.site_desk.specs.Operator.{AreBoardsOf}
 use Rattle.site_desk.specs.Parts.{limits_at}
 use Rattle.site_desk.specs.Plan.{period_at}
 use Rattle.site_desk.specs.Roster.{AreNewPlaces, new_place}
-use Rattle.desk_report.proofs.SiteBoards.{by_own, some_same}
+use Rattle.board_report.proofs.SiteBoards.{by_own, some_same}
 
 -- the place is at the station's site, with its limits and by its site's settlement period
 pub record IsLike (sites : List SitePlan) (s : StationPlan) (p : StationPlace) : Type 0 where

@@ -3,7 +3,7 @@ ghost use Rattle.std.specs.Prelude.{◌≡◌, ◌<◌, ◌≤◌, IfOk, OnOk, l
 ghost use Rattle.std.specs.Io.KnownBytes.{Appends};
 ghost use Rattle.ledger_model.specs.Ranges.{most_plan_readings};
 ghost use Rattle.board_report.specs.Texts.{board_text};
-ghost use Rattle.desk_report.specs.Closed.{IsClosedOf, boards_text, closed_site};
+ghost use Rattle.board_report.specs.Closed.{IsClosedOf, boards_text, closed_site};
 
 use crate::boards::site_text;
 use site_book::Naming;

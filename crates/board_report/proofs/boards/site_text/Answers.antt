@@ -3,8 +3,8 @@ use Rattle.board_report.specs.Sums.{AreOfPeriod}
 use Rattle.board_report.proofs.PlanLemmas.{plans_fit}
 use Rattle.site_desk.specs.Parts.{limits_at}
 use Rattle.site_desk.specs.Plan.{order_at, period_at}
-use Rattle.desk_report.proofs.SiteBoards.{boards_period, sum_at}
-use Rattle.desk_report.proofs.boards.site_text.Goals as goal
+use Rattle.board_report.proofs.SiteBoards.{boards_period, sum_at}
+use Rattle.board_report.proofs.boards.site_text.Goals as goal
 
 pub site_board-requires-clause-periods : goal.site_board-requires-clause-periods
 site_board-requires-clause-periods c =

@@ -9,7 +9,7 @@ use Rattle.site_desk.specs.declared.plan.StationPlan.{StationPlan}
 use Rattle.station_cell.specs.Cell.{Cell, Held}
 use Rattle.site_desk.specs.Plan.{order_at, period_at}
 use Rattle.site_desk.specs.Close.{AreSummed, Ended, changes_of}
-use Rattle.desk_report.specs.Boards.{AreOpenedFor, site_boards}
+use Rattle.board_report.specs.Boards.{AreOpenedFor, site_boards}
 
 -- A closed desk of these sites and stations: each site has its book, each station its cell at its site, and each book's totals are the sums over its site's cells.
 pub record IsClosedOf (sites : List SitePlan) (stations : List StationPlan) (closed : Ended) : Type 0 where

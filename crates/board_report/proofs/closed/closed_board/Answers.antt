@@ -4,10 +4,10 @@ use Rattle.board_report.specs.Texts.{board_text}
 use Rattle.site_desk.specs.declared.plan.SitePlan.{SitePlan}
 use Rattle.site_desk.specs.Close.{figures_at}
 use Rattle.site_desk.specs.Plan.{order_at, period_at}
-use Rattle.desk_report.specs.Boards.{site_boards, site_under}
-use Rattle.desk_report.proofs.SiteBoards.{stands}
-use Rattle.desk_report.proofs.ClosedSites.{figures_alike, name_at, named_alike, value_told}
-use Rattle.desk_report.proofs.closed.closed_board.Goals as goal
+use Rattle.board_report.specs.Boards.{site_boards, site_under}
+use Rattle.board_report.proofs.SiteBoards.{stands}
+use Rattle.board_report.proofs.ClosedSites.{figures_alike, name_at, named_alike, value_told}
+use Rattle.board_report.proofs.closed.closed_board.Goals as goal
 
 pub returns : goal.returns
 returns g c =

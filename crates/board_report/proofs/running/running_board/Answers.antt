@@ -6,10 +6,10 @@ use Rattle.board_report.proofs.PlanLemmas.{plans_fit}
 use Rattle.site_desk.specs.declared.plan.SitePlan.{SitePlan}
 use Rattle.site_desk.specs.Parts.{limits_at}
 use Rattle.site_desk.specs.Plan.{order_at, period_at}
-use Rattle.desk_report.proofs.ClosedSites.{name_at}
-use Rattle.desk_report.proofs.RunningBoards.{boards_by, boards_within, places_like}
-use Rattle.desk_report.proofs.SiteBoards.{named_is, sum_at}
-use Rattle.desk_report.proofs.running.running_board.Goals as goal
+use Rattle.board_report.proofs.ClosedSites.{name_at}
+use Rattle.board_report.proofs.RunningBoards.{boards_by, boards_within, places_like}
+use Rattle.board_report.proofs.SiteBoards.{named_is, sum_at}
+use Rattle.board_report.proofs.running.running_board.Goals as goal
 
 pub site_board-requires-clause-periods : goal.site_board-requires-clause-periods
 site_board-requires-clause-periods g c =

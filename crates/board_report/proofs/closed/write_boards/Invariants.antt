@@ -1,7 +1,7 @@
 use Rattle.std.proofs.Common.{◌≡◌, length}
 use Rattle.std.specs.Io.KnownBytes.{Appends}
-use Rattle.desk_report.specs.Closed.{boards_text}
-use Rattle.desk_report.proofs.closed.write_boards.Given as goal
+use Rattle.board_report.specs.Closed.{boards_text}
+use Rattle.board_report.proofs.closed.write_boards.Given as goal
 
 -- what was written are the boards of the sites so far
 abbrev pub invariant-loop-site : goal.invariant-loop-site

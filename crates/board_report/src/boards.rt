@@ -3,9 +3,10 @@ ghost use Rattle.ledger_model.specs.Ranges.{most_plan_readings};
 ghost use Rattle.board_report.specs.Plans.{AreBoardsWithin};
 ghost use Rattle.board_report.specs.Texts.{board_text};
 ghost use Rattle.site_desk.specs.Parts.{limits_at};
-ghost use Rattle.desk_report.specs.Boards.{AreOpenedFor, site_boards, site_under};
+ghost use Rattle.board_report.specs.Boards.{AreOpenedFor, site_boards, site_under};
 
-use board_report::{site_board, write_board};
+use crate::board::site_board;
+use crate::write::write_board;
 use ledger_model::{Figures, Name};
 use site_desk::Plan;
 use station_cell::StationCell;

@@ -7,8 +7,8 @@ use Rattle.site_desk.specs.Plan.{order_at, period_at}
 use Rattle.board_report.specs.Plans.{AreBoardsWithin}
 use Rattle.site_desk.specs.Parts.{limits_at}
 use Rattle.site_desk.proofs.Rows.{limits_more_yes}
-use Rattle.desk_report.proofs.SiteBoards.{by_own, boards_more_no, boards_more_yes, stands, within_more}
-use Rattle.desk_report.proofs.boards.add_board.Goals as goal
+use Rattle.board_report.proofs.SiteBoards.{by_own, boards_more_no, boards_more_yes, stands, within_more}
+use Rattle.board_report.proofs.boards.add_board.Goals as goal
 
 pub returns-then-station-site-clause-boards : goal.returns-then-station-site-clause-boards
 returns-then-station-site-clause-boards c =

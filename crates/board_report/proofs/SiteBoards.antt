@@ -15,7 +15,7 @@ use Rattle.board_report.specs.Plans.{AreBoardsWithin, IsBoardWithin}
 use Rattle.site_desk.specs.declared.plan.StationPlan.{StationPlan}
 use Rattle.station_cell.specs.Cell.{Cell}
 use Rattle.site_desk.specs.Parts.{limits_at}
-use Rattle.desk_report.specs.Boards.{boards_at, site_named}
+use Rattle.board_report.specs.Boards.{boards_at, site_named}
 
 -- what is read twice is one value
 pub some_same : {X : Type 0} (x y : X) → Some x ≡ Some y → x ≡ y

@@ -13,9 +13,9 @@ use Rattle.site_desk.specs.Close.{Ended, IsClosable}
 use Rattle.site_desk.specs.declared.roster.StationPlace.{StationPlace}
 use Rattle.site_desk.specs.Roster.{AreNewPlaces, Roster, StandsAt, new_place}
 use Rattle.ledger_model.specs.Step.{Reached}
-use Rattle.desk_report.specs.Boards.{boards_at, site_named}
-use Rattle.desk_report.proofs.SiteBoards.{some_same}
-use Rattle.desk_report.specs.Closed.{AreBoards, IsClosedOf, boards_text}
+use Rattle.board_report.specs.Boards.{boards_at, site_named}
+use Rattle.board_report.proofs.SiteBoards.{some_same}
+use Rattle.board_report.specs.Closed.{AreBoards, IsClosedOf, boards_text}
 
 pub figures_alike : (order : Order) (period : ℕ) (xs : List StationPlan) (cells : List Cell) (site : ℕ) → length cells ≡ length xs
     → ((k : ℕ) (s : StationPlan) (c : Cell) → slice_get xs k ≡ Some s → slice_get cells k ≡ Some c → c.site ≡ s.site)

@@ -1,8 +1,8 @@
 use Rattle.std.proofs.Common.{◌≡◌, length, take}
 use Rattle.board_report.specs.Plans.{AreBoardsWithin}
 use Rattle.site_desk.specs.Parts.{limits_at}
-use Rattle.desk_report.specs.Boards.{site_boards}
-use Rattle.desk_report.proofs.boards.boards_of.Given as goal
+use Rattle.board_report.specs.Boards.{site_boards}
+use Rattle.board_report.proofs.boards.boards_of.Given as goal
 
 abbrev pub invariant-loop-number : goal.invariant-loop-number
 invariant-loop-number l =

@@ -2,9 +2,10 @@
 ghost use Rattle.std.specs.Prelude.{◌≡◌, ◌<◌, ◌≤◌, IfOk, length, sum_by};
 ghost use Rattle.ledger_model.specs.Ranges.{most_plan_readings};
 ghost use Rattle.site_desk.specs.Roster.{AreNewPlaces};
-ghost use Rattle.desk_report.specs.Running.{IsRunningBoard};
+ghost use Rattle.board_report.specs.Running.{IsRunningBoard};
 
-use board_report::{site_board, write_board};
+use crate::board::site_board;
+use crate::write::write_board;
 use site_book::Naming;
 use site_desk::{BoardFault, Desk, HasCell, Plan};
 use std::alloc::Global;
