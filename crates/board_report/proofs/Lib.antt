@@ -1,2 +1,5 @@
 pub mod PlanLemmas
 pub mod SumLemmas
+pub mod SiteBoards
+pub mod ClosedSites
+pub mod RunningBoards

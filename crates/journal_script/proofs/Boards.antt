@@ -1,8 +1,8 @@
 -- A script's answer to the question for a board, over the cells that its stations have the contents of.
 use Rattle.std.proofs.Common.{◌≡◌, true, cond, refl, sym, ap, ◌∙◌}
 use Rattle.board_report.specs.Texts.{board_text}
-use Rattle.desk_report.specs.Boards.{boards_at}
-use Rattle.desk_report.specs.Closed.{closed_site}
+use Rattle.board_report.specs.Boards.{boards_at}
+use Rattle.board_report.specs.Closed.{closed_site}
 use Rattle.script_lines.specs.declared.script_line.LineFault.TheVariants.{UnknownSite}
 use Rattle.script_lines.specs.Texts.{fault_line}
 use Rattle.script_ledgers.specs.Drafts.{planned_world, site_name}

@@ -1,7 +1,7 @@
 -- What a journal's text leaves of stations, as a script behind another one.
 use Rattle.std.specs.Prelude.{◌≡◌, ℕ, ◌<◌, false, List, [], ◌∷◌, ◌++◌, ◌⊎◌, All, get_or, length, map, Some, slice_get}
 use Rattle.board_report.specs.Texts.{board_text}
-use Rattle.desk_report.specs.Closed.{closed_site}
+use Rattle.board_report.specs.Closed.{closed_site}
 use Rattle.kept_desk.specs.declared.entry.Entry.{Entry}
 use Rattle.kept_desk.specs.Entries.{IsNote, of_station, text_of}
 use Rattle.ledger_model.specs.declared.command.Command.{Command}

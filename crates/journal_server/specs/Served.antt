@@ -1,7 +1,7 @@
 -- What a server with a journal read, wrote and showed.
 use Rattle.std.specs.Prelude.{◌≡◌, ℕ, zero, suc, ◌<◌, Bool, false, true, List, [], ◌++◌, length, Option, IfSome, Some, All, map, slice_get}
 use Rattle.std.specs.Io.KnownBytes.{append_known}
-use Rattle.desk_report.specs.Closed.{boards_text}
+use Rattle.board_report.specs.Closed.{boards_text}
 use Rattle.kept_desk.specs.declared.entry.Entry.{Entry}
 use Rattle.kept_desk.specs.Entries.{of_station, text_of}
 use Rattle.kept_desk.specs.Journal.{IsWritten}

@@ -10,7 +10,7 @@ ghost use Rattle.journal_server.specs.Served.{IsEnded, IsItsScript, Leaves};
 use crate::line_queue::{LineQueue, QueuedOrders, read_all};
 use crate::serve::Journalling;
 use crate::serving::Serving;
-use desk_report::write_boards;
+use board_report::write_boards;
 use journal_script::Restored;
 use kept_desk::{JournalTable, KeptDesk, Opening};
 use live_server::{Ran, serve_plan_at};

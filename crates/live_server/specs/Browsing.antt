@@ -2,7 +2,7 @@
 use Rattle.std.specs.Prelude.{◌≡◌, ◌⊎◌, ◌++◌, ℕ, List, Option, None, Some, codes}
 use Rattle.std.specs.List.{flat_map, position}
 use Rattle.std.specs.Str.{bytes_eq}
-use Rattle.desk_report.specs.Running.{IsRunningBoard}
+use Rattle.board_report.specs.Running.{IsRunningBoard}
 use Rattle.live_server.specs.declared.reply.Status.TheVariants.{Found, Malformed, NotFound, NotAllowed, NoMemory}
 use Rattle.live_server.specs.declared.request.Request.{Request}
 use Rattle.live_server.specs.declared.request.Request.TheVariants as request

@@ -5,7 +5,7 @@ ghost use Rattle.live_server.specs.Told.{boards_at, ports};
 
 use crate::service::Live;
 use arrayvec::ArrayString;
-use desk_report::write_out;
+use board_report::write_out;
 use itoa::Buffer;
 use site_server::{ServiceFault, Sockets, address_of, listen, tell_port};
 use std::io::Write;

@@ -5,7 +5,7 @@ ghost use Rattle.std.specs.Thread.{IsSend, IsSync};
 ghost use Rattle.site_book.specs.Tables.{HasTable, NamedBy};
 ghost use Rattle.ledger_model.specs.Ranges.{most_plan_readings};
 ghost use Rattle.site_desk.specs.Roster.{AreNewPlaces};
-ghost use Rattle.desk_report.specs.Closed.{AreBoards};
+ghost use Rattle.board_report.specs.Closed.{AreBoards};
 ghost use Rattle.live_server.specs.Told.{IsServed, Tells};
 ghost use Rattle.running_desk.specs.Replies.{AddsReplies};
 

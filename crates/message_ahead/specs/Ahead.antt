@@ -1,6 +1,7 @@
 -- What is known of an event that was read before its line was reached.
-use Rattle.std.specs.Prelude.{◌≡◌, ℕ, ◌-◌, ◌≤◌, List, ◌++◌, length, take, drop}
+use Rattle.std.specs.Prelude.{◌≡◌, ℕ, ◌-◌, ◌≤◌, List, [], ◌++◌, length, take, drop, Some}
 use Rattle.ledger_model.specs.Event.{MeterReading}
+use Rattle.script_lines.specs.LineMeaning.{LineMeaning, line_meaning, sends}
 use Rattle.transaction_event.specs.MessageMeaning.{HasShortId, IsMeaningOf, asking}
 use Rattle.transaction_event.specs.declared.delivery.Delivery.{Delivery}
 use Rattle.message_ahead.specs.declared.found_event.FoundEvent.{FoundEvent}
@@ -8,6 +9,15 @@ use Rattle.message_ahead.specs.declared.found_event.FoundEvent.{FoundEvent}
 -- The text asks for this delivery, at any moment.
 abbrev pub Asks : List ℕ → Delivery → Type 0
 Asks text d = HasShortId (asking d) × ((now : ℕ) → IsMeaningOf text now (asking d))
+
+-- The text that a line of this meaning sends; none where it sends nothing.
+abbrev pub text_sent : LineMeaning → List ℕ
+text_sent (sends _ text) = text
+text_sent _ = []
+
+-- The line sends a message of the station of this name, whose text asks for this delivery.
+abbrev pub Sends : List ℕ → List ℕ → Delivery → Type 0
+Sends line station d = let says = line_meaning (Some line) in (says ≡ sends station (text_sent says)) × Asks (text_sent says) d
 
 -- The delivery of these parts, with readings.
 abbrev pub with_readings : FoundEvent → List MeterReading → Delivery
@@ -25,6 +35,6 @@ HasRange readings f = (f.first ≤ f.end) × (f.end ≤ length readings)
 abbrev pub Extends : List MeterReading → List MeterReading → Type 0
 Extends old new = (more : List MeterReading) × (new ≡ old ++ more)
 
--- What was found stands in these bytes, its readings among these, and the text there asks for it.
+-- What was found stands in these bytes, its readings among these, and the line there sends it.
 abbrev pub IsFound : List ℕ → List MeterReading → FoundEvent → Type 0
-IsFound bytes readings f = (f.from ≤ f.to) × (f.to ≤ length bytes) × HasRange readings f × Asks (take (f.to - f.from) (drop f.from bytes)) (found_delivery readings f)
+IsFound bytes readings f = (f.from ≤ f.to) × (f.to ≤ length bytes) × HasRange readings f × Sends (take (f.to - f.from) (drop f.from bytes)) f.station (found_delivery readings f)

@@ -1,26 +1,20 @@
 //! The events of a piece of lines, read by one thread.
 ghost use Rattle.std.specs.Prelude.{◌≡◌, ◌≤◌, ◌<◌, ◌-◌, ◌+◌, ℕ, [], All, length, IfOk, IfSome, IsTrue, take, drop};
 ghost use Rattle.std.specs.Arc.{arc_value};
-ghost use Rattle.message_ahead.specs.Ahead.{Asks, Extends, IsFound};
+ghost use Rattle.message_ahead.specs.Ahead.{Asks, Extends, IsFound, Sends};
 
-use crate::found_event::FoundEvent;
+use crate::found_event::{FoundEvent, SentEvent};
 use crate::pieces::Pieces;
 use arrayvec::ArrayString;
 use ledger_model::{Moment, Reading};
 use memchr::memrchr;
-use script_lines::without_return;
+use script_lines::{ScriptLine, read_line};
 use std::alloc::{AllocError, Global};
 use std::sync::Arc;
 use transaction_event::{Asked, Delivery, read_message};
 
 // About how many bytes a line with an event has.
 const USUAL_LINE: usize = 256;
-
-/// What tells which lines have a message.
-pub trait MessageLines {
-    /// The text of the message that a line has, which stands without its line feed; None where it has none.
-    fn text(line: &[u8]) -> Option<&str>;
-}
 
 /// The events that were found in a piece of lines, in two blocks: one of events, and one of the readings of all.
 #[derive(Drop)]
@@ -38,19 +32,14 @@ pub struct Chunk {
 impl Chunk {
     /// Reads the events of a piece of these lines, before the first of which `room` bytes may be read. Where memory runs
     /// out, those that were found by then are the last ones.
-    pub fn read<T: MessageLines>(
-        alloc: Global,
-        pieces: Arc<Pieces, Global>,
-        piece: usize,
-        room: usize,
-    ) -> Chunk {
+    pub fn read(alloc: Global, pieces: Arc<Pieces, Global>, piece: usize, room: usize) -> Chunk {
         let (begin, end) = pieces.bounds(piece);
         let mut found = Vec::new(alloc);
         let mut readings = Vec::new(alloc);
         let lines = (end - begin) / USUAL_LINE;
         let is_short = found.reserve(lines).is_err()
             || readings.reserve(lines).is_err()
-            || find::<T>(
+            || find(
                 alloc,
                 &pieces.bytes,
                 begin,
@@ -74,10 +63,10 @@ impl Chunk {
         self.is_short
     }
 
-    /// The event of the line before which `room` bytes may be read, if it was found, has this text, and was
+    /// The event of the line before which `room` bytes may be read, if it was found, its line has these bytes, and it was
     /// not taken; those of lines before it are dropped.
-    pub fn take(&mut self, room: usize, text: &str) -> Option<Delivery>
-        ensures { IfSome result (λ d. Asks text.now d) }
+    pub fn take(&mut self, room: usize, line: &[u8]) -> Option<SentEvent>
+        ensures { IfSome result (λ s. Sends line.now s.station s.delivery) }
     {
         'stale: loop {
             match self.found.last() {
@@ -88,43 +77,40 @@ impl Chunk {
                 return None;
             };
             if next.room == room {
-                return with_text(self.alloc, &self.pieces.bytes, &self.readings, next, text);
+                return sent_by(self.alloc, &self.pieces.bytes, &self.readings, next, line);
             }
         }
     }
 }
 
-// The event that was found, if its text is this one.
-fn with_text(
+// The event that was found, if its line has these bytes.
+fn sent_by(
     alloc: Global,
     bytes: &[u8],
     readings: &[Reading],
     found: FoundEvent,
-    text: &str,
-) -> Option<Delivery>
+    line: &[u8],
+) -> Option<SentEvent>
     requires { IsFound bytes.now readings.now found }
-    ensures { IfSome result (λ d. Asks text.now d) }
+    ensures { IfSome result (λ s. Sends line.now s.station s.delivery) }
 {
-    if is_text_at(bytes, found.from, found.to, text) {
-        found.into_delivery(alloc, readings)
+    if is_line_at(bytes, found.from, found.to, line) {
+        found.into_sent(alloc, readings)
     } else {
         None
     }
 }
 
-// Whether this text stands between these places.
-fn is_text_at(bytes: &[u8], from: usize, to: usize, text: &str) -> bool
+// Whether these are the bytes between these places.
+fn is_line_at(bytes: &[u8], from: usize, to: usize, line: &[u8]) -> bool
     requires { (from ≤ to) × (to ≤ length bytes.now) }
-    ensures { IsTrue result → take (to - from) (drop from bytes.now) ≡ text.now }
+    ensures { IsTrue result → take (to - from) (drop from bytes.now) ≡ line.now }
 {
-    match str::from_utf8(&bytes[from..to]) {
-        Ok(own) => own == text,
-        Err(_) => false,
-    }
+    &bytes[from..to] == line
 }
 
 // Finds the events of the lines between these places, the last first.
-fn find<T: MessageLines>(
+fn find(
     alloc: Global,
     bytes: &[u8],
     begin: usize,
@@ -140,7 +126,7 @@ fn find<T: MessageLines>(
     let mut end = end;
     'lines: while end > begin {
         let start = begin + line_start(&bytes[begin..end - 1]);
-        if let Some(event) = event_of_line::<T>(alloc, bytes, start, end - 1, room, readings)? {
+        if let Some(event) = event_of_line(alloc, bytes, start, end - 1, room, readings)? {
             found.push(event)?;
         }
         end = start;
@@ -158,8 +144,8 @@ fn line_start(bytes: &[u8]) -> usize
     }
 }
 
-// The event of the line from `start` to `end`, where its line feed stands.
-fn event_of_line<T: MessageLines>(
+// The event that the line from `start` to `end` sends, where its line feed stands.
+fn event_of_line(
     alloc: Global,
     bytes: &[u8],
     start: usize,
@@ -171,21 +157,38 @@ fn event_of_line<T: MessageLines>(
     ensures found { IfOk result (λ event. IfSome event (λ f. IsFound bytes.now readings.new.items f)) }
     ensures kept { Extends readings.old.items readings.new.items }
 {
-    let line = without_return(&bytes[start..end]);
-    let Some(text) = T::text(line) else {
-        return Ok(None);
-    };
-    let to = start + line.len();
-    let from = to.saturating_sub(text.len());
-    if !is_text_at(bytes, from, to, text) {
-        return Ok(None);
-    }
-    match delivery_of(alloc, text)? {
-        Some(delivery) => {
+    let to = line_end(bytes, start, end);
+    match event_sent(alloc, &bytes[start..to])? {
+        Some(sent) => {
             let room = room.saturating_sub(start);
-            let event = FoundEvent::put(room, from, to, delivery, readings)?;
+            let event = FoundEvent::put(room, start, to, sent, readings)?;
             Ok(Some(event))
         }
+        None => Ok(None),
+    }
+}
+
+// Where a line ends whose line feed stands at `end`: before its carriage return, if it has one.
+fn line_end(bytes: &[u8], start: usize, end: usize) -> usize
+    requires { (start ≤ end) × (end ≤ length bytes.now) }
+    ensures { (start ≤ result) × (result ≤ end) }
+{
+    if start < end && bytes[end - 1] == b'\r' {
+        end - 1
+    } else {
+        end
+    }
+}
+
+// The event that a line sends, if it does.
+fn event_sent(alloc: Global, line: &[u8]) -> Result<Option<SentEvent>, AllocError>
+    ensures { IfOk result (λ event. IfSome event (λ s. Sends line.now s.station s.delivery)) }
+{
+    let ScriptLine::Sends(station, text) = read_line(Some(line)) else {
+        return Ok(None);
+    };
+    match delivery_of(alloc, text)? {
+        Some(delivery) => Ok(Some(SentEvent { station, delivery })),
         None => Ok(None),
     }
 }

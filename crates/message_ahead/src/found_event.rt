@@ -3,19 +3,30 @@ ghost use Rattle.std.specs.Prelude.{◌≡◌, ◌≤◌, length, IfOk, IfSome, 
 ghost use Rattle.message_ahead.specs.Ahead.{Extends, HasRange, found_delivery};
 
 use arrayvec::ArrayString;
-use ledger_model::{Event, EvseId, Key, Kind, Moment, Reading};
+use ledger_model::{Event, EvseId, Key, Kind, Moment, Name, Reading};
 use std::alloc::{AllocError, Global};
 use transaction_event::Delivery;
 
-/// An event of a line, and where its text and its readings stand.
+/// An event that a line sends.
+#[derive(Drop)]
+pub struct SentEvent {
+    /// The name of the station whose message it is.
+    pub station: Name,
+    /// What the message asks to deliver.
+    pub delivery: Delivery,
+}
+
+/// An event of a line, and where the line and the event's readings stand.
 #[derive(Drop)]
 pub struct FoundEvent {
     /// How many bytes may still be read where its line begins.
     pub room: usize,
-    /// Where its text begins among the lines.
+    /// Where its line begins among the lines.
     pub from: usize,
-    /// Where its text ends among them.
+    /// Where its line ends among them, before its carriage return or its line feed.
     pub to: usize,
+    /// The name of the station whose message it is.
+    pub station: Name,
     /// The id of the call.
     pub id: ArrayString<144>,
     /// The event's key.
@@ -35,19 +46,21 @@ pub struct FoundEvent {
 }
 
 impl FoundEvent {
-    /// The event of a line whose text stands between these places. Its readings are put behind those of its piece.
+    /// The event that the line between these places sends. Its readings are put behind those of its piece.
     pub(crate) fn put(
         room: usize,
         from: usize,
         to: usize,
-        delivery: Delivery,
+        sent: SentEvent,
         readings: &mut Vec<Reading>,
     ) -> Result<FoundEvent, AllocError>
         ensures places { IfOk result (λ f. (f.from ≡ from) × (f.to ≡ to)) }
+        ensures station { IfOk result (λ f. f.station ≡ sent.station) }
         ensures range { IfOk result (λ f. HasRange readings.new.items f) }
-        ensures delivery { IfOk result (λ f. found_delivery readings.new.items f ≡ delivery) }
+        ensures delivery { IfOk result (λ f. found_delivery readings.new.items f ≡ sent.delivery) }
         ensures kept { Extends readings.old.items readings.new.items }
     {
+        let SentEvent { station, delivery } = sent;
         let Delivery {
             id,
             key,
@@ -60,6 +73,7 @@ impl FoundEvent {
             room,
             from,
             to,
+            station,
             id,
             key,
             kind: event.kind(),
@@ -71,15 +85,16 @@ impl FoundEvent {
         })
     }
 
-    /// The delivery, with readings of its own; None where no memory was found for them.
-    pub(crate) fn into_delivery(self, alloc: Global, readings: &[Reading]) -> Option<Delivery>
+    /// The event with readings of its own; None where no memory was found for them.
+    pub(crate) fn into_sent(self, alloc: Global, readings: &[Reading]) -> Option<SentEvent>
         requires { HasRange readings.now self }
-        ensures { IfSome result (λ d. d ≡ found_delivery readings.now self) }
+        ensures { IfSome result (λ s. (s.station ≡ self.station) × (s.delivery ≡ found_delivery readings.now self)) }
     {
         let FoundEvent {
             room: _,
             from: _,
             to: _,
+            station,
             id,
             key,
             kind,
@@ -90,11 +105,14 @@ impl FoundEvent {
             end,
         } = self;
         let event = event_of(alloc, kind, moment, evse, &readings[first..end])?;
-        Some(Delivery {
-            id,
-            key,
-            event,
-            token,
+        Some(SentEvent {
+            station,
+            delivery: Delivery {
+                id,
+                key,
+                event,
+                token,
+            },
         })
     }
 }

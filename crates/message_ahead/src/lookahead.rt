@@ -1,8 +1,9 @@
 //! Threads that read ahead, and what was found.
 ghost use Rattle.std.specs.Prelude.{◌≤◌, ◌<◌, length, IfSome};
-ghost use Rattle.message_ahead.specs.Ahead.{Asks};
+ghost use Rattle.message_ahead.specs.Ahead.{Sends};
 
-use crate::chunk::{Chunk, MessageLines};
+use crate::chunk::Chunk;
+use crate::found_event::SentEvent;
 use crate::window::Window;
 use memchr::memrchr;
 use std::alloc::{AllocError, Global};
@@ -10,7 +11,6 @@ use std::sync::Arc;
 use std::sync::atomic::{AtomicBool, Ordering};
 use std::thread;
 use std::thread::{JoinHandle, Threads};
-use transaction_event::Delivery;
 
 // How many bytes of lines a piece has, at most and at least.
 const MOST_OF_PIECE: usize = 16_384;
@@ -20,7 +20,12 @@ const LEAST_OF_PIECE: usize = 4_096;
 // Of how many pieces a window has at least so many, where its pieces are not the shortest.
 const PIECES: usize = 12;
 
-// The shortest run of lines for which threads are started, and the shortest for which all are.
+// How many bytes of lines a window has where more stand behind it, and at most.
+const WINDOW: usize = 1_048_576;
+
+const LONGEST: usize = 1_572_864;
+
+// How many it has at least, and how many for all threads to be started.
 const SHORTEST: usize = 16_384;
 
 const LONG: usize = 262_144;
@@ -40,10 +45,14 @@ pub struct Lookahead {
     room: usize,
     // Where the bytes end that the last look was shown.
     seen: usize,
+    // Where the lines begin that no window has had.
+    behind: usize,
     // How many threads may read at once; None before the first is wanted.
     threads: Option<usize>,
     // The lines that are read ahead.
     window: Option<Window>,
+    // Those behind them, from when all pieces of the window are claimed: so threads have work while its lines are reached.
+    next: Option<Window>,
     // What was read of the piece under way.
     ready: Option<Chunk>,
     // The threads that have not ended, for all that is known.
@@ -66,8 +75,10 @@ impl Lookahead {
             alloc,
             room: usize::MAX,
             seen: usize::MAX,
+            behind: usize::MAX,
             threads: None,
             window: None,
+            next: None,
             ready: None,
             running: Vec::new(alloc),
             is_short: false,
@@ -96,36 +107,81 @@ impl Lookahead {
     }
 
     /// Takes over what was read of the lines from here on, reads some where it is not there yet, and starts threads for
-    /// the lines in `shown`, the bytes that come next, where none of them was shown before.
-    pub fn look<T: MessageLines + Send + 'static, X: Threads>(&mut self, rt: &X, shown: &[u8]) {
+    /// lines in `shown`, the bytes that come next, for which none was started before.
+    pub fn look<X: Threads>(&mut self, rt: &X, shown: &[u8]) {
         if self.room <= self.seen {
-            self.open::<T, X>(rt, shown);
+            self.seen = self.room.saturating_sub(shown.len());
+            self.behind = self.room;
+            self.window = None;
+            self.next = None;
         }
+        self.pass(rt, shown);
         self.ready = match &mut self.window {
-            Some(window) => window.reach::<T>(self.alloc, self.room),
+            Some(window) => window.reach(self.alloc, self.room),
             None => None,
         };
         self.is_short |= is_short(&self.ready);
     }
 
-    // Starts threads for the lines in `shown`, if there are enough.
-    fn open<T: MessageLines + Send + 'static, X: Threads>(&mut self, rt: &X, shown: &[u8]) {
-        self.seen = self.room.saturating_sub(shown.len());
-        self.window = None;
+    // Goes on to the window of the line under way, and opens the next one where each piece of it is claimed.
+    fn pass<X: Threads>(&mut self, rt: &X, shown: &[u8]) {
+        if self.is_over() {
+            self.window = self.next.take();
+        }
+        if self.window.is_none() {
+            self.window = self.open(rt, shown);
+        }
+        if self.next.is_none() && self.is_begun() {
+            self.next = self.open(rt, shown);
+        }
+    }
+
+    // Whether the line under way stands behind the window's.
+    fn is_over(&self) -> bool {
+        match &self.window {
+            Some(window) => window.is_over(self.room),
+            None => true,
+        }
+    }
+
+    // Whether each piece of the window is read or being read.
+    fn is_begun(&self) -> bool {
+        match &self.window {
+            Some(window) => window.is_begun(),
+            None => false,
+        }
+    }
+
+    // A window of lines in `shown` that none has had, with its threads, if there are enough.
+    fn open<X: Threads>(&mut self, rt: &X, shown: &[u8]) -> Option<Window> {
+        let from = self.room.saturating_sub(self.behind);
+        let lines = window_lines(shown.get(from..)?);
+        let threads = self.threads(rt);
+        if threads == 0 || lines.len() < SHORTEST {
+            self.behind = self.seen;
+            return None;
+        }
         self.join(rt);
+        let room = self.behind;
+        self.behind = room.saturating_sub(lines.len());
+        match self.begin(rt, lines, room, threads) {
+            Ok(window) => Some(window),
+            Err(_) => {
+                self.threads = Some(0);
+                self.is_short = true;
+                None
+            }
+        }
+    }
+
+    // How many threads may read at once.
+    fn threads<X: Threads>(&mut self, rt: &X) -> usize {
         let threads = match self.threads {
             Some(threads) => threads,
             None => thread_count(rt),
         };
         self.threads = Some(threads);
-        let lines = whole_lines(shown);
-        if threads == 0 || lines.len() < SHORTEST {
-            return;
-        }
-        if self.begin::<T, X>(rt, lines, threads).is_err() {
-            self.threads = Some(0);
-            self.is_short = true;
-        }
+        threads
     }
 
     // Joins the threads that have told that they are done.
@@ -142,42 +198,38 @@ impl Lookahead {
         }
     }
 
-    // Opens a window of lines, and starts its threads.
-    fn begin<T: MessageLines + Send + 'static, X: Threads>(
+    // A window of these lines, before the first of which `room` bytes may be read, with its threads.
+    fn begin<X: Threads>(
         &mut self,
         rt: &X,
         lines: &[u8],
+        room: usize,
         threads: usize,
-    ) -> Result<(), AllocError> {
+    ) -> Result<Window, AllocError> {
         let size = piece_size(lines.len());
-        let mut window = Window::open(self.alloc, lines, size, self.room)?;
+        let mut window = Window::open(self.alloc, lines, size, room)?;
         let most = if lines.len() < LONG {
             FEW_THREADS
         } else {
             MAX_THREADS
         };
         for _ in 0..threads.min(most).min(window.count()) {
-            if !self.start::<T, X>(rt, &mut window)? {
+            if !self.start(rt, &mut window)? {
                 break;
             }
         }
-        self.window = Some(window);
-        Ok(())
+        Ok(window)
     }
 
     // Starts a thread of a window, and tells whether one could be started.
-    fn start<T: MessageLines + Send + 'static, X: Threads>(
-        &mut self,
-        rt: &X,
-        window: &mut Window,
-    ) -> Result<bool, AllocError> {
+    fn start<X: Threads>(&mut self, rt: &X, window: &mut Window) -> Result<bool, AllocError> {
         let alloc = self.alloc;
         let work = window.work(alloc)?;
         let is_done = Arc::new(alloc, AtomicBool::new(false))?;
         let done = Arc::try_clone(&is_done)?;
         self.running.reserve(1)?;
         let started = thread::spawn(rt, move || {
-            work.run::<T>(alloc);
+            work.run(alloc);
             done.store(true, Ordering::SeqCst);
         });
         match started {
@@ -189,15 +241,15 @@ impl Lookahead {
         }
     }
 
-    /// The event of the line under way, if it was read ahead and its text is this one.
-    pub fn take(&mut self, text: &str) -> Option<Delivery>
-        ensures { IfSome result (λ d. Asks text.now d) }
+    /// The event that the line under way sends, if it was read ahead and the line has these bytes.
+    pub fn take(&mut self, line: &[u8]) -> Option<SentEvent>
+        ensures { IfSome result (λ s. Sends line.now s.station s.delivery) }
     {
         if self.ready.is_none() {
             self.take_late();
         }
         match &mut self.ready {
-            Some(chunk) => chunk.take(self.room, text),
+            Some(chunk) => chunk.take(self.room, line),
             None => None,
         }
     }
@@ -225,6 +277,14 @@ fn piece_size(bytes: usize) -> usize
     ensures { 0 < result }
 {
     (bytes / PIECES).clamp(LEAST_OF_PIECE, MOST_OF_PIECE)
+}
+
+// The lines of a window, with which `shown` begins: those of which the window is long, or all where few stand behind them.
+fn window_lines(shown: &[u8]) -> &[u8] {
+    match shown.get(..WINDOW) {
+        Some(front) if shown.len() > LONGEST => whole_lines(front),
+        _ => whole_lines(shown),
+    }
 }
 
 // The whole lines with which `shown` begins.

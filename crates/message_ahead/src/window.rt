@@ -1,7 +1,7 @@
 //! Lines that are read ahead, by threads and by the caller.
 ghost use Rattle.std.specs.Prelude.{◌<◌};
 
-use crate::chunk::{Chunk, MessageLines};
+use crate::chunk::Chunk;
 use crate::pieces::Pieces;
 use rtrb::{Consumer, Producer, RingBuffer};
 use std::alloc::{AllocError, Global};
@@ -81,6 +81,16 @@ impl Window {
         self.pieces.count()
     }
 
+    /// Whether each of its pieces is read or being read.
+    pub(crate) fn is_begun(&self) -> bool {
+        self.pieces.are_claimed()
+    }
+
+    /// Whether the line before which so many bytes may be read stands behind all of its lines.
+    pub(crate) fn is_over(&self, room: usize) -> bool {
+        self.pieces.bytes.len() <= self.offset(room)
+    }
+
     /// Whether the line before which so many bytes may be read begins another piece than the one under way.
     pub(crate) fn is_passed(&self, room: usize) -> bool {
         self.pieces.bounds(self.at).1 <= self.offset(room)
@@ -88,7 +98,7 @@ impl Window {
 
     /// What was read of the piece of this line, where somebody did. Where nobody has begun it, and where others have begun
     /// all that is left, there is nothing.
-    pub(crate) fn reach<T: MessageLines>(&mut self, alloc: Global, room: usize) -> Option<Chunk> {
+    pub(crate) fn reach(&mut self, alloc: Global, room: usize) -> Option<Chunk> {
         self.pass(room);
         for _ in 0..self.pieces.count() {
             if let Some(chunk) = self.arrived() {
@@ -100,7 +110,7 @@ impl Window {
                         self.is_own = true;
                         return None;
                     }
-                    self.read::<T>(alloc, piece);
+                    self.read(alloc, piece);
                 }
                 None => return None,
             }
@@ -132,9 +142,9 @@ impl Window {
     }
 
     // Reads a piece, as a thread would.
-    fn read<T: MessageLines>(&mut self, alloc: Global, piece: usize) {
+    fn read(&mut self, alloc: Global, piece: usize) {
         if let Ok(pieces) = Arc::try_clone(&self.pieces) {
-            let chunk = Chunk::read::<T>(alloc, pieces, piece, self.room);
+            let chunk = Chunk::read(alloc, pieces, piece, self.room);
             self.put(PieceRead { piece, chunk });
         }
     }
@@ -171,14 +181,14 @@ fn put(chunks: &mut [Option<Chunk>], read: PieceRead) {
 
 impl Work {
     /// Reads pieces that nobody has begun, until there are none.
-    pub(crate) fn run<T: MessageLines>(self, alloc: Global) {
+    pub(crate) fn run(self, alloc: Global) {
         let Work { pieces, room, ring } = self;
         let mut ring = ring;
         for _ in 0..pieces.count() {
             let (Some(piece), Ok(shared)) = (pieces.claim(), Arc::try_clone(&pieces)) else {
                 return;
             };
-            let chunk = Chunk::read::<T>(alloc, shared, piece, room);
+            let chunk = Chunk::read(alloc, shared, piece, room);
             if ring.push(PieceRead { piece, chunk }).is_err() {
                 return;
             }

@@ -7,7 +7,7 @@ use crate::options::program;
 use crate::station_words::WordFault;
 use clap::Error;
 use clap::error::ErrorKind;
-use desk_report::write_out;
+use board_report::write_out;
 use journal_server::{
     JournalFault, Journalling, Restoring, Served, serve_journalled, serve_restored,
 };

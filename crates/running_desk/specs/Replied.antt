@@ -12,7 +12,7 @@ use Rattle.ledger_model.specs.declared.order.Order.TheVariants.{Sequence}
 use Rattle.ledger_model.specs.Step.{Reached}
 use Rattle.ledger_model.specs.World.{Station}
 use Rattle.board_report.specs.Texts.{total_text}
-use Rattle.desk_report.specs.Running.{IsRunningBoard}
+use Rattle.board_report.specs.Running.{IsRunningBoard}
 use Rattle.energy_flow.specs.Flow.{Energy}
 use Rattle.running_desk.specs.declared.operator.Asked.{Asked}
 use Rattle.running_desk.specs.declared.operator.Asked.TheVariants.{Figures, Import, Export}

@@ -2,14 +2,14 @@
 ghost use Rattle.std.specs.Prelude.{◌≡◌, ◌≤◌, ◌<◌, IfOk, IfSome, length, sum_by};
 ghost use Rattle.std.specs.List.{position};
 ghost use Rattle.std.specs.Str.{bytes_eq};
-ghost use Rattle.desk_report.specs.Running.{IsRunningBoard};
+ghost use Rattle.board_report.specs.Running.{IsRunningBoard};
 ghost use Rattle.ledger_model.specs.Ranges.{most_plan_readings};
 ghost use Rattle.site_desk.specs.Roster.{AreNewPlaces, IsNamed};
 ghost use Rattle.station_link.specs.Session.{MayLackPass};
 
 use crate::pooled_desk::{PassFault, PooledDesk};
 use crate::serves::Serves;
-use desk_report::running_board;
+use board_report::running_board;
 use ledger_model::Name;
 use site_book::Naming;
 use site_desk::{BoardFault, HasCell, Plan};

@@ -22,8 +22,8 @@ use Rattle.site_desk.specs.Parts.{limits_at, row_at}
 use Rattle.site_desk.specs.Plan.{has_twice, order_at}
 use Rattle.site_desk.proofs.Rows.{limits_more_no, limits_more_yes}
 use Rattle.script_ledgers.specs.Drafts.{Drafted, planned_world, site_name}
-use Rattle.desk_report.specs.Boards.{boards_at}
-use Rattle.desk_report.proofs.SiteBoards.{boards_more_no, boards_more_yes, stands}
+use Rattle.board_report.specs.Boards.{boards_at}
+use Rattle.board_report.proofs.SiteBoards.{boards_more_no, boards_more_yes, stands}
 use Rattle.script_ledgers.specs.Running.{IsRunning, filled}
 use Rattle.script_ledgers.specs.Script.{shown_site, shown_station, stations_of}
 use Rattle.script_ledgers.proofs.Places.{neither, none_placed, some_placed}

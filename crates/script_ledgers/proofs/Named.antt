@@ -14,7 +14,7 @@ use Rattle.transaction_event.specs.declared.message.Message.{Message}
 use Rattle.transaction_event.specs.declared.message.Message.TheVariants as read
 use Rattle.transaction_event.specs.Message.{message}
 use Rattle.transaction_event.specs.MessageMeaning.{IsMeaningOf}
-use Rattle.desk_report.proofs.SiteBoards.{stands}
+use Rattle.board_report.proofs.SiteBoards.{stands}
 use Rattle.script_ledgers.specs.Drafts.{Drafted, planned_world, site_name}
 use Rattle.script_ledgers.specs.Received.{TakesMessage}
 use Rattle.script_ledgers.specs.Running.{IsRunning, Settles, filled, running}

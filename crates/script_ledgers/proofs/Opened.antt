@@ -12,7 +12,7 @@ use Rattle.station_cell.specs.Cell.{Cell, Held, Knows, new_cell, new_pass}
 use Rattle.site_desk.specs.Parts.{AreApart, AreNewBooks, AreNewCells, AreTied, limits_at, new_book, row_at}
 use Rattle.site_desk.specs.Plan.{order_at, period_at}
 use Rattle.station_cell.specs.Settle.{Holds, Tied}
-use Rattle.desk_report.proofs.SiteBoards.{some_same, stands}
+use Rattle.board_report.proofs.SiteBoards.{some_same, stands}
 use Rattle.script_ledgers.specs.Drafts.{IsPlan, planned_world, site_name}
 use Rattle.script_ledgers.specs.Running.{IsPlaced, IsRunning, IsShown, filled, posts_in}
 use Rattle.script_ledgers.specs.Script.{new_station}

@@ -21,7 +21,7 @@ use Rattle.site_desk.specs.Parts.{AreTied, limits_at}
 use Rattle.site_desk.specs.Plan.{has_twice}
 use Rattle.station_cell.specs.Settle.{Holds, Tied, cell_after, posts_after}
 use Rattle.site_desk.proofs.Ties.{apart_step, tied_step}
-use Rattle.desk_report.proofs.SiteBoards.{some_same, stands}
+use Rattle.board_report.proofs.SiteBoards.{some_same, stands}
 use Rattle.script_ledgers.specs.Drafts.{Drafted, planned_world, site_name}
 use Rattle.script_ledgers.specs.Running.{IsPlaced, IsRunning, IsShown, Settles, filled, posts_in, running}
 use Rattle.script_ledgers.specs.Script.{new_station}

@@ -13,7 +13,6 @@
 
 mod draft;
 mod hints;
-mod messages;
 mod opened_script;
 mod script_state;
 

@@ -1,29 +1,29 @@
-ghost use Rattle.std.specs.Prelude.{◌≡◌, ℕ, ◌+◌, ◌<◌, ◌≤◌, ◌^◌, ◌++◌, ◌∷◌, [], All, length, map, true, OnOk, IfOk, slice_get, take, None, Some, refl};
+ghost use Rattle.std.specs.Prelude.{◌≡◌, ℕ, ◌+◌, ◌<◌, ◌≤◌, ◌^◌, ◌++◌, ◌∷◌, List, [], All, length, map, true, OnOk, IfOk, slice_get, take, None, Some, refl};
 ghost use Rattle.std.specs.Io.KnownBytes.{Keeps};
 ghost use Rattle.std.specs.List.{position};
 ghost use Rattle.std.specs.Str.{bytes_eq};
 ghost use Rattle.board_report.specs.Texts.{board_text};
+ghost use Rattle.message_ahead.specs.Ahead.{Asks};
 ghost use Rattle.site_book.specs.Tables.{HasTable, NamedBy};
 ghost use Rattle.station_cell.specs.Cell.{Cell, new_pass};
 ghost use Rattle.site_desk.specs.Plan.{plan_fault};
 ghost use Rattle.site_desk.specs.Roster.{AreCellsOf};
 ghost use Rattle.script_ledgers.specs.Drafts.{planned};
 ghost use Rattle.script_lines.specs.LineMeaning.{asks_energy, asks_export, asks_total, commands, sends};
+ghost use Rattle.script_lines.specs.Lines.{line_bytes};
 ghost use Rattle.script_lines.specs.ScriptLines.{meaning_of};
 ghost use Rattle.script_ledgers.specs.Received.{TakesMessageAt};
 ghost use Rattle.script_ledgers.specs.Running.{IsRunning, SettlesAt, posts_in, running};
-ghost use Rattle.script_ledgers.specs.Script.{board_answer, board_of_site, step_by};
+ghost use Rattle.script_ledgers.specs.Script.{board_answer, board_of_site, line_step, step_by};
 ghost use Rattle.transaction_event.specs.MessageMeaning.{HasShortId, asking, with_reply};
 
 use crate::draft::Draft;
 use crate::hints::StationHints;
-use crate::messages::ScriptMessages;
 use arrayvec::ArrayString;
-use board_report::{energy_text, export_text, total_text};
-use desk_report::site_text;
+use board_report::{energy_text, export_text, site_text, total_text};
 use ledger_model::{Answer, Command, Name};
-use message_ahead::Lookahead;
-use script_lines::{LineFault, LineReader, ScriptLine, put_answer, put_fault, put_line};
+use message_ahead::{Lookahead, SentEvent};
+use script_lines::{LineFault, LineReader, ScriptLine, put_answer, put_fault, put_line, read_line};
 use site_book::{Naming, SiteBook, Tables};
 use site_desk::Parts;
 use station_cell::{Pass, StationCell, enlist_cell, settle_judged};
@@ -125,8 +125,30 @@ impl<J: Naming> OpenedScript<J> {
             return Ok(());
         }
         let shown = reader.fill_buf()?;
-        self.ahead.look::<ScriptMessages, X>(rt, shown);
+        self.ahead.look(rt, shown);
         Ok(())
+    }
+
+    // Puts the answer to a line into the reply: to its event where that was read ahead, and else to what it says.
+    pub(crate) fn answer(
+        &mut self,
+        line: Option<&[u8]>,
+        reply: &mut Vec<u8>,
+    ) -> Result<(), AllocError>
+        requires empty { reply.old.items ≡ [] }
+        requires few { posts_in self.old.books.items < 2 ^ 62 }
+        ensures step { OnOk result (line_step (running self.old.draft self.old.cells.items) (line_bytes line.entry) ≡ (running self.new.draft self.new.cells.items, reply.new.items)) }
+        ensures posts { OnOk result (posts_in self.new.books.items ≤ posts_in self.old.books.items + 1) }
+    {
+        if self.ahead.is_short() {
+            return Err(AllocError);
+        }
+        if let Some(bytes) = line {
+            if let Some(sent) = self.ahead.take(bytes) {
+                return self.receive_ahead(sent, reply);
+            }
+        }
+        self.take(read_line(line), reply)
     }
 
     // Puts the answer to a line that says this into the reply.
@@ -140,9 +162,6 @@ impl<J: Naming> OpenedScript<J> {
         ensures step { OnOk result (step_by (running self.old.draft self.old.cells.items) (meaning_of asked.entry) ≡ (running self.new.draft self.new.cells.items, reply.new.items)) }
         ensures posts { OnOk result (posts_in self.new.books.items ≤ posts_in self.old.books.items + 1) }
     {
-        if self.ahead.is_short() {
-            return Err(AllocError);
-        }
         match asked {
             ScriptLine::Nothing => Ok(()),
             ScriptLine::Fails(fault) => put_fault(reply, fault),
@@ -163,25 +182,46 @@ impl<J: Naming> OpenedScript<J> {
         }
     }
 
-    // Delivers a station's message, as it was read ahead or is read now, and puts its reply into the reply.
+    // Delivers an event that was read ahead, and puts its reply into the reply.
+    fn receive_ahead(&mut self, sent: SentEvent, reply: &mut Vec<u8>) -> Result<(), AllocError>
+        requires empty { reply.old.items ≡ [] }
+        requires short { HasShortId (asking sent.delivery) }
+        requires few { posts_in self.old.books.items < 2 ^ 62 }
+        ensures step { (text : List ℕ) → Asks text sent.delivery → OnOk result (step_by (running self.old.draft self.old.cells.items) (sends sent.station text) ≡ (running self.new.draft self.new.cells.items, reply.new.items)) }
+        ensures posts { OnOk result (posts_in self.new.books.items ≤ posts_in self.old.books.items + 1) }
+    {
+        let SentEvent { station, delivery } = sent;
+        match self.station_number(&station) {
+            Some(number) => {
+                self.hints.keep(&station, number);
+                self.deliver(number, delivery, reply)
+            }
+            None => put_fault(reply, LineFault::UnknownStation),
+        }
+    }
+
+    // Delivers a station's message, which is read now, and puts its reply into the reply.
     fn receive(&mut self, name: &Name, text: &str, reply: &mut Vec<u8>) -> Result<(), AllocError>
         requires empty { reply.old.items ≡ [] }
         requires few { posts_in self.old.books.items < 2 ^ 62 }
         ensures step { OnOk result (step_by (running self.old.draft self.old.cells.items) (sends name.now text.now) ≡ (running self.new.draft self.new.cells.items, reply.new.items)) }
         ensures posts { OnOk result (posts_in self.new.books.items ≤ posts_in self.old.books.items + 1) }
     {
-        let near = self.hints.number(name);
-        let Some(number) = self.draft.station_near(name, near) else {
-            return put_fault(reply, LineFault::UnknownStation);
-        };
-        self.hints.keep(name, number);
-        match self.ahead.take(text) {
-            Some(delivery) => self.deliver(number, delivery, reply),
-            None => {
+        match self.station_number(name) {
+            Some(number) => {
+                self.hints.keep(name, number);
                 let asked = read_message(self.alloc, text, self.draft.moment(), &mut self.text);
                 self.take_asked(number, asked, reply)
             }
+            None => put_fault(reply, LineFault::UnknownStation),
         }
+    }
+
+    // The number of the station of this name, which is looked for where it was found last.
+    fn station_number(&self, name: &Name) -> Option<usize>
+        ensures { result ≡ position (λ s. bytes_eq name.now s.name) self.now.draft.stations }
+    {
+        self.draft.station_near(name, self.hints.number(name))
     }
 
     // Takes an operator's command on a station, and puts the answer into the reply.

@@ -1,7 +1,7 @@
 ghost use Rattle.std.specs.Prelude.{◌≡◌, ℕ, ◌+◌, ◌<◌, ◌≤◌, ◌^◌, [], None, IfOk, OnOk};
 ghost use Rattle.std.specs.Io.KnownBytes.{Keeps};
 ghost use Rattle.script_ledgers.specs.Running.{running};
-ghost use Rattle.script_ledgers.specs.Script.{line_step, opened_for, opened_script, opening, start};
+ghost use Rattle.script_ledgers.specs.Script.{line_step, opened_for, opened_script, opening, start, step_by};
 ghost use Rattle.script_lines.specs.Lines.{line_bytes};
 ghost use Rattle.script_lines.specs.ScriptLines.{meaning_of};
 ghost use Rattle.site_book.specs.Tables.{HasTable, NamedBy};
@@ -85,7 +85,27 @@ impl<J: Naming> ScriptState<J> {
         ensures step { OnOk result (line_step self.old.script (line_bytes line.entry) ≡ (self.new.script, reply.new.items)) }
         ensures posts { OnOk result (self.new.posts ≤ self.old.posts + 1) }
     {
-        let asked = read_line(line);
+        match &self.declared {
+            Some(_) => self.take(rt, read_line(line), reply),
+            None => match &mut self.opened {
+                Some(opened) => opened.answer(line, reply),
+                None => Err(AllocError),
+            },
+        }
+    }
+
+    // Puts the answer to a line that says this into the reply, after it opened the ledgers if it needs them.
+    fn take<X: AllocGlobal + Threads>(
+        &mut self,
+        rt: &X,
+        asked: ScriptLine<'_>,
+        reply: &mut Vec<u8>,
+    ) -> Result<(), AllocError>
+        requires empty { reply.old.items ≡ [] }
+        requires few { self.old.posts < 2 ^ 62 }
+        ensures step { OnOk result (step_by self.old.script (meaning_of asked.entry) ≡ (self.new.script, reply.new.items)) }
+        ensures posts { OnOk result (self.new.posts ≤ self.old.posts + 1) }
+    {
         self.open_for(rt, &asked)?;
         match &mut self.declared {
             Some(declared) => declared.draft.take(asked, reply),

@@ -5,7 +5,7 @@ use Rattle.std.specs.Io.KnownBytes.{Appends}
 use Rattle.std.proofs.KnownBytes.{Appends-trans}
 use Rattle.site_desk.specs.declared.plan.SitePlan.{SitePlan}
 use Rattle.site_desk.specs.declared.plan.StationPlan.{StationPlan}
-use Rattle.desk_report.specs.Closed.{AreBoards}
+use Rattle.board_report.specs.Closed.{AreBoards}
 use Rattle.station_cell.specs.Cell.{Held}
 use Rattle.site_server.specs.Passes.{AreOfSessions}
 use Rattle.site_server.specs.Written.{ShowsBoards, listening}

@@ -3,10 +3,10 @@ ghost use Rattle.std.specs.Prelude.{◌≡◌, ◌≤◌, ℕ, List, IfOk, lengt
 ghost use Rattle.std.specs.Io.KnownBytes.{Appends};
 ghost use Rattle.ledger_model.specs.Ranges.{most_plan_readings};
 ghost use Rattle.site_desk.specs.Roster.{AreNewPlaces};
-ghost use Rattle.desk_report.specs.Closed.{AreBoards};
+ghost use Rattle.board_report.specs.Closed.{AreBoards};
 
 use crate::fault::ServiceFault;
-use desk_report::write_boards;
+use board_report::write_boards;
 use site_book::{Naming, Viewer};
 use site_desk::{Desk, Plan};
 use station_cell::Pass;

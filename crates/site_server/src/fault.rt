@@ -1,4 +1,4 @@
-use desk_report::BoardsFault;
+use board_report::BoardsFault;
 use site_desk::{CloseFault, DeskFault};
 use station_link::SimFault;
 use std::alloc::{AllocError, AllocFailed};

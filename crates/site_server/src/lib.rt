@@ -8,7 +8,7 @@
 //!
 //! The crate's one contract: what is written of a closed desk is, for each site in the plan's order, the
 //! board from scratch from the content of its stations' ledgers, and its totals are the sums over them
-//! ([`closed_board`](desk_report::closed_board)). `serve_many` gives back passes of the desk alone, at most one for each connection.
+//! ([`closed_board`](board_report::closed_board)). `serve_many` gives back passes of the desk alone, at most one for each connection.
 //! That connections are served at once, what a socket delivers, and all timing is shown by tests.
 //!
 //! ```text

@@ -14,7 +14,7 @@ use crate::serve::serve_many;
 use crate::watch::watch;
 use arrayvec::ArrayString;
 use core::thread::{Anything, Stack};
-use desk_report::write_out;
+use board_report::write_out;
 use itoa::Buffer;
 use site_book::{Naming, Tables, Viewer};
 use site_desk::{Desk, NoGate, Plan};

@@ -1,6 +1,6 @@
 use Rattle.std.proofs.Common.{◌++◌, [], List, ap, length, subst, ◌∙◌}
-use Rattle.desk_report.specs.Closed.{boards_text}
-use Rattle.desk_report.proofs.ClosedSites.{closed_of}
+use Rattle.board_report.specs.Closed.{boards_text}
+use Rattle.board_report.proofs.ClosedSites.{closed_of}
 use Rattle.kept_desk.specs.declared.entry.Entry.{Entry}
 use Rattle.kept_desk.specs.Kept.{IsWrittenDown}
 use Rattle.ledger_model.specs.declared.command.Command.{Command}

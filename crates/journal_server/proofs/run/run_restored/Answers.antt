@@ -1,4 +1,4 @@
-use Rattle.desk_report.proofs.ClosedSites.{value_told}
+use Rattle.board_report.proofs.ClosedSites.{value_told}
 use Rattle.site_book.proofs.Named.{named-made}
 use Rattle.journal_server.proofs.Ends.{script_of_plan}
 use Rattle.journal_server.proofs.run.run_restored.Goals as goal

@@ -6,7 +6,7 @@ use Rattle.message_ahead.proofs.Found.{all-stay-found}
 use Rattle.message_ahead.proofs.chunk.find.Goals as goal
 
 pub lines-preserved-in_ok-push : goal.lines-preserved-in_ok-push
-lines-preserved-in_ok-push g c =
+lines-preserved-in_ok-push c =
     let P = IsFound c.args.bytes.now c.event_of_line.new.readings.items in
     let one = subst (λ o. IfSome o P) c.in-Some.is c.in_ok-event.ensures.found in
     let kept = all-stay-found c.args.bytes.now c.lines.readings.items c.event_of_line.new.readings.items c.event_of_line.ensures.kept c.lines.found.items c.lines.invariant.0 in (
@@ -16,7 +16,7 @@ lines-preserved-in_ok-push g c =
     )
 
 pub returns-in_err-push : goal.returns-in_err-push
-returns-in_err-push g c =
+returns-in_err-push c =
     let P = IsFound c.args.bytes.now c.event_of_line.new.readings.items in
     let kept = all-stay-found c.args.bytes.now c.lines.readings.items c.event_of_line.new.readings.items c.event_of_line.ensures.kept c.lines.found.items c.lines.invariant.0 in
     All-same P c.push.new.self.items c.lines.found.items (c.in_err-push.ensures).items kept

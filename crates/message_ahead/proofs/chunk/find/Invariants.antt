@@ -3,7 +3,7 @@ use Rattle.message_ahead.specs.Ahead.{IsFound}
 use Rattle.message_ahead.proofs.chunk.find.Given as goal
 
 abbrev pub invariant-lines : goal.invariant-lines
-invariant-lines g l = All (IsFound l.bytes l.readings.items) l.found.items × (l.end ≤ length l.bytes) × (l.begin ≤ l.end)
+invariant-lines l = All (IsFound l.bytes l.readings.items) l.found.items × (l.end ≤ length l.bytes) × (l.begin ≤ l.end)
 
 abbrev pub decreases-lines : goal.decreases-lines
-decreases-lines g l = l.end
+decreases-lines l = l.end

@@ -1,4 +1,4 @@
-use Rattle.desk_report.proofs.ClosedSites.{value_told}
+use Rattle.board_report.proofs.ClosedSites.{value_told}
 use Rattle.running_desk.proofs.Replied.{commanded}
 use Rattle.running_desk.proofs.operator.put_command.Goals as goal
 

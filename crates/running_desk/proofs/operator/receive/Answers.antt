@@ -1,4 +1,4 @@
-use Rattle.desk_report.proofs.ClosedSites.{value_told}
+use Rattle.board_report.proofs.ClosedSites.{value_told}
 use Rattle.running_desk.proofs.Replied.{sent}
 use Rattle.running_desk.proofs.operator.receive.Goals as goal
 

@@ -68,3 +68,13 @@ lines-init g c =
       c.open-lines.ensures.max_line_bytes,
       omega (arith, ap (λ (x : State). x.posts) c.begin-script.ensures, c.open-lines.ensures.room),
     )
+
+pub returns-then-is_empty-clause-end : goal.returns-then-is_empty-clause-end
+returns-then-is_empty-clause-end g c =
+    let n = asked _ _ _ _ _ _ _ _ _ _ _ _ _ c.next_line_flushing.result c.next_line_flushing.new.self.held.items (looked _ _ _ _ _ _ _ _ _ _ _ c.lines.invariant.0 c.look.ensures.reader (ap (λ (x : State). script_text x.script) c.look.ensures.same)) c.lines.invariant.1 refl c.next_line_flushing.ensures.takes c.next_line_flushing.ensures.writer in
+    reached_now _ _ _ _ _ _ _ _ _ _ _ n (c.next_line_flushing.ensures.end (c.in_ok-next_line_flushing.was ∙ ap Ok c.in-Input.is))
+
+pub returns-in-Input-clause-end : goal.returns-in-Input-clause-end
+returns-in-Input-clause-end g c =
+    let n = asked _ _ _ _ _ _ _ _ _ _ _ _ _ c.next_line_flushing.result c.next_line_flushing.new.self.held.items (looked _ _ _ _ _ _ _ _ _ _ _ c.lines.invariant.0 c.look.ensures.reader (ap (λ (x : State). script_text x.script) c.look.ensures.same)) c.lines.invariant.1 refl c.next_line_flushing.ensures.takes c.next_line_flushing.ensures.writer in
+    reached_now _ _ _ _ _ _ _ _ _ _ _ n (c.next_line_flushing.ensures.end (c.in_ok-next_line_flushing.was ∙ ap Ok c.in-Input.is))

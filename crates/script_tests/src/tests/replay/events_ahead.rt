@@ -1,38 +1,28 @@
 // What no clause says: which events are found ahead of their lines, and that threads find them.
 use ledger_model::Moment;
-use message_ahead::{Chunk, Lookahead, MessageLines, Pieces};
+use message_ahead::{Chunk, Lookahead, Pieces, SentEvent};
 use std::alloc::Global;
 use std::sync::Arc;
 use std::test::Fail;
 use std::thread;
 use std::thread::Threads;
 use std::time::{Clock, Duration};
-use transaction_event::{Delivery, Message, message_of};
-
-// Lines whose message stands behind `m `.
-#[derive(Drop)]
-struct Marked;
-
-impl MessageLines for Marked {
-    fn text(line: &[u8]) -> Option<&str> {
-        str::from_utf8(line).ok()?.strip_prefix("m ")
-    }
-}
+use transaction_event::{Message, message_of};
 
 const FIRST: &str =
-    r#"[2,"a","TransactionEvent",{"eventType":"Started","timestamp":"2026-03-01T10:00:00Z","triggerReason":"CablePluggedIn","seqNo":0,"transactionInfo":{"transactionId":"T1"}}]"#;
+    r#"msg A [2,"a","TransactionEvent",{"eventType":"Started","timestamp":"2026-03-01T10:00:00Z","triggerReason":"CablePluggedIn","seqNo":0,"transactionInfo":{"transactionId":"T1"}}]"#;
 
-const HEARTBEAT: &str = r#"[2,"b","Heartbeat",{}]"#;
+const HEARTBEAT: &str = r#"msg A [2,"b","Heartbeat",{}]"#;
 
-const FAULT: &str = r#"[2,"c","TransactionEvent",{}]"#;
+const FAULT: &str = r#"msg A [2,"c","TransactionEvent",{}]"#;
 
 const LAST: &str =
-    r#"[2,"d","TransactionEvent",{"eventType":"Ended","timestamp":"2026-03-01T10:05:00Z","triggerReason":"EVDeparted","seqNo":1,"transactionInfo":{"transactionId":"T1"},"idToken":{"idToken":"A","type":"Local"}}]"#;
+    r#"msg A [2,"d","TransactionEvent",{"eventType":"Ended","timestamp":"2026-03-01T10:05:00Z","triggerReason":"EVDeparted","seqNo":1,"transactionInfo":{"transactionId":"T1"},"idToken":{"idToken":"A","type":"Local"}}]"#;
 
-// Whether the event is that of this id.
-fn is_of(delivery: Option<Delivery>, id: &str) -> bool {
-    match delivery {
-        Some(delivery) => delivery.id.as_str() == id,
+// Whether station A sends the event, under this id.
+fn is_of(sent: Option<SentEvent>, id: &str) -> bool {
+    match sent {
+        Some(sent) => sent.station.text() == "A" && sent.delivery.id.as_str() == id,
         None => false,
     }
 }
@@ -41,17 +31,17 @@ fn is_of(delivery: Option<Delivery>, id: &str) -> bool {
 fn lines(alloc: Global) -> Result<(Vec<u8>, Vec<usize>), Fail> {
     let mut bytes = Vec::new(alloc);
     let mut rooms = Vec::new(alloc);
-    for (mark, text, end) in [
-        ("m ", FIRST, "\n"),
+    for (mark, line, end) in [
+        ("", FIRST, "\n"),
         ("# ", FIRST, "\n"),
-        ("m ", HEARTBEAT, "\n"),
-        ("m ", FAULT, "\n"),
-        ("m ", LAST, "\r\n"),
+        ("", HEARTBEAT, "\n"),
+        ("", FAULT, "\n"),
+        ("", LAST, "\r\n"),
         ("", "", "\n"),
     ] {
         rooms.push(100_000usize.saturating_sub(bytes.len()))?;
         bytes.extend_from_slice(mark.as_bytes())?;
-        bytes.extend_from_slice(text.as_bytes())?;
+        bytes.extend_from_slice(line.as_bytes())?;
         bytes.extend_from_slice(end.as_bytes())?;
     }
     Ok((bytes, rooms))
@@ -60,7 +50,7 @@ fn lines(alloc: Global) -> Result<(Vec<u8>, Vec<usize>), Fail> {
 // What is read of these lines, as one piece.
 fn chunk_of(alloc: Global, bytes: &[u8]) -> Result<Chunk, Fail> {
     let pieces = Arc::new(alloc, Pieces::cut(alloc, bytes, 65_536)?)?;
-    Ok(Chunk::read::<Marked>(alloc, pieces, 0, 100_000))
+    Ok(Chunk::read(alloc, pieces, 0, 100_000))
 }
 
 // Whether the events of the first line and the fifth are given, each once, and none of the others.
@@ -68,11 +58,13 @@ fn gives_events(chunk: &mut Chunk, rooms: &[usize]) -> bool {
     let [first, comment, heartbeat, fault, last, empty] = rooms else {
         return false;
     };
-    let is_first = is_of(chunk.take(*first, FIRST), "a") && chunk.take(*first, FIRST).is_none();
-    let is_none = chunk.take(*comment, FIRST).is_none()
-        && chunk.take(*heartbeat, HEARTBEAT).is_none()
-        && chunk.take(*fault, FAULT).is_none();
-    is_first && is_none && is_of(chunk.take(*last, LAST), "d") && chunk.take(*empty, "").is_none()
+    let is_first = is_of(chunk.take(*first, FIRST.as_bytes()), "a")
+        && chunk.take(*first, FIRST.as_bytes()).is_none();
+    let is_none = chunk.take(*comment, FIRST.as_bytes()).is_none()
+        && chunk.take(*heartbeat, HEARTBEAT.as_bytes()).is_none()
+        && chunk.take(*fault, FAULT.as_bytes()).is_none();
+    let is_last = is_of(chunk.take(*last, LAST.as_bytes()), "d");
+    is_first && is_none && is_last && chunk.take(*empty, b"").is_none()
 }
 
 #[test]
@@ -106,15 +98,16 @@ fn each_piece_is_claimed_once(rt: HostRuntime) -> Result<(), Fail> {
     Ok(())
 }
 
-// Whether nothing is given for a line before all, for another text at the fifth line's place, for that line
+// Whether nothing is given for a line before all, for another line at the fifth line's place, for that line
 // once its event was dropped, and for the lines before it.
 fn gives_no_other(chunk: &mut Chunk, rooms: &[usize]) -> bool {
     let [first, .., last, _] = rooms else {
         return false;
     };
-    let is_before = chunk.take(100_001, FIRST).is_none();
-    let is_dropped = chunk.take(*last, FIRST).is_none() && chunk.take(*last, LAST).is_none();
-    is_before && is_dropped && chunk.take(*first, FIRST).is_none()
+    let is_before = chunk.take(100_001, FIRST.as_bytes()).is_none();
+    let is_dropped = chunk.take(*last, FIRST.as_bytes()).is_none()
+        && chunk.take(*last, LAST.as_bytes()).is_none();
+    is_before && is_dropped && chunk.take(*first, FIRST.as_bytes()).is_none()
 }
 
 #[test]
@@ -125,8 +118,17 @@ fn events_of_other_lines_are_not_given(rt: HostRuntime) -> Result<(), Fail> {
     Ok(())
 }
 
-// Whether an event that was read ahead is as it is when its text is read now.
-fn is_read_now(alloc: Global, delivery: &Delivery, text: &str, moment: Moment) -> bool {
+// The text of a line of station A.
+fn text_of(line: &[u8]) -> Option<&str> {
+    str::from_utf8(line).ok()?.strip_prefix("msg A ")
+}
+
+// Whether an event that was read ahead is as it is when its line is read now.
+fn is_read_now(alloc: Global, sent: &SentEvent, line: &[u8], moment: Moment) -> bool {
+    let Some(text) = text_of(line) else {
+        return false;
+    };
+    let delivery = &sent.delivery;
     match message_of(alloc, text, moment) {
         Message::Event {
             id,
@@ -135,7 +137,8 @@ fn is_read_now(alloc: Global, delivery: &Delivery, text: &str, moment: Moment) -
             token,
         } => {
             let is_key = delivery.id.as_str() == id.as_str() && delivery.key == key;
-            is_key && delivery.event.is_same(&event) && delivery.token == token
+            let is_sent = is_key && sent.station.text() == "A";
+            is_sent && delivery.event.is_same(&event) && delivery.token == token
         }
         _ => false,
     }
@@ -156,13 +159,11 @@ fn count_event(
     moment: Moment,
     counted: &mut Count,
 ) {
-    if let Some(text) = Marked::text(line) {
-        if let Some(delivery) = ahead.take(text) {
-            if is_read_now(alloc, &delivery, text, moment) {
-                counted.right = counted.right.saturating_add(1);
-            } else {
-                counted.wrong = counted.wrong.saturating_add(1);
-            }
+    if let Some(sent) = ahead.take(line) {
+        if is_read_now(alloc, &sent, line, moment) {
+            counted.right = counted.right.saturating_add(1);
+        } else {
+            counted.wrong = counted.wrong.saturating_add(1);
         }
     }
 }
@@ -179,7 +180,7 @@ fn walk<X: Threads + Clock>(rt: &X, alloc: Global, bytes: &[u8], moment: Moment)
             thread::sleep(rt, Duration::from_millis(5));
         }
         if ahead.is_due(rest.len()) {
-            ahead.look::<Marked, X>(rt, rest);
+            ahead.look(rt, rest);
         }
         count_event(alloc, &mut ahead, line, moment, &mut counted);
         from = from.saturating_add(line.len()).saturating_add(1);
@@ -198,7 +199,7 @@ fn threads_read_events_ahead(rt: HostRuntime) -> Result<(), Fail> {
     let mut bytes = Vec::new(alloc);
     for number in 0..1_200u32 {
         let line = format!(in alloc;
-            "m [2,\"{number}\",\"TransactionEvent\",{{\"eventType\":\"Updated\",\"timestamp\":\"2026-03-01T10:00:00Z\",\"triggerReason\":\"MeterValuePeriodic\",\"seqNo\":{number},\"transactionInfo\":{{\"transactionId\":\"T1\"}}}}]\n"
+            "msg A [2,\"{number}\",\"TransactionEvent\",{{\"eventType\":\"Updated\",\"timestamp\":\"2026-03-01T10:00:00Z\",\"triggerReason\":\"MeterValuePeriodic\",\"seqNo\":{number},\"transactionInfo\":{{\"transactionId\":\"T1\"}}}}]\n"
         )?;
         bytes.extend_from_slice(line.as_bytes())?;
     }

@@ -1,6 +1,6 @@
 use Rattle.std.proofs.Common.{length, subst, sym, ◌∙◌}
-use Rattle.desk_report.specs.Closed.{AreBoards, boards_text}
-use Rattle.desk_report.proofs.ClosedSites.{boards_are, closed_of}
+use Rattle.board_report.specs.Closed.{AreBoards, boards_text}
+use Rattle.board_report.proofs.ClosedSites.{boards_are, closed_of}
 use Rattle.site_server.proofs.close.close_desk.Goals as goal
 
 pub write_boards-requires-clause-closed : goal.write_boards-requires-clause-closed

@@ -5,8 +5,8 @@ use Rattle.message_ahead.specs.Ahead.{IsFound}
 use Rattle.message_ahead.specs.declared.pieces.Pieces.{Pieces}
 use Rattle.message_ahead.proofs.chunk.Chunk.take.Goals as goal
 
-pub with_text-requires : goal.with_text-requires
-with_text-requires c =
+pub sent_by-requires : goal.sent_by-requires
+sent_by-requires c =
     let bytes = (arc_value c.stale.self.pieces).bytes.items in
     let readings = c.stale.self.readings.items in
     let next = c.in-Some-pop.next in

@@ -6,7 +6,7 @@ use Rattle.board_report.specs.Texts.{board_text}
 use Rattle.site_desk.specs.declared.plan.SitePlan.{SitePlan}
 use Rattle.site_desk.specs.declared.plan.StationPlan.{StationPlan}
 use Rattle.site_desk.specs.Plan.{order_at, period_at}
-use Rattle.desk_report.specs.Boards.{AreOpenedFor, boards_at, site_named}
+use Rattle.board_report.specs.Boards.{AreOpenedFor, boards_at, site_named}
 use Rattle.script_ledgers.specs.Running.{running}
 use Rattle.script_ledgers.specs.Script.{order_named, period_named, stations_of}
 use Rattle.script_ledgers.proofs.Answered.{value_told}

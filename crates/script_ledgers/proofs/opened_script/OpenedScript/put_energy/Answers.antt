@@ -4,7 +4,7 @@ use Rattle.ledger_model.specs.Content.{entries}
 use Rattle.station_cell.specs.Cell.{Cell}
 use Rattle.ledger_model.specs.declared.reading.Direction.TheVariants.{Import}
 use Rattle.ledger_model.specs.Energy.{energy_by}
-use Rattle.desk_report.proofs.SiteBoards.{some_same}
+use Rattle.board_report.proofs.SiteBoards.{some_same}
 use Rattle.script_lines.specs.Texts.{ended_line}
 use Rattle.script_ledgers.specs.Running.{running}
 use Rattle.script_ledgers.specs.Script.{energy_answer, energy_line, order_named}

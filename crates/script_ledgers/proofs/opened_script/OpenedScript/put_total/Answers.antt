@@ -4,7 +4,7 @@ use Rattle.ledger_model.specs.Content.{entries}
 use Rattle.station_cell.specs.Cell.{Cell}
 use Rattle.ledger_model.specs.Board.{figures_by}
 use Rattle.board_report.specs.Texts.{total_text}
-use Rattle.desk_report.proofs.SiteBoards.{some_same}
+use Rattle.board_report.proofs.SiteBoards.{some_same}
 use Rattle.script_lines.specs.Texts.{ended_line}
 use Rattle.script_ledgers.specs.Running.{running}
 use Rattle.script_ledgers.specs.Script.{order_named, total_answer}

@@ -1,5 +1,5 @@
 use Rattle.std.proofs.Common.{refl, ap, subst}
-use Rattle.transaction_event.specs.MessageMeaning.{IsMeaningOf, asking, with_reply}
+use Rattle.transaction_event.specs.MessageMeaning.{IsMeaningOf, with_reply}
 use Rattle.script_ledgers.specs.Received.{TakesMessage}
 use Rattle.script_ledgers.specs.Running.{running}
 use Rattle.script_ledgers.specs.Script.{sent_to}
@@ -7,24 +7,10 @@ use Rattle.script_ledgers.proofs.Answered.{ok_told, written_whole}
 use Rattle.script_ledgers.proofs.Named.{is_none, is_of, received, some_of}
 use Rattle.script_ledgers.proofs.opened_script.OpenedScript.receive.Goals as goal
 
-pub returns-in-Some-take-clause-step : goal.returns-in-Some-take-clause-step
-returns-in-Some-take-clause-step g c =
+pub returns-in-Some-clause-step : goal.returns-in-Some-clause-step
+returns-in-Some-clause-step g c =
     let s = c.args.self.now in
-    let of = is_of s.draft s.cells.items s.books.items s.passes.items s.running c.args.name.now c.in-Some.number c.station_near.result c.station_near.ensures c.in-Some.is in
-    let old = running s.draft s.cells.items in
-    let new = running c.deliver.new.self.draft c.deliver.new.self.cells.items in
-    let m = asking c.in-Some-take.delivery in
-    let reply = c.deliver.new.reply.items in
-    ok_told c.deliver.result _ _
-    (λ h.
-    let took = some_of _ of.at.station (λ t. TakesMessage old new t m reply) of.at.there h in
-    received old new _ of.at.station m reply c.args.text.now refl of.named (c.in-Some-take.ensures.1 s.draft.moment) took)
-    c.deliver.ensures.takes
-
-pub returns-in-None-clause-step : goal.returns-in-None-clause-step
-returns-in-None-clause-step g c =
-    let s = c.args.self.now in
-    let of = is_of s.draft s.cells.items s.books.items s.passes.items s.running c.args.name.now c.in-Some.number c.station_near.result c.station_near.ensures c.in-Some.is in
+    let of = is_of s.draft s.cells.items s.books.items s.passes.items s.running c.args.name.now c.in-Some.number c.station_number.result c.station_number.ensures c.in-Some.is in
     let old = running s.draft s.cells.items in
     let new = running c.take_asked.new.self.draft c.take_asked.new.self.cells.items in
     let m = with_reply c.read_message-asked.result c.read_message-asked.new.reply in
@@ -36,8 +22,8 @@ returns-in-None-clause-step g c =
     received old new _ of.at.station m reply c.args.text.now refl of.named means took)
     c.take_asked.ensures.takes
 
-pub returns-in_default-clause-step : goal.returns-in_default-clause-step
-returns-in_default-clause-step g c =
+pub returns-in-None-clause-step : goal.returns-in-None-clause-step
+returns-in-None-clause-step g c =
     let s = c.args.self.now in
-    let none = is_none s.draft s.cells.items s.books.items s.passes.items s.running c.args.name.now c.station_near.result c.station_near.ensures c.in_default.is in
+    let none = is_none s.draft s.cells.items s.books.items s.passes.items s.running c.args.name.now c.station_number.result c.station_number.ensures c.in-None.is in
     written_whole c.put_fault.result (running s.draft s.cells.items) _ c.args.reply.now.items c.put_fault.new.reply.items _ (ap (λ o. sent_to o (running s.draft s.cells.items) c.args.text.now) none) c.requires.empty c.put_fault.ensures

@@ -1,0 +1,39 @@
+-- The boards of a desk that was closed.
+use Rattle.std.specs.Prelude.{◌≡◌, ℕ, zero, suc, List, [], ◌++◌, length, map, slice_get, get_or, Some}
+use Rattle.ledger_model.specs.Board.{site_board}
+use Rattle.ledger_model.specs.Step.{Reached}
+use Rattle.board_report.specs.Named.{NamedBoard}
+use Rattle.board_report.specs.Texts.{board_text}
+use Rattle.site_desk.specs.declared.plan.SitePlan.{SitePlan}
+use Rattle.site_desk.specs.declared.plan.StationPlan.{StationPlan}
+use Rattle.station_cell.specs.Cell.{Cell, Held}
+use Rattle.site_desk.specs.Plan.{order_at, period_at}
+use Rattle.site_desk.specs.Close.{AreSummed, Ended, changes_of}
+use Rattle.board_report.specs.Boards.{AreOpenedFor, site_boards}
+
+-- A closed desk of these sites and stations: each site has its book, each station its cell at its site, and each book's totals are the sums over its site's cells.
+pub record IsClosedOf (sites : List SitePlan) (stations : List StationPlan) (closed : Ended) : Type 0 where
+  pub books : length closed.books ≡ length sites
+  pub cells : AreOpenedFor sites stations closed.cells
+  pub at_sites : (k : ℕ) (s : StationPlan) (c : Cell) → slice_get stations k ≡ Some s → slice_get closed.cells k ≡ Some c → c.site ≡ s.site
+  pub summed : AreSummed closed.cells closed.books
+
+-- The board of the site of this number, from scratch, by the site's settlement period and order of readings: its stations' boards, the sums of their figures, and the sums of their quarters.
+abbrev pub closed_site : List SitePlan → List StationPlan → List Cell → ℕ → NamedBoard
+closed_site sites stations cells site =
+    let b = site_board (period_at sites site) (site_boards sites stations cells site) in
+    record { name = get_or (map (λ s. s.name) sites) site []; period = b.period; order = order_at sites site; figures = b.figures; quarters = b.quarters; stations = b.stations }
+
+-- The texts of the boards of the first so many sites, in the plan's order.
+abbrev pub boards_text : List SitePlan → List StationPlan → List Cell → ℕ → List ℕ
+boards_text sites stations cells zero = []
+boards_text sites stations cells (suc site) = boards_text sites stations cells site ++ board_text (closed_site sites stations cells site)
+
+-- These are the texts of the boards of all sites, in the plan's order: over cells of which each was opened for its station, with its limits at its site and by its site's settlement period and order of readings, and holds what as many accepted commands as the station's passes made changes lead to from the empty content.
+pub record AreBoards (sites : List SitePlan) (stations : List StationPlan) (passes : List Held) (text : List ℕ) : Type 0 where
+  pub cells : List Cell
+  pub of_plan : AreOpenedFor sites stations cells
+  pub at_sites : (k : ℕ) (s : StationPlan) (c : Cell) → slice_get stations k ≡ Some s → slice_get cells k ≡ Some c → c.site ≡ s.site
+  pub counted : (k : ℕ) (c : Cell) → slice_get cells k ≡ Some c → c.content.changes ≡ changes_of k passes
+  pub reached : (k : ℕ) (c : Cell) → slice_get cells k ≡ Some c → Reached c.limits c.content.changes c.content
+  pub is : text ≡ boards_text sites stations cells (length sites)

@@ -1,0 +1,79 @@
+//! The boards of a desk that was closed.
+ghost use Rattle.std.specs.Prelude.{◌≡◌, ◌<◌, ◌≤◌, IfOk, OnOk, length, sum_by};
+ghost use Rattle.std.specs.Io.KnownBytes.{Appends};
+ghost use Rattle.ledger_model.specs.Ranges.{most_plan_readings};
+ghost use Rattle.board_report.specs.Texts.{board_text};
+ghost use Rattle.board_report.specs.Closed.{IsClosedOf, boards_text, closed_site};
+
+use crate::boards::site_text;
+use site_book::Naming;
+use site_desk::{Closed, Plan};
+use std::alloc::{AllocError, Global};
+use std::io::Write;
+
+/// Why the boards of a closed desk are not all written.
+#[derive(Clone, Copy, Debug, PartialEq, Eq)]
+pub enum BoardsFault {
+    /// There is no memory for a board.
+    OutOfMemory,
+    /// The output took no more bytes.
+    WriteFault,
+}
+
+impl From<AllocError> for BoardsFault {
+    fn from(_error: AllocError) -> BoardsFault {
+        BoardsFault::OutOfMemory
+    }
+}
+
+/// The text of the board of the site of this number: the one from scratch, by the site's settlement
+/// period and order of readings, from the contents of its stations' ledgers, with the sums over them as its totals.
+///
+/// Condition: the desk that was closed was opened for this plan, and the site is one of its sites.
+pub fn closed_board<J: Naming>(
+    alloc: Global,
+    plan: &Plan,
+    closed: &Closed<J>,
+    site: u16,
+) -> Result<Vec<u8>, AllocError>
+    requires closed { IsClosedOf plan.now.sites.items plan.now.stations.items closed.now }
+    requires readings { sum_by (λ s. s.limits.readings) plan.now.stations.items ≤ most_plan_readings }
+    requires planned { site < length plan.now.sites.items }
+    ensures { IfOk result (λ text. text.items ≡ board_text (closed_site plan.now.sites.items plan.now.stations.items closed.now.cells site)) }
+{
+    let number = site as usize;
+    let name = plan.sites.as_slice()[number].name.copied();
+    let totals = closed.totals(site);
+    site_text(alloc, plan, closed.cells(), number, &name, totals)
+}
+
+/// Writes the board of each site, in the plan's order, each as [`closed_board`] makes it and out before the next
+/// is made.
+///
+/// Condition: the desk that was closed was opened for this plan.
+pub fn write_boards<J: Naming, W: Write>(
+    alloc: Global,
+    plan: &Plan,
+    closed: &Closed<J>,
+    output: &mut W,
+) -> Result<(), BoardsFault>
+    requires closed { IsClosedOf plan.now.sites.items plan.now.stations.items closed.now }
+    requires readings { sum_by (λ s. s.limits.readings) plan.now.stations.items ≤ most_plan_readings }
+    ensures { OnOk result (Appends (W.contents output.old) (W.contents output.new) (boards_text plan.now.sites.items plan.now.stations.items closed.now.cells (length plan.now.sites.items))) }
+{
+    for site in 0..plan.sites.len() {
+        let text = closed_board(alloc, plan, closed, site as u16)?;
+        write_out(output, text.as_slice())?;
+    }
+    Ok(())
+}
+
+/// Writes bytes and sees to it that they are out.
+pub fn write_out<W: Write>(output: &mut W, text: &[u8]) -> Result<(), BoardsFault>
+    ensures { OnOk result (Appends (W.contents output.old) (W.contents output.new) text.now) }
+{
+    if output.write_all(text).is_err() || output.flush().is_err() {
+        return Err(BoardsFault::WriteFault);
+    }
+    Ok(())
+}

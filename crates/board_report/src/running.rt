@@ -1,0 +1,48 @@
+//! The board of a site of a desk that runs.
+ghost use Rattle.std.specs.Prelude.{◌≡◌, ◌<◌, ◌≤◌, IfOk, length, sum_by};
+ghost use Rattle.ledger_model.specs.Ranges.{most_plan_readings};
+ghost use Rattle.site_desk.specs.Roster.{AreNewPlaces};
+ghost use Rattle.board_report.specs.Running.{IsRunningBoard};
+
+use crate::board::site_board;
+use crate::write::write_board;
+use site_book::Naming;
+use site_desk::{BoardFault, Desk, HasCell, Plan};
+use std::alloc::Global;
+use std::sync::Wait;
+
+/// The text of the board of the site of this number at one moment, while commands are taken: each of its stations'
+/// boards from scratch from the content of its ledger, in the plan's order, and the sums over them. It waits for the locks
+/// of these stations and of the site's book.
+///
+/// Condition: the desk was opened for this plan, the plan has the site, and its limits allow no more than 1,048,576
+/// readings in all.
+pub fn running_board<J: Naming, C: HasCell, R: Wait>(
+    rt: &R,
+    alloc: Global,
+    plan: &Plan,
+    desk: &Desk<J, C>,
+    site: u16,
+) -> Result<Vec<u8>, BoardFault>
+    requires opened { AreNewPlaces plan.now.sites.items plan.now.stations.items desk.now.stations }
+    requires readings { sum_by (λ s. s.limits.readings) plan.now.stations.items ≤ most_plan_readings }
+    requires planned { site < length plan.now.sites.items }
+    ensures { IfOk result (λ text. IsRunningBoard plan.now.sites.items desk.now.stations site text.items) }
+{
+    let number = site as usize;
+    let (boards, totals) = match desk.site_boards(rt, alloc, site) {
+        Ok(shown) => shown,
+        Err(fault) => return Err(fault),
+    };
+    let name = plan.sites.as_slice()[number].name.copied();
+    let period = plan.period(number);
+    let order = plan.order(number);
+    let board = match site_board(alloc, &name, period, order, totals, boards) {
+        Ok(board) => board,
+        Err(_) => return Err(BoardFault::OutOfMemory),
+    };
+    match write_board(alloc, &board) {
+        Ok(text) => Ok(text),
+        Err(_) => Err(BoardFault::OutOfMemory),
+    }
+}

@@ -1,3 +1,0 @@
-pub mod SiteBoards
-pub mod ClosedSites
-pub mod RunningBoards
